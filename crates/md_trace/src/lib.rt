@@ -1,0 +1,3 @@
+//! Events of a run and what a profile says of them: definitions of contexts, links, cliques and counts over a
+//! list of events.
+#![tactic(auto)]
