@@ -28,6 +28,10 @@ abbrev pub listed_sorts : Sorts → List Sort
 listed_sorts no_sorts = []
 listed_sorts (also_sort t ts) = t ∷ listed_sorts ts
 
+abbrev pub gathered_sorts : List Sort → Sorts
+gathered_sorts [] = no_sorts
+gathered_sorts (t ∷ ts) = also_sort t (gathered_sorts ts)
+
 abbrev mutual
   pub sort_of : Ty → Sort
   sort_of Int = number
@@ -36,7 +40,7 @@ abbrev mutual
   sort_of (User name) = named name
   sort_of (Ho' shape row modes det) = closure (row_sorts row) modes.items det
 
-  row_sorts : {n : _} → Row_of-Ty n → Sorts
+  pub row_sorts : {n : _} → Row_of-Ty n → Sorts
   row_sorts end_of-Ty = no_sorts
   row_sorts (more_of-Ty t rest) = also_sort (sort_of t) (row_sorts rest)
 

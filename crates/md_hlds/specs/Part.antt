@@ -74,7 +74,7 @@ abbrev mutual
   task_of (Not' p l c) = Unless (At l (task_of c))
   task_of (Some' vs p l c) = Once vs (At l (task_of c))
 
-  row_parts : {n : _} → Row_of-Goal n → Parts
+  pub row_parts : {n : _} → Row_of-Goal n → Parts
   row_parts end_of-Goal = nothing
   row_parts (more_of-Goal l k rest) = also (At l (task_of k)) (row_parts rest)
 
