@@ -1,2 +1,4 @@
 pub mod Bridge
+pub mod ProcedureLemmas
+pub mod SiteLemmas
 pub mod Worked

@@ -5,3 +5,4 @@ pub mod Simple
 pub mod Switch
 pub mod Trace
 pub mod Run
+pub mod Sites

@@ -1,5 +1,5 @@
 -- A program as plain data: its types, and its predicates with their clauses.
-use Rattle.std.specs.Prelude.{ℕ, suc, Bool, true, false, ◌&&◌, List, [], ◌∷◌, length, Option, Some, None, cond, nat_eq, slice_get}
+use Rattle.std.specs.Prelude.{ℕ, suc, Bool, true, false, ◌&&◌, List, [], ◌∷◌, ◌++◌, length, map, Option, Some, None, cond, nat_eq, slice_get}
 use Rattle.std.specs.Str.{bytes_eq}
 use Rattle.md_hlds.specs.declared.types.Ty.{Ty, Int, Str, Io, User, Ho', Row_of-Ty, end_of-Ty, more_of-Ty}
 use Rattle.md_hlds.specs.declared.types.Mode.{Mode}
@@ -9,7 +9,7 @@ use Rattle.md_hlds.specs.declared.program.Functor.{Functor}
 use Rattle.md_hlds.specs.declared.program.TypeDef.{TypeDef}
 use Rattle.md_hlds.specs.declared.program.Pred.{Pred}
 use Rattle.md_hlds.specs.declared.program.Program.{Program}
-use Rattle.md_hlds.specs.Part.{Part, part_of}
+use Rattle.md_hlds.specs.Part.{Part, part_of, site_lines}
 
 -- a type
 mutual
@@ -162,3 +162,15 @@ unqualified_functor s (Some m) name arity = false
 -- a term of this name and number of arguments is a functor: it is unqualified, and a type declares it
 abbrev pub is_functor : Listing → PredName → ℕ → Bool
 is_functor s q arity = unqualified_functor s q.qualifier q.name arity
+
+-- a call site: the number of the procedure in whose clause it stands, and its line
+abbrev pub owned_by : ℕ → ℕ → ℕ × ℕ
+owned_by owner line = (owner, line)
+
+-- the call sites of these procedures, the first of which has the number n: the owner and the line of each, in text order
+abbrev pub sites_from : ℕ → List Procedure → List (ℕ × ℕ)
+sites_from n [] = []
+sites_from n (p ∷ ps) = map (owned_by n) (site_lines p.body) ++ sites_from (suc n) ps
+
+abbrev pub sites_of : Listing → List (ℕ × ℕ)
+sites_of s = sites_from 0 s.procedures

@@ -1,6 +1,6 @@
 -- Goals as plain data, as the definitions read them: a goal of a program is a Part, which has the line of its
 -- first token; what it is, is a Task.
-use Rattle.std.specs.Prelude.{ℕ, ◌+◌, List, [], ◌∷◌}
+use Rattle.std.specs.Prelude.{ℕ, List, [], ◌∷◌, ◌++◌, length}
 use Rattle.md_hlds.specs.declared.goal.Goal.{Goal}
 use Rattle.md_hlds.specs.declared.goal.GoalKind.{GoalKind, True, Fail, Unify, Arith, Compare, WriteInt, WriteStr, Nl, Call, HoCall, Conj', Disj', If', Not', Some', Row_of-Goal, end_of-Goal, more_of-Goal}
 use Rattle.md_hlds.specs.declared.goal.Term.{Term}
@@ -86,21 +86,25 @@ abbrev pub parts_of : List Goal → List Part
 parts_of [] = []
 parts_of (g ∷ gs) = part_of g ∷ parts_of gs
 
--- how many call sites a goal has
+-- the lines of a goal's call sites, plain and higher-order, in text order
 abbrev mutual
-  pub site_count : Part → ℕ
-  site_count (At l t) = task_sites t
+  pub site_lines : Part → List ℕ
+  site_lines (At l t) = task_lines l t
 
-  pub task_sites : Task → ℕ
-  task_sites (Plain s) = 0
-  task_sites (Invoke site q ys) = 1
-  task_sites (Apply site f ys) = 1
-  task_sites (Each ps) = parts_sites ps
-  task_sites (Either ps) = parts_sites ps
-  task_sites (Choose c t e) = site_count c + site_count t + site_count e
-  task_sites (Unless c) = site_count c
-  task_sites (Once vs c) = site_count c
+  pub task_lines : ℕ → Task → List ℕ
+  task_lines l (Plain s) = []
+  task_lines l (Invoke site q ys) = l ∷ []
+  task_lines l (Apply site f ys) = l ∷ []
+  task_lines l (Each ps) = parts_lines ps
+  task_lines l (Either ps) = parts_lines ps
+  task_lines l (Choose c t e) = site_lines c ++ (site_lines t ++ site_lines e)
+  task_lines l (Unless c) = site_lines c
+  task_lines l (Once vs c) = site_lines c
 
-  pub parts_sites : Parts → ℕ
-  parts_sites nothing = 0
-  parts_sites (also p ps) = site_count p + parts_sites ps
+  pub parts_lines : Parts → List ℕ
+  parts_lines nothing = []
+  parts_lines (also p ps) = site_lines p ++ parts_lines ps
+
+-- how many call sites a goal has
+abbrev pub site_count : Part → ℕ
+site_count p = length (site_lines p)
