@@ -1,0 +1,18 @@
+-- Procedures by their names.
+use Rattle.std.specs.Prelude.{ℕ, suc, List, [], ◌∷◌, Option, Some, None, cond}
+use Rattle.std.specs.Str.{bytes_eq}
+use Rattle.md_hlds.specs.declared.goal.PredName.{PredName}
+use Rattle.md_hlds.specs.Listing.{Listing, Procedure, is_called, find_procedure}
+
+-- an unqualified name
+abbrev pub unqualified : List ℕ → PredName
+unqualified name = record { qualifier = None; name = name }
+
+-- the number that a look-up found
+abbrev pub number_of : Option (ℕ × Procedure) → Option ℕ
+number_of None = None
+number_of (Some q) = Some q.0
+
+-- the number of the first procedure of that unqualified name among these, counted on from n
+abbrev pub number_from : List ℕ → ℕ → List Procedure → Option ℕ
+number_from name n ps = number_of (find_procedure (unqualified name) n ps)
