@@ -79,20 +79,22 @@ abbrev pub passed : List (ℕ × ℕ) → Env → Env → Env
 passed [] caller callee = callee
 passed (p ∷ ps) caller callee = passed ps caller (back_value p.0 None (value_at caller p.1) callee)
 
--- a head variable gets a captured value
-abbrev pub given : List ℕ → List Value → Env → Env
-given (h ∷ hs) (v ∷ vs) callee = given hs vs (bound callee h v)
-given hs vs callee = callee
+-- the first variables of the head get the captured values
+abbrev pub given : List Value → List ℕ → Env → Env
+given [] hs callee = callee
+given (v ∷ vs) [] callee = callee
+given (v ∷ vs) (h ∷ hs) callee = given vs hs (bound callee h v)
 
 -- variables of the head beside the variables of the caller in their places
 abbrev pub pairs_of : List ℕ → List ℕ → List (ℕ × ℕ)
 pairs_of (h ∷ hs) (y ∷ ys) = (h, y) ∷ pairs_of hs ys
 pairs_of hs ys = []
 
-abbrev pub without : {A B : Type 0} → List A → List B → List A
-without hs [] = hs
-without [] (v ∷ vs) = []
-without (h ∷ hs) (v ∷ vs) = without hs vs
+-- the variables of the head that no captured value is for
+abbrev pub without : List Value → List ℕ → List ℕ
+without [] hs = hs
+without (v ∷ vs) [] = []
+without (v ∷ vs) (h ∷ hs) = without vs hs
 
 -- the innermost frame with other goals, and with another environment
 abbrev pub doing : Frame → List Part → Frame
@@ -161,7 +163,7 @@ abbrev pub called : Does → Frame → List Part → List Frame → ℕ → ℕ 
 called go f goals js k site q vs ys =
     Turn f.act (call_weight q.1) ∷ Call k (Some f.act) (Some site) q.0
     ∷ run_body go q.1.det
-    (body_frame k (passed (pairs_of (without q.1.head vs) ys) f.env (given q.1.head vs (blank (length q.1.vars)))) q.1 (pairs_of (without q.1.head vs) ys))
+    (body_frame k (passed (pairs_of (without vs q.1.head) ys) f.env (given vs q.1.head (blank (length q.1.vars)))) q.1 (pairs_of (without vs q.1.head) ys))
     (doing f goals) js k
 
 -- a call whose number of arguments is right or not

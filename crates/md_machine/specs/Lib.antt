@@ -1,2 +1,5 @@
 pub mod Named
 pub mod Index
+pub mod FirstForm
+pub mod Rest
+pub mod Owes
