@@ -1,3 +1,4 @@
 pub mod IndexLemmas
 pub mod RestLemmas
 pub mod Moves
+pub mod ValueLemmas

@@ -3,3 +3,5 @@ pub mod Index
 pub mod FirstForm
 pub mod Rest
 pub mod Owes
+pub mod Values
+pub mod Effect

@@ -2,5 +2,5 @@
 #![tactic(auto)]
 
 mod index;
-
-pub use index::ProcedureIndex;
+mod simple;
+mod value;
