@@ -1,4 +1,7 @@
+pub mod ArgumentLemmas
+pub mod FormLemmas
 pub mod IndexLemmas
 pub mod RestLemmas
 pub mod Moves
 pub mod ValueLemmas
+pub mod MachineLemmas

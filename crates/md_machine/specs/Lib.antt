@@ -5,3 +5,4 @@ pub mod Rest
 pub mod Owes
 pub mod Values
 pub mod Effect
+pub mod Machine
