@@ -11,11 +11,11 @@ use Rattle.md_hlds.proofs.SiteLemmas.{lines_of, length-lines_more}
 use Rattle.md_machine.specs.FirstForm.{is_first_plain, is_first_unit, are_first_units, is_first_body}
 use Rattle.md_machine.specs.Machine.{is_first_goals}
 
-and_first : (a b : Bool) → IsTrue (a && b) → IsTrue a
+pub and_first : (a b : Bool) → IsTrue (a && b) → IsTrue a
 and_first true b h = refl
 and_first false b h = absurd (cc)
 
-and_second : (a b : Bool) → IsTrue (a && b) → IsTrue b
+pub and_second : (a b : Bool) → IsTrue (a && b) → IsTrue b
 and_second true b h = h
 and_second false b h = absurd (cc)
 

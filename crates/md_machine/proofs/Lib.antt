@@ -1,4 +1,5 @@
 pub mod ArgumentLemmas
+pub mod CallLemmas
 pub mod FormLemmas
 pub mod IndexLemmas
 pub mod RestLemmas

@@ -51,7 +51,7 @@ plain_goal (Plain h) is = (h, refl)
 plain_goal t is = absurd (cc)
 
 -- the machine's front goal is this one
-front_task : (s : Listing) (b left : ℕ) (out : List ℕ) (values : Slots) (goals rest : List Goal) (callers : List Kept) (g : Goal) (t : Task)
+pub front_task : (s : Listing) (b left : ℕ) (out : List ℕ) (values : Slots) (goals rest : List Goal) (callers : List Kept) (g : Goal) (t : Task)
     → goals ≡ g ∷ rest → task_of g.kind ≡ t
     → Stands s b left out (env_of values) (parts_of goals) (stacked callers)
     → Stands s b left out (env_of values) (At g.line t ∷ parts_of rest) (stacked callers)

@@ -6,3 +6,4 @@ pub mod Owes
 pub mod Values
 pub mod Effect
 pub mod Machine
+pub mod Call

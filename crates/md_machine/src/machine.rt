@@ -1,18 +1,25 @@
 // A machine for deterministic programs: the frame that runs, and the callers that wait for it.
-ghost use Rattle.std.specs.Prelude.{ℕ, ◌≡◌, ◌<◌, [], ◌∷◌, ◌++◌, IsTrue, IfOk, OnOk};
+ghost use Rattle.std.specs.Prelude.{ℕ, ◌≡◌, ◌<◌, None, [], ◌∷◌, ◌++◌, IsTrue, IfOk, OnOk};
 ghost use Rattle.md_hlds.specs.Part.{Each, gathered, task_of, parts_of};
-ghost use Rattle.md_hlds.specs.Listing.{Listing, listing_of};
-ghost use Rattle.md_machine.specs.FirstForm.{is_first_form, is_first_plain, are_first_units};
+ghost use Rattle.md_hlds.specs.Listing.{Listing, listing_of, procedure_of, procedures_of};
+ghost use Rattle.md_machine.specs.Rest.{entry};
+ghost use Rattle.md_machine.specs.Values.{env_of};
+ghost use Rattle.md_machine.specs.FirstForm.{is_first_form, is_first_plain, are_first_units, are_first_procedures};
 ghost use Rattle.md_machine.specs.Index.{IsIndexed};
 ghost use Rattle.md_machine.specs.Owes.{bytes_of};
 ghost use Rattle.md_machine.specs.Effect.{written_of};
+ghost use Rattle.md_machine.specs.Call.{IsCallOf};
 ghost use Rattle.md_machine.specs.Machine.{StandsIn, After, IsWalkable, work};
 
-use crate::arguments::give_back;
+use crate::arguments::{give_back, pass};
+use crate::index::Procedures;
 use crate::simple::run_simple;
-use crate::value::Value;
+use crate::value::{Value, blank};
+use crate::weight::call_weight;
 use md_base::NoMemory;
-use md_hlds::Goal;
+use md_hlds::{Goal, Pred, PredName};
+use std::alloc::Global;
+use std::{mem, slice};
 
 /// The values of a clause's variables, and the goals that are still to do.
 #[derive(Drop)]
@@ -107,6 +114,70 @@ impl<'a> Machine<'a> {
         self.frame.goals = parts;
         Progress::On
     }
+}
+
+impl<'a> Machine<'a> {
+    /// Calls the predicate of this name with these variables.
+    fn call(
+        &mut self,
+        alloc: Global,
+        procedures: &Procedures<'a>,
+        goal: &'a Goal,
+        name: &'a PredName,
+        arguments: &'a [u32],
+        rest: &'a [Goal],
+    ) -> Result<Progress, NoMemory>
+        requires front { self.old.frame.goals.now ≡ goal.now ∷ rest.now }
+        requires call { IsCallOf (task_of goal.now.kind) name.now arguments.now }
+        requires unqualified { name.now.qualifier ≡ None }
+        requires indexed { IsIndexed procedures.now }
+        requires form { IsTrue (are_first_procedures (procedures_of procedures.now.program.now.preds.items)) }
+        requires units { IsTrue (are_first_units (parts_of rest.now)) }
+        requires walkable { IsWalkable self.old }
+        ensures after { IfOk result (λ p. (b : ℕ) → StandsIn (listing_of procedures.now.program.now) b self.old → After (listing_of procedures.now.program.now) b p self.new) }
+        ensures walkable { OnOk result (IsWalkable self.new) }
+        ensures falls { IfOk result (λ p. p ≡ Progress.On → work self.new < work self.old) }
+    {
+        let Some(pred) = procedures.called(name.name.as_bytes()) else {
+            return Ok(Progress::Over);
+        };
+        let head = pred.head.as_slice();
+        if arguments.len() != head.len() {
+            return Ok(Progress::Over);
+        }
+        let weight = call_weight(pred);
+        if weight > self.left as u64 {
+            return Ok(Progress::Over);
+        }
+        let callee = enter(alloc, pred, arguments, &self.frame.values)?;
+        let mut frame = mem::replace(&mut self.frame, callee);
+        frame.goals = rest;
+        self.callers.push(Caller {
+            frame,
+            head,
+            arguments,
+        })?;
+        self.left -= weight as u32;
+        Ok(Progress::On)
+    }
+}
+
+/// The frame in which a predicate's body begins, called with these variables of a caller.
+fn enter<'a>(
+    alloc: Global,
+    pred: &'a Pred,
+    arguments: &[u32],
+    caller: &[Option<Value<'a>>],
+) -> Result<Frame<'a>, NoMemory>
+    ensures values { IfOk result (λ frame. env_of frame.values.items ≡ entry (procedure_of pred.now) (env_of caller.now) arguments.now) }
+    ensures goals { IfOk result (λ frame. frame.goals.now ≡ pred.now.body ∷ []) }
+{
+    let mut values = blank(alloc, pred.vars.len())?;
+    pass(pred.head.as_slice(), arguments, caller, &mut values);
+    Ok(Frame {
+        values,
+        goals: slice::from_ref(&pred.body),
+    })
 }
 
 /// Adds what a goal writes, if it writes anything.
