@@ -41,3 +41,18 @@ units_of_body l k v is body =
     let each : task_of k ≡ Each (gathered (parts_of v.items)) = ap task_of is ∙ task_of-Conj v in
     let units : IsTrue (are_first_units (listed (gathered (parts_of v.items)))) = subst (λ (t : Task). IsTrue (is_first_body (At l t))) each body in
     subst (λ (ps : List Part). IsTrue (are_first_units ps)) (listed-gathered (parts_of v.items)) units
+
+-- a conjunction is all that a frame has to do
+pub conj_alone : (g : Goal) (rest : List Goal) (v : Vec Goal Global) → g.kind ≡ Conj v → IsTrue (is_first_goals (parts_of (g ∷ rest))) → rest ≡ []
+conj_alone g [] v is goals = refl
+conj_alone g (r ∷ rest) v is goals =
+    let unit : IsTrue (is_first_unit (part_of g)) = and_first (is_first_unit (part_of g)) (are_first_units (parts_of (r ∷ rest))) goals in
+    let each : IsTrue (is_first_unit (At g.line (task_of (Conj v)))) = subst (λ (k : GoalKind). IsTrue (is_first_unit (At g.line (task_of k)))) is unit in
+    absurd (cc)
+
+-- and its parts are units
+pub conj_units : (g : Goal) (rest : List Goal) (v : Vec Goal Global) → g.kind ≡ Conj v → IsTrue (is_first_goals (parts_of (g ∷ rest))) → IsTrue (are_first_units (parts_of v.items))
+conj_units g [] v is goals = units_of_body g.line g.kind v is goals
+conj_units g (r ∷ rest) v is goals =
+    let none : r ∷ rest ≡ [] = conj_alone g (r ∷ rest) v is goals in
+    absurd (cc)

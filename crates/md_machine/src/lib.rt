@@ -2,8 +2,11 @@
 #![tactic(auto)]
 
 mod arguments;
+mod execute;
 mod index;
 mod machine;
 mod simple;
 mod value;
 mod weight;
+
+pub use execute::{End, Ran, walk};
