@@ -1,0 +1,5 @@
+pub mod Outside
+pub mod Files
+pub mod Memory
+pub mod Nets
+pub mod Streams

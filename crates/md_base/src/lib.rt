@@ -2,10 +2,23 @@
 //! and the outside (files, streams, the net) as traits that can say what they hold and when they failed.
 #![tactic(auto)]
 
+mod failed;
+mod failures;
 mod measure;
+mod memory_sink;
+mod memory_store;
 mod name;
 mod number;
+mod outside;
+mod std_sink;
+mod std_store;
 
+pub use failed::Failed;
 pub use measure::{Counts, Measure};
+pub use memory_sink::{MemSink, SureSink};
+pub use memory_store::{MemStore, SureStore};
 pub use name::{Name, Text};
 pub use number::{CsdId, NoMemory, PdId, ProcId, SiteId};
+pub use outside::{Link, Net, Sink, Source, Store};
+pub use std_sink::StdSink;
+pub use std_store::StdStore;

@@ -1,0 +1,53 @@
+-- What the objects in memory are: what they hold, the most bytes that one call takes or gives, which calls are to
+-- fail, how many calls there were, and how many faults.
+use Rattle.std.specs.Prelude.{ℕ, ◌≡◌, List, [], ◌∷◌, map, Option, Some, None, if◌then◌else◌, String, string_bytes, Vec}
+use Rattle.std.specs.List.{position_from, slice_index_or}
+use Rattle.std.specs.Str.{bytes_eq}
+use Rattle.std.specs.declared.alloc.Global.{Global}
+use Rattle.md_base.specs.Files.{Files, bytes_in}
+
+pub record FailingSink : Type 0 where
+  pub bytes : List ℕ
+  pub most : ℕ
+  pub fail : List ℕ
+  pub calls : ℕ
+  pub faults : ℕ
+
+pub record FailingStore : Type 0 where
+  pub files : List (List ℕ × List ℕ)
+  pub most : ℕ
+  pub fail : List ℕ
+  pub calls : ℕ
+  pub read_faults : ℕ
+  pub write_faults : ℕ
+
+pub record WholeStore : Type 0 where
+  pub files : List (List ℕ × List ℕ)
+  pub most : ℕ
+
+pub record WholeSink : Type 0 where
+  pub bytes : List ℕ
+  pub most : ℕ
+
+-- the names and bytes of files
+abbrev pub listed : List (String Global × Vec ℕ Global) → List (List ℕ × List ℕ)
+listed files = map (λ file. (string_bytes file.0, file.1.items)) files
+
+-- the bytes of the first file of a name
+abbrev pub file_in : List (List ℕ × List ℕ) → Files
+file_in [] name = None
+file_in (file ∷ files) name = if bytes_eq name file.0 then Some file.1 else file_in files name
+
+-- the same where each name is there: a file that isn't listed is empty
+abbrev pub any_file_in : List (List ℕ × List ℕ) → Files
+any_file_in files name = Some (bytes_in (file_in files) name)
+
+-- the place of the first file of a name
+abbrev pub IsPlaceOf : List (List ℕ × List ℕ) → List ℕ → ℕ → Type 0
+IsPlaceOf files name place = position_from (λ file. bytes_eq name file.0) 0 files ≡ Some place
+
+abbrev pub name_at : List (List ℕ × List ℕ) → ℕ → List ℕ
+name_at files place = (slice_index_or files place ([], [])).0
+
+abbrev pub bytes_at : List (List ℕ × List ℕ) → ℕ → List ℕ
+bytes_at files place = (slice_index_or files place ([], [])).1
