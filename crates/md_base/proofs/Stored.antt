@@ -1,5 +1,5 @@
 -- Files in a list: where the first file of a name stands, and what a write to it changes.
-use Rattle.std.proofs.Common.{◌≡◌, ℕ, zero, suc, ◌+◌, ◌<◌, ◌≤◌, Bool, true, false, List, [], ◌∷◌, ◌++◌, length, drop, set, get_or, Option, Some, None, refl, sym, ◌∙◌, ap, arith, if◌then◌else◌, Vec, String, string_bytes, map, add-one, drop-cons, ◌⊎◌, inl, inr, subst, unwrap_or, IsSomeAnd}
+use Rattle.std.proofs.Common.{◌≡◌, ℕ, zero, suc, ◌+◌, ◌<◌, ◌≤◌, Bool, true, false, List, [], ◌∷◌, ◌++◌, length, drop, set, get_or, Option, Some, None, refl, sym, ◌∙◌, ap, arith, if◌then◌else◌, Vec, String, string_bytes, add-one, drop-cons, ◌⊎◌, inl, inr, subst, unwrap_or, IsSomeAnd}
 use Rattle.std.proofs.lemmas.List.{map-set, drop_all}
 use Rattle.std.specs.Cmp.Lexicographic.{same_text, other_text}
 use Rattle.std.specs.List.{position_from}
@@ -77,7 +77,7 @@ pub ended : (name : List ℕ) (files : List File) (i : ℕ) → position_from (i
     → file_in (listed files) name ≡ None
 ended name files i searched long =
     not_found name (listed files) 0
-        (searched ∙ ap (λ (rest : List (List ℕ × List ℕ)). position_from (is_named name) i rest) (drop_all i (listed files) (omega (arith, length-listed files))))
+    (searched ∙ ap (λ (rest : List (List ℕ × List ℕ)). position_from (is_named name) i rest) (drop_all i (listed files) (omega (arith, length-listed files))))
 
 no_earlier : (name : List ℕ) (files : List (List ℕ × List ℕ)) (i k : ℕ) → position_from (is_named name) i files ≡ Some k → i ≤ k
 no_earlier name [] i k found = absurd (cc found)
@@ -132,7 +132,7 @@ set_at name (file ∷ files) bytes i (suc j) found q = elim (found_here (bytes_e
   | inr later ↦
       let on : i + suc j ≡ (i + 1) + j = omega arith in
       ap (λ (rest : Option (List ℕ)). if bytes_eq q file.0 then Some file.1 else rest)
-          (set_at name files bytes (i + 1) j (later.1 ∙ ap (λ (k : ℕ). Some k) on) q)
+      (set_at name files bytes (i + 1) j (later.1 ∙ ap (λ (k : ℕ). Some k) on) q)
       ∙ exchanged (bytes_eq q file.0) (bytes_eq q name) (Some file.1) (Some bytes) (file_in files q) (apart q name file.0 later.0)
 ]
 
@@ -181,7 +181,7 @@ pub given_none : (name : List ℕ) (files : List (List ℕ × List ℕ)) (at : �
 given_none name files at buf absent =
     let nothing : Gives [] 0 buf = record { within = omega arith; enough = omega arith; given = refl; some = λ _ none. absurd (omega arith) } in
     let left : drop at (bytes_in (file_in files) name) ≡ [] =
-        ap (λ (o : Option (List ℕ)). drop at (unwrap_or o [])) absent ∙ drop_all at [] (omega arith) in
+    ap (λ (o : Option (List ℕ)). drop at (unwrap_or o [])) absent ∙ drop_all at [] (omega arith) in
     subst (λ (rest : List ℕ). Gives rest 0 buf) (sym left) nothing
 
 pub appended : (name : List ℕ) (files : List (List ℕ × List ℕ)) (place : ℕ) (piece : List ℕ) → IsPlaceOf files name place

@@ -1,6 +1,6 @@
 -- What the objects in memory are: what they hold, the most bytes that one call takes or gives, which calls are to
 -- fail, how many calls there were, and how many faults.
-use Rattle.std.specs.Prelude.{ℕ, ◌≡◌, List, [], ◌∷◌, map, Option, Some, None, if◌then◌else◌, String, string_bytes, Vec}
+use Rattle.std.specs.Prelude.{ℕ, ◌≡◌, List, [], ◌∷◌, map, Some, None, if◌then◌else◌, String, string_bytes, Vec}
 use Rattle.std.specs.List.{position_from, slice_index_or}
 use Rattle.std.specs.Str.{bytes_eq}
 use Rattle.std.specs.declared.alloc.Global.{Global}

@@ -1,5 +1,5 @@
 -- Streams, sinks and connections: what they hold, and what a call on one leaves of the other.
-use Rattle.std.specs.Prelude.{ℕ, ◌≡◌, ◌≤◌, Bool, false, true, ◌||◌, ◌&&◌, ◌==◌, nat_lt, List, [], ◌++◌, length, take, drop, Option, None, Some, option_map}
+use Rattle.std.specs.Prelude.{ℕ, Bool, false, ◌||◌, ◌&&◌, ◌==◌, nat_lt, List, [], ◌++◌, take, drop, Option, None, Some, option_map}
 use Rattle.md_base.specs.Outside.{Gives}
 
 -- a stream: the bytes that were read from it, those to come, and whether a read has met its end

@@ -4,6 +4,7 @@
 
 mod failed;
 mod failures;
+mod files;
 mod measure;
 mod memory_sink;
 mod memory_store;
@@ -14,6 +15,7 @@ mod std_sink;
 mod std_store;
 
 pub use failed::Failed;
+pub use files::{ReadFault, WriteFault, read_all, write_file, write_whole};
 pub use measure::{Counts, Measure};
 pub use memory_sink::{MemSink, SureSink};
 pub use memory_store::{MemStore, SureStore};

@@ -26,8 +26,14 @@ impl Model for MemStore {
 
     ghost Value = { FailingStore };
 
-    ghost view = { λ s. record { files = listed s.files.items; most = s.most; fail = s.fail.items; calls = s.calls;
-        read_faults = s.read_faults; write_faults = s.write_faults } };
+    ghost view = { λ s. record {
+      files = listed s.files.items;
+      most = s.most;
+      fail = s.fail.items;
+      calls = s.calls;
+      read_faults = s.read_faults;
+      write_faults = s.write_faults;
+    } };
 
     ghost invariant = { λ s. 1 ≤ s.most };
 }
@@ -37,8 +43,14 @@ impl MemStore {
     /// numbers, counted from 1, are in `fail`. Of two files with one name the first counts.
     pub fn new(files: Vec<(String, Vec<u8>)>, most: usize, fail: Vec<u64>) -> MemStore
         requires { 1 ≤ most }
-        ensures { result ≡ record { files = listed files.items; most = most; fail = fail.items; calls = 0;
-            read_faults = 0; write_faults = 0 } }
+        ensures { result ≡ record {
+          files = listed files.items;
+          most = most;
+          fail = fail.items;
+          calls = 0;
+          read_faults = 0;
+          write_faults = 0;
+        } }
     {
         MemStore {
             files,
@@ -203,7 +215,13 @@ fn give(bytes: &[u8], at: u64, most: usize, buf: &mut [u8]) -> usize
 }
 
 /// Gives what is left of the named file, or answers `None` where there is no such file.
-fn give_named(files: &[(String, Vec<u8>)], name: &str, at: u64, most: usize, buf: &mut [u8]) -> Option<usize>
+fn give_named(
+    files: &[(String, Vec<u8>)],
+    name: &str,
+    at: u64,
+    most: usize,
+    buf: &mut [u8],
+) -> Option<usize>
     requires { 1 ≤ most }
     ensures within { IfSome result (λ n. n ≤ length buf.old) }
     ensures gives { IfSome result (λ n. GivesFrom (Some (file_in (listed files.now))) name.now at n buf.new) }

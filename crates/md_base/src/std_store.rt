@@ -5,11 +5,10 @@ ghost use Rattle.md_base.specs.Outside.{Takes};
 use crate::std_sink::write_some;
 use crate::{Failed, Store};
 use std::alloc::Global;
-use std::fs;
 use std::fs::OpenOptions;
-use std::io;
 use std::io::{ErrorKind, Read, Seek, SeekFrom};
 use std::rt::Files;
+use std::{fs, io};
 
 /// An open file that is read, and the place where the next read begins.
 #[derive(Drop)]

@@ -1,4 +1,4 @@
-use Rattle.std.proofs.Common.{◌≡◌, List, [], ◌∷◌, ◌++◌, ℕ, None, ◌∙◌, ap, subst}
+use Rattle.std.proofs.Common.{◌≡◌, List, [], ◌∷◌, ◌++◌, None, ◌∙◌, ap, subst}
 use Rattle.std.proofs.lemmas.Result.{on_ok_weaker}
 use Rattle.md_base.specs.Memory.{listed, file_in, IsPlaceOf}
 use Rattle.md_base.proofs.Stored.{File, set_named, add_named}
@@ -18,5 +18,5 @@ returns-in-None-clause-emptied c =
     let name = c.args.name.now in
     let absent : file_in files name ≡ None = subst (λ (fs : List File). file_in (listed fs) name ≡ None) c.deref.ensures.value c.in-None.ensures.absent in
     on_ok_weaker c.add.result
-        (λ (is : listed c.add.new.files.items ≡ files ++ (name, []) ∷ []). ap file_in is ∙ add_named name files [] absent)
-        c.add.ensures.added
+    (λ (is : listed c.add.new.files.items ≡ files ++ (name, []) ∷ []). ap file_in is ∙ add_named name files [] absent)
+    c.add.ensures.added

@@ -10,5 +10,5 @@ returns-clause-added c =
     let piece = take c.min-count.result c.args.piece.now in
     let now = listed c.append_in.new.files.items in
     let is : file_in now ≡ with_file name (bytes_in (file_in c.args.self.now.files) name ++ piece) (file_in c.args.self.now.files) =
-        subst (λ (before : WholeStore). file_in now ≡ with_file name (bytes_in (file_in before.files) name ++ piece) (file_in before.files)) c.self.view_is c.in_ok-append_in.ensures.added in
+    subst (λ (before : WholeStore). file_in now ≡ with_file name (bytes_in (file_in before.files) name ++ piece) (file_in before.files)) c.self.view_is c.in_ok-append_in.ensures.added in
     ap (λ (files : Files). Some files) (any_file name (bytes_in (file_in c.args.self.now.files) name ++ piece) c.args.self.now.files now is)
