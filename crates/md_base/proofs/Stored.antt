@@ -1,5 +1,5 @@
 -- Files in a list: where the first file of a name stands, and what a write to it changes.
-use Rattle.std.proofs.Common.{◌≡◌, ℕ, zero, suc, ◌+◌, ◌<◌, ◌≤◌, Bool, true, false, List, [], ◌∷◌, ◌++◌, length, drop, set, get_or, Option, Some, None, refl, sym, ◌∙◌, ap, arith, if◌then◌else◌, Vec, String, string_bytes, add-one, drop-cons, ◌⊎◌, inl, inr, subst, unwrap_or, IsSomeAnd}
+use Rattle.std.proofs.Common.{◌≡◌, ℕ, zero, suc, ◌+◌, ◌<◌, ◌≤◌, Bool, true, false, List, [], ◌∷◌, ◌++◌, length, drop, set, get_or, Option, Some, None, refl, sym, ◌∙◌, ap, arith, if◌then◌else◌, Vec, String, string_bytes, add-one, drop-cons, ◌⊎◌, inl, inr, subst, unwrap_or, IsSomeAnd, All, option_to_list}
 use Rattle.std.proofs.lemmas.List.{map-set, drop_all}
 use Rattle.std.specs.Cmp.Lexicographic.{same_text, other_text}
 use Rattle.std.specs.List.{position_from}
@@ -206,3 +206,10 @@ pub any_file : (name bytes : List ℕ) (before now : List (List ℕ × List ℕ)
 any_file name bytes before now is =
     ap (λ (files : Files). λ (q : List ℕ). Some (unwrap_or (files q) [])) is
     ∙ (λ i q. any_with (bytes_eq q name) bytes (file_in before q) i)
+
+-- what holds of all holds of those behind the first
+pub All-rest : {X : Type 0} (P : X → Type 0) (o : Option X) (old rest : List X) → old ≡ option_to_list o ++ rest → All P old → All P rest
+All-rest {X} P None old rest is all = subst (λ (xs : List X). All P xs) is all
+All-rest {X} P (Some x) old rest is all =
+    let whole : All P (x ∷ rest) = subst (λ (xs : List X). All P xs) is all in
+    λ k d within. whole (suc k) d (omega arith)

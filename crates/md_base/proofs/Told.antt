@@ -1,10 +1,11 @@
 -- What is told of a store and a sink over several calls, and when a count rose over several.
 use Rattle.std.proofs.Common.{◌≡◌, ℕ, zero, suc, ◌+◌, ◌<◌, ◌≤◌, Bool, true, false, List, [], ◌∷◌, ◌++◌, length, take, drop, Option, Some, None, refl, sym, ◌∙◌, ap, arith, if◌then◌else◌, inl, inr, append_assoc, IsSomeAnd, unwrap_or, length-append, length-drop}
-use Rattle.std.proofs.lemmas.List.{append-nil, take_all, length-take, length-take-le}
+use Rattle.std.proofs.lemmas.List.{append-nil, take_all, drop_all, length-take, length-take-le}
 use Rattle.std.specs.Str.{bytes_eq}
 use Rattle.std.proofs.lemmas.Bool.{cases_eq, cases_lt}
 use Rattle.std.proofs.lemmas.Slice.Eq.{bytes_eq-Decides}
 use Rattle.md_base.specs.Outside.{Rose, added, Gives}
+use Rattle.md_base.specs.Streams.{Stream}
 use Rattle.md_base.specs.Files.{Files, with_file, bytes_in, holding, extended, GivesFrom, FileIs, FileIsLonger}
 
 -- a count that was at most this before rose too
@@ -142,3 +143,19 @@ extended_on name bytes done n m told middle now within so_far more =
     ∙ ap (λ (held : Option Files). extended name (take n (drop done bytes)) held) so_far
     ∙ extended-holding name (take done bytes) (take n (drop done bytes)) told
     ∙ ap (λ (front : List ℕ). holding name front told) (take_add done n bytes)
+
+abbrev pub stream_at : List ℕ → List ℕ → Bool → Stream
+stream_at taken left ended = record { taken = taken; left = left; ended = ended }
+
+-- a stream of which n more bytes were read
+pub read_on : (input : List ℕ) (place n : ℕ) (ended now : Bool) → now ≡ ended
+    → Some (stream_at (take (place + n) input) (drop (place + n) input) now) ≡ Some (stream_at (take place input ++ take n (drop place input)) (drop n (drop place input)) ended)
+read_on input place n ended now same =
+    ap (λ (flag : Bool). Some (stream_at (take (place + n) input) (drop (place + n) input) flag)) same
+    ∙ ap (λ (front : List ℕ). Some (stream_at front (drop (place + n) input) ended)) (sym (take_add place n input))
+    ∙ ap (λ (rest : List ℕ). Some (stream_at (take place input ++ take n (drop place input)) rest ended)) (drop_add place n input)
+  where
+    drop_add : (m k : ℕ) (xs : List ℕ) → drop (m + k) xs ≡ drop k (drop m xs)
+    drop_add zero k xs = let same : 0 + k ≡ k = omega arith in ap (λ (j : ℕ). drop j xs) same
+    drop_add (suc m) k [] = drop_all (suc m + k) [] (omega arith) ∙ sym (drop_all k [] (omega arith))
+    drop_add (suc m) k (x ∷ xs) = let same : suc m + k ≡ suc (m + k) = omega arith in ap (λ (j : ℕ). drop j (x ∷ xs)) same ∙ drop_add m k xs

@@ -1,10 +1,12 @@
 -- What the objects in memory are: what they hold, the most bytes that one call takes or gives, which calls are to
 -- fail, how many calls there were, and how many faults.
-use Rattle.std.specs.Prelude.{ℕ, ◌≡◌, List, [], ◌∷◌, map, Some, None, if◌then◌else◌, String, string_bytes, Vec}
+use Rattle.std.specs.Prelude.{ℕ, ◌≡◌, List, [], ◌∷◌, map, Some, None, if◌then◌else◌, String, string_bytes, Vec, Bool}
 use Rattle.std.specs.List.{position_from, slice_index_or}
 use Rattle.std.specs.Str.{bytes_eq}
 use Rattle.std.specs.declared.alloc.Global.{Global}
 use Rattle.md_base.specs.Files.{Files, bytes_in}
+use Rattle.md_base.specs.Nets.{Connection, Connections}
+use Rattle.md_base.specs.Streams.{Stream, fresh}
 
 pub record FailingSink : Type 0 where
   pub bytes : List ℕ
@@ -51,3 +53,27 @@ name_at files place = (slice_index_or files place ([], [])).0
 
 abbrev pub bytes_at : List (List ℕ × List ℕ) → ℕ → List ℕ
 bytes_at files place = (slice_index_or files place ([], [])).1
+
+-- a connection: its stream, what was written to it, and the most bytes that one call gives or takes
+pub record WholeLink : Type 0 where
+  pub stream : Stream
+  pub written : List ℕ
+  pub most : ℕ
+
+-- nothing was read from it and nothing written to it
+pub record IsFreshLink (link : WholeLink) : Type 0 where
+  pub unread : link.stream ≡ fresh link.stream.left
+  pub unwritten : link.written ≡ []
+
+pub record WholeNet : Type 0 where
+  pub coming : List WholeLink
+  pub served : List WholeLink
+  pub bound : Bool
+
+-- a served connection as the net tells it
+abbrev pub told_link : WholeLink → Connection
+told_link link = record { stream = link.stream; written = link.written; read_faults = 0; write_faults = 0 }
+
+-- what a net in memory tells
+abbrev pub connections_of : WholeNet → Connections
+connections_of net = record { coming = map (λ link. link.stream.left) net.coming; served = map told_link net.served }
