@@ -1,10 +1,11 @@
 -- What the objects in memory are: what they hold, the most bytes that one call takes or gives, which calls are to
 -- fail, how many calls there were, and how many faults.
-use Rattle.std.specs.Prelude.{ℕ, ◌≡◌, List, [], ◌∷◌, map, Some, None, if◌then◌else◌, String, string_bytes, Vec, Bool}
+use Rattle.std.specs.Prelude.{ℕ, ◌≡◌, List, [], ◌∷◌, map, Some, None, if◌then◌else◌, String, string_bytes, Vec, Bool, Contains}
 use Rattle.std.specs.List.{position_from, slice_index_or}
 use Rattle.std.specs.Str.{bytes_eq}
 use Rattle.std.specs.declared.alloc.Global.{Global}
 use Rattle.md_base.specs.Files.{Files, bytes_in}
+use Rattle.md_base.specs.Outside.{one_more}
 use Rattle.md_base.specs.Nets.{Connection, Connections}
 use Rattle.md_base.specs.Streams.{Stream, fresh}
 
@@ -22,6 +23,16 @@ pub record FailingStore : Type 0 where
   pub calls : ℕ
   pub read_faults : ℕ
   pub write_faults : ℕ
+
+-- the next call is to fail
+abbrev pub FailsNext : FailingStore → Type 0
+FailsNext store = Contains store.fail (one_more store.calls)
+
+-- a call was counted, and what a call takes and which calls are to fail stays
+pub record IsAfterCall (before now : FailingStore) : Type 0 where
+  pub calls : now.calls ≡ one_more before.calls
+  pub most : now.most ≡ before.most
+  pub fail : now.fail ≡ before.fail
 
 pub record WholeStore : Type 0 where
   pub files : List (List ℕ × List ℕ)

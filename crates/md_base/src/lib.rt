@@ -30,3 +30,6 @@ pub use outside::{Link, Net, Sink, Source, Store};
 pub use std_sink::StdSink;
 pub use std_store::StdStore;
 pub use steps::Steps;
+
+#[cfg(test)]
+mod tests;

@@ -24,8 +24,10 @@ impl Model for SureLink {
     ghost Value = { WholeLink };
 
     ghost view = { λ l. record {
-        stream = record { taken = take l.place l.input.items; left = drop l.place l.input.items; ended = l.ended };
-        written = l.written.items; most = l.most } };
+      stream = record { taken = take l.place l.input.items; left = drop l.place l.input.items; ended = l.ended };
+      written = l.written.items;
+      most = l.most;
+    } };
 
     ghost invariant = { λ l. (l.place ≤ length l.input.items) × (1 ≤ l.most) };
 }

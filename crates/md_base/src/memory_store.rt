@@ -2,7 +2,7 @@
 ghost use Rattle.std.specs.Prelude.{◌≡◌, ◌≤◌, ◌<◌, ◌⊎◌, ◌↔◌, ◌++◌, ◌∷◌, [], Some, None, length, take, drop, min, Contains, IfOk, IfSome, IfNone, OnOk, OnErr, IsErrOf, slice_set, string_bytes, vec_len};
 ghost use Rattle.md_base.specs.Outside.{HasCause, Takes, Gives, one_more};
 ghost use Rattle.md_base.specs.Files.{GivesFrom, with_file, bytes_in};
-ghost use Rattle.md_base.specs.Memory.{listed, file_in, any_file_in, IsPlaceOf, name_at, bytes_at};
+ghost use Rattle.md_base.specs.Memory.{listed, file_in, any_file_in, IsPlaceOf, name_at, bytes_at, FailsNext, IsAfterCall};
 
 use crate::failures::is_due;
 use crate::{Failed, NoMemory, Store};
@@ -95,7 +95,17 @@ impl Store for MemStore {
 
     ghost write_faults = { λ s. s.write_faults };
 
-    fn read_at(&mut self, name: &str, at: u64, buf: &mut [u8]) -> Result<usize, Failed> {
+    fn read_at(&mut self, name: &str, at: u64, buf: &mut [u8]) -> Result<usize, Failed>
+        ensures within { IfOk result (λ n. n ≤ length buf.old) }
+        ensures bytes { IfOk result (λ n. GivesFrom (Some (file_in self.old.files)) name.now at n buf.new) }
+        ensures kept { self.new.files ≡ self.old.files }
+        ensures cause { HasCause self.old.read_faults self.new.read_faults result }
+        ensures writes { self.new.write_faults ≡ self.old.write_faults }
+
+        ensures due { FailsNext self.old → result ≡ Err Failed.Device }
+        ensures device { IsErrOf result Failed.Device → FailsNext self.old ⊎ (file_in self.old.files name.now ≡ None) }
+        ensures counted { IsAfterCall self.old self.new }
+    {
         if is_due(&self.fail, &mut self.calls) {
             return Err(self.read_fault());
         }
@@ -105,7 +115,15 @@ impl Store for MemStore {
         }
     }
 
-    fn create(&mut self, name: &str) -> Result<(), Failed> {
+    fn create(&mut self, name: &str) -> Result<(), Failed>
+        ensures emptied { OnOk result (file_in self.new.files ≡ with_file name.now [] (file_in self.old.files)) }
+        ensures kept { OnErr result (self.new.files ≡ self.old.files) }
+        ensures cause { HasCause self.old.write_faults self.new.write_faults result }
+        ensures reads { self.new.read_faults ≡ self.old.read_faults }
+
+        ensures due { IsErrOf result Failed.Device ↔ FailsNext self.old }
+        ensures counted { IsAfterCall self.old self.new }
+    {
         if is_due(&self.fail, &mut self.calls) {
             return Err(self.write_fault());
         }
@@ -113,7 +131,18 @@ impl Store for MemStore {
         Ok(())
     }
 
-    fn append(&mut self, name: &str, piece: &[u8]) -> Result<usize, Failed> {
+    fn append(&mut self, name: &str, piece: &[u8]) -> Result<usize, Failed>
+        ensures takes { IfOk result (λ n. Takes n piece.now) }
+        ensures added { IfOk result (λ n. file_in self.new.files ≡ with_file name.now
+            (bytes_in (file_in self.old.files) name.now ++ take n piece.now) (file_in self.old.files)) }
+        ensures kept { OnErr result (self.new.files ≡ self.old.files) }
+        ensures cause { HasCause self.old.write_faults self.new.write_faults result }
+        ensures reads { self.new.read_faults ≡ self.old.read_faults }
+
+        ensures due { IsErrOf result Failed.Device ↔ FailsNext self.old }
+        ensures count { IfOk result (λ n. n ≡ min (length piece.now) self.old.most) }
+        ensures counted { IsAfterCall self.old self.new }
+    {
         if is_due(&self.fail, &mut self.calls) {
             return Err(self.write_fault());
         }

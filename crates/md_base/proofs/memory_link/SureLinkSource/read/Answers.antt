@@ -11,5 +11,5 @@ returns-clause-taken c =
     let count = c.give_rest-count.result in
     let now : Option Stream = Some (stream_at (take (place + count) input) (drop (place + count) input) c.has_ended-self-inside.result) in
     subst (λ (link : WholeLink). now ≡ after_read count (length c.args.buf.now) (Some link.stream)) c.self.view_is
-        (read_on input place count _ _
-            (c.has_ended-self-inside.ensures ∙ ap (λ (size : ℕ). c.self.inside.ended || ((count == 0) && nat_lt 0 size)) c.give_rest-count.auto.buf))
+    (read_on input place count _ _
+    (c.has_ended-self-inside.ensures ∙ ap (λ (size : ℕ). c.self.inside.ended || ((count == 0) && nat_lt 0 size)) c.give_rest-count.auto.buf))
