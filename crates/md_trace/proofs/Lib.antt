@@ -1,1 +1,5 @@
+pub mod Chains
+pub mod Histories
+pub mod Numbered
+pub mod Placing
 mod Worked

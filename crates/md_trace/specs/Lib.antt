@@ -5,4 +5,5 @@ pub mod Count
 pub mod Links
 pub mod PortHistory
 pub mod Reaches
+pub mod Sinks
 pub mod Totals
