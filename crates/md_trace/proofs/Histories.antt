@@ -1,13 +1,15 @@
 -- What holds in every port history, and how each event changes the current chain.
-use Rattle.std.proofs.Common.{ℕ, ◌≡◌, ◌<◌, ◌≤◌, ◌⊎◌, inl, inr, Bool, true, false, cond, eqb, List, [], ◌∷◌, length, Option, Some, None, refl, sym, ap, ◌∙◌, subst, arith}
+use Rattle.std.proofs.Common.{ℕ, zero, suc, All, IfSome, IsSomeAnd, MatchOption, slice_get, ◌≡◌, ◌<◌, ◌≤◌, ◌⊎◌, inl, inr, Bool, true, false, cond, eqb, List, [], ◌∷◌, length, Option, Some, None, refl, sym, ap, ◌∙◌, subst, arith}
 use Rattle.std.specs.Option.{option_map, option_and_then}
 use Rattle.std.proofs.lemmas.Bool.{eq-eqb, false≢true}
 use Rattle.std.proofs.lemmas.Bool.Decides.{eqb_tells}
 use Rattle.md_trace.specs.declared.event.Event.{Event}
 use Rattle.md_trace.specs.declared.event.Event.TheVariants.{Call, Exit, Redo, Fail, Alloc}
 use Rattle.md_trace.specs.Activation.{Activation, activations, numbered, parent_of, procedure_of}
-use Rattle.md_trace.specs.PortHistory.{SiteTable, current, has_exited, MayFollow, IsPortHistory}
+use Rattle.md_trace.specs.PortHistory.{SiteTable, CallSite, IsSiteTable, MayCallAt, MayCall, current, has_exited, MayFollow, IsPortHistory}
 use Rattle.md_trace.specs.Context.{Link, Placed, chain, place, link_of, with_placed, placed, placed_of, current_chain}
+use Rattle.std.proofs.lemmas.Option.{get_or_from_slice_get}
+use Rattle.md_trace.proofs.Lists.{get-within}
 use Rattle.md_trace.proofs.Numbered.{numbered-new, numbered-more, numbered-below, numbered-either, numbered-there}
 use Rattle.md_trace.proofs.Placing.{length-placed, parent_of-placed}
 use Rattle.md_trace.proofs.Chains.{IsBelow, AreParentsBelow, below-more, parent-below, chain-new, chain-more, chain-unfold}
@@ -117,3 +119,45 @@ chain-call t m a p s q h order may =
     let first : chain (new ∷ before) (Some a) ≡ chain (new ∷ before) (Some (length before)) = ap (λ n. chain (new ∷ before) (Some n)) e in
     let older : chain before p ≡ chain before (current h) = ap (chain before) may.2 in
     first ∙ chain-new new before ∙ ap (λ c. new ∷ c) older
+
+-- a port history is over a site table
+pub table-of : (t : SiteTable) (h : List Event) → IsPortHistory t h → IsSiteTable t
+table-of t [] is = is
+table-of t (e ∷ h) is = table-of t h is.0
+
+all-at : {A : Type 0} (P : A → Type 0) (xs : List A) (k : ℕ) (x : A) → All P xs → slice_get xs k ≡ Some x → P x
+all-at P xs k x all is = subst P (get_or_from_slice_get xs k x x is) (all k x (get-within xs k x is))
+
+callee-of : (n q : ℕ) (o : Option ℕ) → IfSome o (λ c. c < n) → MatchOption o (q < n) (λ c. q ≡ c) → q < n
+callee-of n q None below may = may
+callee-of n q (Some c) below may = omega (arith, may)
+
+callee-at : (t : SiteTable) (h : List Event) (p s q : ℕ) (o : Option CallSite) → IsSiteTable t → slice_get t.sites s ≡ o → IsSomeAnd o (MayCallAt t (procedure_of (activations h) p) q) → q < t.procedures
+callee-at t h p s q None table is may = absurd may
+callee-at t h p s q (Some x) table is may =
+    callee-of t.procedures q x.callee (all-at (λ (y : CallSite). IfSome y.callee (λ c. c < t.procedures)) t.sites s x table.callees_are is) may.callee
+
+-- what is called is a procedure of the table
+pub callee-below : (t : SiteTable) (h : List Event) (p s : Option ℕ) (q : ℕ) → IsPortHistory t h → MayCall t h p s q → q < t.procedures
+callee-below t h None None q is may = let table = table-of t h is in omega (arith, may.1, table.main_is_one)
+callee-below t h (Some p) (Some s) q is may = callee-at t h p s q (slice_get t.sites s) (table-of t h is) refl may
+callee-below t h None (Some s) q is may = absurd may
+callee-below t h (Some p) None q is may = absurd may
+
+-- the procedure of each activation is one of the table
+pub procedure-of-table : (t : SiteTable) (h : List Event) (a q : ℕ) → IsPortHistory t h → procedure_of (activations h) a ≡ Some q → q < t.procedures
+procedure-of-table t [] a q is has = absurd (cc)
+procedure-of-table t (Call b p s r ∷ h) a q is has =
+    elim (eqb_tells a (length (activations h))) [
+      inl e ↦
+        let new : procedure_of (activations (Call b p s r ∷ h)) a ≡ Some r = rw e.0 in
+        let same : r ≡ q = cc (new, has) in
+        omega (arith, same, callee-below t h p s r is.0 is.1.3)
+    | inr e ↦
+        let older : procedure_of (activations (Call b p s r ∷ h)) a ≡ procedure_of (activations h) a = rw e.0 in
+        procedure-of-table t h a q is.0 (sym older ∙ has)
+    ]
+procedure-of-table t (Exit b ∷ h) a q is has = procedure-of-table t h a q is.0 has
+procedure-of-table t (Redo b ∷ h) a q is has = procedure-of-table t h a q is.0 has
+procedure-of-table t (Fail b ∷ h) a q is has = procedure-of-table t h a q is.0 has
+procedure-of-table t (Alloc b w ∷ h) a q is has = procedure-of-table t h a q is.0 has

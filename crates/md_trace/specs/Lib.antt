@@ -2,6 +2,8 @@ pub mod Activation
 pub mod Cliques
 pub mod Context
 pub mod Count
+pub mod Counted
+pub mod Laws
 pub mod Links
 pub mod PortHistory
 pub mod Reaches
