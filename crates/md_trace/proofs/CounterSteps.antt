@@ -28,12 +28,13 @@ pub rows-after : (xs ys : List Counts) (n q : ℕ) (m : Measure) (by : ℕ) (f g
 rows-after xs ys n q m by f g len below was write changed others =
     let P : Option Counts → Type 0 = λ o. IfSome o (λ c. ys ≡ set xs q (with_more c m by)) in
     let e : ys ≡ set xs q (with_more (f q) m by) = subst P (was q below) write in
-    let row : ℕ → Type 0 = λ r. slice_get ys r ≡ Some (g r) in
-    (ap length e ∙ length-set xs q (with_more (f q) m by) ∙ len,
-     λ r h. elim (cases_eq r q) [
-         inl same ↦ subst row (sym same) (ap (λ zs. slice_get zs q) e ∙ get-set-same xs q (with_more (f q) m by) (omega (arith, len)) ∙ ap Some (sym changed))
-       | inr other ↦ ap (λ zs. slice_get zs r) e ∙ get-set-other xs q r (with_more (f q) m by) other ∙ was r h ∙ ap Some (sym (others r other))
-       ])
+    let row : ℕ → Type 0 = λ r. slice_get ys r ≡ Some (g r) in (
+      ap length e ∙ length-set xs q (with_more (f q) m by) ∙ len,
+      λ r h. elim (cases_eq r q) [
+        | inl same ↦ subst row (sym same) (ap (λ zs. slice_get zs q) e ∙ get-set-same xs q (with_more (f q) m by) (omega (arith, len)) ∙ ap Some (sym changed))
+        | inr other ↦ ap (λ zs. slice_get zs r) e ∙ get-set-other xs q r (with_more (f q) m by) other ∙ was r h ∙ ap Some (sym (others r other))
+      ],
+    )
 
 -- an activation with another procedure fails the test of this one
 other-procedure : (r q : ℕ) (y : Placed) → y.link.procedure ≡ q → r ≢ q → has_procedure r y ≡ false
@@ -59,7 +60,7 @@ popped xs ys zs q e is =
     let turned : xs ≡ reverse zs ++ q ∷ [] = sym (reverse-reverse xs) ∙ ap reverse is ∙ reverse-append (q ∷ []) zs in
     let len : length xs ≡ length (reverse zs) + 1 = ap length turned ∙ length-append (reverse zs) (q ∷ []) in
     let front : take (length xs - 1) xs ≡ reverse zs =
-        ap (take (length xs - 1)) turned ∙ take_at (reverse zs) (q ∷ []) (length xs - 1) (omega (arith, len)) in
+    ap (take (length xs - 1)) turned ∙ take_at (reverse zs) (q ∷ []) (length xs - 1) (omega (arith, len)) in
     ap reverse (e ∙ front) ∙ reverse-reverse zs
 
 -- the activation with a mark, in its context
@@ -158,7 +159,7 @@ counter-call t h k0 k1 k2 p s q for may enters counts =
     let procs : chain_procedures m (e ∷ h) ≡ q ∷ chain_procedures m h = ap (map (λ (x : Placed). x.link.procedure)) chained in
     let grown = pushed k0.chain k2.chain (chain_procedures m h) q (counts.chain ∙ enters.chain) for.chain_is in
     let len : length k1.chain ≡ length (current_chain m (e ∷ h)) =
-        ap length (sym counts.chain) ∙ sym (length-reverse k2.chain) ∙ ap length (grown ∙ sym procs) ∙ length-map (current_chain m (e ∷ h)) (λ x. x.link.procedure) in
+    ap length (sym counts.chain) ∙ sym (length-reverse k2.chain) ∙ ap length (grown ∙ sym procs) ∙ length-map (current_chain m (e ∷ h)) (λ x. x.link.procedure) in
     record {
       history = (for.history, may);
       procedures = own.0;

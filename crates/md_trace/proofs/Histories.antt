@@ -149,13 +149,13 @@ pub procedure-of-table : (t : SiteTable) (h : List Event) (a q : ℕ) → IsPort
 procedure-of-table t [] a q is has = absurd (cc)
 procedure-of-table t (Call b p s r ∷ h) a q is has =
     elim (eqb_tells a (length (activations h))) [
-      inl e ↦
-        let new : procedure_of (activations (Call b p s r ∷ h)) a ≡ Some r = rw e.0 in
-        let same : r ≡ q = cc (new, has) in
-        omega (arith, same, callee-below t h p s r is.0 is.1.3)
-    | inr e ↦
-        let older : procedure_of (activations (Call b p s r ∷ h)) a ≡ procedure_of (activations h) a = rw e.0 in
-        procedure-of-table t h a q is.0 (sym older ∙ has)
+      | inl e ↦
+          let new : procedure_of (activations (Call b p s r ∷ h)) a ≡ Some r = rw e.0 in
+          let same : r ≡ q = cc (new, has) in
+          omega (arith, same, callee-below t h p s r is.0 is.1.3)
+      | inr e ↦
+          let older : procedure_of (activations (Call b p s r ∷ h)) a ≡ procedure_of (activations h) a = rw e.0 in
+          procedure-of-table t h a q is.0 (sym older ∙ has)
     ]
 procedure-of-table t (Exit b ∷ h) a q is has = procedure-of-table t h a q is.0 has
 procedure-of-table t (Redo b ∷ h) a q is has = procedure-of-table t h a q is.0 has

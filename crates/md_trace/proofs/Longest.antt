@@ -15,13 +15,13 @@ pub chain-longest : (t : SiteTable) (m : ℕ) (h : List Event) (a : ℕ) → IsP
 chain-longest t m [] a is below = absurd (omega arith)
 chain-longest t m (Call b p s q ∷ h) a is below =
     elim (cases_eq a b) [
-      inl e ↦
-        let same : length (chain (placed_of m (Call b p s q ∷ h)) (Some a)) ≡ length (current_chain m (Call b p s q ∷ h)) = ap (λ n. length (chain (placed_of m (Call b p s q ∷ h)) (Some n))) e in
-        omega (arith, same)
-    | inr ne ↦
-        let older : a < length (activations h) = omega (arith, is.1.0) in
-        let same : length (chain (placed_of m (Call b p s q ∷ h)) (Some a)) ≡ length (chain (placed_of m h) (Some a)) = ap length (chain-more (newest m h p s q) (placed_of m h) (Some a) (omega (arith, length-placed m (activations h)))) in
-        omega (arith, same, chain-longest t m h a is.0 older)
+      | inl e ↦
+          let same : length (chain (placed_of m (Call b p s q ∷ h)) (Some a)) ≡ length (current_chain m (Call b p s q ∷ h)) = ap (λ n. length (chain (placed_of m (Call b p s q ∷ h)) (Some n))) e in
+          omega (arith, same)
+      | inr ne ↦
+          let older : a < length (activations h) = omega (arith, is.1.0) in
+          let same : length (chain (placed_of m (Call b p s q ∷ h)) (Some a)) ≡ length (chain (placed_of m h) (Some a)) = ap length (chain-more (newest m h p s q) (placed_of m h) (Some a) (omega (arith, length-placed m (activations h)))) in
+          omega (arith, same, chain-longest t m h a is.0 older)
     ]
 chain-longest t m (Exit b ∷ h) a is below = omega (arith, chain-longest t m h a is.0 below)
 chain-longest t m (Redo b ∷ h) a is below = omega (arith, chain-longest t m h a is.0 below)

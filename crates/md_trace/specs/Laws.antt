@@ -13,8 +13,8 @@ pub procedure-below : (xs : List Activation) (a q : ℕ) → procedure_of xs a �
 procedure-below [] a q is = absurd (cc)
 procedure-below (x ∷ xs) a q is =
     elim (eqb_tells a (length xs)) [
-      inl p ↦ omega (arith, p.1)
-    | inr p ↦ let rest = rw p.0 at is in omega (arith, procedure-below xs a q rest)
+      | inl p ↦ omega (arith, p.1)
+      | inr p ↦ let rest = rw p.0 at is in omega (arith, procedure-below xs a q rest)
     ]
 
 -- an activation keeps its procedure
