@@ -1,4 +1,5 @@
 pub mod Counts
+pub mod Distinct
 pub mod Outside
 pub mod Files
 pub mod Memory

@@ -2,6 +2,7 @@
 //! and the outside (files, streams, the net) as traits that can say what they hold and when they failed.
 #![tactic(auto)]
 
+mod distinct;
 mod failed;
 mod failures;
 mod files;
@@ -17,6 +18,7 @@ mod std_sink;
 mod std_store;
 mod steps;
 
+pub use distinct::all_differ;
 pub use failed::Failed;
 pub use files::{ReadFault, WriteFault, read_all, write_file, write_whole};
 pub use measure::{Counts, Measure};
