@@ -3,6 +3,7 @@
 #![tactic(auto)]
 
 mod entry;
+mod sound;
 mod tables;
 
 pub use entry::{Proc, Site, SiteKind};
