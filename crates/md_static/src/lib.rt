@@ -7,4 +7,5 @@ mod sound;
 mod tables;
 
 pub use entry::{Proc, Site, SiteKind};
+pub use sound::is_sound;
 pub use tables::Statics;
