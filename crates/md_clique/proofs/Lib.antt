@@ -1,0 +1,10 @@
+pub mod Parts
+pub mod Walks
+pub mod Threading
+pub mod Enter
+pub mod Join
+pub mod Pass
+pub mod Skip
+pub mod Looking
+pub mod Close
+pub mod Classes

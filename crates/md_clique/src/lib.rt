@@ -1,0 +1,6 @@
+//! Cliques of a call graph: which contexts are mutually recursive, numbered by their least contexts, with their
+//! members and the one link that enters each (Conway and Somogyi 2001, section 3).
+#![tactic(auto)]
+
+mod search;
+mod threads;
