@@ -1,12 +1,11 @@
 -- At the end all nodes are closed, and the classes are those of mutual reachability: classes don't rise along a walk.
-use Rattle.std.proofs.Common.{◌≡◌, ◌≢◌, ℕ, ◌+◌, ◌<◌, ◌≤◌, List, length, get_or, Some, refl, sym, ap, ◌∙◌, inl, inr, arith}
-use Rattle.std.specs.List.{slice_get}
+use Rattle.std.proofs.Common.{◌≡◌, ◌≢◌, ℕ, ◌<◌, ◌≤◌, List, length, get_or, refl, sym, ap, ◌∙◌, inl, inr, arith}
 use Rattle.std.proofs.lemmas.Option.{slice_get_within, get_or_from_slice_get}
-use Rattle.md_trace.specs.Reaches.{Reaches, here, more, ReachesBoth}
+use Rattle.md_trace.specs.Reaches.{Reaches, here, more}
 use Rattle.md_clique.specs.declared.search.State.{State}
-use Rattle.md_clique.specs.declared.search.State.TheVariants.{New, Open, Closed}
+use Rattle.md_clique.specs.declared.search.State.TheVariants.{New, Closed}
 use Rattle.md_clique.specs.Links.{start_of, end_of}
-use Rattle.md_clique.specs.Search.{Kept, Stands, AreClosed, AreClasses, state_of, class_of}
+use Rattle.md_clique.specs.Search.{Kept, Stands, AreClosed, AreClasses, state_of}
 use Rattle.md_clique.proofs.Close.{what_is}
 
 pub falls_along : (links : List (ℕ × ℕ)) (states : List State) (count : ℕ) → AreClosed links states count → (a b : ℕ) → Reaches links a b → (c : ℕ) → state_of states a ≡ Closed c → (d : ℕ) × (state_of states b ≡ Closed d) × (d ≤ c)

@@ -1,15 +1,15 @@
 -- The last part is closed as a class.
-use Rattle.std.proofs.Common.{◌≡◌, ◌≢◌, ℕ, suc, zero, ◌+◌, ◌-◌, ◌*◌, ◌<◌, ◌≤◌, ◌⊎◌, Bool, cond, List, [], ◌∷◌, ◌++◌, length, get_or, take, drop, count_by, ◌^◌, refl, sym, ap, ◌∙◌, inl, inr, arith}
-use Rattle.std.proofs.lemmas.Bool.{cases_lt, cases_eq}
+use Rattle.std.proofs.Common.{◌≡◌, ◌≢◌, ℕ, suc, ◌+◌, ◌-◌, ◌<◌, ◌≤◌, ◌⊎◌, Bool, cond, List, [], ◌∷◌, length, get_or, take, drop, ◌^◌, refl, sym, ap, ◌∙◌, inl, inr, arith}
+use Rattle.std.proofs.lemmas.Bool.{cases_lt}
 use Rattle.std.proofs.lemmas.List.{get_or-take, length-take-le, get_or_past, get_or-drop, length-drop}
 use Rattle.std.proofs.lemmas.List.Sums.{sum_by-cons}
 use Rattle.md_trace.specs.Reaches.{Reaches}
 use Rattle.md_clique.specs.declared.search.State.{State}
 use Rattle.md_clique.specs.declared.search.State.TheVariants.{New, Open, Closed}
 use Rattle.md_clique.specs.Links.{start_of, end_of}
-use Rattle.md_clique.specs.Search.{Kept, Stands, MayClose, IsTrail, AreParts, AreWaiting, AreWalked, AreSettled, AreLeft, AreClosed, HasRoom, IsSettled, NotLater, last_first, state_of, is_new, count_new, NoneRenewed}
+use Rattle.md_clique.specs.Search.{Kept, Stands, MayClose, IsTrail, AreParts, AreWaiting, AreWalked, AreSettled, AreLeft, AreClosed, HasRoom, IsSettled, last_first, state_of, is_new, count_new, NoneRenewed}
 use Rattle.md_clique.specs.Kept.{work}
-use Rattle.md_clique.proofs.Parts.{le_last, not_later_than_last, not_later_joined, not_later_apart}
+use Rattle.md_clique.proofs.Parts.{not_later_than_last, not_later_joined, not_later_apart}
 
 -- lists that are new at the same places have as many new nodes
 pub count_same : (xs ys : List State) → length xs ≡ length ys → ((i : ℕ) → i < length xs → is_new (get_or xs i New) ≡ is_new (get_or ys i New)) → count_new xs ≡ count_new ys

@@ -1,15 +1,15 @@
 -- A new node is entered, at the end of the trail.
-use Rattle.std.proofs.Common.{◌≡◌, ℕ, suc, ◌+◌, ◌-◌, ◌*◌, ◌<◌, ◌≤◌, List, [], ◌∷◌, ◌++◌, length, get_or, set, sum, count_by, cond, ◌^◌, refl, sym, ◌∙◌, inl, inr, arith}
+use Rattle.std.proofs.Common.{◌≡◌, ℕ, ◌+◌, ◌<◌, List, [], ◌∷◌, ◌++◌, length, get_or, set, cond, ◌^◌, refl, sym, ◌∙◌, inl, inr, arith}
 use Rattle.std.proofs.lemmas.Bool.{cases_lt, cases_eq}
 use Rattle.std.proofs.lemmas.List.{get_or-set_same, get_or-set_other, length-set, get_or_append_left, get_or_push, length_push}
 use Rattle.std.proofs.lemmas.List.Sums.{sum_by-set}
-use Rattle.md_trace.specs.Reaches.{Reaches, here}
+use Rattle.md_trace.specs.Reaches.{here}
 use Rattle.md_clique.specs.declared.search.State.{State}
 use Rattle.md_clique.specs.declared.search.State.TheVariants.{New, Open, Closed}
 use Rattle.md_clique.specs.Links.{AreWithin, start_of, end_of}
-use Rattle.md_clique.specs.Search.{Kept, Stands, MayEnter, IsTrail, AreParts, AreWaiting, AreWalked, AreSettled, AreLeft, AreClosed, HasRoom, IsSettled, NotLater, last_first, state_of, is_new, count_new, NoneRenewed}
+use Rattle.md_clique.specs.Search.{Kept, Stands, MayEnter, IsTrail, AreParts, AreWaiting, AreWalked, AreSettled, AreLeft, AreClosed, HasRoom, IsSettled, state_of, is_new, count_new, NoneRenewed}
 use Rattle.md_clique.specs.Kept.{work}
-use Rattle.md_clique.proofs.Parts.{le_last, not_later_than_last, not_later_push, not_later_before}
+use Rattle.md_clique.proofs.Parts.{not_later_push, not_later_before}
 
 module _ (links : List (ℕ × ℕ)) (k : Kept) (within : AreWithin links (length k.states)) (stands : Stands links k) (v : ℕ) (may : MayEnter links k v) where
   at_v : state_of (set k.states v (Open (length k.trail))) v ≡ Open (length k.trail)

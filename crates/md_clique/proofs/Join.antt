@@ -1,13 +1,13 @@
 -- The last two parts reach each other, and become one.
-use Rattle.std.proofs.Common.{◌≡◌, ℕ, suc, ◌+◌, ◌-◌, ◌*◌, ◌<◌, ◌≤◌, List, length, get_or, take, sum, ◌∙◌, inl, inr, arith}
-use Rattle.std.proofs.lemmas.Bool.{cases_lt, cases_eq}
-use Rattle.std.proofs.lemmas.List.{get_or-take, length-take-le, get_or_past}
+use Rattle.std.proofs.Common.{◌≡◌, ℕ, ◌-◌, ◌<◌, ◌≤◌, List, length, get_or, take, ◌∙◌, inl, inr, arith}
+use Rattle.std.proofs.lemmas.Bool.{cases_lt}
+use Rattle.std.proofs.lemmas.List.{get_or-take, length-take-le}
 use Rattle.md_trace.specs.Reaches.{Reaches}
 use Rattle.md_clique.proofs.Walks.{walk_on}
 use Rattle.md_clique.specs.Links.{end_of}
 use Rattle.md_clique.specs.Search.{Kept, Stands, MayJoin, AreParts, AreWalked, AreSettled, IsSettled, NotLater, last_first, HasRoom}
 use Rattle.md_clique.specs.Kept.{work}
-use Rattle.md_clique.proofs.Parts.{le_last, not_later_than_last, not_later_joined, not_later_apart}
+use Rattle.md_clique.proofs.Parts.{not_later_than_last, not_later_joined, not_later_apart}
 
 module _ (links : List (ℕ × ℕ)) (k : Kept) (stands : Stands links k) (may : MayJoin links k) where
   -- the lowest part begins at 0, so there are two

@@ -1,6 +1,6 @@
-pub mod Parts
 pub mod Walks
 pub mod Threading
+pub mod Parts
 pub mod Enter
 pub mod Join
 pub mod Pass
@@ -8,3 +8,6 @@ pub mod Skip
 pub mod Looking
 pub mod Close
 pub mod Classes
+pub mod Naming
+pub mod Chains
+pub mod Laying

@@ -1,5 +1,5 @@
 -- What is known of the link that is looked at: it is the next one of a node of the last part.
-use Rattle.std.proofs.Common.{◌≡◌, ℕ, suc, ◌+◌, ◌-◌, ◌<◌, ◌≤◌, List, length, get_or, Some, sym, ◌∙◌, inl, inr, arith}
+use Rattle.std.proofs.Common.{◌≡◌, ℕ, suc, ◌-◌, ◌<◌, ◌≤◌, List, length, get_or, Some, sym, ◌∙◌, inl, inr, arith}
 use Rattle.std.specs.List.{slice_get}
 use Rattle.std.proofs.lemmas.Bool.{cases_lt}
 use Rattle.std.proofs.lemmas.List.{get_or_read, get_or_past}
@@ -8,7 +8,7 @@ use Rattle.md_trace.specs.Reaches.{Reaches, here, more}
 use Rattle.md_clique.specs.declared.search.State.{State}
 use Rattle.md_clique.specs.declared.search.State.TheVariants.{New, Open, Closed}
 use Rattle.md_clique.specs.Links.{AreWithin, start_of, end_of}
-use Rattle.md_clique.specs.Search.{Kept, Stands, MayEnter, MayJoin, MayPass, NotLater, last_first, state_of}
+use Rattle.md_clique.specs.Search.{Kept, Stands, MayEnter, MayJoin, MayPass, last_first, state_of}
 use Rattle.md_clique.proofs.Parts.{not_later_than_last}
 use Rattle.md_clique.proofs.Walks.{walk_on}
 

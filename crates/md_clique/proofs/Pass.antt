@@ -1,11 +1,11 @@
 -- One link more is looked at.
-use Rattle.std.proofs.Common.{◌≡◌, ℕ, suc, ◌+◌, ◌-◌, ◌*◌, ◌<◌, ◌≤◌, List, [], ◌∷◌, ◌++◌, length, get_or, set, sum, refl, ap, sym, ◌∙◌, subst, inl, inr, arith}
+use Rattle.std.proofs.Common.{◌≡◌, ℕ, suc, ◌+◌, ◌<◌, ◌≤◌, List, length, get_or, set, sum, sym, ◌∙◌, inl, inr, arith}
 use Rattle.std.proofs.lemmas.Bool.{cases_eq, cases_order, cases_lt}
 use Rattle.std.proofs.lemmas.List.{get_or-set_same, get_or-set_other, length-set, get_or_past}
 use Rattle.std.proofs.lemmas.List.Sums.{sum_by-set}
-use Rattle.md_clique.specs.declared.search.State.TheVariants.{New, Open, Closed}
-use Rattle.md_clique.specs.Links.{AreThreaded, start_of, end_of}
-use Rattle.md_clique.specs.Search.{Kept, Stands, MayPass, AreWaiting, AreSettled, AreLeft, IsSettled, state_of}
+use Rattle.md_clique.specs.declared.search.State.TheVariants.{New, Open}
+use Rattle.md_clique.specs.Links.{AreThreaded, start_of}
+use Rattle.md_clique.specs.Search.{Kept, Stands, MayPass, AreWaiting, AreSettled, AreLeft, state_of}
 use Rattle.md_clique.specs.Kept.{work}
 
 module _ (links : List (ℕ × ℕ)) (before : List ℕ) (threads : AreThreaded links before) (k : Kept) (stands : Stands links k) (v t : ℕ) (may : MayPass links k v t) where

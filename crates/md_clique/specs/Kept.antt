@@ -1,5 +1,5 @@
 -- What a search keeps, and how much work is left of it.
-use Rattle.std.specs.Prelude.{ℕ, ◌+◌, ◌*◌, List, length, sum}
+use Rattle.std.specs.Prelude.{ℕ, ◌+◌, ◌*◌, length, sum}
 use Rattle.md_clique.specs.declared.search.Search.{Search}
 use Rattle.md_clique.specs.Search.{Kept, count_new}
 

@@ -1,7 +1,7 @@
 -- What holds at each moment of the search for the classes of mutual reachability. The trail has the open nodes, cut
 -- into parts: `first` has the places at which they begin. Each open node reaches all that stand in its own part or a
 -- later one. (Path-based search: Gabow, "Path-based depth-first search for strong and biconnected components", 2000.)
-use Rattle.std.specs.Prelude.{ℕ, ◌≡◌, ◌≢◌, ◌≤◌, ◌<◌, ◌+◌, ◌-◌, ◌^◌, ◌⊎◌, Bool, true, false, suc, List, length, slice_index, slice_index_or, slice_get, Some, count_by}
+use Rattle.std.specs.Prelude.{ℕ, ◌≡◌, ◌≤◌, ◌<◌, ◌+◌, ◌-◌, ◌^◌, ◌⊎◌, Bool, true, false, suc, List, length, slice_index, slice_index_or, count_by}
 use Rattle.md_trace.specs.Reaches.{Reaches, ReachesBoth}
 use Rattle.md_clique.specs.Links.{start_of, end_of}
 use Rattle.md_clique.specs.declared.search.State.{State}

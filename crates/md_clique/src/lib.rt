@@ -2,5 +2,15 @@
 //! members and the one link that enters each (Conway and Somogyi 2001, section 3).
 #![tactic(auto)]
 
+mod clique;
+mod graph;
+mod members;
+mod numbering;
 mod search;
 mod threads;
+
+pub use clique::Cliques;
+pub use graph::cliques;
+
+#[cfg(test)]
+mod tests;

@@ -18,6 +18,21 @@ pub enum State {
     Closed(u32),
 }
 
+impl State {
+    ghost use Rattle.std.specs.Prelude.{◌≡◌};
+    ghost use Rattle.md_clique.specs.Search.{class_of};
+
+    /// The class of a closed node, and 0 for another.
+    pub fn class(self) -> u32
+        ensures { result ≡ class_of self }
+    {
+        match self {
+            State::Closed(class) => class,
+            State::New | State::Open(_) => 0,
+        }
+    }
+}
+
 /// What the search does next.
 #[derive(Clone, Copy, Debug)]
 pub enum Move {

@@ -1,4 +1,4 @@
-use Rattle.std.proofs.Common.{◌≡◌, ◌≢◌, ◌<◌, ℕ, length, get_or}
+use Rattle.std.proofs.Common.{◌≡◌, ◌≢◌, ◌<◌, ℕ, get_or}
 use Rattle.md_clique.specs.Search.{state_of}
 use Rattle.md_clique.specs.declared.search.State.TheVariants.{Closed}
 use Rattle.md_clique.proofs.search.close_nodes.Given as goal

@@ -1,7 +1,7 @@
-use Rattle.std.proofs.Common.{◌≡◌, ℕ, ◌-◌, ◌+◌, ◌<◌, ◌≤◌, length, get_or, replicate, refl, sym, ◌∙◌, inl, inr, arith}
+use Rattle.std.proofs.Common.{◌≡◌, ℕ, length, get_or, replicate, refl, inl, inr, arith}
 use Rattle.std.proofs.lemmas.Bool.{cases_lt}
 use Rattle.std.proofs.lemmas.List.{get_or_read, get_or_past, get_or-replicate, length-replicate}
-use Rattle.md_clique.specs.Links.{StartAt, AreThreaded, start_of}
+use Rattle.md_clique.specs.Links.{start_of}
 use Rattle.md_clique.proofs.Threading.{threading_none, threading_more, threading_all}
 use Rattle.md_clique.proofs.threads.thread_links.Goals as goal
 

@@ -1,6 +1,6 @@
-use Rattle.std.proofs.Common.{◌≡◌, ◌-◌, ◌+◌, ◌<◌, ◌≤◌, ◌^◌, List, length, take, drop, get_or, sym, ◌∙◌, arith}
-use Rattle.std.proofs.lemmas.List.{get_or_read, get_or-drop, length-drop, take_rest, with_items_is}
-use Rattle.md_clique.specs.Search.{last_first, state_of}
+use Rattle.std.proofs.Common.{◌≡◌, ◌-◌, length, take, arith}
+use Rattle.std.proofs.lemmas.List.{get_or_read, take_rest, with_items_is}
+use Rattle.md_clique.specs.Search.{last_first}
 use Rattle.md_clique.specs.Kept.{kept}
 use Rattle.md_clique.proofs.Close.{Closes, close_stands, close_works, close_renews, closes_from_part}
 use Rattle.md_clique.proofs.search.Search.close.Goals as goal

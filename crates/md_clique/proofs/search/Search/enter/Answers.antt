@@ -1,5 +1,5 @@
-use Rattle.std.proofs.Common.{◌≡◌, length, ◌-◌, ◌<◌, ◌^◌, take, arith, sym, ◌∙◌}
-use Rattle.md_clique.proofs.Enter.{enter_stands, enter_fits, enter_works, enter_renews}
+use Rattle.std.proofs.Common.{◌≡◌, length, ◌<◌, ◌^◌, arith, ◌∙◌}
+use Rattle.md_clique.proofs.Enter.{enter_stands, enter_fits}
 use Rattle.md_clique.specs.Kept.{kept}
 use Rattle.md_clique.proofs.search.Search.enter.Goals as goal
 
