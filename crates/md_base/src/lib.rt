@@ -5,7 +5,9 @@
 mod measure;
 mod name;
 mod number;
+mod steps;
 
 pub use measure::{Counts, Measure};
 pub use name::{Name, Text};
 pub use number::{CsdId, NoMemory, PdId, ProcId, SiteId};
+pub use steps::Steps;

@@ -1,0 +1,10 @@
+pub mod Chains
+pub mod CounterSteps
+pub mod Counting
+pub mod Histories
+pub mod Lists
+pub mod Longest
+pub mod Numbered
+pub mod Placing
+pub mod Setwise
+mod Worked

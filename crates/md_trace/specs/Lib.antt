@@ -1,1 +1,11 @@
+pub mod Activation
+pub mod Cliques
+pub mod Context
+pub mod Count
+pub mod Counted
+pub mod Laws
+pub mod Links
+pub mod PortHistory
 pub mod Reaches
+pub mod Sinks
+pub mod Totals

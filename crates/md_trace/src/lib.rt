@@ -1,3 +1,15 @@
 //! Events of a run and what a profile says of them: definitions of contexts, links, cliques and counts over a
-//! list of events.
+//! list of events, and the sinks that take the events one after the other.
 #![tactic(auto)]
+
+mod count;
+mod counter;
+mod event;
+mod port_sink;
+mod silent;
+
+pub use count::count_up;
+pub use counter::Counter;
+pub use event::Event;
+pub use port_sink::PortSink;
+pub use silent::Silent;

@@ -1,0 +1,4 @@
+pub mod Names
+pub mod Sites
+pub mod Sound
+pub mod Tables

@@ -1,0 +1,86 @@
+-- Counts: how often the events of a set of activations fall on each measure.
+use Rattle.std.specs.Prelude.{ℕ, ◌+◌, ◌&&◌, Bool, false, List, [], ◌∷◌, min, Option, Some, None, if◌then◌else◌, sum_by}
+use Rattle.md_base.specs.declared.measure.Counts.{Counts}
+use Rattle.md_base.specs.declared.measure.Measure.{Measure}
+use Rattle.md_base.specs.declared.measure.Measure.TheVariants.{Calls, Exits, Fails, Redos, Allocs, Words}
+use Rattle.md_trace.specs.declared.event.Event.{Event}
+use Rattle.md_trace.specs.declared.event.Event.TheVariants.{Call, Exit, Redo, Fail, Alloc}
+use Rattle.md_trace.specs.Activation.{numbered}
+use Rattle.md_trace.specs.Context.{Link, Placed, placed_of, has_link}
+use Rattle.md_trace.specs.Links.{links}
+
+-- the activation of an event
+abbrev pub activation_of : Event → ℕ
+activation_of (Call a p s q) = a
+activation_of (Exit a) = a
+activation_of (Redo a) = a
+activation_of (Fail a) = a
+activation_of (Alloc a w) = a
+
+-- what an event adds to a measure: one to its own, and an allocation its words to the words
+abbrev pub amount : Measure → Event → ℕ
+amount Calls (Call a p s q) = 1
+amount Exits (Exit a) = 1
+amount Redos (Redo a) = 1
+amount Fails (Fail a) = 1
+amount Allocs (Alloc a w) = 1
+amount Words (Alloc a w) = w
+amount m e = 0
+
+-- the sum of a measure over the events of the activations that pass a test of their numbers
+abbrev pub sum_where : (ℕ → Bool) → Measure → List Event → ℕ
+sum_where test m [] = 0
+sum_where test m (e ∷ h) = (if test (activation_of e) then amount m e else 0) + sum_where test m h
+
+-- the greatest number that a count of a link shows; a greater one stands still there
+abbrev pub capped : ℕ → ℕ
+capped n = min n 4294967295
+
+-- an activation that may not be there passes a test; one that isn't there fails it
+abbrev pub passes : (Placed → Bool) → Option Placed → Bool
+passes test None = false
+passes test (Some x) = test x
+
+-- a test of what an activation is, as a test of its number
+abbrev pub passing : List Placed → (Placed → Bool) → ℕ → Bool
+passing xs test a = passes test (numbered xs a)
+
+-- the sum of a measure over the activations that have a link
+abbrev pub link_sum : ℕ → List Event → Link → Measure → ℕ
+link_sum main h l m = sum_where (passing (placed_of main h) (has_link l)) m h
+
+-- The count of a measure over the activations that pass a test of their numbers. It is made link by link: the sum
+-- over those that have the link, or 4,294,967,295 where that is more. Where no link has more it is the plain sum.
+abbrev pub count_over : ℕ → List Event → (ℕ → Bool) → Measure → ℕ
+count_over main h test m =
+    sum_by (λ l. capped (sum_where (λ a. test a && passing (placed_of main h) (has_link l.link) a) m h)) (links main (placed_of main h))
+
+-- the count of one measure
+abbrev pub count_of : Counts → Measure → ℕ
+count_of c Calls = c.calls
+count_of c Exits = c.exits
+count_of c Fails = c.fails
+count_of c Redos = c.redos
+count_of c Allocs = c.allocs
+count_of c Words = c.words
+
+-- six counts, each given by its measure
+abbrev pub counts_by : (Measure → ℕ) → Counts
+counts_by f = record { calls = f Calls; exits = f Exits; fails = f Fails; redos = f Redos; allocs = f Allocs; words = f Words }
+
+-- some more on one measure, up to the greatest number
+abbrev pub with_more : Counts → Measure → ℕ → Counts
+with_more c Calls n = record c { calls = capped (c.calls + n) }
+with_more c Exits n = record c { exits = capped (c.exits + n) }
+with_more c Fails n = record c { fails = capped (c.fails + n) }
+with_more c Redos n = record c { redos = capped (c.redos + n) }
+with_more c Allocs n = record c { allocs = capped (c.allocs + n) }
+with_more c Words n = record c { words = capped (c.words + n) }
+
+-- the counts of the activations that pass a test of their numbers, each up to the greatest number
+abbrev pub counts_where : (ℕ → Bool) → List Event → Counts
+counts_where test h = counts_by (λ m. capped (sum_where test m h))
+
+-- the counts of the activations that pass a test, each up to the greatest number
+abbrev pub set_counts : ℕ → List Event → (Placed → Bool) → Counts
+set_counts main h test = counts_where (passing (placed_of main h) test) h
