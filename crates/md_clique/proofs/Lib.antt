@@ -11,3 +11,6 @@ pub mod Classes
 pub mod Naming
 pub mod Chains
 pub mod Laying
+pub mod EntryPlaces
+pub mod Entered
+pub mod Worked

@@ -5,7 +5,8 @@ use Rattle.std.proofs.lemmas.List.{get_or-set_same, get_or-set_other, length-set
 use Rattle.md_clique.specs.declared.search.State.{State}
 use Rattle.md_trace.specs.Reaches.{ReachesBoth}
 use Rattle.md_clique.specs.Search.{state_of, class_of, AreClasses}
-use Rattle.md_clique.specs.Cliques.{AreCliques, clique_count}
+use Rattle.md_trace.specs.Cliques.{AreCliques}
+use Rattle.md_clique.specs.Cliques.{clique_count}
 use Rattle.md_clique.specs.Numbering.{AreNumbers}
 
 -- each number is below the count
@@ -137,7 +138,7 @@ module _ (states : List State) (classes : ℕ) (names : List (Option ℕ)) (numb
       (λ (e : class_of (state_of states a) ≡ class_of (state_of states b)).
           let q : Some (get_or numbers a 0) ≡ Some (get_or numbers b 0) = sym (is.named a la) ∙ (rw e (is.named b lb)) in cc),
     );
-    by_least = λ v k h lt. is.by_least v k (let e = is.size in omega arith) lt;
+    in_order = is.by_least;
   }
 
   pub count_is : count ≡ clique_count numbers
@@ -151,14 +152,14 @@ module _ (states : List State) (classes : ℕ) (names : List (Option ℕ)) (numb
       ]
 
 -- numbers of classes of mutual reachability are numbers of cliques
-pub are_cliques : (links : List (ℕ × ℕ)) (nodes count : ℕ) (states : List State) (numbers : List ℕ) → AreClasses links nodes states count → AreNumbers states numbers → AreCliques links nodes numbers
-are_cliques links nodes count states numbers classes is =
-    let size = classes.each in record {
-      each = is.each ∙ classes.each;
-      together = λ a b la lb.
+pub are_cliques : (links : List (ℕ × ℕ)) (nodes count : ℕ) (states : List State) (numbers : List ℕ) → AreClasses links nodes states count → AreNumbers states numbers → AreCliques nodes links numbers
+are_cliques links nodes count states numbers found is =
+    let size = found.each in record {
+      each = is.each ∙ found.each;
+      classes = λ a b la lb.
           let t = is.together a b (omega arith) (omega arith) in (
-            (λ (e : get_or numbers a 0 ≡ get_or numbers b 0). classes.together a b la lb (t.0 e)),
-            (λ (both : ReachesBoth links a b). t.1 (classes.apart a b la lb both)),
+            (λ (e : get_or numbers a 0 ≡ get_or numbers b 0). found.together a b la lb (t.0 e)),
+            (λ (both : ReachesBoth links a b). t.1 (found.apart a b la lb both)),
           );
-      by_least = is.by_least;
+      in_order = λ v k lt. is.in_order v k (omega arith);
     }

@@ -6,3 +6,5 @@ pub mod Kept
 pub mod Numbering
 pub mod Members
 pub mod Layout
+pub mod Entries
+pub mod Found

@@ -1,5 +1,5 @@
 ghost use Rattle.std.specs.Prelude.{◌<◌, All, IfOk};
-ghost use Rattle.md_clique.specs.Cliques.{AreCliques};
+ghost use Rattle.md_trace.specs.Cliques.{AreCliques};
 
 use crate::clique::Cliques;
 use crate::members::{Layout, lay_out};
@@ -14,7 +14,7 @@ use std::alloc::Global;
 /// path-based search (Gabow 2000) with a stack of its own.
 pub fn cliques(alloc: Global, nodes: u32, links: &[(u32, u32)]) -> Result<Cliques, NoMemory>
     requires { All (λ link. (link.0 < nodes) × (link.1 < nodes)) links.now }
-    ensures { IfOk result (λ cliques. AreCliques links.now nodes cliques) }
+    ensures { IfOk result (λ cliques. AreCliques nodes links.now cliques) }
 {
     let Classes { states, count } = find_classes(alloc, nodes, links)?;
     let Numbering { numbers, count } = number_classes(alloc, &states, count)?;

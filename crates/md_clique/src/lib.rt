@@ -3,6 +3,7 @@
 #![tactic(auto)]
 
 mod clique;
+mod entries;
 mod graph;
 mod members;
 mod numbering;
@@ -10,6 +11,7 @@ mod search;
 mod threads;
 
 pub use clique::Cliques;
+pub use entries::{EnterFault, entering};
 pub use graph::cliques;
 
 #[cfg(test)]
