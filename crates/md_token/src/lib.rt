@@ -11,8 +11,9 @@ mod string;
 mod token;
 mod word;
 
+pub use bytes::word_length;
 pub use kind::{Kind, same_kind};
 pub use literal::{number_of, string_value};
 pub use scan::tokens;
 pub use token::Token;
-pub use word::is_word;
+pub use word::{is_word, word_kind};
