@@ -257,6 +257,10 @@ relation = do
 abbrev pub line_of : Part → ℕ
 line_of (At line t) = line
 
+abbrev pub first_line : List Part → ℕ
+first_line [] = 0
+first_line (p ∷ ps) = line_of p
+
 -- the conjunction of these units; one alone is itself
 abbrev pub joined : List Part → Part
 joined [] = At 0 (Each (gathered []))
@@ -269,7 +273,7 @@ open_goal zero = λ i. if sees kind.Open i then limit i else refuse i
 open_goal (suc room) = expect kind.Open
 
 -- The goals of one depth, by the conjunction of the next one.
-module _ (room : ℕ) (inner : Parser Part) where
+module _ (inner : Parser Part) where
   unfoldable pub arms_from : (n : ℕ) → List Part → Parser (List Part)
   arms_from zero found = refuse
   arms_from (suc n) found = do
@@ -277,20 +281,30 @@ module _ (room : ℕ) (inner : Parser Part) where
     more ← eat kind.Semicolon
     if more then arms_from n (found ++ arm ∷ []) else (do expect kind.Close; pure (found ++ arm ∷ []))
 
-  abbrev pub choice : (line : ℕ) → Part → Parser Part
-  choice line c = do
+  -- the arms of a disjunction past the first one
+  unfoldable pub arms : Part → Parser (List Part)
+  arms first = λ i. arms_from (turns i) (first ∷ []) i
+
+  unfoldable pub disjunction : (line : ℕ) → Part → Parser Part
+  disjunction line first = do
+    expect kind.Semicolon
+    ps ← arms first
+    pure (At line (Either (gathered ps)))
+
+  -- the then and the else part of an if-then-else
+  unfoldable pub branches : Parser (Part × Part)
+  branches = do
     expect kind.Then
     t ← inner
     expect kind.Semicolon
     e ← inner
-    expect kind.Close
-    pure (At line (Choose c t e))
+    pure (t, e)
 
-  abbrev pub disjunction : (line : ℕ) → Part → Parser Part
-  disjunction line first = do
-    expect kind.Semicolon
-    arms ← λ i. arms_from (turns i) (first ∷ []) i
-    pure (At line (Either (gathered arms)))
+  unfoldable pub choice : (line : ℕ) → Part → Parser Part
+  choice line c = do
+    b ← branches
+    expect kind.Close
+    pure (At line (Choose c b.0 b.1))
 
   abbrev pub grouped : (line : ℕ) → Part → Kind → Parser Part
   grouped line first kind.Close = advance >> pure first
@@ -298,13 +312,14 @@ module _ (room : ℕ) (inner : Parser Part) where
   grouped line first kind.Then = choice line first
   grouped line first _ = refuse
 
+module _ (room : ℕ) (inner : Parser Part) where
   -- a conjunction, a disjunction or an if-then-else in parentheses
   unfoldable pub group : Parser Part
   group = do
     line ← open_goal room
     first ← inner
     t ← peek
-    grouped line first t.kind
+    grouped inner line first t.kind
 
   unfoldable pub negation : Parser Part
   negation = do
@@ -327,22 +342,20 @@ module _ (room : ℕ) (inner : Parser Part) where
   abbrev pub at : ℕ → Parser Task → Parser Part
   at line p = p >>= (λ t. pure (At line t))
 
-  abbrev pub unit_by : Lexeme → Kind → Parser Part
-  unit_by t kind.True = advance >> pure (At t.line (Plain Succeeds))
-  unit_by t kind.Fail = advance >> pure (At t.line (Plain Fails))
-  unit_by t kind.Open = group
-  unit_by t kind.Not = negation
-  unit_by t kind.Some = quantification
-  unit_by t kind.Variable = at t.line relation
-  unit_by t kind.Call = at t.line closure_call
-  unit_by t kind.Name = at t.line call
-  unit_by t kind.Qualified = at t.line call
-  unit_by t _ = refuse
+  abbrev pub unit_by : (line : ℕ) → Kind → Parser Part
+  unit_by line kind.True = advance >> pure (At line (Plain Succeeds))
+  unit_by line kind.Fail = advance >> pure (At line (Plain Fails))
+  unit_by line kind.Open = group
+  unit_by line kind.Not = negation
+  unit_by line kind.Some = quantification
+  unit_by line kind.Variable = at line relation
+  unit_by line kind.Call = at line closure_call
+  unit_by line kind.Name = at line call
+  unit_by line kind.Qualified = at line call
+  unit_by line _ = refuse
 
   unfoldable pub unit : Parser Part
-  unit = do
-    t ← peek
-    unit_by t t.kind
+  unit = λ i. unit_by (token i).line (kind_at i) i
 
   unfoldable pub units_from : (n : ℕ) → List Part → Parser (List Part)
   units_from zero found = refuse
@@ -351,9 +364,13 @@ module _ (room : ℕ) (inner : Parser Part) where
     more ← eat kind.Comma
     if more then units_from n (found ++ u ∷ []) else pure (found ++ u ∷ [])
 
-  unfoldable pub conjunction_with : Parser Part
+  -- units with commas between them
+  unfoldable pub units : Parser (List Part)
+  units = λ i. units_from (turns i) [] i
+
+  abbrev pub conjunction_with : Parser Part
   conjunction_with = do
-    us ← λ i. units_from (turns i) [] i
+    us ← units
     pure (joined us)
 
 -- a conjunction within which so many goals may be open
