@@ -134,6 +134,10 @@ variable seen = λ i.
     else if nat_lt most (length (token i).text) then limit i
     else Ok (place_of (token i).text i.vars, record (next i) { vars = with_variable (token i).text i.vars })
 
+-- the names of the clause's variables, at its end
+unfoldable pub end_clause : Parser (List (List ℕ))
+end_clause = λ i. Ok (i.vars, record i { vars = [] })
+
 -- the next number of a call site
 unfoldable pub site : Parser ℕ
 site = λ i. Ok (i.sites, record i { sites = i.sites + 1 })

@@ -20,7 +20,7 @@ use Rattle.md_token.specs.declared.kind.Kind.TheVariants as kind
 use Rattle.md_token.specs.Kinds.{same_kind}
 use Rattle.md_token.specs.Token.{Lexeme, is_word_byte, word_kind}
 use Rattle.md_token.specs.Literal.{number_of, string_value}
-use Rattle.md_reader.specs.Input.{Input, Parser, Outcome, ◌>>=◌, ◌>>◌, and_then, pure, refuse, limit, peek, advance, eat, expect, turns, most, take_name, name, word, variable, site, token, kind_at, sees, next}
+use Rattle.md_reader.specs.Input.{Input, Parser, Outcome, ◌>>=◌, ◌>>◌, and_then, pure, refuse, limit, peek, advance, eat, expect, turns, most, take_name, name, word, variable, site, token, kind_at, sees, next, end_clause}
 
 -- ---- names of predicates
 
@@ -406,11 +406,16 @@ sorts_from (suc n) found = do
 abbrev pub sorts : Parser (List Sort)
 sorts = sorts_from most []
 
+-- nothing, or types in parentheses
+unfoldable pub functor_arguments : Parser (List Sort)
+functor_arguments = do
+  some ← eat kind.Open
+  if some then sorts else pure []
+
 unfoldable pub functor : Parser Construct
 functor = do
   f ← name
-  some ← eat kind.Open
-  ts ← if some then sorts else pure []
+  ts ← functor_arguments
   pure (record { name = f; args = ts })
 
 unfoldable pub functors_from : (n : ℕ) → List Construct → Parser (List Construct)
@@ -419,6 +424,10 @@ functors_from (suc n) found = do
   f ← functor
   more ← eat kind.Semicolon
   if more then functors_from n (found ++ f ∷ []) else (do expect kind.End; pure (found ++ f ∷ []))
+
+-- functors with `;` between them, and the end sign
+unfoldable pub functors : Parser (List Construct)
+functors = λ i. functors_from (turns i) [] i
 
 abbrev pub is_own_type : List ℕ → Bool
 is_own_type t = not ((bytes_eq t (codes "int") || bytes_eq t (codes "string")) || bytes_eq t (codes "io"))
@@ -432,7 +441,7 @@ family line = do
   word (codes "type")
   t ← type_name
   expect kind.Yields
-  fs ← λ i. functors_from (turns i) [] i
+  fs ← functors
   pure (record { name = t; line = line; functors = fs })
 
 -- ---- predicates
@@ -464,14 +473,17 @@ mode_word = λ i. take_word (mode_named (token i).text) i
 unfoldable pub determinism : Parser Det
 determinism = λ i. take_word (det_named (token i).text) i
 
-abbrev pub passes : Mode → Bool
-passes mode.In = true
-passes mode.Out = true
-passes _ = false
+abbrev pub ho_mode_by : Option Mode → Option Mode
+ho_mode_by (Some mode.In) = Some mode.In
+ho_mode_by (Some mode.Out) = Some mode.Out
+ho_mode_by _ = None
+
+abbrev pub ho_mode_named : List ℕ → Option Mode
+ho_mode_named t = ho_mode_by (mode_named t)
 
 -- the mode of a higher-order argument
 unfoldable pub ho_mode : Parser Mode
-ho_mode = λ i. and_then (mode_word i) (λ m j. if passes m then Ok (m, j) else refuse i)
+ho_mode = λ i. take_word (ho_mode_named (token i).text) i
 
 unfoldable pub modes_from : (n : ℕ) → List Mode → Parser (List Mode)
 modes_from zero found = λ i. and_then (mode_word i) (λ m j. limit i)
@@ -480,24 +492,33 @@ modes_from (suc n) found = do
   more ← eat kind.Comma
   if more then modes_from n (found ++ m ∷ []) else (do expect kind.Close; pure (found ++ m ∷ []))
 
+unfoldable pub inst_modes : Parser (List Mode)
+inst_modes = do
+  expect kind.Pred
+  expect kind.Open
+  modes_from most []
+
 -- `(pred(M1, ..) is D)`
 unfoldable pub inst : Parser (List Mode × Det)
 inst = do
   expect kind.Open
-  expect kind.Pred
-  expect kind.Open
-  ms ← modes_from most []
+  ms ← inst_modes
   expect kind.Is
   d ← determinism
   expect kind.Close
   pure (ms, d)
 
-unfoldable pub ho_argument : Parser (Sort × Mode)
-ho_argument = do
+unfoldable pub ho_types : Parser (List Sort)
+ho_types = do
   expect kind.Pred
   expect kind.Open
   ts ← sorts
   expect kind.HasMode
+  pure ts
+
+unfoldable pub ho_argument : Parser (Sort × Mode)
+ho_argument = do
+  ts ← ho_types
   m ← ho_mode
   n ← inst
   pure (closure (gathered_sorts ts) n.0 n.1, m)
@@ -523,6 +544,12 @@ arguments_from (suc n) found = do
   more ← eat kind.Comma
   if more then arguments_from n (found ++ a ∷ []) else (do expect kind.Close; pure (found ++ a ∷ []))
 
+-- nothing, or arguments in parentheses
+unfoldable pub declared_arguments : Parser (List (Sort × Mode))
+declared_arguments = do
+  some ← eat kind.Open
+  if some then arguments_from most [] else pure []
+
 -- the head's variables, n after the next one
 unfoldable pub head_from : (n : ℕ) → List ℕ → Parser (List ℕ)
 head_from zero found = do
@@ -540,10 +567,6 @@ head (suc n) = do
   expect kind.Open
   head_from n []
 
--- the names of the clause's variables, at its end
-unfoldable pub end_clause : Parser (List (List ℕ))
-end_clause = λ i. Ok (i.vars, record i { vars = [] })
-
 -- how many goals may be open at a place
 abbrev pub most_open : ℕ
 most_open = 200
@@ -553,16 +576,21 @@ pub record Declaration : Type 0 where
   pub args : List (Sort × Mode)
   pub det : Det
 
+-- `is`, a determinism and the end sign
+unfoldable pub declared_determinism : Parser Det
+declared_determinism = do
+  expect kind.Is
+  d ← determinism
+  expect kind.End
+  pure d
+
 -- `pred`, and the declaration after it
 unfoldable pub declaration : Parser Declaration
 declaration = do
   expect kind.Pred
   q ← declared_name
-  some ← eat kind.Open
-  as' ← if some then arguments_from most [] else pure []
-  expect kind.Is
-  d ← determinism
-  expect kind.End
+  as' ← declared_arguments
+  d ← declared_determinism
   pure (record { name = q; args = as'; det = d })
 
 pub record Clause : Type 0 where
@@ -571,19 +599,25 @@ pub record Clause : Type 0 where
   pub body : Part
   pub vars : List (List ℕ)
 
+-- `:-`, a conjunction and the end sign
+unfoldable pub body : Parser Part
+body = do
+  expect kind.Declare
+  g ← conjunction most_open
+  expect kind.End
+  pure g
+
 -- the clause of a predicate of this name with so many arguments
 unfoldable pub clause : PredName → (arity : ℕ) → Parser Clause
 clause q arity = do
   t ← peek
   this_name q
   xs ← head arity
-  expect kind.Declare
-  body ← conjunction most_open
-  expect kind.End
+  g ← body
   vs ← end_clause
-  pure (record { line = t.line; head = xs; body = body; vars = vs })
+  pure (record { line = t.line; head = xs; body = g; vars = vs })
 
-abbrev pub procedure_from : (line : ℕ) → Declaration → Clause → Procedure
+unfoldable pub procedure_from : (line : ℕ) → Declaration → Clause → Procedure
 procedure_from line d c = record { qualifier = d.name.qualifier; name = d.name.name; line = line; clause_line = c.line; args = d.args; det = d.det; vars = c.vars; head = c.head; body = c.body }
 
 unfoldable pub procedure : (line : ℕ) → Parser Procedure
@@ -605,38 +639,59 @@ is_name kind.Is = true
 is_name kind.Pred = true
 is_name _ = false
 
-unfoldable pub module_name : Parser (List ℕ)
-module_name = λ i. if is_name (token i).kind && not (bytes_eq (token i).text (codes "io")) then take_name (token i).text i else refuse i
+-- the name of the program's own module, which is known from there on
+abbrev pub set_home : List ℕ → Parser (Unit {0})
+set_home m = λ i. Ok (tt, record i { home = m })
 
--- the first declaration; from there on the module's name is known
+unfoldable pub module_name : Parser (List ℕ)
+module_name = λ i.
+    if is_name (token i).kind && not (bytes_eq (token i).text (codes "io"))
+    then (do m ← take_name (token i).text; set_home (token i).text; pure m) i
+    else refuse i
+
+-- the declaration of the module
 unfoldable pub heading : Parser Listing
 heading = do
   line ← expect kind.Declare
   word (codes "module")
   m ← module_name
   expect kind.End
-  λ i. Ok (record { module_name = m; module_line = line; types = []; procedures = [] }, record i { home = m })
+  pure (record { module_name = m; module_line = line; types = []; procedures = [] })
 
-abbrev pub with_family : Listing → Family → Listing
+unfoldable pub with_family : Listing → Family → Listing
 with_family l t = record l { types = l.types ++ t ∷ [] }
 
-abbrev pub with_procedure : Listing → Procedure → Listing
+unfoldable pub with_procedure : Listing → Procedure → Listing
 with_procedure l p = record l { procedures = l.procedures ++ p ∷ [] }
+
+unfoldable pub declared_procedure : Listing → (line : ℕ) → Parser Listing
+declared_procedure l line = do
+  p ← procedure line
+  pure (with_procedure l p)
+
+unfoldable pub declared_family : Listing → (line : ℕ) → Parser Listing
+declared_family l line = do
+  t ← family line
+  pure (with_family l t)
 
 -- a declaration of a type, or of a predicate with its clause
 unfoldable pub declared : Listing → Parser Listing
 declared l = do
   line ← expect kind.Declare
-  λ i. if sees kind.Pred i then (procedure line >>= (λ p. pure (with_procedure l p))) i else (family line >>= (λ t. pure (with_family l t))) i
+  λ i. if sees kind.Pred i then declared_procedure l line i else declared_family l line i
 
 unfoldable pub declarations_from : (n : ℕ) → Listing → Parser Listing
 declarations_from zero l = refuse
 declarations_from (suc n) l = λ i. if sees kind.Stop i then Ok (l, i) else (declared l >>= declarations_from n) i
 
+-- the declarations after that of the module, up to the end of the text
+unfoldable pub declarations : Listing → Parser Listing
+declarations l = λ i. declarations_from (turns i) l i
+
 unfoldable pub program : Parser Listing
 program = do
   l ← heading
-  λ i. declarations_from (turns i) l i
+  declarations l
 
 abbrev pub start : List Lexeme → Input
 start ts = record { rest = ts; home = []; vars = []; sites = 0 }

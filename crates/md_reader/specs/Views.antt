@@ -1,7 +1,17 @@
 -- What the values of the reader's own types mean.
 use Rattle.std.specs.Prelude.{option_map}
 use Rattle.md_reader.specs.declared.names.Written.{Written as Text}
-use Rattle.md_reader.specs.Rules.{Written}
+use Rattle.md_reader.specs.declared.procedure.Declaration.{Declaration as Said}
+use Rattle.md_reader.specs.declared.procedure.Clause.{Clause as Shown}
+use Rattle.md_hlds.specs.Part.{part_of}
+use Rattle.md_hlds.specs.Listing.{args_of}
+use Rattle.md_reader.specs.Rules.{Written, Declaration, Clause}
 
 abbrev pub written_of : Text → Written
 written_of w = record { qualifier = option_map (λ q. q.now) w.qualifier; name = w.name.now }
+
+abbrev pub declaration_of : Said → Declaration
+declaration_of d = record { name = d.name; args = args_of d.args.items; det = d.det }
+
+abbrev pub clause_of : Shown → Clause
+clause_of c = record { line = c.line; head = c.head; body = part_of c.body; vars = c.vars.items }

@@ -9,6 +9,7 @@ use crate::scope::Scope;
 use md_token::{Kind, Token, is_word, same_kind};
 use md_base::Name;
 use std::alloc::Global;
+use std::mem;
 
 /// The longest name, in bytes, and the longest list of arguments or variables.
 pub(crate) const MOST: usize = 255;
@@ -190,6 +191,23 @@ impl<'a> Input<'a> {
         self.scope.add(self.alloc, text)?;
         self.advance();
         Ok(place)
+    }
+
+    /// The name of the program's own module is this one.
+    #[tactic(auto, unfolding(crate::specs::Input::input_of))]
+    pub fn set_home(&mut self, home: &'a [u8])
+        ensures { input_of self.new ≡ record (input_of self.old) { home = home.now } }
+    {
+        self.home = home;
+    }
+
+    /// The names of the clause's variables, at its end.
+    #[tactic(auto, unfolding(crate::specs::Input::input_of, crate::specs::Input::end_clause))]
+    pub fn end_clause(&mut self) -> Vec<Name>
+        ensures { spec.end_clause (input_of self.old) ≡ Ok (result.items, input_of self.new) }
+    {
+        let scope = mem::replace(&mut self.scope, Scope::new(self.alloc));
+        scope.into_names()
     }
 
     /// The number of the next call site.

@@ -38,6 +38,14 @@ impl Scope {
         place_among(&self.names, name)
     }
 
+    /// The names as a vector.
+    pub fn into_names(self) -> Vec<Name>
+        ensures { result.items ≡ self }
+    {
+        let Scope { names } = self;
+        names
+    }
+
     /// Adds a name, if it is none of them.
     #[tactic(auto, unfolding(crate::specs::Input::with_variable))]
     pub fn add(&mut self, alloc: Global, name: &[u8]) -> Result<(), NoMemory>
