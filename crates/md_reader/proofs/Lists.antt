@@ -41,3 +41,7 @@ with_one_family before after t m l p e = rw (m, l, p, e, families_of-append befo
 pub length_args_of : (as' : List (Ty × Mode)) → length (args_of as') ≡ length as'
 length_args_of [] = refl
 length_args_of (a ∷ as') = ap suc (length_args_of as')
+
+pub length_sorts_of : (ts : List Ty) → length (sorts_of ts) ≡ length ts
+length_sorts_of [] = refl
+length_sorts_of (t ∷ ts) = ap suc (length_sorts_of ts)

@@ -1,5 +1,7 @@
 -- What the values of the reader's own types mean.
-use Rattle.std.specs.Prelude.{option_map}
+use Rattle.std.specs.Prelude.{List, map, option_map}
+use Rattle.md_reader.specs.declared.duplicates.Declared.{Declared as Entry}
+use Rattle.md_reader.specs.Duplicates.{Declared}
 use Rattle.md_reader.specs.declared.names.Written.{Written as Text}
 use Rattle.md_reader.specs.declared.procedure.Declaration.{Declaration as Said}
 use Rattle.md_reader.specs.declared.procedure.Clause.{Clause as Shown}
@@ -15,3 +17,9 @@ declaration_of d = record { name = d.name; args = args_of d.args.items; det = d.
 
 abbrev pub clause_of : Shown → Clause
 clause_of c = record { line = c.line; head = c.head; body = part_of c.body; vars = c.vars.items }
+
+abbrev pub declared_of : Entry → Declared
+declared_of d = record { qualifier = option_map (λ q. q.now) d.qualifier; name = d.name.now; arity = d.arity; line = d.line }
+
+abbrev pub all_declared : List Entry → List Declared
+all_declared ds = map declared_of ds

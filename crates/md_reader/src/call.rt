@@ -120,9 +120,5 @@ fn applied(input: &mut Input<'_>, variables: Variables) -> Result<GoalKind, Refu
     }
     let closure = variables.remove(0);
     let site = input.site()?;
-    Ok(GoalKind::HoCall(
-        SiteId::new(site),
-        closure,
-        Variables::from_vec(variables),
-    ))
+    Ok(GoalKind::HoCall(SiteId::new(site), closure, Variables::from_vec(variables)))
 }

@@ -110,12 +110,7 @@ fn group(input: &mut Input<'_>, room: u32) -> Result<Goal, Refusal>
 /// Takes the other arms of a disjunction, whose parenthesis stands on this line.
 #[tactic(auto, unfolding(crate::specs::Rules::disjunction))]
 #[cycle(goals)]
-fn disjunction(
-    input: &mut Input<'_>,
-    room: u32,
-    line: u32,
-    first: Goal,
-) -> Result<Goal, Refusal>
+fn disjunction(input: &mut Input<'_>, room: u32, line: u32, first: Goal) -> Result<Goal, Refusal>
     requires { 0 < room }
     ensures { Reads part_of (spec.disjunction (spec.within room) line (part_of first) (input_of input.old)) result (input_of input.new) }
 {
@@ -148,12 +143,7 @@ fn arms(input: &mut Input<'_>, room: u32, first: Goal) -> Result<Vec<Goal>, Refu
 /// Takes the then and the else part of an if-then-else, whose parenthesis stands on this line.
 #[tactic(auto, unfolding(crate::specs::Rules::choice))]
 #[cycle(goals)]
-fn choice(
-    input: &mut Input<'_>,
-    room: u32,
-    line: u32,
-    condition: Goal,
-) -> Result<Goal, Refusal>
+fn choice(input: &mut Input<'_>, room: u32, line: u32, condition: Goal) -> Result<Goal, Refusal>
     requires { 0 < room }
     ensures { Reads part_of (spec.choice (spec.within room) line (part_of condition) (input_of input.old)) result (input_of input.new) }
 {

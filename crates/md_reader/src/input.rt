@@ -6,8 +6,8 @@ ghost use Rattle.md_reader.specs.Input.{input_of, Reads};
 
 use crate::refused::{Place, Refusal};
 use crate::scope::Scope;
-use md_token::{Kind, Token, is_word, same_kind};
 use md_base::Name;
+use md_token::{Kind, Token, is_word, same_kind};
 use std::alloc::Global;
 use std::mem;
 

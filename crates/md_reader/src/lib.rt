@@ -3,13 +3,21 @@
 
 mod argument;
 mod call;
+mod duplicates;
 mod goal;
 mod input;
 mod names;
 mod procedure;
 mod program;
+mod reading;
 mod refused;
 mod scope;
 mod term;
 mod types;
 mod variables;
+
+pub use reading::read;
+pub use refused::Refused;
+
+#[cfg(test)]
+mod tests;

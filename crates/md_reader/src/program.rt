@@ -110,11 +110,7 @@ fn declared_procedure(
 }
 
 #[tactic(auto, unfolding(crate::specs::Rules::declared_family))]
-fn declared_family(
-    input: &mut Input<'_>,
-    program: &mut Program,
-    line: u32,
-) -> Result<(), Refusal>
+fn declared_family(input: &mut Input<'_>, program: &mut Program, line: u32) -> Result<(), Refusal>
     ensures { Reads (λ _. listing_of program.new) (spec.declared_family (listing_of program.old) line (input_of input.old)) result (input_of input.new) }
 {
     let family = family(input, line)?;

@@ -12,5 +12,5 @@ returns c =
     let types = c.in_ok-types.types in
     let modes = c.in_ok-modes.modes in
     let read : ho_argument (input_of c.args.input.now) ≡ Ok ((closure (gathered_sorts (sorts_of types.items)) modes.items c.in_ok-modes.det, c.in_ok-mode.mode), input_of c.inst.new.input) =
-        first_of (search rules, grind (arith, common_steps)) in
+    first_of (search rules, grind (arith, common_steps)) in
     read ∙ ap (λ (s : Sort). Ok ((s, c.in_ok-mode.mode), input_of c.inst.new.input)) (sym (sort_of-Ho (record { types = types; modes = modes; det = c.in_ok-modes.det })))

@@ -1,5 +1,4 @@
 use Rattle.std.proofs.Common.{◌≡◌, ◌-◌, []}
-
 use Rattle.md_reader.specs.Input.{input_of}
 use Rattle.md_reader.specs.Rules as spec
 use Rattle.md_reader.proofs.procedure.head_variables.Given as goal
