@@ -6,7 +6,8 @@ use Rattle.md_hlds.specs.declared.program.Functor.{Functor}
 use Rattle.md_hlds.specs.declared.program.TypeDef.{TypeDef}
 use Rattle.md_hlds.specs.declared.program.Pred.{Pred}
 use Rattle.md_hlds.specs.Listing.{sort_of, sorts_of, construct_of, constructs_of, args_of, family_of, families_of, procedure_of, procedures_of, listing_of}
-use Rattle.md_hlds.specs.declared.program.Program.{Program}
+use Rattle.md_reader.specs.declared.program.Draft.{Draft}
+use Rattle.md_reader.specs.Views.{draft_of}
 use Rattle.md_reader.specs.Rules.{with_procedure, with_family}
 
 pub sorts_of-append : (ts us : List Ty) → sorts_of (ts ++ us) ≡ sorts_of ts ++ sorts_of us
@@ -30,11 +31,11 @@ procedures_of-append [] us = refl
 procedures_of-append (t ∷ ts) us = ap (λ xs. procedure_of t ∷ xs) (procedures_of-append ts us)
 
 -- a program with one more declaration
-pub with_one_procedure : (before after : Program) (p : Pred) → after.module ≡ before.module → after.module_line ≡ before.module_line → after.types ≡ before.types → after.preds.items ≡ before.preds.items ++ p ∷ [] → listing_of after ≡ with_procedure (listing_of before) (procedure_of p)
+pub with_one_procedure : (before after : Draft) (p : Pred) → after.module ≡ before.module → after.module_line ≡ before.module_line → after.types ≡ before.types → after.preds.items ≡ before.preds.items ++ p ∷ [] → draft_of after ≡ with_procedure (draft_of before) (procedure_of p)
 unfolding with_procedure
 with_one_procedure before after p m l t e = rw (m, l, t, e, procedures_of-append before.preds.items (p ∷ [])) refl
 
-pub with_one_family : (before after : Program) (t : TypeDef) → after.module ≡ before.module → after.module_line ≡ before.module_line → after.preds ≡ before.preds → after.types.items ≡ before.types.items ++ t ∷ [] → listing_of after ≡ with_family (listing_of before) (family_of t)
+pub with_one_family : (before after : Draft) (t : TypeDef) → after.module ≡ before.module → after.module_line ≡ before.module_line → after.preds ≡ before.preds → after.types.items ≡ before.types.items ++ t ∷ [] → draft_of after ≡ with_family (draft_of before) (family_of t)
 unfolding with_family
 with_one_family before after t m l p e = rw (m, l, p, e, families_of-append before.types.items (t ∷ [])) refl
 

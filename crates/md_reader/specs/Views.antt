@@ -6,7 +6,8 @@ use Rattle.md_reader.specs.declared.names.Written.{Written as Text}
 use Rattle.md_reader.specs.declared.procedure.Declaration.{Declaration as Said}
 use Rattle.md_reader.specs.declared.procedure.Clause.{Clause as Shown}
 use Rattle.md_hlds.specs.Part.{part_of}
-use Rattle.md_hlds.specs.Listing.{args_of}
+use Rattle.md_hlds.specs.Listing.{Listing, args_of, families_of, procedures_of}
+use Rattle.md_reader.specs.declared.program.Draft.{Draft}
 use Rattle.md_reader.specs.Rules.{Written, Declaration, Clause}
 
 abbrev pub written_of : Text → Written
@@ -23,3 +24,6 @@ declared_of d = record { qualifier = option_map (λ q. q.now) d.qualifier; name 
 
 abbrev pub all_declared : List Entry → List Declared
 all_declared ds = map declared_of ds
+
+abbrev pub draft_of : Draft → Listing
+draft_of p = record { module_name = p.module; module_line = p.module_line; types = families_of p.types.items; procedures = procedures_of p.preds.items }
