@@ -7,4 +7,7 @@ mod fault;
 mod form;
 mod run;
 
+#[cfg(test)]
+mod tests;
+
 pub use command::{Status, top};
