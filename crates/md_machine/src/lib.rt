@@ -7,6 +7,8 @@ mod form;
 mod index;
 mod machine;
 mod simple;
+#[cfg(test)]
+mod tests;
 mod value;
 mod weight;
 
