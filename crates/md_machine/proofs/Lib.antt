@@ -1,3 +1,9 @@
+pub mod ArgumentLemmas
+pub mod CallLemmas
+pub mod FormLemmas
 pub mod IndexLemmas
-pub mod RestLemmas
+pub mod MachineLemmas
 pub mod Moves
+pub mod RestLemmas
+pub mod RunLemmas
+pub mod ValueLemmas

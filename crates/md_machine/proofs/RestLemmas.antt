@@ -8,7 +8,7 @@ use Rattle.md_hlds.specs.Value.{Value, Env, blank}
 use Rattle.md_hlds.specs.Simple.{Outcome, Go, No, Stop, simple}
 use Rattle.md_hlds.specs.Trace.{Item, Turn, Call, Exit, Fail, Alloc, Out, Answer, Stuck, Deep, Items, Frame, first, back, passed, given, pairs_of, allocated, written, after_simple, body_frame, run_body, call_if, invoked, trace, call_weight}
 use Rattle.md_hlds.proofs.TraceLemmas.{first-first}
-use Rattle.md_machine.specs.Rest.{Waiting, frame, missed, found, rest}
+use Rattle.md_machine.specs.Rest.{Waiting, frame, entry, missed, found, rest}
 
 -- no goal is left: the call has a solution
 pub rest-answer : (s : Listing) (n a k : ℕ) (e : Env) (ws : List Waiting) → rest s n (frame a e []) ws k ≡ found s ws e k
@@ -71,17 +71,13 @@ rest-arity s n l a k e site q ys goals ws m p is differ =
     ap (λ o. first (after_call s n (frame a e (At l (Invoke site q ys) ∷ goals)) goals k site ys o) k (found s ws) (missed ws)) is
     ∙ ap (λ b. first (call_if (λ f js k. trace s n f js k) (frame a e (At l (Invoke site q ys) ∷ goals)) goals [] k site (m, p) [] ys b) k (found s ws) (missed ws)) differ
 
--- the environment in which a procedure's body begins
-abbrev pub entry : Procedure → Env → List ℕ → Env
-entry p e ys = passed (pairs_of p.head ys) e (blank (length p.vars))
-
 -- a call of a deterministic procedure
 pub rest-call : (s : Listing) (n l a k : ℕ) (e : Env) (site : ℕ) (q : PredName) (ys : List ℕ) (goals : List Part) (ws : List Waiting) (m : ℕ) (p : Procedure)
     → procedure_called s q ≡ Some (m, p) → nat_eq (0 + length ys) (length p.head) ≡ true → p.det ≡ One
     → rest s (suc n) (frame a e (At l (Invoke site q ys) ∷ goals)) ws k
-      ≡ Turn a (call_weight p) ∷ Call k (Some a) (Some site) m
-        ∷ rest s n (frame k (entry p e ys) (p.body ∷ []))
-          (record { callee = k; depth = n; act = a; env = e; goals = goals; pairs = pairs_of p.head ys } ∷ ws) (suc k)
+    ≡ Turn a (call_weight p) ∷ Call k (Some a) (Some site) m
+    ∷ rest s n (frame k (entry p e ys) (p.body ∷ []))
+    (record { callee = k; depth = n; act = a; env = e; goals = goals; pairs = pairs_of p.head ys } ∷ ws) (suc k)
 rest-call s n l a k e site q ys goals ws m p is same one =
     let go : Frame → List Frame → ℕ → Items = λ f js k. trace s n f js k in
     let f : Frame = frame a e (At l (Invoke site q ys) ∷ goals) in
@@ -89,6 +85,6 @@ rest-call s n l a k e site q ys goals ws m p is same one =
     ∙ (ap (λ b. first (call_if go f goals [] k site (m, p) [] ys b) k (found s ws) (missed ws)) same
     ∙ (ap (λ d. first (Turn a (call_weight p) ∷ Call k (Some a) (Some site) m ∷ run_body go d (body_frame k (entry p e ys) p (pairs_of p.head ys)) (frame a e goals) [] k) k (found s ws) (missed ws)) one
     ∙ ap (λ xs. Turn a (call_weight p) ∷ Call k (Some a) (Some site) m ∷ xs)
-      (first-first (trace s n (frame k (entry p e ys) (p.body ∷ [])) [] (suc k)) (suc k)
-        (λ e' n'. Exit k ∷ go (frame a (back (pairs_of p.head ys) e' e) goals) [] n')
-        (λ n'. Fail k ∷ []) (found s ws) (missed ws))))
+    (first-first (trace s n (frame k (entry p e ys) (p.body ∷ [])) [] (suc k)) (suc k)
+    (λ e' n'. Exit k ∷ go (frame a (back (pairs_of p.head ys) e' e) goals) [] n')
+    (λ n'. Fail k ∷ []) (found s ws) (missed ws))))

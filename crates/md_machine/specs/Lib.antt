@@ -3,3 +3,8 @@ pub mod Index
 pub mod FirstForm
 pub mod Rest
 pub mod Owes
+pub mod Values
+pub mod Effect
+pub mod Machine
+pub mod Call
+pub mod Ran

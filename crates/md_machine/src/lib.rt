@@ -1,6 +1,12 @@
 //! Runs programs: what they write and whether they finish within a budget of steps are those of the definition of a run.
 #![tactic(auto)]
 
+mod arguments;
+mod execute;
 mod index;
+mod machine;
+mod simple;
+mod value;
+mod weight;
 
-pub use index::ProcedureIndex;
+pub use execute::{End, Ran, walk};

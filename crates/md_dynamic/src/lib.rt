@@ -1,0 +1,12 @@
+//! Contexts and links as rows, with the places where a link or an active context is found at once.
+#![tactic(auto)]
+
+mod link;
+mod slot;
+mod span;
+mod tables;
+
+pub use link::LinkRow;
+pub use slot::{Callees, Slot, Slots};
+pub use span::Span;
+pub use tables::Tables;
