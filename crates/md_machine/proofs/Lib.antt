@@ -1,6 +1,7 @@
 pub mod ArgumentLemmas
 pub mod CallLemmas
 pub mod FormLemmas
+pub mod FormTests
 pub mod IndexLemmas
 pub mod MachineLemmas
 pub mod Moves

@@ -3,6 +3,7 @@
 
 mod arguments;
 mod execute;
+mod form;
 mod index;
 mod machine;
 mod simple;
@@ -10,3 +11,4 @@ mod value;
 mod weight;
 
 pub use execute::{End, Ran, walk};
+pub use form::is_first_form;
