@@ -1,0 +1,4 @@
+pub mod SumOf
+pub mod Paths
+pub mod View
+pub mod Climbing
