@@ -113,5 +113,7 @@ pub record AreTables (s : Static) (spans : List Span) (nodes : List ℕ) (slots 
   pub slots_each : length slots ≡ length nodes
   pub sizes : (v p : ℕ) (xs : List Slot) → slice_get nodes v ≡ Some p → slice_get slots v ≡ Some xs → length xs ≡ length (sites_of p s.sites)
   pub pointers : length active ≡ length s.procs
+  pub active_there : (q v : ℕ) → slice_get active q ≡ Some (Some v) → slice_get nodes v ≡ Some q
+  pub short : (v k : ℕ) (xs : List Slot) (ys : List (ℕ × ℕ)) → slice_get slots v ≡ Some xs → slice_get xs k ≡ Some (Many ys) → length ys ≤ length links
   pub fewer : length nodes ≤ length links
   pub few : length links < 2 ^ 32

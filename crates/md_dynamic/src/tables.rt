@@ -102,6 +102,7 @@ impl Tables {
     pub fn active<L: Ledger>(&self, callee: ProcId, steps: &mut Steps<L>) -> Option<PdId>
         requires { callee < length self.now.statics.procs }
         ensures value { slice_get self.now.active callee ≡ Some result }
+        ensures of_callee { IfSome result (λ v. slice_get self.now.nodes v ≡ Some callee) }
         ensures cost { steps.new ≡ steps.old + 1 }
     {
         steps.tick();
@@ -144,6 +145,7 @@ impl Tables {
     ) -> Option<(ProcId, CsdId)>
         requires { Owns self.now node site }
         ensures value { result ≡ slice_get (list_in self.now node site) place }
+        ensures short { length (list_in self.now node site) ≤ length self.now.links }
         ensures cost { steps.new ≡ steps.old + 1 }
     {
         steps.tick();
