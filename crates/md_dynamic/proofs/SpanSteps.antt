@@ -26,14 +26,14 @@ counts-more procs i n q sites xs x len within is site owner had were = λ p belo
     let now : length (sites_of p (take (i + 1) sites)) ≡ length (sites_of p (take i sites ++ x ∷ [])) = ap (λ zs. length (sites_of p zs)) longer in
     let count : n ≡ length (sites_of q (take i sites)) = had ∙ get_or_from_slice_get xs q (length (sites_of q (take i sites))) n (were q owner) in
     elim (cases_eq p q) [
-      inl same ↦
-        let at : slice_get (set xs q (n + 1)) p ≡ Some (n + 1) = ap (slice_get (set xs q (n + 1))) same ∙ get-set-same xs q (n + 1) (omega (arith, len)) in
-        let more : length (sites_of p (take (i + 1) sites)) ≡ n + 1 = omega (arith, now, sites_of-push-same p (take i sites) x (sym (same ∙ site)), count, ap (λ r. length (sites_of r (take i sites))) same) in
-        at ∙ ap Some (sym more)
-    | inr other ↦
-        let at : slice_get (set xs q (n + 1)) p ≡ slice_get xs p = get-set-other xs q p (n + 1) other in
-        let still : length (sites_of p (take (i + 1) sites)) ≡ length (sites_of p (take i sites)) = now ∙ sites_of-push-other p (take i sites) x (λ e. other (sym e ∙ sym site)) in
-        at ∙ were p below ∙ ap Some (sym still)
+      | inl same ↦
+          let at : slice_get (set xs q (n + 1)) p ≡ Some (n + 1) = ap (slice_get (set xs q (n + 1))) same ∙ get-set-same xs q (n + 1) (omega (arith, len)) in
+          let more : length (sites_of p (take (i + 1) sites)) ≡ n + 1 = omega (arith, now, sites_of-push-same p (take i sites) x (sym (same ∙ site)), count, ap (λ r. length (sites_of r (take i sites))) same) in
+          at ∙ ap Some (sym more)
+      | inr other ↦
+          let at : slice_get (set xs q (n + 1)) p ≡ slice_get xs p = get-set-other xs q p (n + 1) other in
+          let still : length (sites_of p (take (i + 1) sites)) ≡ length (sites_of p (take i sites)) = now ∙ sites_of-push-other p (take i sites) x (λ e. other (sym e ∙ sym site)) in
+          at ∙ were p below ∙ ap Some (sym still)
     ]
 
 -- no count is beyond the number of sites
@@ -51,14 +51,14 @@ pub spans-more : (sites : List Site) (i first n : ℕ) (xs ys : List Span) → l
     ys ≡ xs ++ (record { first = first; count = n }) ∷ [] → SpansBefore sites i xs → SpansBefore sites (i + 1) ys
 spans-more sites i first n xs ys len begin count is were = λ p below.
     let whole : ◌≡◌ {A = Span} (record { first = first; count = n }) (span_of sites i) =
-        ap (λ (k : ℕ). let s : Span = record { first = k; count = n } in s) begin ∙ ap (λ (k : ℕ). let s : Span = record { first = first_site i sites; count = k } in s) count in
+    ap (λ (k : ℕ). let s : Span = record { first = k; count = n } in s) begin ∙ ap (λ (k : ℕ). let s : Span = record { first = first_site i sites; count = k } in s) count in
     elim (cases_eq p i) [
-      inl same ↦
-        let new : slice_get ys i ≡ Some (span_of sites i) = ap (λ zs. slice_get zs i) is ∙ ap (λ k. slice_get (xs ++ (record { first = first; count = n }) ∷ []) k) (sym len) ∙ get-push-new xs (record { first = first; count = n }) ∙ ap Some whole in
-        ap (slice_get ys) same ∙ new ∙ ap (λ q. Some (span_of sites q)) (sym same)
-    | inr other ↦
-        let older : p < i = omega arith in
-        ap (λ zs. slice_get zs p) is ∙ get-push-old xs (record { first = first; count = n }) p (omega (arith, len)) ∙ were p older
+      | inl same ↦
+          let new : slice_get ys i ≡ Some (span_of sites i) = ap (λ zs. slice_get zs i) is ∙ ap (λ k. slice_get (xs ++ (record { first = first; count = n }) ∷ []) k) (sym len) ∙ get-push-new xs (record { first = first; count = n }) ∙ ap Some whole in
+          ap (slice_get ys) same ∙ new ∙ ap (λ q. Some (span_of sites q)) (sym same)
+      | inr other ↦
+          let older : p < i = omega arith in
+          ap (λ zs. slice_get zs p) is ∙ get-push-old xs (record { first = first; count = n }) p (omega (arith, len)) ∙ were p older
     ]
 
 -- where the next begins

@@ -1,3 +1,5 @@
+pub mod Fills
+pub mod Links
 pub mod Rows
 pub mod Slots
 pub mod Spans

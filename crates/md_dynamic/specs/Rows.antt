@@ -1,5 +1,5 @@
 -- What the tables hold, as lists by number: contexts with their procedures and slots, links, and active contexts.
-use Rattle.std.specs.Prelude.{ℕ, ◌≡◌, ◌<◌, ◌≤◌, ◌^◌, List, [], ◌∷◌, ◌++◌, length, map, Option, Some, None, IfSome, IsSomeAnd, MatchOption, All, ◌≢◌, is_none, if◌then◌else◌, option_and_then, unwrap_or, slice_get, slice_set}
+use Rattle.std.specs.Prelude.{ℕ, ◌≡◌, ◌+◌, ◌<◌, ◌≤◌, ◌^◌, List, [], ◌∷◌, ◌++◌, length, map, replicate, Option, Some, None, IfSome, IsSomeAnd, MatchOption, All, ◌≢◌, is_none, if◌then◌else◌, option_and_then, unwrap_or, slice_get, slice_set}
 use Rattle.md_base.specs.declared.measure.Counts.{Counts}
 use Rattle.md_base.specs.declared.measure.Measure.{Measure}
 use Rattle.md_trace.specs.Count.{with_more}
@@ -11,6 +11,8 @@ use Rattle.md_dynamic.specs.declared.link.LinkRow.{LinkRow}
 use Rattle.md_dynamic.specs.declared.slot.Slot.{Slot}
 use Rattle.md_dynamic.specs.declared.slot.Slot.TheVariants.{Plain, Many}
 use Rattle.md_dynamic.specs.declared.span.Span.{Span}
+use Rattle.md_dynamic.specs.Fills.{FillsSlot}
+use Rattle.md_dynamic.specs.Links.{link_row, root_row}
 use Rattle.md_dynamic.specs.Slots.{empty_slot, filled}
 use Rattle.md_dynamic.specs.Spans.{AreSpans}
 
@@ -65,21 +67,13 @@ pub record IsFresh (r : Rows) (node site q : ℕ) : Type 0 where
   pub plain : link_in r node site ≡ None
   pub many : All (λ e. e.0 ≢ q) (list_in r node site)
 
--- six counts of which only the calls are not 0
-abbrev pub only_calls : ℕ → Counts
-only_calls n = record { calls = n; exits = 0; fails = 0; redos = 0; allocs = 0; words = 0 }
-
--- the slots with one more link in the slot at this place of this context
-pub record FillsSlot (old new : List (List Slot)) (node place q k : ℕ) : Type 0 where
-  pub at : IfSome (slice_get old node) (λ xs. IfSome (slice_get xs place) (λ o. new ≡ slice_set old node (slice_set xs place (filled o q k))))
-
 -- one more link, which leads to a context that is there, in its slot; nothing else
 pub record AddsLink (old new : Rows) (node site q to calls k : ℕ) : Type 0 where
   pub number : k ≡ length old.links
   pub statics : new.statics ≡ old.statics
   pub nodes : new.nodes ≡ old.nodes
   pub slots : FillsSlot old.slots new.slots node (place_in old node site) q k
-  pub links : new.links ≡ old.links ++ record { caller = Some node; site = Some site; callee = to; own = only_calls calls } ∷ []
+  pub links : new.links ≡ old.links ++ link_row node site to calls ∷ []
   pub active : new.active ≡ old.active
 
 -- one more context of q, with empty slots, and one more link, which leads to it, in its slot; nothing else
@@ -88,8 +82,28 @@ pub record AddsContext (old new : Rows) (node site q calls k : ℕ) : Type 0 whe
   pub statics : new.statics ≡ old.statics
   pub nodes : new.nodes ≡ old.nodes ++ q ∷ []
   pub slots : (mid : List (List Slot)) × FillsSlot old.slots mid node (place_in old node site) q k × (new.slots ≡ mid ++ map empty_slot (sites_of q old.statics.sites) ∷ [])
-  pub links : new.links ≡ old.links ++ record { caller = Some node; site = Some site; callee = length old.nodes; own = only_calls calls } ∷ []
+  pub links : new.links ≡ old.links ++ link_row node site (length old.nodes) calls ∷ []
   pub active : new.active ≡ old.active
+
+-- one more link, to the context that is given or to a new one
+abbrev pub Adds : Rows → Rows → ℕ → ℕ → ℕ → Option ℕ → ℕ → ℕ → Type 0
+Adds old new node site q None calls k = AddsContext old new node site q calls k
+Adds old new node site q (Some to) calls k = AddsLink old new node site q to calls k
+
+-- the table steps that it takes
+abbrev pub add_cost : Rows → ℕ → Option ℕ → ℕ
+add_cost r q None = 4 + length (sites_of q r.statics.sites)
+add_cost r q (Some to) = 3
+
+-- a run that has not begun
+abbrev pub first_rows : Static → ℕ → Rows
+first_rows s main = record {
+  statics = s;
+  nodes = main ∷ [];
+  slots = map empty_slot (sites_of main s.sites) ∷ [];
+  links = root_row ∷ [];
+  active = replicate (length s.procs) None;
+}
 
 -- what always holds of the tables
 pub record AreTables (s : Static) (spans : List Span) (nodes : List ℕ) (slots : List (List Slot)) (links : List LinkRow) (active : List (Option ℕ)) : Type 0 where

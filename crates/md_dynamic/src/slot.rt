@@ -74,18 +74,22 @@ impl Model for Slots {
 }
 
 impl Slots {
-    ghost use Rattle.std.specs.Prelude.{◌≡◌, ◌<◌, ◌+◌, length, slice_get, slice_set, map, OnOk, OnErr, IfOk, IfSome};
+    ghost use Rattle.std.specs.Prelude.{◌≡◌, ◌<◌, ◌+◌, length, slice_get, slice_set, map, OnOk, OnErr, IfOk, IfSome, is_ok, if◌then◌else◌};
     ghost use Rattle.md_dynamic.specs.Slots.{empty_slot, filled};
 
     /// The slots of a new context, for the call sites of its procedure: one table step each.
-    pub fn empty<L: Ledger>(alloc: Global, sites: &[Site], steps: &mut Steps<L>) -> Result<Slots, NoMemory>
+    pub fn empty<L: Ledger>(
+        alloc: Global,
+        sites: &[Site],
+        steps: &mut Steps<L>,
+    ) -> Result<Slots, NoMemory>
         ensures slots { IfOk result (λ slots. slots ≡ map empty_slot sites.now) }
-        ensures cost { OnOk result (steps.new ≡ steps.old + length sites.now) }
+        ensures cost { steps.new ≡ (if is_ok result then steps.old + length sites.now else steps.old) }
     {
         let mut items = Vec::with_capacity(alloc, sites.len())?;
         for site in sites {
             steps.tick();
-            items.push(empty_slot(alloc, site.kind))?;
+            items.push_reserved(empty_slot(alloc, site.kind));
         }
         Ok(Slots { items })
     }

@@ -125,10 +125,12 @@ pub table-of : (t : SiteTable) (h : List Event) → IsPortHistory t h → IsSite
 table-of t [] is = is
 table-of t (e ∷ h) is = table-of t h is.0
 
-all-at : {A : Type 0} (P : A → Type 0) (xs : List A) (k : ℕ) (x : A) → All P xs → slice_get xs k ≡ Some x → P x
+-- what holds of each member of a list
+pub all-at : {A : Type 0} (P : A → Type 0) (xs : List A) (k : ℕ) (x : A) → All P xs → slice_get xs k ≡ Some x → P x
 all-at P xs k x all is = subst P (get_or_from_slice_get xs k x x is) (all k x (get-within xs k x is))
 
-callee-of : (n q : ℕ) (o : Option ℕ) → IfSome o (λ c. c < n) → MatchOption o (q < n) (λ c. q ≡ c) → q < n
+-- a callee that is given, or any procedure
+pub callee-of : (n q : ℕ) (o : Option ℕ) → IfSome o (λ c. c < n) → MatchOption o (q < n) (λ c. q ≡ c) → q < n
 callee-of n q None below may = may
 callee-of n q (Some c) below may = omega (arith, may)
 

@@ -18,7 +18,7 @@ overflow_add-first c =
     let i = c.loop-count.count-index in
     let below : i < c.args.procs = omega (arith, c.loop-count-test.true, ap length c.deref-count-items.ensures.value, c.in_ok-counts.ensures.each) in
     let n : get_or c.deref-count-items.result.now i 0 ≡ length (sites_of i c.args.sites.now) =
-        ap (λ xs. get_or xs i 0) c.deref-count-items.ensures.value ∙ get_or_from_slice_get c.in_ok-counts.counts.items i (length (sites_of i c.args.sites.now)) 0 (c.in_ok-counts.ensures.right i below) in
+    ap (λ xs. get_or xs i 0) c.deref-count-items.ensures.value ∙ get_or_from_slice_get c.in_ok-counts.counts.items i (length (sites_of i c.args.sites.now)) 0 (c.in_ok-counts.ensures.right i below) in
     let more = first-more c.args.sites.now i c.loop-count.first (get_or c.deref-count-items.result.now i 0) c.loop-count.invariant.before n in
     omega (arith, more.1, c.requires.few)
 
@@ -27,7 +27,7 @@ loop-count-preserved c =
     let i = c.loop-count.count-index in
     let below : i < c.args.procs = omega (arith, c.loop-count-test.true, ap length c.deref-count-items.ensures.value, c.in_ok-counts.ensures.each) in
     let n : get_or c.deref-count-items.result.now i 0 ≡ length (sites_of i c.args.sites.now) =
-        ap (λ xs. get_or xs i 0) c.deref-count-items.ensures.value ∙ get_or_from_slice_get c.in_ok-counts.counts.items i (length (sites_of i c.args.sites.now)) 0 (c.in_ok-counts.ensures.right i below) in
+    ap (λ xs. get_or xs i 0) c.deref-count-items.ensures.value ∙ get_or_from_slice_get c.in_ok-counts.counts.items i (length (sites_of i c.args.sites.now)) 0 (c.in_ok-counts.ensures.right i below) in
     let more = first-more c.args.sites.now i c.loop-count.first (get_or c.deref-count-items.result.now i 0) c.loop-count.invariant.before n in
     record {
       before = more.0;
