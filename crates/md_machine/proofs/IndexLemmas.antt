@@ -1,5 +1,5 @@
 -- A map from names to numbers after an insertion, and the procedures from a place on.
-use Rattle.std.proofs.Common.{◌≡◌, refl, ap, ◌∙◌, sym, subst, arith, ℕ, zero, suc, ◌+◌, ◌<◌, List, [], ◌∷◌, length, drop, Bool, true, false, cond, not, ◌&&◌, Option, Some, None, Vec, nat_eq, get_or, is_some}
+use Rattle.std.proofs.Common.{◌≡◌, refl, ap, ◌∙◌, sym, subst, arith, ℕ, zero, suc, ◌+◌, ◌<◌, ◌≤◌, List, [], ◌∷◌, length, drop, Bool, true, false, cond, not, ◌&&◌, Option, Some, None, Vec, nat_eq, get_or, is_some}
 use Rattle.std.proofs.Math.Seq.{drop-cons}
 use Rattle.std.specs.declared.alloc.Global.{Global}
 use Rattle.std.specs.Cmp.Lexicographic.{pointwise, same_text, other_text}
@@ -82,3 +82,46 @@ pub number_from-unqualified : (name : List ℕ) (ps : List Pred) (i n : ℕ) (p 
 number_from-unqualified name ps i n p at lt is unqualified' =
     number_from-step name ps i n p at lt is
     ∙ ap (λ b. cond (b && bytes_eq name p.name) (Some i) (number_from name n (procedures_of (drop n ps)))) (called p.qualifier unqualified')
+
+-- what the number of a procedure that was found says
+pub record Within (n m count : ℕ) : Type 0 where
+  pub above : n ≤ m
+  pub below : m < n + count
+
+within_step : (b : Bool) (n m count : ℕ) (p : Procedure) (r : Option (ℕ × Procedure)) → number_of (cond b (Some (n, p)) r) ≡ Some m
+    → (number_of r ≡ Some m → Within (suc n) m count) → Within n m (suc count)
+within_step true n m count p r is later = let same : n ≡ m = cc in record { above = omega (arith, same); below = omega (arith, same) }
+within_step false n m count p r is later = let w : Within (suc n) m count = later is in record { above = omega (arith, w.above); below = omega (arith, w.below) }
+
+pub number_within : (name : List ℕ) (ps : List Pred) (n m : ℕ) → number_from name n (procedures_of ps) ≡ Some m → Within n m (length ps)
+number_within name [] n m is = absurd (cc)
+number_within name (p ∷ ps) n m is =
+    within_step (is_called (unqualified name) (procedure_of p)) n m (length ps) (procedure_of p) (find_procedure (unqualified name) (suc n) (procedures_of ps)) is
+    (number_within name ps (suc n) m)
+
+found_step : (b : Bool) (n m k : ℕ) (q p : Procedure) (r : Option (ℕ × Procedure)) → number_of (cond b (Some (n, q)) r) ≡ Some m → m ≡ n + suc k
+    → (number_of r ≡ Some m → r ≡ Some (m, p)) → cond b (Some (n, q)) r ≡ Some (m, p)
+found_step true n m k q p r is at later = let same : n ≡ m = cc in absurd (omega (arith, same, at))
+found_step false n m k q p r is at later = later is
+
+found_here : (b : Bool) (n m : ℕ) (p : Procedure) (r : Option (ℕ × Procedure)) → number_of (cond b (Some (n, p)) r) ≡ Some m → m ≡ n
+    → (number_of r ≡ Some m → ⊥) → cond b (Some (n, p)) r ≡ Some (m, p)
+found_here true n m p r is at later = ap (λ (i : ℕ). Some (i, p)) (sym at)
+found_here false n m p r is at later = absurd (later is)
+
+-- the procedure of that number is the one that was found
+pub found_at : (name : List ℕ) (ps : List Pred) (n m k : ℕ) (p : Pred) → number_from name n (procedures_of ps) ≡ Some m → m ≡ n + k → p ≡ get_or ps k p
+    → k < length ps → find_procedure (unqualified name) n (procedures_of ps) ≡ Some (m, procedure_of p)
+found_at name [] n m k p is at here lt = absurd (omega (arith, lt))
+found_at name (q ∷ ps) n m zero p is at here lt =
+    subst (λ (x : Pred). find_procedure (unqualified name) n (procedures_of (q ∷ ps)) ≡ Some (m, procedure_of x)) (sym here)
+    (found_here (is_called (unqualified name) (procedure_of q)) n m (procedure_of q) (find_procedure (unqualified name) (suc n) (procedures_of ps)) is (omega (arith, at))
+      (λ later. absurd (omega (arith, at, (number_within name ps (suc n) m later).above))))
+found_at name (q ∷ ps) n m (suc k) p is at here lt =
+    found_step (is_called (unqualified name) (procedure_of q)) n m k (procedure_of q) (procedure_of p) (find_procedure (unqualified name) (suc n) (procedures_of ps)) is at
+    (λ later. found_at name ps (suc n) m k p later (omega (arith, at)) here (omega (arith, lt)))
+
+-- no number, no procedure
+pub none_called : (r : Option (ℕ × Procedure)) → number_of r ≡ None → r ≡ None
+none_called None is = refl
+none_called (Some q) is = absurd (cc)

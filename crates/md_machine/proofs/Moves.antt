@@ -11,9 +11,9 @@ use Rattle.md_hlds.specs.Simple.{Outcome, Go, No, Stop, simple}
 use Rattle.md_hlds.specs.Trace.{Item, Turn, Call, Exit, Fail, Out, Answer, Stuck, Deep, Items, Frame, first, back, pairs_of, written, trace, call_weight}
 use Rattle.md_hlds.specs.Run.{run, run_main, main_name, main_env, main_frame, main_items, cut, cut_turn, output, is_finished}
 use Rattle.md_hlds.proofs.TraceLemmas.{cut_allowed, cut_refused}
-use Rattle.md_machine.specs.Rest.{Waiting, frame, missed, found, rest}
+use Rattle.md_machine.specs.Rest.{Waiting, frame, entry, missed, found, rest}
 use Rattle.md_machine.specs.Owes.{Owes, Ended, Caller, AreWaiting, Stands, HasNoSolution, bytes_of}
-use Rattle.md_machine.proofs.RestLemmas.{entry, rest-answer, rest-deep, rest-go, rest-no, rest-stop, rest-each, rest-unknown, rest-arity, rest-call}
+use Rattle.md_machine.proofs.RestLemmas.{rest-answer, rest-deep, rest-go, rest-no, rest-stop, rest-each, rest-unknown, rest-arity, rest-call}
 
 -- the same debt in other words
 owes_along : (s : Listing) (b left : ℕ) (out : List ℕ) (xs ys : Items) → xs ≡ ys → Owes s b left out xs → Owes s b left out ys

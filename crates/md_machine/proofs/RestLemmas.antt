@@ -8,7 +8,7 @@ use Rattle.md_hlds.specs.Value.{Value, Env, blank}
 use Rattle.md_hlds.specs.Simple.{Outcome, Go, No, Stop, simple}
 use Rattle.md_hlds.specs.Trace.{Item, Turn, Call, Exit, Fail, Alloc, Out, Answer, Stuck, Deep, Items, Frame, first, back, passed, given, pairs_of, allocated, written, after_simple, body_frame, run_body, call_if, invoked, trace, call_weight}
 use Rattle.md_hlds.proofs.TraceLemmas.{first-first}
-use Rattle.md_machine.specs.Rest.{Waiting, frame, missed, found, rest}
+use Rattle.md_machine.specs.Rest.{Waiting, frame, entry, missed, found, rest}
 
 -- no goal is left: the call has a solution
 pub rest-answer : (s : Listing) (n a k : ℕ) (e : Env) (ws : List Waiting) → rest s n (frame a e []) ws k ≡ found s ws e k
@@ -70,10 +70,6 @@ pub rest-arity : (s : Listing) (n l a k : ℕ) (e : Env) (site : ℕ) (q : PredN
 rest-arity s n l a k e site q ys goals ws m p is differ =
     ap (λ o. first (after_call s n (frame a e (At l (Invoke site q ys) ∷ goals)) goals k site ys o) k (found s ws) (missed ws)) is
     ∙ ap (λ b. first (call_if (λ f js k. trace s n f js k) (frame a e (At l (Invoke site q ys) ∷ goals)) goals [] k site (m, p) [] ys b) k (found s ws) (missed ws)) differ
-
--- the environment in which a procedure's body begins
-abbrev pub entry : Procedure → Env → List ℕ → Env
-entry p e ys = passed (pairs_of p.head ys) e (blank (length p.vars))
 
 -- a call of a deterministic procedure
 pub rest-call : (s : Listing) (n l a k : ℕ) (e : Env) (site : ℕ) (q : PredName) (ys : List ℕ) (goals : List Part) (ws : List Waiting) (m : ℕ) (p : Procedure)

@@ -24,6 +24,10 @@ is_first_simple (WritesText x before after) = true
 is_first_simple (EndsLine before after) = true
 is_first_simple s = false
 
+abbrev pub is_first_plain : Task → Bool
+is_first_plain (Plain s) = is_first_simple s
+is_first_plain t = false
+
 abbrev pub is_first_unit : Part → Bool
 is_first_unit (At l (Plain s)) = is_first_simple s
 is_first_unit (At l (Invoke site q ys)) = is_none q.qualifier && (nat_eq (length ys) 0 || nat_eq (length ys) 2)

@@ -5,3 +5,5 @@ pub mod Rest
 pub mod Owes
 pub mod Values
 pub mod Effect
+pub mod Machine
+pub mod Call

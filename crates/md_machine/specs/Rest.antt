@@ -1,9 +1,9 @@
 -- What is left of the run of a deterministic program, by the frame that runs and the callers that wait.
-use Rattle.std.specs.Prelude.{ℕ, suc, List, [], ◌∷◌}
+use Rattle.std.specs.Prelude.{ℕ, List, [], ◌∷◌, length}
 use Rattle.md_hlds.specs.Part.{Part}
-use Rattle.md_hlds.specs.Listing.{Listing}
-use Rattle.md_hlds.specs.Value.{Env}
-use Rattle.md_hlds.specs.Trace.{Items, Exit, Fail, Answer, Frame, first, back, trace}
+use Rattle.md_hlds.specs.Listing.{Listing, Procedure}
+use Rattle.md_hlds.specs.Value.{Env, blank}
+use Rattle.md_hlds.specs.Trace.{Items, Exit, Fail, Answer, Frame, first, back, passed, pairs_of, trace}
 
 -- A caller whose call, activation `callee`, runs: what it knows and has to do, the pairs for the return, and how deep
 -- its own trace goes.
@@ -17,6 +17,10 @@ pub record Waiting : Type 0 where
 
 abbrev pub frame : ℕ → Env → List Part → Frame
 frame act env goals = record { act = act; env = env; goals = goals; pairs = [] }
+
+-- the environment in which a procedure's body begins
+abbrev pub entry : Procedure → Env → List ℕ → Env
+entry p e ys = passed (pairs_of p.head ys) e (blank (length p.vars))
 
 -- what follows where the call that runs has no solution
 abbrev pub missed : List Waiting → ℕ → Items

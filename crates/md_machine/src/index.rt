@@ -1,24 +1,26 @@
 // The procedures of a program by their names.
-ghost use Rattle.std.specs.Prelude.{◌≡◌, ℕ, List, IfOk};
-ghost use Rattle.md_hlds.specs.Listing.{listing_of};
-ghost use Rattle.md_machine.specs.Named.{number_from};
-ghost use Rattle.md_machine.specs.Index.{Indexes, number_in};
+ghost use Rattle.std.specs.Prelude.{◌≡◌, None, IfOk, MatchOption};
+ghost use Rattle.md_hlds.specs.Listing.{listing_of, procedure_of, procedure_called};
+ghost use Rattle.md_machine.specs.Named.{unqualified, IsCalled};
+ghost use Rattle.md_machine.specs.Index.{number_in, IsIndexed};
 
 use indexmap::IndexMap;
 use md_base::NoMemory;
-use md_hlds::Program;
+use md_hlds::{Pred, Program};
 use std::alloc::Global;
 
-/// The number of each procedure by its unqualified name. Of several procedures of one name it has the first.
+/// A program with the number of each of its procedures by its unqualified name. Of several of one name it has the first.
 #[derive(Drop)]
-pub struct ProcedureIndex {
-    numbers: IndexMap<Vec<u8>, u32>,
+pub struct Procedures<'a> {
+    pub program: &'a Program,
+    pub numbers: IndexMap<Vec<u8>, u32>,
 }
 
-impl ProcedureIndex {
-    /// The index of a program's procedures.
-    pub fn new(alloc: Global, program: &Program) -> Result<ProcedureIndex, NoMemory>
-        ensures { IfOk result (λ index. Indexes index.numbers (listing_of program.now).procedures) }
+impl<'a> Procedures<'a> {
+    /// The procedures of a program.
+    pub fn new(alloc: Global, program: &'a Program) -> Result<Procedures<'a>, NoMemory>
+        ensures program { IfOk result (λ procedures. procedures.program.now ≡ program.now) }
+        ensures indexed { IfOk result IsIndexed }
     {
         let mut numbers: IndexMap<Vec<u8>, u32> = IndexMap::new(alloc);
         for number in (0..program.preds.len()).rev() {
@@ -28,13 +30,23 @@ impl ProcedureIndex {
                 numbers.insert(name, number as u32)?;
             }
         }
-        Ok(ProcedureIndex { numbers })
+        Ok(Procedures { program, numbers })
     }
 
-    /// The procedure of this unqualified name, or `None` exactly where there is none.
-    pub fn find(&self, name: &[u8]) -> Option<u32>
+    /// The number of the procedure of this unqualified name.
+    fn find(&self, name: &[u8]) -> Option<u32>
         ensures { result ≡ number_in self.now.numbers name.now }
     {
         self.numbers.get(name).copied()
+    }
+
+    /// The predicate of this unqualified name, or `None` exactly where the program has none.
+    pub fn called(&self, name: &[u8]) -> Option<&'a Pred>
+        requires { IsIndexed self.now }
+        ensures { MatchOption result (procedure_called (listing_of self.now.program.now) (unqualified name.now) ≡ None)
+            (λ pred. IsCalled (listing_of self.now.program.now) (unqualified name.now) (procedure_of pred.now)) }
+    {
+        let number = self.find(name)?;
+        Some(&self.program.preds[number as usize])
     }
 }

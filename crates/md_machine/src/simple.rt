@@ -1,10 +1,10 @@
 // Goals without parts and calls.
 ghost use Rattle.std.specs.Prelude.{◌≡◌, ◌≤◌, IsTrue};
-ghost use Rattle.md_hlds.specs.Part.{Plain, task_of};
-ghost use Rattle.md_hlds.specs.Listing.{listing_of};
+ghost use Rattle.md_hlds.specs.Part.{Simple, Plain, task_of};
+ghost use Rattle.md_hlds.specs.Listing.{Listing};
 ghost use Rattle.md_hlds.specs.Simple.{simple, unify, unify_values, unify_constant, write, write_text};
 ghost use Rattle.md_hlds.specs.Value.{value_at};
-ghost use Rattle.md_machine.specs.FirstForm.{is_first_term, is_first_simple};
+ghost use Rattle.md_machine.specs.FirstForm.{is_first_term, is_first_plain};
 ghost use Rattle.md_machine.specs.Values.{value_of, option_value, env_of};
 ghost use Rattle.md_machine.specs.Effect.{Does};
 
@@ -102,5 +102,32 @@ fn write_variable<'a>(x: u32, before: u32, after: u32, values: &mut [Option<Valu
     match value_at(values, x) {
         Some(Value::Literal(text)) => write_bytes(text.as_bytes(), before, after, values),
         _ => None,
+    }
+}
+
+/// A unification with a literal or a variable.
+fn unify<'a>(x: u32, term: &'a Term, values: &mut [Option<Value<'a>>]) -> Option<Effect<'a>>
+    requires { IsTrue (is_first_term term.now) }
+    ensures { (s : Listing) → Does (unify s (env_of values.old) x term.now) (env_of values.new) result }
+{
+    match term {
+        Term::Var(y) => unify_variables(x, *y, values),
+        Term::Str(text) => unify_literal(x, Value::Literal(text), values),
+        Term::Int(_) => unreachable!(),
+        Term::Name(..) => unreachable!(),
+    }
+}
+
+/// Runs a simple goal of the first form: where it succeeds, `values` are those after it.
+pub fn run_simple<'a>(kind: &'a GoalKind, values: &mut [Option<Value<'a>>]) -> Option<Effect<'a>>
+    requires { IsTrue (is_first_plain (task_of kind.now)) }
+    ensures { (s : Listing) (g : Simple) → task_of kind.now ≡ Plain g → Does (simple s (env_of values.old) g) (env_of values.new) result }
+{
+    match kind {
+        GoalKind::True => Some(Effect::none()),
+        GoalKind::Unify(x, term) => unify(*x, term, values),
+        GoalKind::WriteStr(x, before, after) => write_variable(*x, *before, *after, values),
+        GoalKind::Nl(before, after) => write_bytes(b"\n", *before, *after, values),
+        _ => unreachable!(),
     }
 }

@@ -7,7 +7,7 @@ use Rattle.md_hlds.specs.Listing.{procedures_of}
 use Rattle.md_machine.specs.Named.{number_from}
 use Rattle.md_machine.specs.Index.{number_in}
 use Rattle.md_machine.proofs.IndexLemmas.{is_name, lookup-insert_entry, number_from-qualified, number_from-unqualified}
-use Rattle.md_machine.proofs.index.ProcedureIndex.new.Goals as goal
+use Rattle.md_machine.proofs.index.Procedures.new.Goals as goal
 
 pub loop-number-init : goal.loop-number-init
 loop-number-init c name =
@@ -32,7 +32,7 @@ loop-number-preserved c name =
     ∙ sym (number_from-qualified name c.args.program.now.preds.items (c.loop-number.number - 1) c.loop-number.number c.index-pred.result.now at
       (omega (arith, c.loop-number.auto.number, c.len-number.ensures, c.args.program.now.preds.ok)) c.index-pred.ensures c.if-is_none.ensures)
 
-pub returns : goal.returns
-returns c = λ name.
+pub returns-clause-indexed : goal.returns-clause-indexed
+returns-clause-indexed c = λ name.
     let done : c.loop-number.number ≡ 0 = omega arith in
     c.loop-number.invariant name ∙ ap (λ n. number_from name n (procedures_of (drop n c.args.program.now.preds.items))) done
