@@ -9,6 +9,7 @@ ghost use Rattle.md_dynamic.specs.Links.{link_row, root_row};
 ghost use Rattle.md_dynamic.specs.Fills.{FillsSlot};
 
 use crate::link::LinkRow;
+use crate::profile::Profile;
 use crate::slot::{Slot, Slots};
 use crate::span::{Span, spans_of};
 use md_base::{Counts, CsdId, Measure, NoMemory, PdId, ProcId, SiteId, Steps};
@@ -371,4 +372,22 @@ fn empty_slots<L: Ledger>(alloc: Global, sites: &[Site], blank: Blank) -> Result
 {
     let mut steps = Steps::<L>::open(blank);
     Slots::empty(alloc, sites, &mut steps)
+}
+
+impl Tables {
+    /// The profile of what the tables hold. Takes no memory.
+    pub fn freeze(self, finished: bool) -> Profile
+        ensures { result ≡ record { statics = self.statics; nodes = self.nodes; links = self.links; finished = finished } }
+    {
+        let Tables {
+            statics,
+            spans: _,
+            nodes,
+            slots: _,
+            links,
+            active: _,
+            alloc: _,
+        } = self;
+        Profile::from_parts(statics, nodes, links, finished)
+    }
 }

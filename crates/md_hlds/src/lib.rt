@@ -4,6 +4,7 @@
 
 mod goal;
 mod program;
+mod sites;
 mod types;
 mod variables;
 

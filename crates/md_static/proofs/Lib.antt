@@ -1,1 +1,2 @@
 pub mod SiteLists
+pub mod Keys

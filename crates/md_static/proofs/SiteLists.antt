@@ -1,6 +1,6 @@
 -- The sites of a procedure are those from its first on.
-use Rattle.std.proofs.Common.{ℕ, zero, suc, ◌≢◌, ◌++◌, ◌+◌, ◌-◌, ◌≡◌, ◌<◌, ◌≤◌, ◌⊎◌, inl, inr, Bool, true, false, cond, eqb, ltb, List, [], ◌∷◌, length, take, drop, Option, Some, None, slice_get, refl, sym, ap, ◌∙◌, subst, arith}
-use Rattle.std.proofs.lemmas.Bool.{eq-eqb, ne_eqb, lt-ltb, le-ltb, cases_lt, cases_order}
+use Rattle.std.proofs.Common.{ℕ, zero, suc, ◌≢◌, ◌++◌, ◌+◌, ◌-◌, ◌≡◌, ◌<◌, ◌≤◌, inl, inr, true, false, ltb, List, [], ◌∷◌, length, take, drop, Some, None, slice_get, refl, sym, ap, ◌∙◌, subst, arith}
+use Rattle.std.proofs.lemmas.Bool.{eq-eqb, ne_eqb, lt-ltb, le-ltb, cases_order}
 use Rattle.std.proofs.lemmas.Bool.Decides.{eqb_tells}
 use Rattle.md_static.specs.declared.entry.Site.{Site}
 use Rattle.md_static.specs.Sites.{OwnersRiseFrom, first_site, sites_of}
@@ -35,23 +35,23 @@ site-place p zero n (y ∷ ys) x rise is owner =
 site-place p (suc s) n (y ∷ ys) x rise is owner =
     let rest = site-place p s y.owner ys x rise.1 is owner in
     elim (cases_order y.owner p) [
-      inl same ↦
-        let none : first_site p ys ≡ 0 = none-before p y.owner ys (omega (arith, same)) rise.1 in
-        let test : ltb y.owner p ≡ false = le-ltb y.owner p (omega (arith, same)) in
-        let e : s - first_site p ys ≡ s = omega (arith, none) in
-        let at : slice_get (sites_of p ys) s ≡ Some x = subst (λ (k : ℕ). slice_get (sites_of p ys) k ≡ Some x) e rest.1 in
-        let first : first_site p (y ∷ ys) ≡ 0 = rw test (omega (arith, none)) in
-        let here : slice_get (sites_of p (y ∷ ys)) (suc s) ≡ Some x = rw (eq-eqb y.owner p same) at in
-        let stays : suc s ≡ suc s - first_site p (y ∷ ys) = omega (arith, first) in
-        (omega (arith, first), subst (λ (k : ℕ). slice_get (sites_of p (y ∷ ys)) k ≡ Some x) stays here)
-    | inr other ↦ elim other [
-        inl less ↦
-          let test : ltb y.owner p ≡ true = lt-ltb y.owner p less in
-          let e : suc s - (1 + first_site p ys) ≡ s - first_site p ys = omega arith in
-          (rw test (omega (arith, rest.0)), rw (test, ne_eqb y.owner p (λ e. absurd (omega arith)), e) rest.1)
-      | inr more ↦
-          let none : sites_of p ys ≡ [] = none-of p y.owner ys more rise.1 in
-          absurd (let empty : slice_get (sites_of p ys) (s - first_site p ys) ≡ None = rw none in cc (empty, rest.1))
+      | inl same ↦
+          let none : first_site p ys ≡ 0 = none-before p y.owner ys (omega (arith, same)) rise.1 in
+          let test : ltb y.owner p ≡ false = le-ltb y.owner p (omega (arith, same)) in
+          let e : s - first_site p ys ≡ s = omega (arith, none) in
+          let at : slice_get (sites_of p ys) s ≡ Some x = subst (λ (k : ℕ). slice_get (sites_of p ys) k ≡ Some x) e rest.1 in
+          let first : first_site p (y ∷ ys) ≡ 0 = rw test (omega (arith, none)) in
+          let here : slice_get (sites_of p (y ∷ ys)) (suc s) ≡ Some x = rw (eq-eqb y.owner p same) at in
+          let stays : suc s ≡ suc s - first_site p (y ∷ ys) = omega (arith, first) in
+          (omega (arith, first), subst (λ (k : ℕ). slice_get (sites_of p (y ∷ ys)) k ≡ Some x) stays here)
+      | inr other ↦ elim other [
+        | inl less ↦
+            let test : ltb y.owner p ≡ true = lt-ltb y.owner p less in
+            let e : suc s - (1 + first_site p ys) ≡ s - first_site p ys = omega arith in
+            (rw test (omega (arith, rest.0)), rw (test, ne_eqb y.owner p (λ e. absurd (omega arith)), e) rest.1)
+        | inr more ↦
+            let none : sites_of p ys ≡ [] = none-of p y.owner ys more rise.1 in
+            absurd (let empty : slice_get (sites_of p ys) (s - first_site p ys) ≡ None = rw none in cc (empty, rest.1))
       ]
     ]
 
@@ -61,21 +61,21 @@ sites_of-range p n [] rise = refl
 sites_of-range p n (y ∷ ys) rise =
     let rest = sites_of-range p y.owner ys rise.1 in
     elim (cases_order y.owner p) [
-      inl same ↦
-        let none : first_site p ys ≡ 0 = none-before p y.owner ys (omega (arith, same)) rise.1 in
-        let first : first_site p (y ∷ ys) ≡ 0 = rw (le-ltb y.owner p (omega (arith, same))) (omega (arith, none)) in
-        let mine : sites_of p (y ∷ ys) ≡ y ∷ sites_of p ys = rw (eq-eqb y.owner p same) in
-        let tail : take (length (sites_of p ys)) ys ≡ sites_of p ys = subst (λ (k : ℕ). take (length (sites_of p ys)) (drop k ys) ≡ sites_of p ys) none rest in
-        ap (λ k. take (length (sites_of p (y ∷ ys))) (drop k (y ∷ ys))) first ∙ ap (λ zs. take (length zs) (y ∷ ys)) mine ∙ ap (λ zs. y ∷ zs) tail ∙ sym mine
-    | inr other ↦ elim other [
-        inl less ↦
-          let first : first_site p (y ∷ ys) ≡ suc (first_site p ys) = rw (lt-ltb y.owner p less) (omega arith) in
-          let mine : sites_of p (y ∷ ys) ≡ sites_of p ys = rw (ne_eqb y.owner p (λ e. absurd (omega arith))) in
-          ap (λ k. take (length (sites_of p (y ∷ ys))) (drop k (y ∷ ys))) first ∙ ap (λ zs. take (length zs) (drop (first_site p ys) ys)) mine ∙ rest ∙ sym mine
-      | inr more ↦
-          let mine : sites_of p (y ∷ ys) ≡ sites_of p ys = rw (ne_eqb y.owner p (λ e. absurd (omega arith))) in
-          let none : sites_of p (y ∷ ys) ≡ [] = mine ∙ none-of p y.owner ys more rise.1 in
-          ap (λ zs. take (length zs) (drop (first_site p (y ∷ ys)) (y ∷ ys))) none ∙ sym none
+      | inl same ↦
+          let none : first_site p ys ≡ 0 = none-before p y.owner ys (omega (arith, same)) rise.1 in
+          let first : first_site p (y ∷ ys) ≡ 0 = rw (le-ltb y.owner p (omega (arith, same))) (omega (arith, none)) in
+          let mine : sites_of p (y ∷ ys) ≡ y ∷ sites_of p ys = rw (eq-eqb y.owner p same) in
+          let tail : take (length (sites_of p ys)) ys ≡ sites_of p ys = subst (λ (k : ℕ). take (length (sites_of p ys)) (drop k ys) ≡ sites_of p ys) none rest in
+          ap (λ k. take (length (sites_of p (y ∷ ys))) (drop k (y ∷ ys))) first ∙ ap (λ zs. take (length zs) (y ∷ ys)) mine ∙ ap (λ zs. y ∷ zs) tail ∙ sym mine
+      | inr other ↦ elim other [
+        | inl less ↦
+            let first : first_site p (y ∷ ys) ≡ suc (first_site p ys) = rw (lt-ltb y.owner p less) (omega arith) in
+            let mine : sites_of p (y ∷ ys) ≡ sites_of p ys = rw (ne_eqb y.owner p (λ e. absurd (omega arith))) in
+            ap (λ k. take (length (sites_of p (y ∷ ys))) (drop k (y ∷ ys))) first ∙ ap (λ zs. take (length zs) (drop (first_site p ys) ys)) mine ∙ rest ∙ sym mine
+        | inr more ↦
+            let mine : sites_of p (y ∷ ys) ≡ sites_of p ys = rw (ne_eqb y.owner p (λ e. absurd (omega arith))) in
+            let none : sites_of p (y ∷ ys) ≡ [] = mine ∙ none-of p y.owner ys more rise.1 in
+            ap (λ zs. take (length zs) (drop (first_site p (y ∷ ys)) (y ∷ ys))) none ∙ sym none
       ]
     ]
 
@@ -85,10 +85,10 @@ first_site-next p [] = refl
 first_site-next p (y ∷ ys) =
     let rest = first_site-next p ys in
     elim (cases_order y.owner p) [
-      inl same ↦ rw (lt-ltb y.owner (p + 1) (omega (arith, same)), le-ltb y.owner p (omega (arith, same)), eq-eqb y.owner p same) (omega (arith, rest))
-    | inr other ↦ elim other [
-        inl less ↦ rw (lt-ltb y.owner (p + 1) (omega arith), lt-ltb y.owner p less, ne_eqb y.owner p (λ e. absurd (omega arith))) (omega (arith, rest))
-      | inr more ↦ rw (le-ltb y.owner (p + 1) (omega arith), le-ltb y.owner p (omega arith), ne_eqb y.owner p (λ e. absurd (omega arith))) (omega (arith, rest))
+      | inl same ↦ rw (lt-ltb y.owner (p + 1) (omega (arith, same)), le-ltb y.owner p (omega (arith, same)), eq-eqb y.owner p same) (omega (arith, rest))
+      | inr other ↦ elim other [
+        | inl less ↦ rw (lt-ltb y.owner (p + 1) (omega arith), lt-ltb y.owner p less, ne_eqb y.owner p (λ e. absurd (omega arith))) (omega (arith, rest))
+        | inr more ↦ rw (le-ltb y.owner (p + 1) (omega arith), le-ltb y.owner p (omega arith), ne_eqb y.owner p (λ e. absurd (omega arith))) (omega (arith, rest))
       ]
     ]
 
@@ -102,10 +102,10 @@ first_site-le p [] = omega arith
 first_site-le p (y ∷ ys) =
     let rest = first_site-le p ys in
     elim (cases_order y.owner p) [
-      inl same ↦ rw (le-ltb y.owner p (omega (arith, same)), eq-eqb y.owner p same) (omega (arith, rest))
-    | inr other ↦ elim other [
-        inl less ↦ rw (lt-ltb y.owner p less, ne_eqb y.owner p (λ e. absurd (omega arith))) (omega (arith, rest))
-      | inr more ↦ rw (le-ltb y.owner p (omega arith), ne_eqb y.owner p (λ e. absurd (omega arith))) (omega (arith, rest))
+      | inl same ↦ rw (le-ltb y.owner p (omega (arith, same)), eq-eqb y.owner p same) (omega (arith, rest))
+      | inr other ↦ elim other [
+        | inl less ↦ rw (lt-ltb y.owner p less, ne_eqb y.owner p (λ e. absurd (omega arith))) (omega (arith, rest))
+        | inr more ↦ rw (le-ltb y.owner p (omega arith), ne_eqb y.owner p (λ e. absurd (omega arith))) (omega (arith, rest))
       ]
     ]
 

@@ -1,5 +1,5 @@
 -- The call sites of one procedure stand together, since no site's owner is less than that of the site before.
-use Rattle.std.specs.Prelude.{ℕ, ◌+◌, ◌-◌, ◌≤◌, ◌==◌, List, [], ◌∷◌, length, if◌then◌else◌, nat_lt, filter}
+use Rattle.std.specs.Prelude.{ℕ, ◌+◌, ◌-◌, ◌≤◌, ◌==◌, List, [], ◌∷◌, if◌then◌else◌, nat_lt}
 use Rattle.md_static.specs.declared.entry.Site.{Site}
 
 -- each owner is at least n, and none is less than the one before

@@ -3,7 +3,9 @@
 #![tactic(auto)]
 
 mod entry;
+mod sound;
 mod tables;
 
 pub use entry::{Proc, Site, SiteKind};
+pub use sound::is_sound;
 pub use tables::Statics;

@@ -1,8 +1,9 @@
 // The tables of a program, which contracts see as three lists.
-ghost use Rattle.std.specs.Prelude.{◌≡◌};
+ghost use Rattle.std.specs.Prelude.{◌≡◌, IfOk};
 
 use crate::{Proc, Site};
-use md_base::Name;
+use md_base::{Name, NoMemory};
+use std::alloc::Global;
 use std::marker::Model;
 
 /// The modules, procedures and call sites of a program. Module 0 is the file's; the others follow in the order in
@@ -56,4 +57,43 @@ impl Statics {
     {
         self.sites.as_slice()
     }
+
+    /// The same tables once more.
+    pub fn copy(&self, alloc: Global) -> Result<Statics, NoMemory>
+        ensures { IfOk result (λ copy. copy ≡ self.now) }
+    {
+        let modules = copy_names(alloc, &self.modules)?;
+        let procs = copy_procs(alloc, &self.procs)?;
+        let sites = Vec::from_slice(alloc, &self.sites)?;
+        Ok(Statics {
+            modules,
+            procs,
+            sites,
+        })
+    }
+}
+
+fn copy_names(alloc: Global, names: &[Name]) -> Result<Vec<Name>, NoMemory>
+    ensures { IfOk result (λ copies. copies.items ≡ names.now) }
+{
+    let mut copies = Vec::with_capacity(alloc, names.len())?;
+    for name in names {
+        copies.push(name.copy(alloc)?)?;
+    }
+    Ok(copies)
+}
+
+fn copy_procs(alloc: Global, procs: &[Proc]) -> Result<Vec<Proc>, NoMemory>
+    ensures { IfOk result (λ copies. copies.items ≡ procs.now) }
+{
+    let mut copies = Vec::with_capacity(alloc, procs.len())?;
+    for proc in procs {
+        let name = proc.name.copy(alloc)?;
+        copies.push(Proc {
+            module: proc.module,
+            name,
+            arity: proc.arity,
+        })?;
+    }
+    Ok(copies)
 }

@@ -1,0 +1,74 @@
+-- Laws of traces: what `first` and `joined` do one inside the other, and what the budget does at a turn.
+use Rattle.std.proofs.Common.{◌≡◌, refl, ap, arith, ℕ, suc, ◌-◌, ◌<◌, ◌≤◌, true, false, List, [], ◌∷◌, ◌++◌, Option}
+use Rattle.std.specs.Prelude.{nat_le}
+use Rattle.std.proofs.lemmas.Bool.{le-leb, lt-leb}
+use Rattle.md_hlds.specs.Value.{Env}
+use Rattle.md_hlds.specs.Trace.{Item, Turn, Call, Exit, Redo, Fail, Alloc, Out, Answer, Stuck, Deep, Items, joined, first}
+use Rattle.md_hlds.specs.Run.{cut, cut_turn, output, is_finished, events}
+
+-- the first answer of what follows a first answer
+pub first-first : (xs : Items) (k : ℕ) (found : Env → ℕ → Items) (missed : ℕ → Items) (later : Env → ℕ → Items) (never : ℕ → Items)
+    → first (first xs k found missed) k later never ≡ first xs k (λ e n. first (found e n) n later never) (λ n. first (missed n) n later never)
+first-first [] k found missed later never = refl
+first-first (Turn a w ∷ xs) k found missed later never = ap (λ ys. Turn a w ∷ ys) (first-first xs k found missed later never)
+first-first (Call a p s q ∷ xs) k found missed later never = ap (λ ys. Call a p s q ∷ ys) (first-first xs (suc k) found missed later never)
+first-first (Exit a ∷ xs) k found missed later never = ap (λ ys. Exit a ∷ ys) (first-first xs k found missed later never)
+first-first (Redo a ∷ xs) k found missed later never = ap (λ ys. Redo a ∷ ys) (first-first xs k found missed later never)
+first-first (Fail a ∷ xs) k found missed later never = ap (λ ys. Fail a ∷ ys) (first-first xs k found missed later never)
+first-first (Alloc a w ∷ xs) k found missed later never = ap (λ ys. Alloc a w ∷ ys) (first-first xs k found missed later never)
+first-first (Out bytes ∷ xs) k found missed later never = ap (λ ys. Out bytes ∷ ys) (first-first xs k found missed later never)
+first-first (Answer e ∷ xs) k found missed later never = refl
+first-first (Stuck ∷ xs) k found missed later never = refl
+first-first (Deep ∷ xs) k found missed later never = refl
+
+-- the first answer of one trace and then another: the second is asked only where the first has none
+pub first-joined : (xs : Items) (k : ℕ) (rest : ℕ → Items) (found : Env → ℕ → Items) (missed : ℕ → Items)
+    → first (joined xs k rest) k found missed ≡ first xs k found (λ n. first (rest n) n found missed)
+first-joined [] k rest found missed = refl
+first-joined (Turn a w ∷ xs) k rest found missed = ap (λ ys. Turn a w ∷ ys) (first-joined xs k rest found missed)
+first-joined (Call a p s q ∷ xs) k rest found missed = ap (λ ys. Call a p s q ∷ ys) (first-joined xs (suc k) rest found missed)
+first-joined (Exit a ∷ xs) k rest found missed = ap (λ ys. Exit a ∷ ys) (first-joined xs k rest found missed)
+first-joined (Redo a ∷ xs) k rest found missed = ap (λ ys. Redo a ∷ ys) (first-joined xs k rest found missed)
+first-joined (Fail a ∷ xs) k rest found missed = ap (λ ys. Fail a ∷ ys) (first-joined xs k rest found missed)
+first-joined (Alloc a w ∷ xs) k rest found missed = ap (λ ys. Alloc a w ∷ ys) (first-joined xs k rest found missed)
+first-joined (Out bytes ∷ xs) k rest found missed = ap (λ ys. Out bytes ∷ ys) (first-joined xs k rest found missed)
+first-joined (Answer e ∷ xs) k rest found missed = refl
+first-joined (Stuck ∷ xs) k rest found missed = refl
+first-joined (Deep ∷ xs) k rest found missed = refl
+
+-- what follows all that follows a first answer
+pub joined-first : (xs : Items) (k : ℕ) (found : Env → ℕ → Items) (missed : ℕ → Items) (rest : ℕ → Items)
+    → joined (first xs k found missed) k rest ≡ first xs k (λ e n. joined (found e n) n rest) (λ n. joined (missed n) n rest)
+joined-first [] k found missed rest = refl
+joined-first (Turn a w ∷ xs) k found missed rest = ap (λ ys. Turn a w ∷ ys) (joined-first xs k found missed rest)
+joined-first (Call a p s q ∷ xs) k found missed rest = ap (λ ys. Call a p s q ∷ ys) (joined-first xs (suc k) found missed rest)
+joined-first (Exit a ∷ xs) k found missed rest = ap (λ ys. Exit a ∷ ys) (joined-first xs k found missed rest)
+joined-first (Redo a ∷ xs) k found missed rest = ap (λ ys. Redo a ∷ ys) (joined-first xs k found missed rest)
+joined-first (Fail a ∷ xs) k found missed rest = ap (λ ys. Fail a ∷ ys) (joined-first xs k found missed rest)
+joined-first (Alloc a w ∷ xs) k found missed rest = ap (λ ys. Alloc a w ∷ ys) (joined-first xs k found missed rest)
+joined-first (Out bytes ∷ xs) k found missed rest = ap (λ ys. Out bytes ∷ ys) (joined-first xs k found missed rest)
+joined-first (Answer e ∷ xs) k found missed rest = refl
+joined-first (Stuck ∷ xs) k found missed rest = refl
+joined-first (Deep ∷ xs) k found missed rest = refl
+
+-- to join is associative
+pub joined-joined : (xs : Items) (k : ℕ) (rest : ℕ → Items) (last : ℕ → Items)
+    → joined (joined xs k rest) k last ≡ joined xs k (λ n. joined (rest n) n last)
+joined-joined [] k rest last = refl
+joined-joined (Turn a w ∷ xs) k rest last = ap (λ ys. Turn a w ∷ ys) (joined-joined xs k rest last)
+joined-joined (Call a p s q ∷ xs) k rest last = ap (λ ys. Call a p s q ∷ ys) (joined-joined xs (suc k) rest last)
+joined-joined (Exit a ∷ xs) k rest last = ap (λ ys. Exit a ∷ ys) (joined-joined xs k rest last)
+joined-joined (Redo a ∷ xs) k rest last = ap (λ ys. Redo a ∷ ys) (joined-joined xs k rest last)
+joined-joined (Fail a ∷ xs) k rest last = ap (λ ys. Fail a ∷ ys) (joined-joined xs k rest last)
+joined-joined (Alloc a w ∷ xs) k rest last = ap (λ ys. Alloc a w ∷ ys) (joined-joined xs k rest last)
+joined-joined (Out bytes ∷ xs) k rest last = ap (λ ys. Out bytes ∷ ys) (joined-joined xs k rest last)
+joined-joined (Answer e ∷ xs) k rest last = ap (λ ys. Answer e ∷ ys) (joined-joined xs k rest last)
+joined-joined (Stuck ∷ xs) k rest last = refl
+joined-joined (Deep ∷ xs) k rest last = refl
+
+-- a turn that the budget allows, and one that it doesn't
+pub cut_allowed : (left a w : ℕ) (xs : Items) → w ≤ left → cut left (Turn a w ∷ xs) ≡ Turn a w ∷ cut (left - w) xs
+cut_allowed left a w xs fits = ap (cut_turn left a w (cut (left - w) xs)) (le-leb w left fits)
+
+pub cut_refused : (left a w : ℕ) (xs : Items) → left < w → cut left (Turn a w ∷ xs) ≡ []
+cut_refused left a w xs over = ap (cut_turn left a w (cut (left - w) xs)) (lt-leb w left over)

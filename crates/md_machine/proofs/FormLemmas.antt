@@ -1,0 +1,43 @@
+-- Goals of the first form, one by one.
+use Rattle.std.proofs.Common.{◌≡◌, refl, ap, ◌∙◌, sym, subst, arith, ℕ, zero, suc, ◌+◌, ◌<◌, ◌≤◌, Bool, true, false, ◌&&◌, List, [], ◌∷◌, length, take, get_or, Option, None, Some, is_none, Vec}
+use Rattle.std.specs.Prelude.{IsTrue}
+use Rattle.std.specs.declared.alloc.Global.{Global}
+use Rattle.md_hlds.specs.declared.goal.Goal.{Goal}
+use Rattle.md_hlds.specs.declared.goal.GoalKind.{GoalKind, True, Fail, Unify, Arith, Compare, WriteInt, WriteStr, Nl, Call, HoCall, Conj, Conj', Disj', If', Not', Some'}
+use Rattle.md_hlds.specs.declared.goal.PredName.{PredName}
+use Rattle.md_hlds.specs.Part.{Part, At, Task, Plain, Invoke, Each, listed, gathered, part_of, parts_of, parts_lines, task_of, task_lines, site_lines}
+use Rattle.md_hlds.proofs.Bridge.{task_of-Conj, listed-gathered}
+use Rattle.md_hlds.proofs.SiteLemmas.{lines_of, length-lines_more}
+use Rattle.md_machine.specs.FirstForm.{is_first_plain, is_first_unit, are_first_units, is_first_body}
+use Rattle.md_machine.specs.Machine.{is_first_goals}
+
+pub and_first : (a b : Bool) → IsTrue (a && b) → IsTrue a
+and_first true b h = refl
+and_first false b h = absurd (cc)
+
+pub and_second : (a b : Bool) → IsTrue (a && b) → IsTrue b
+and_second true b h = h
+and_second false b h = absurd (cc)
+
+-- each of the goals is a unit
+pub unit_at : (gs : List Goal) (i : ℕ) (g : Goal) → IsTrue (are_first_units (parts_of gs)) → i < length gs → g ≡ get_or gs i g → IsTrue (is_first_unit (part_of g))
+unit_at [] i g units lt is = absurd (omega (arith, lt))
+unit_at (h ∷ gs) zero g units lt is = subst (λ (k : Goal). IsTrue (is_first_unit (part_of k))) (sym is) (and_first (is_first_unit (part_of h)) (are_first_units (parts_of gs)) units)
+unit_at (h ∷ gs) (suc i) g units lt is = unit_at gs i g (and_second (is_first_unit (part_of h)) (are_first_units (parts_of gs)) units) (omega (arith, lt)) is
+
+-- a unit that is no call has no call site
+pub no_sites : (l : ℕ) (k : GoalKind) → IsTrue (is_first_unit (At l (task_of k))) → ((site : ℕ) (q : PredName) (ys : List ℕ) → k ≡ Call site q ys → ⊥)
+    → length (task_lines l (task_of k)) ≡ 0
+no_sites l (Call site q ys) unit no_call = absurd (no_call site q ys refl)
+no_sites l True unit no_call = refl
+no_sites l (Unify x t) unit no_call = refl
+no_sites l (WriteStr x a b) unit no_call = refl
+no_sites l (Nl a b) unit no_call = refl
+no_sites l k unit no_call = absurd (cc)
+
+-- a conjunction that is a body is one of units
+pub units_of_body : (l : ℕ) (k : GoalKind) (v : Vec Goal Global) → k ≡ Conj v → IsTrue (is_first_body (At l (task_of k))) → IsTrue (are_first_units (parts_of v.items))
+units_of_body l k v is body =
+    let each : task_of k ≡ Each (gathered (parts_of v.items)) = ap task_of is ∙ task_of-Conj v in
+    let units : IsTrue (are_first_units (listed (gathered (parts_of v.items)))) = subst (λ (t : Task). IsTrue (is_first_body (At l t))) each body in
+    subst (λ (ps : List Part). IsTrue (are_first_units ps)) (listed-gathered (parts_of v.items)) units

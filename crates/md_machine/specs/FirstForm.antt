@@ -1,0 +1,67 @@
+-- The programs that `walk` runs: of deterministic predicates whose arguments are none or the two io states, and whose
+-- bodies are conjunctions of `true`, unifications with a literal or a variable, writes of text, and such calls.
+use Rattle.std.specs.Prelude.{ℕ, Bool, true, false, ◌&&◌, ◌||◌, List, [], ◌∷◌, length, Option, Some, None, nat_eq, is_none}
+use Rattle.md_hlds.specs.declared.types.Det.{Det}
+use Rattle.md_hlds.specs.declared.types.Det.TheVariants.{Semidet, Multi, Nondet, Failure}
+use Rattle.md_hlds.specs.declared.types.Det.TheVariants.{Det as One}
+use Rattle.md_hlds.specs.declared.types.Mode.{Mode}
+use Rattle.md_hlds.specs.declared.types.Mode.TheVariants.{In, Out, Di, Uo}
+use Rattle.md_hlds.specs.declared.goal.Term.{Term}
+use Rattle.md_hlds.specs.declared.goal.Term.TheVariants.{Var, Int, Str, Name}
+use Rattle.md_hlds.specs.Part.{Simple, Succeeds, Unifies, WritesText, EndsLine, Part, At, Task, Plain, Invoke, Each, listed}
+use Rattle.md_hlds.specs.Listing.{Listing, Family, Procedure, Sort, world}
+
+-- a unification with a literal or a variable
+abbrev pub is_first_term : Term → Bool
+is_first_term (Var y) = true
+is_first_term (Str bytes) = true
+is_first_term t = false
+
+abbrev pub is_first_simple : Simple → Bool
+is_first_simple Succeeds = true
+is_first_simple (Unifies x t) = is_first_term t
+is_first_simple (WritesText x before after) = true
+is_first_simple (EndsLine before after) = true
+is_first_simple s = false
+
+abbrev pub is_first_plain : Task → Bool
+is_first_plain (Plain s) = is_first_simple s
+is_first_plain t = false
+
+abbrev pub is_first_unit : Part → Bool
+is_first_unit (At l (Plain s)) = is_first_simple s
+is_first_unit (At l (Invoke site q ys)) = is_none q.qualifier && (nat_eq (length ys) 0 || nat_eq (length ys) 2)
+is_first_unit p = false
+
+abbrev pub are_first_units : List Part → Bool
+are_first_units [] = true
+are_first_units (p ∷ ps) = is_first_unit p && are_first_units ps
+
+abbrev pub is_first_body : Part → Bool
+is_first_body (At l (Each ps)) = are_first_units (listed ps)
+is_first_body p = is_first_unit p
+
+-- no arguments, or the io state before and after
+abbrev pub is_first_args : List (Sort × Mode) → Bool
+is_first_args [] = true
+is_first_args ((world, Di) ∷ (world, Uo) ∷ []) = true
+is_first_args args = false
+
+abbrev pub is_one : Det → Bool
+is_one One = true
+is_one det = false
+
+abbrev pub is_first_procedure : Procedure → Bool
+is_first_procedure p = is_none p.qualifier && (is_first_args p.args && (is_one p.det && is_first_body p.body))
+
+abbrev pub are_first_procedures : List Procedure → Bool
+are_first_procedures [] = true
+are_first_procedures (p ∷ ps) = is_first_procedure p && are_first_procedures ps
+
+-- no types, and only such procedures
+abbrev pub has_no_types : List Family → Bool
+has_no_types [] = true
+has_no_types (t ∷ ts) = false
+
+abbrev pub is_first_form : Listing → Bool
+is_first_form s = has_no_types s.types && are_first_procedures s.procedures

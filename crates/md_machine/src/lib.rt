@@ -1,0 +1,9 @@
+//! Runs programs: what they write and whether they finish within a budget of steps are those of the definition of a run.
+#![tactic(auto)]
+
+mod arguments;
+mod index;
+mod machine;
+mod simple;
+mod value;
+mod weight;
