@@ -86,21 +86,21 @@ pub filled-lists : (slots mid : List (List Slot)) (node place q k n : ℕ) → W
 filled-lists slots mid node place q k n was short = λ v i xs ys at is.
     let new = set was.row place (filled was.slot q k) in
     elim (cases_eq v node) [
-      inl same ↦
-        let now : slice_get mid v ≡ Some new = ap (slice_get mid) same ∙ ap (λ zs. slice_get zs node) was.now_is ∙ get-set-same slots node new (get-within slots node was.row was.row_is) in
-        let row : xs ≡ new = cc (now, at) in
-        elim (cases_eq i place) [
-          inl here ↦
-            let slot : slice_get xs i ≡ Some (filled was.slot q k) = ap (λ zs. slice_get zs i) row ∙ ap (slice_get new) here ∙ get-set-same was.row place (filled was.slot q k) (get-within was.row place was.slot was.slot_is) in
-            let e : filled was.slot q k ≡ Many ys = cc (slot, is) in
-            filled-short was.slot q k n ys (λ zs mine. short node place was.row zs was.row_is (was.slot_is ∙ ap Some mine)) e
-        | inr there ↦
-            let older : slice_get xs i ≡ slice_get was.row i = ap (λ zs. slice_get zs i) row ∙ get-set-other was.row place i (filled was.slot q k) there in
-            omega (arith, short node i was.row ys was.row_is (sym older ∙ is))
-        ]
-    | inr other ↦
-        let now : slice_get mid v ≡ slice_get slots v = ap (λ zs. slice_get zs v) was.now_is ∙ get-set-other slots node v new other in
-        omega (arith, short v i xs ys (sym now ∙ at) is)
+      | inl same ↦
+          let now : slice_get mid v ≡ Some new = ap (slice_get mid) same ∙ ap (λ zs. slice_get zs node) was.now_is ∙ get-set-same slots node new (get-within slots node was.row was.row_is) in
+          let row : xs ≡ new = cc (now, at) in
+          elim (cases_eq i place) [
+            | inl here ↦
+                let slot : slice_get xs i ≡ Some (filled was.slot q k) = ap (λ zs. slice_get zs i) row ∙ ap (slice_get new) here ∙ get-set-same was.row place (filled was.slot q k) (get-within was.row place was.slot was.slot_is) in
+                let e : filled was.slot q k ≡ Many ys = cc (slot, is) in
+                filled-short was.slot q k n ys (λ zs mine. short node place was.row zs was.row_is (was.slot_is ∙ ap Some mine)) e
+            | inr there ↦
+                let older : slice_get xs i ≡ slice_get was.row i = ap (λ zs. slice_get zs i) row ∙ get-set-other was.row place i (filled was.slot q k) there in
+                omega (arith, short node i was.row ys was.row_is (sym older ∙ is))
+          ]
+      | inr other ↦
+          let now : slice_get mid v ≡ slice_get slots v = ap (λ zs. slice_get zs v) was.now_is ∙ get-set-other slots node v new other in
+          omega (arith, short v i xs ys (sym now ∙ at) is)
     ]
 
 -- empty slots have empty lists
@@ -162,9 +162,9 @@ context-tables s spans nodes nodes2 slots mid slots2 links links2 active row nod
       pointers = t.pointers;
       active_there = λ r v is. ap (λ xs. slice_get xs v) nodes_are ∙ get-push-old nodes q v (get-within nodes v r (t.active_there r v is)) ∙ t.active_there r v is;
       short = λ v i xs ys at is. elim (get-push-either mid empty xs v (ap (λ zs. slice_get zs v) (sym slots_are) ∙ at)) [
-          inl new ↦ empty-short (sites_of q s.sites) i (length links2) ys (ap (λ zs. slice_get zs i) (sym new.1) ∙ is)
+        | inl new ↦ empty-short (sites_of q s.sites) i (length links2) ys (ap (λ zs. slice_get zs i) (sym new.1) ∙ is)
         | inr older ↦ omega (arith, len, filled-lists slots mid node place q k (length links) was t.short v i xs ys older is)
-        ];
+      ];
       fewer = omega (arith, t.fewer, len, count);
       few = omega (arith, len);
     }
@@ -234,13 +234,13 @@ active-tables s spans nodes slots links active q to t below of =
       sizes = t.sizes;
       pointers = length-set active q to ∙ t.pointers;
       active_there = λ r v is. elim (cases_eq r q) [
-          inl same ↦
+        | inl same ↦
             let now : slice_get (set active q to) r ≡ Some to = ap (slice_get (set active q to)) same ∙ get-set-same active q to (omega (arith, t.pointers)) in
             let e : to ≡ Some v = cc (now, is) in
             let P : Option ℕ → Type 0 = λ o. IfSome o (λ w. slice_get nodes w ≡ Some q) in
             subst P e of ∙ ap Some (sym same)
         | inr other ↦ t.active_there r v (sym (get-set-other active q r to other) ∙ is)
-        ];
+      ];
       short = t.short;
       fewer = t.fewer;
       few = t.few;

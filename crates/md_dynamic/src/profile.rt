@@ -25,7 +25,12 @@ impl Model for Profile {
 
 impl Profile {
     /// A profile of these parts. Takes no memory.
-    pub fn from_parts(statics: Statics, nodes: Vec<ProcId>, links: Vec<LinkRow>, finished: bool) -> Profile
+    pub fn from_parts(
+        statics: Statics,
+        nodes: Vec<ProcId>,
+        links: Vec<LinkRow>,
+        finished: bool,
+    ) -> Profile
         ensures { result ≡ record { statics = statics; nodes = nodes.items; links = links.items; finished = finished } }
     {
         Profile {

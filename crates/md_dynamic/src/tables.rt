@@ -188,6 +188,7 @@ impl Tables {
         ensures err { OnErr result (self.new ≡ self.old) }
         ensures cost { OnOk result (steps.new ≡ steps.old + add_cost self.old callee to) }
         ensures cost_refused { OnErr result (steps.new ≤ steps.old + add_cost self.old callee to) }
+        ensures forward { steps.old ≤ steps.new }
     {
         // What always holds of the tables says that what a site calls is there.
         let _ = &self.statics;
@@ -213,6 +214,7 @@ impl Tables {
         ensures err { OnErr result (self.new ≡ self.old) }
         ensures cost { OnOk result (steps.new ≡ steps.old + 3) }
         ensures cost_refused { OnErr result (steps.new ≤ steps.old + 3) }
+        ensures forward { steps.old ≤ steps.new }
     {
         let place = self.place(node, site);
         let link = CsdId::new(self.links.len() as u32);
@@ -241,6 +243,7 @@ impl Tables {
         ensures err { OnErr result (self.new ≡ self.old) }
         ensures cost { OnOk result (steps.new ≡ steps.old + (4 + length (sites_of callee self.old.statics.sites))) }
         ensures cost_refused { OnErr result (steps.new ≤ steps.old + (4 + length (sites_of callee self.old.statics.sites))) }
+        ensures forward { steps.old ≤ steps.new }
     {
         let empty = self.empty_for(callee, steps)?;
         self.add_with(node, site, callee, empty, calls, steps)
@@ -264,6 +267,7 @@ impl Tables {
         ensures err { OnErr result (self.new ≡ self.old) }
         ensures cost { OnOk result (steps.new ≡ steps.old + 4) }
         ensures cost_refused { OnErr result (steps.new ≤ steps.old + 4) }
+        ensures forward { steps.old ≤ steps.new }
     {
         let place = self.place(node, site);
         let link = CsdId::new(self.links.len() as u32);
