@@ -78,7 +78,7 @@ its_place p k (y ∷ ys) (suc i) x is passes =
     ]
 
 -- a list of one place has that place
-only_place : (j q i : ℕ) → slice_get (q ∷ []) j ≡ Some (0 + i) → q ≡ i
+pub only_place : (j q i : ℕ) → slice_get (q ∷ []) j ≡ Some (0 + i) → q ≡ i
 only_place zero q i is = let e : q ≡ 0 + i = cc in omega arith
 only_place (suc j) q i is = cc
 

@@ -1,7 +1,7 @@
 -- Totals climb one clique further.
-use Rattle.std.proofs.Common.{◌≡◌, ℕ, zero, suc, ◌+◌, ◌-◌, ◌*◌, ◌^◌, ◌<◌, ◌≤◌, Bool, true, false, ◌&&◌, ◌||◌, eqb, cond, List, [], ◌∷◌, ◌++◌, length, get_or, set, All, Option, Some, None, unwrap_or, refl, sym, ap, ◌∙◌, inl, inr, arith}
-use Rattle.std.specs.List.{sum_by, list_any, slice_get}
-use Rattle.std.proofs.lemmas.Bool.{cases_eq, cases_Bool, eq-eqb, ne_eqb, eqb-true}
+use Rattle.std.proofs.Common.{◌≡◌, ℕ, suc, ◌+◌, ◌^◌, ◌<◌, ◌≤◌, Bool, true, false, ◌&&◌, ◌||◌, eqb, cond, List, length, get_or, set, All, Some, refl, sym, ap, ◌∙◌, inl, inr, arith}
+use Rattle.std.specs.List.{list_any, slice_get}
+use Rattle.std.proofs.lemmas.Bool.{cases_eq, eq-eqb, ne_eqb, eqb-true}
 use Rattle.std.proofs.lemmas.List.{get_or-set_same, get_or-set_other, length-set}
 use Rattle.std.proofs.lemmas.Option.{slice_get_within, get_or_from_slice_get}
 use Rattle.md_base.specs.declared.measure.Measure.{Measure}
@@ -12,7 +12,7 @@ use Rattle.md_clique.proofs.Naming.{lt_clique_count}
 use Rattle.md_cost.specs.declared.sums.Sums.{Sums}
 use Rattle.md_cost.specs.SumOf.{sum_of, zero_sums}
 use Rattle.md_cost.specs.Paths.{path_to, start_of, DoRise, EntriesRise}
-use Rattle.md_cost.specs.View.{sum_where, context_own, clique_own}
+use Rattle.md_cost.specs.View.{sum_where}
 use Rattle.md_cost.specs.Climbing.{AreOwn, AreSmall, AreTotals}
 use Rattle.md_cost.proofs.PathSteps.{any_one, path_stops, one_further, not_before}
 use Rattle.md_cost.proofs.SumSteps.{sum_of_both, sum_same}

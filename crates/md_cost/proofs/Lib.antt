@@ -3,3 +3,4 @@ pub mod PathSteps
 pub mod SumSteps
 pub mod OwnSteps
 pub mod ClimbSteps
+pub mod TreeSteps

@@ -1,14 +1,12 @@
 -- What holds while totals climb from the last clique up to clique 0.
-use Rattle.std.specs.Prelude.{ℕ, ◌≡◌, ◌<◌, ◌≤◌, ◌*◌, ◌==◌, List, length, slice_index, slice_index_or, sum_by}
-use Rattle.std.specs.List.{list_any}
+use Rattle.std.specs.Prelude.{ℕ, ◌≡◌, ◌<◌, ◌≤◌, ◌*◌, List, length, slice_index_or, sum_by}
 use Rattle.md_base.specs.declared.measure.Measure.{Measure}
 use Rattle.md_base.specs.Counts.{count_of}
 use Rattle.md_dynamic.specs.declared.link.LinkRow.{LinkRow}
 use Rattle.md_clique.specs.Cliques.{clique_count}
 use Rattle.md_cost.specs.declared.sums.Sums.{Sums}
 use Rattle.md_cost.specs.SumOf.{sum_of, zero_sums}
-use Rattle.md_cost.specs.Paths.{path_to, start_of}
-use Rattle.md_cost.specs.View.{sum_where, context_own, clique_own, context_total, clique_total}
+use Rattle.md_cost.specs.View.{context_own, clique_own, context_total, clique_total}
 
 -- each context and each clique has the sums of the links that lead there
 pub record AreOwn (cliques : List ℕ) (rows : List LinkRow) (nodes groups : List Sums) : Type 0 where

@@ -1,6 +1,6 @@
 -- The path of a context up to clique 0, over the links that enter cliques. For a profile that is read from a file it
 -- plays the part of the stations: there is no trace to ask.
-use Rattle.std.specs.Prelude.{ℕ, ◌≡◌, ◌<◌, ◌≤◌, zero, suc, List, [], ◌∷◌, length, Option, Some, None, slice_get, slice_index, unwrap_or, if◌then◌else◌, nat_le}
+use Rattle.std.specs.Prelude.{ℕ, ◌≡◌, ◌<◌, zero, suc, List, [], ◌∷◌, length, Option, Some, None, slice_get, slice_index, unwrap_or, if◌then◌else◌, nat_le}
 use Rattle.md_dynamic.specs.declared.link.LinkRow.{LinkRow}
 use Rattle.md_clique.specs.Cliques.{clique_count}
 

@@ -2,10 +2,13 @@
 //! section 3).
 #![tactic(auto)]
 
+mod loaded;
 mod own;
+mod propagating;
 mod sums;
 mod totals;
+mod tree;
 
-pub use own::{Own, own_sums};
+pub use loaded::Loaded;
+pub use propagating::{CostFault, propagate};
 pub use sums::Sums;
-pub use totals::climb;

@@ -1,11 +1,8 @@
-use Rattle.std.proofs.Common.{◌≡◌, ℕ, ◌+◌, ◌<◌, ◌++◌, ◌∷◌, [], length, take, replicate, get_or, refl, sym, ap, ◌∙◌, inl, inr, arith}
-use Rattle.std.proofs.lemmas.Bool.{cases_lt}
-use Rattle.std.proofs.lemmas.List.{get_or_read, get_or_past, get_or-replicate, length-replicate, take_more}
-use Rattle.md_base.specs.declared.measure.Measure.{Measure}
-use Rattle.md_clique.specs.Cliques.{clique_count}
+use Rattle.std.proofs.Common.{◌≡◌, ℕ, ◌+◌, ◌<◌, ◌++◌, ◌∷◌, [], length, take, get_or, refl, ap, ◌∙◌, arith}
+use Rattle.std.proofs.lemmas.List.{get_or_read, take_more}
 use Rattle.md_clique.proofs.Naming.{lt_clique_count}
-use Rattle.md_cost.specs.SumOf.{sum_of, zero_sums}
-use Rattle.md_cost.proofs.OwnSteps.{Owning, owning_none, owning_more, owning_all, room_of_node, room_of_group}
+use Rattle.md_cost.specs.SumOf.{zero_sums}
+use Rattle.md_cost.proofs.OwnSteps.{owning_none, owning_more, owning_all, room_of_node, room_of_group}
 use Rattle.md_cost.proofs.own.own_sums.Goals as goal
 use Rattle.md_cost.proofs.own.own_sums.Goals.{After-from_counts-own}
 

@@ -1,4 +1,4 @@
-use Rattle.std.proofs.Common.{◌≡◌, ◌<◌, ◌^◌, refl, rules}
+use Rattle.std.proofs.Common.{◌≡◌, ◌<◌, refl, rules}
 use Rattle.md_base.specs.declared.measure.Measure.{Measure}
 use Rattle.md_base.specs.Counts.{count_of}
 use Rattle.md_cost.specs.declared.sums.Sums.{Sums}
