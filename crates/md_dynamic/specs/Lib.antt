@@ -1,5 +1,6 @@
 pub mod Fills
 pub mod Links
+pub mod Profile
 pub mod Rows
 pub mod Slots
 pub mod Spans

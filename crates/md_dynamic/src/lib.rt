@@ -2,11 +2,13 @@
 #![tactic(auto)]
 
 mod link;
+mod profile;
 mod slot;
 mod span;
 mod tables;
 
 pub use link::LinkRow;
+pub use profile::Profile;
 pub use slot::{Callees, Slot, Slots};
 pub use span::Span;
 pub use tables::Tables;
