@@ -1,0 +1,16 @@
+//! The tokens of a program's text, each with its line: names, variables, integers, strings and signs, without white
+//! space and comments. At each place the longest token is taken.
+#![tactic(auto)]
+
+mod bytes;
+mod kind;
+mod scan;
+mod sign;
+mod string;
+mod token;
+mod word;
+
+pub use kind::Kind;
+pub use scan::tokens;
+pub use token::Token;
+pub use word::is_word;
