@@ -103,6 +103,7 @@ impl Tables {
     pub fn active<L: Ledger>(&self, callee: ProcId, steps: &mut Steps<L>) -> Option<PdId>
         requires { callee < length self.now.statics.procs }
         ensures value { slice_get self.now.active callee ≡ Some result }
+        ensures of_callee { IfSome result (λ v. slice_get self.now.nodes v ≡ Some callee) }
         ensures cost { steps.new ≡ steps.old + 1 }
     {
         steps.tick();
@@ -145,6 +146,7 @@ impl Tables {
     ) -> Option<(ProcId, CsdId)>
         requires { Owns self.now node site }
         ensures value { result ≡ slice_get (list_in self.now node site) place }
+        ensures short { length (list_in self.now node site) ≤ length self.now.links }
         ensures cost { steps.new ≡ steps.old + 1 }
     {
         steps.tick();
@@ -186,6 +188,7 @@ impl Tables {
         ensures err { OnErr result (self.new ≡ self.old) }
         ensures cost { OnOk result (steps.new ≡ steps.old + add_cost self.old callee to) }
         ensures cost_refused { OnErr result (steps.new ≤ steps.old + add_cost self.old callee to) }
+        ensures forward { steps.old ≤ steps.new }
     {
         // What always holds of the tables says that what a site calls is there.
         let _ = &self.statics;
@@ -211,6 +214,7 @@ impl Tables {
         ensures err { OnErr result (self.new ≡ self.old) }
         ensures cost { OnOk result (steps.new ≡ steps.old + 3) }
         ensures cost_refused { OnErr result (steps.new ≤ steps.old + 3) }
+        ensures forward { steps.old ≤ steps.new }
     {
         let place = self.place(node, site);
         let link = CsdId::new(self.links.len() as u32);
@@ -239,6 +243,7 @@ impl Tables {
         ensures err { OnErr result (self.new ≡ self.old) }
         ensures cost { OnOk result (steps.new ≡ steps.old + (4 + length (sites_of callee self.old.statics.sites))) }
         ensures cost_refused { OnErr result (steps.new ≤ steps.old + (4 + length (sites_of callee self.old.statics.sites))) }
+        ensures forward { steps.old ≤ steps.new }
     {
         let empty = self.empty_for(callee, steps)?;
         self.add_with(node, site, callee, empty, calls, steps)
@@ -262,6 +267,7 @@ impl Tables {
         ensures err { OnErr result (self.new ≡ self.old) }
         ensures cost { OnOk result (steps.new ≡ steps.old + 4) }
         ensures cost_refused { OnErr result (steps.new ≤ steps.old + 4) }
+        ensures forward { steps.old ≤ steps.new }
     {
         let place = self.place(node, site);
         let link = CsdId::new(self.links.len() as u32);
