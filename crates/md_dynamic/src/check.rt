@@ -233,3 +233,6 @@ fn all_but_first(reached: &[bool]) -> bool
         [_, rest @ ..] => rest.iter().all(|is_reached| *is_reached),
     }
 }
+
+#[cfg(test)]
+mod tests;
