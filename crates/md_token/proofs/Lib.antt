@@ -1,3 +1,4 @@
+pub mod Literals
 pub mod Scans
 pub mod Strings
 pub mod Words

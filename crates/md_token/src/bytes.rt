@@ -26,7 +26,7 @@ pub(crate) fn is_blank(byte: u8) -> bool
 }
 
 /// How many bytes at the front belong to a name or a variable.
-pub(crate) fn word_length(bytes: &[u8]) -> usize
+pub fn word_length(bytes: &[u8]) -> usize
     ensures length { result ≡ prefix_len spec.is_word_byte bytes.now }
     ensures within { result ≤ length bytes.now }
 {

@@ -1,3 +1,7 @@
+// The kinds of tokens.
+ghost use Rattle.std.specs.Prelude.{◌≡◌, true};
+ghost use Rattle.md_token.specs.Kinds as spec;
+
 /// What a token is.
 #[derive(Clone, Copy, Debug, PartialEq, Eq)]
 pub enum Kind {
@@ -59,4 +63,12 @@ pub enum Kind {
     Stop,
     /// Bytes that make no token.
     Bad,
+}
+
+/// Whether two kinds are the same.
+pub fn same_kind(a: Kind, b: Kind) -> bool
+    ensures value { result ≡ spec.same_kind a b }
+    ensures same { result ≡ true → a ≡ b }
+{
+    a == b
 }

@@ -4,13 +4,16 @@
 
 mod bytes;
 mod kind;
+mod literal;
 mod scan;
 mod sign;
 mod string;
 mod token;
 mod word;
 
-pub use kind::Kind;
+pub use bytes::word_length;
+pub use kind::{Kind, same_kind};
+pub use literal::{number_of, string_value};
 pub use scan::tokens;
 pub use token::Token;
-pub use word::is_word;
+pub use word::{is_word, word_kind};

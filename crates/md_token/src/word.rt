@@ -46,8 +46,9 @@ pub(crate) fn variable_at(byte: u8, bytes: &[u8]) -> Option<(Kind, usize)>
     }
 }
 
+/// The kind of a name that is written so: one of the seven words, or `Name`.
 #[tactic(auto, unfolding(crate::specs::Token::word_kind))]
-fn word_kind(text: &[u8]) -> Kind
+pub fn word_kind(text: &[u8]) -> Kind
     ensures kind { result ≡ spec.word_kind text.now }
 {
     if is_word(text, "true") {
