@@ -1,13 +1,13 @@
 -- What the three rules of contexts give: each link has one number and one end, and each context one procedure.
-use Rattle.std.proofs.Common.{ℕ, zero, suc, ◌+◌, ◌≡◌, ◌≢◌, ◌<◌, ◌≤◌, ◌⊎◌, inl, inr, Bool, true, false, cond, eqb, List, [], ◌∷◌, ◌++◌, length, find, MatchOption, Option, Some, None, unwrap_or, slice_get, refl, sym, ap, ◌∙◌, subst, arith}
+use Rattle.std.proofs.Common.{ℕ, zero, suc, ◌+◌, ◌≡◌, ◌≢◌, ◌<◌, ◌≤◌, ◌⊎◌, inl, inr, Bool, true, false, cond, eqb, List, [], ◌∷◌, ◌++◌, length, find, MatchOption, IsSomeAnd, Option, Some, None, unwrap_or, slice_get, refl, sym, ap, ◌∙◌, subst, arith}
 use Rattle.std.specs.Option.{option_map}
 use Rattle.std.proofs.lemmas.List.{length-append}
 use Rattle.std.proofs.lemmas.Bool.{false≢true, cases_Bool, or_cases, or_parts, eq-eqb, ne_eqb, eqb-true}
 use Rattle.std.proofs.lemmas.Bool.Decides.{eqb_tells}
 use Rattle.md_trace.specs.declared.event.Event.{Event}
 use Rattle.md_trace.specs.declared.event.Event.TheVariants.{Call, Exit, Redo, Fail, Alloc}
-use Rattle.md_trace.specs.Activation.{Activation, activations, numbered}
-use Rattle.md_trace.specs.PortHistory.{SiteTable, CallSite, current, MayCall, IsPortHistory}
+use Rattle.md_trace.specs.Activation.{Activation, activations, numbered, procedure_of}
+use Rattle.md_trace.specs.PortHistory.{SiteTable, CallSite, MayCallAt, current, MayCall, IsPortHistory}
 use Rattle.md_trace.specs.Context.{Link, Placed, chain, context_of, context_at, contexts, has_link, has_procedure, same_link, link_of, place, with_placed, placed, placed_of}
 use Rattle.md_trace.specs.Links.{Leading, root_link, is_among, links, IsNumberOf}
 use Rattle.md_trace.proofs.Chains.{IsBelow}
@@ -15,7 +15,7 @@ use Rattle.md_trace.proofs.Finds.{find-passes, find-there, find-none, chain-ther
 use Rattle.md_trace.proofs.Histories.{IsOrderly, orderly}
 use Rattle.md_trace.proofs.Lists.{get-push-old, get-push-new, get-push-either, get-within, get-there}
 use Rattle.md_trace.proofs.Numbered.{numbered-new, numbered-more, numbered-below, numbered-either, numbered-there}
-use Rattle.md_trace.proofs.Placing.{length-placed}
+use Rattle.md_trace.proofs.Placing.{length-placed, numbered-placed}
 
 -- an activation is that of main, before all others, or is called by an earlier one at a site
 abbrev pub IsCall : ℕ → List Activation → Option ℕ → Option ℕ → ℕ → Type 0
@@ -281,6 +281,52 @@ links-few m (x ∷ xs) =
     | inr e ↦ rw e (omega (arith, rest, length-append (links m xs) (leading x.link x.context ∷ [])))
     ]
 
--- what the site of each link says of its procedure
-pub SitedAs : SiteTable → Option ℕ → ℕ → Type 0
+-- what a site says of the procedure that is called there
+abbrev pub SitedAs : SiteTable → Option ℕ → ℕ → Type 0
 SitedAs t s q = (n : ℕ) (x : CallSite) → s ≡ Some n → slice_get t.sites n ≡ Some x → MatchOption x.callee (q < t.procedures) (λ c. q ≡ c)
+
+sited-at : (t : SiteTable) (h : List Event) (p n q : ℕ) (o : Option CallSite) → slice_get t.sites n ≡ o → IsSomeAnd o (MayCallAt t (procedure_of (activations h) p) q) → SitedAs t (Some n) q
+sited-at t h p n q None is may = absurd may
+sited-at t h p n q (Some z) is may = λ k x s there.
+    let e : n ≡ k = cc in
+    let same : z ≡ x = cc (sym is ∙ ap (slice_get t.sites) e ∙ there) in
+    let P : CallSite → Type 0 = λ w. MatchOption w.callee (q < t.procedures) (λ c. q ≡ c) in
+    subst P same may.callee
+
+sited-call : (t : SiteTable) (h : List Event) (p s : Option ℕ) (q : ℕ) → MayCall t h p s q → SitedAs t s q
+sited-call t h None None q may = λ n x s there. absurd (cc)
+sited-call t h (Some p) (Some n) q may = sited-at t h p n q (slice_get t.sites n) refl may
+sited-call t h None (Some n) q may = absurd may
+sited-call t h (Some p) None q may = absurd may
+
+-- the site of each activation fits its procedure
+pub sited-activation : (t : SiteTable) (h : List Event) (a : ℕ) (x : Activation) → IsPortHistory t h → numbered (activations h) a ≡ Some x → SitedAs t x.site x.procedure
+sited-activation t [] a x is at = absurd (cc)
+sited-activation t (Call b p s q ∷ h) a x is at =
+    elim (numbered-either (record { parent = p; site = s; procedure = q }) (activations h) a x at) [
+      inl new ↦ let P : Activation → Type 0 = λ z. SitedAs t z.site z.procedure in subst P (sym new.1) (sited-call t h p s q is.1.3)
+    | inr old ↦ sited-activation t h a x is.0 old
+    ]
+sited-activation t (Exit b ∷ h) a x is at = sited-activation t h a x is.0 at
+sited-activation t (Redo b ∷ h) a x is at = sited-activation t h a x is.0 at
+sited-activation t (Fail b ∷ h) a x is at = sited-activation t h a x is.0 at
+sited-activation t (Alloc b w ∷ h) a x is at = sited-activation t h a x is.0 at
+
+-- so does the site of each link
+pub sited-link : (t : SiteTable) (h : List Event) (j : ℕ) (x : Leading) → IsPortHistory t h → slice_get (links t.main (placed_of t.main h)) j ≡ Some x → SitedAs t x.link.site x.link.procedure
+sited-link t h j x is at =
+    let m = t.main in
+    elim ((are-right m (activations h) (are-calls t h is)).used j x at) [
+      inl root ↦ λ n z s there. absurd (let e : None ≡ Some n = ap (λ (w : Leading). w.link.site) (sym root) ∙ s in cc)
+    | inr old ↦
+        let below = numbered-below (placed_of m h) old.0 old.1 old.2 in
+        let act = numbered-there (activations h) old.0 (omega (arith, length-placed m (activations h))) in
+        let both = numbered-placed m (activations h) old.0 act.0 act.1 in
+        let same : both.0 ≡ old.1 = cc (both.1, old.2) in
+        let y : x.link ≡ old.1.link = ap (λ (w : Leading). w.link) old.3 in
+        let site : x.link.site ≡ act.0.site = ap (λ (l : Link). l.site) y ∙ ap (λ (w : Placed). w.link.site) (sym same) ∙ both.2.site in
+        let procedure : x.link.procedure ≡ act.0.procedure = ap (λ (l : Link). l.procedure) y ∙ ap (λ (w : Placed). w.link.procedure) (sym same) ∙ both.2.procedure in
+        let P : Option ℕ → Type 0 = λ s. SitedAs t s act.0.procedure in
+        let Q : ℕ → Type 0 = λ q. SitedAs t x.link.site q in
+        subst Q (sym procedure) (subst P (sym site) (sited-activation t h old.0 act.0 is act.1))
+    ]

@@ -1,0 +1,5 @@
+pub mod CalleeLists
+pub mod Events
+pub mod PointerSteps
+pub mod Returns
+pub mod RowSteps

@@ -1,0 +1,2 @@
+//! The recorder.
+#![tactic(auto)]
