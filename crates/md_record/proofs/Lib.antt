@@ -1,5 +1,8 @@
+pub mod Added
 pub mod CalleeLists
+pub mod Calls
 pub mod Events
 pub mod PointerSteps
 pub mod Returns
 pub mod RowSteps
+pub mod SlotSteps
