@@ -6,3 +6,4 @@ pub mod PointerSteps
 pub mod Returns
 pub mod RowSteps
 pub mod SlotSteps
+pub mod Uses
