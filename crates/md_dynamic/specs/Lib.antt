@@ -4,3 +4,4 @@ pub mod Profile
 pub mod Rows
 pub mod Slots
 pub mod Spans
+pub mod Valid

@@ -1,10 +1,40 @@
 // What a run leaves: contexts and links with their counts, beside the tables of the program.
 ghost use Rattle.std.specs.Prelude.{◌≡◌};
+ghost use Rattle.md_dynamic.specs.declared.profile.CheckFault.TheVariants.{NoMemory as out_of_memory};
 
+use crate::check::are_valid;
 use crate::link::LinkRow;
-use md_base::ProcId;
+use md_base::{NoMemory, ProcId};
 use md_static::Statics;
+use std::error::Error;
+use std::fmt;
 use std::marker::Model;
+
+/// Why a profile wasn't found valid.
+#[derive(Clone, Copy, Debug, PartialEq, Eq)]
+pub enum CheckFault {
+    Broken,
+    NoMemory,
+}
+
+impl fmt::Display for CheckFault {
+    fn fmt<W: fmt::Write>(&self, f: &mut fmt::Formatter<W>) -> fmt::Result {
+        match self {
+            CheckFault::Broken => write!(f, "the profile breaks a rule"),
+            CheckFault::NoMemory => write!(f, "want of memory"),
+        }
+    }
+}
+
+impl Error for CheckFault {}
+
+impl From<NoMemory> for CheckFault {
+    ghost from_gives = { λ _ fault. fault ≡ out_of_memory };
+
+    fn from(_: NoMemory) -> CheckFault {
+        CheckFault::NoMemory
+    }
+}
 
 /// A profile: the program's tables, each context's procedure, the links, and whether the run was finished.
 #[derive(Debug, Drop)]
@@ -24,6 +54,9 @@ impl Model for Profile {
 }
 
 impl Profile {
+    ghost use Rattle.std.specs.Prelude.{◌≡◌, OnOk, IsErrOf};
+    ghost use Rattle.md_dynamic.specs.Valid.{IsValid};
+
     /// A profile of these parts. Takes no memory.
     pub fn from_parts(
         statics: Statics,
@@ -67,5 +100,22 @@ impl Profile {
         ensures { result ≡ self.now.finished }
     {
         self.finished
+    }
+
+    /// Ok exactly where the profile is valid.
+    pub fn check(&self) -> Result<(), CheckFault>
+        ensures valid { OnOk result (IsValid self.now) }
+        ensures broken { IsErrOf result CheckFault.Broken → IsValid self.now → ⊥ }
+    {
+        if are_valid(
+            *self.nodes.allocator(),
+            &self.statics,
+            &self.nodes,
+            &self.links,
+        )? {
+            Ok(())
+        } else {
+            Err(CheckFault::Broken)
+        }
     }
 }

@@ -87,7 +87,7 @@ pub call_unknown : (s : Listing) (b left : ℕ) (out : List ℕ) (values : Slots
     → Stands s b left out (env_of values) (parts_of goals) (stacked callers) → Ended s b out false
 call_unknown s b left out values goals rest callers g q ys first call none st =
     ended_unknown s b left out (env_of values) g.line call.site q ys (parts_of rest) (stacked callers)
-      (front_task s b left out values goals rest callers g (Invoke call.site q ys) first call.call st) none
+    (front_task s b left out values goals rest callers g (Invoke call.site q ys) first call.call st) none
 
 differ-nat_eq : (m n : ℕ) → (m ≡ n → ⊥) → nat_eq (0 + m) n ≡ false
 differ-nat_eq m n apart = elim (eqb_tells (0 + m) n) [ inl w ↦ absurd (apart (omega (arith, w.1))) | inr w ↦ w.0 ]
@@ -97,7 +97,7 @@ pub call_arity : (s : Listing) (b left : ℕ) (out : List ℕ) (values : Slots) 
     → Stands s b left out (env_of values) (parts_of goals) (stacked callers) → Ended s b out false
 call_arity s b left out values goals rest callers g q ys p first call is apart st =
     ended_arity s b left out (env_of values) g.line call.site q ys (parts_of rest) (stacked callers) is.number p
-      (front_task s b left out values goals rest callers g (Invoke call.site q ys) first call.call st) is.called (differ-nat_eq (length ys) (length p.head) apart)
+    (front_task s b left out values goals rest callers g (Invoke call.site q ys) first call.call st) is.called (differ-nat_eq (length ys) (length p.head) apart)
 
 same-nat_eq : (m n : ℕ) → m ≡ n → nat_eq (0 + m) n ≡ true
 same-nat_eq m n same = eq-eqb (0 + m) n (omega (arith, same))
@@ -107,8 +107,8 @@ pub call_heavy : (s : Listing) (b left : ℕ) (out : List ℕ) (values : Slots) 
     → Stands s b left out (env_of values) (parts_of goals) (stacked callers) → Ended s b out false
 call_heavy s b left out values goals rest callers g q ys p first call is form same over st =
     ended_call s b left out (env_of values) g.line call.site q ys (parts_of rest) (stacked callers) is.number p
-      (front_task s b left out values goals rest callers g (Invoke call.site q ys) first call.call st)
-      is.called (same-nat_eq (length ys) (length p.head) same) (det_of_first p form) over
+    (front_task s b left out values goals rest callers g (Invoke call.site q ys) first call.call st)
+    is.called (same-nat_eq (length ys) (length p.head) same) (det_of_first p form) over
 
 pub call_went : (s : Listing) (b left : ℕ) (out : List ℕ) (values : Slots) (goals rest : List Goal) (callers callers' : List Kept) (g : Goal) (q : PredName) (ys : List ℕ)
     (p : Pred) (new : Kept) (values' : Slots) (w : ℕ)
@@ -121,11 +121,11 @@ pub call_went : (s : Listing) (b left : ℕ) (out : List ℕ) (values : Slots) (
 call_went s b left out values goals rest callers callers' g q ys p new values' w first call is form same weight fits enters pushed waits st =
     let fits' : call_weight (procedure_of p) ≤ left = omega (arith, weight, fits) in
     let all : stacked callers' ≡ record { env = env_of values; goals = parts_of rest; pairs = pairs_of p.head ys } ∷ stacked callers
-        = ap stacked pushed ∙ (stacked-push callers new ∙ ap (λ (c : Caller). c ∷ stacked callers) waits) in
+    = ap stacked pushed ∙ (stacked-push callers new ∙ ap (λ (c : Caller). c ∷ stacked callers) waits) in
     rw (weight, enters, all)
     (stands_call s b left out (env_of values) g.line call.site q ys (parts_of rest) (stacked callers) is.number (procedure_of p)
-      (front_task s b left out values goals rest callers g (Invoke call.site q ys) first call.call st)
-      is.called (same-nat_eq (length ys) (length p.head) same) (det_of_first (procedure_of p) form) fits')
+    (front_task s b left out values goals rest callers g (Invoke call.site q ys) first call.call st)
+    is.called (same-nat_eq (length ys) (length p.head) same) (det_of_first (procedure_of p) form) fits')
 
 -- one caller more that has only units to do
 pub walkable_pushed : (callers callers' : List Kept) (new : Kept) → callers' ≡ callers ++ new ∷ []

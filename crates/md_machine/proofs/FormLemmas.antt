@@ -1,14 +1,17 @@
 -- Goals of the first form, one by one.
-use Rattle.std.proofs.Common.{◌≡◌, refl, ap, ◌∙◌, sym, subst, arith, ℕ, zero, suc, ◌+◌, ◌<◌, ◌≤◌, Bool, true, false, ◌&&◌, List, [], ◌∷◌, length, take, get_or, Option, None, Some, is_none, Vec}
+use Rattle.std.proofs.Common.{◌≡◌, refl, ap, ◌∙◌, sym, subst, arith, ℕ, zero, suc, ◌+◌, ◌<◌, ◌≤◌, Bool, true, false, ◌&&◌, List, [], ◌∷◌, length, take, drop, get_or, Option, None, Some, is_none, Vec}
 use Rattle.std.specs.Prelude.{IsTrue}
 use Rattle.std.specs.declared.alloc.Global.{Global}
+use Rattle.std.proofs.Math.Seq.{drop-cons}
+use Rattle.md_hlds.specs.declared.program.Pred.{Pred}
+use Rattle.md_hlds.specs.Listing.{procedure_of, procedures_of}
 use Rattle.md_hlds.specs.declared.goal.Goal.{Goal}
 use Rattle.md_hlds.specs.declared.goal.GoalKind.{GoalKind, True, Fail, Unify, Arith, Compare, WriteInt, WriteStr, Nl, Call, HoCall, Conj, Conj', Disj', If', Not', Some'}
 use Rattle.md_hlds.specs.declared.goal.PredName.{PredName}
 use Rattle.md_hlds.specs.Part.{Part, At, Task, Plain, Invoke, Each, listed, gathered, part_of, parts_of, parts_lines, task_of, task_lines, site_lines}
 use Rattle.md_hlds.proofs.Bridge.{task_of-Conj, listed-gathered}
 use Rattle.md_hlds.proofs.SiteLemmas.{lines_of, length-lines_more}
-use Rattle.md_machine.specs.FirstForm.{is_first_plain, is_first_unit, are_first_units, is_first_body}
+use Rattle.md_machine.specs.FirstForm.{is_first_plain, is_first_unit, are_first_units, is_first_body, is_first_procedure, are_first_procedures}
 use Rattle.md_machine.specs.Machine.{is_first_goals}
 
 pub and_first : (a b : Bool) → IsTrue (a && b) → IsTrue a
@@ -41,3 +44,31 @@ units_of_body l k v is body =
     let each : task_of k ≡ Each (gathered (parts_of v.items)) = ap task_of is ∙ task_of-Conj v in
     let units : IsTrue (are_first_units (listed (gathered (parts_of v.items)))) = subst (λ (t : Task). IsTrue (is_first_body (At l t))) each body in
     subst (λ (ps : List Part). IsTrue (are_first_units ps)) (listed-gathered (parts_of v.items)) units
+
+-- a conjunction is all that a frame has to do
+pub conj_alone : (g : Goal) (rest : List Goal) (v : Vec Goal Global) → g.kind ≡ Conj v → IsTrue (is_first_goals (parts_of (g ∷ rest))) → rest ≡ []
+conj_alone g [] v is goals = refl
+conj_alone g (r ∷ rest) v is goals =
+    let unit : IsTrue (is_first_unit (part_of g)) = and_first (is_first_unit (part_of g)) (are_first_units (parts_of (r ∷ rest))) goals in
+    let each : IsTrue (is_first_unit (At g.line (task_of (Conj v)))) = subst (λ (k : GoalKind). IsTrue (is_first_unit (At g.line (task_of k)))) is unit in
+    absurd (cc)
+
+-- and its parts are units
+pub conj_units : (g : Goal) (rest : List Goal) (v : Vec Goal Global) → g.kind ≡ Conj v → IsTrue (is_first_goals (parts_of (g ∷ rest))) → IsTrue (are_first_units (parts_of v.items))
+conj_units g [] v is goals = units_of_body g.line g.kind v is goals
+conj_units g (r ∷ rest) v is goals =
+    let none : r ∷ rest ≡ [] = conj_alone g (r ∷ rest) v is goals in
+    absurd (cc)
+
+-- the units from a place on, and the procedures
+pub units_step : (gs : List Goal) (i : ℕ) (g : Goal) → i < length gs → g ≡ get_or gs i g
+    → are_first_units (parts_of (drop i gs)) ≡ (is_first_unit (part_of g) && are_first_units (parts_of (drop (suc i) gs)))
+units_step gs i g lt is =
+    let front : drop i gs ≡ g ∷ drop (suc i) gs = drop-cons gs i g lt ∙ ap (λ (x : Goal). x ∷ drop (suc i) gs) (sym is) in
+    ap (λ (xs : List Goal). are_first_units (parts_of xs)) front
+
+pub procedures_step : (ps : List Pred) (i : ℕ) (p : Pred) → i < length ps → p ≡ get_or ps i p
+    → are_first_procedures (procedures_of (drop i ps)) ≡ (is_first_procedure (procedure_of p) && are_first_procedures (procedures_of (drop (suc i) ps)))
+procedures_step ps i p lt is =
+    let front : drop i ps ≡ p ∷ drop (suc i) ps = drop-cons ps i p lt ∙ ap (λ (x : Pred). x ∷ drop (suc i) ps) (sym is) in
+    ap (λ (xs : List Pred). are_first_procedures (procedures_of xs)) front

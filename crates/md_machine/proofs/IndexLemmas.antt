@@ -47,8 +47,8 @@ lookup-insert_entry name (e ∷ es) key v =
     lookup-cond (is_name name) (same_name key e.0) ((e.0, v) ∷ es) (e ∷ insert_entry same_name es key v)
     ∙ (ap (λ r. cond (same_name key e.0) (cond (is_name name e.0) (Some v) (lookup (is_name name) es)) (cond (is_name name e.0) (Some e.1) r)) (lookup-insert_entry name es key v)
     ∙ swapped (same_name key e.0) (is_name name e.0) (is_name name key) (Some v) (Some e.1) (lookup (is_name name) es)
-      (λ same. ap (pointwise nat_eq name) (sym (same_text key.items e.0.items (sym same))))
-      (λ apart at_e at_key. other_text key.items e.0.items (sym apart) (sym (same_text name key.items (sym at_key)) ∙ same_text name e.0.items (sym at_e))))
+    (λ same. ap (pointwise nat_eq name) (sym (same_text key.items e.0.items (sym same))))
+    (λ apart at_e at_key. other_text key.items e.0.items (sym apart) (sym (same_text name key.items (sym at_key)) ∙ same_text name e.0.items (sym at_e))))
 
 -- the procedures from a place on, with the one at that place first
 number_of-cond : (b : Bool) (q : ℕ × Procedure) (r : Option (ℕ × Procedure)) → number_of (cond b (Some q) r) ≡ cond b (Some q.0) (number_of r)
@@ -116,7 +116,7 @@ found_at name [] n m k p is at here lt = absurd (omega (arith, lt))
 found_at name (q ∷ ps) n m zero p is at here lt =
     subst (λ (x : Pred). find_procedure (unqualified name) n (procedures_of (q ∷ ps)) ≡ Some (m, procedure_of x)) (sym here)
     (found_here (is_called (unqualified name) (procedure_of q)) n m (procedure_of q) (find_procedure (unqualified name) (suc n) (procedures_of ps)) is (omega (arith, at))
-      (λ later. absurd (omega (arith, at, (number_within name ps (suc n) m later).above))))
+    (λ later. absurd (omega (arith, at, (number_within name ps (suc n) m later).above))))
 found_at name (q ∷ ps) n m (suc k) p is at here lt =
     found_step (is_called (unqualified name) (procedure_of q)) n m k (procedure_of q) (procedure_of p) (find_procedure (unqualified name) (suc n) (procedures_of ps)) is at
     (λ later. found_at name ps (suc n) m k p later (omega (arith, at)) here (omega (arith, lt)))

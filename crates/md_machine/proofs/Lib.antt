@@ -1,8 +1,10 @@
 pub mod ArgumentLemmas
 pub mod CallLemmas
 pub mod FormLemmas
+pub mod FormTests
 pub mod IndexLemmas
-pub mod RestLemmas
-pub mod Moves
-pub mod ValueLemmas
 pub mod MachineLemmas
+pub mod Moves
+pub mod RestLemmas
+pub mod RunLemmas
+pub mod ValueLemmas

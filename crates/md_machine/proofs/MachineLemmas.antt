@@ -41,8 +41,8 @@ pub returned : (s : Listing) (b left : ℕ) (out : List ℕ) (values : Slots) (g
     → Stands s b left out (env_of values') (parts_of c.frame.goals.now) (stacked news)
 returned s b left out values goals olds news c values' none popped given_back st =
     let here : Stands s b left out (env_of values) [] (caller_of c ∷ stacked news)
-        = subst (λ (cs : List _). Stands s b left out (env_of values) [] cs) (ap stacked popped ∙ stacked-push news c)
-          (subst (λ (gs : List Goal). Stands s b left out (env_of values) (parts_of gs) (stacked olds)) none st) in
+    = subst (λ (cs : List _). Stands s b left out (env_of values) [] cs) (ap stacked popped ∙ stacked-push news c)
+    (subst (λ (gs : List Goal). Stands s b left out (env_of values) (parts_of gs) (stacked olds)) none st) in
     rw given_back (stands_return s b left out (env_of values) (caller_of c) (stacked news) here)
 
 -- a plain goal of the first form is a simple goal
@@ -73,7 +73,7 @@ simple_went s b left out values goals rest callers g values' d out' first plain 
     let task : task_of g.kind ≡ Plain h = (plain_goal (task_of g.kind) plain).1 in
     rw writes
     (stands_go s b left out (env_of values) (env_of values') g.line h d.extra (written_of d.written) (parts_of rest) (stacked callers)
-      (front_task s b left out values goals rest callers g (Plain h) first task st) (ran s h task) fits)
+    (front_task s b left out values goals rest callers g (Plain h) first task st) (ran s h task) fits)
 
 pub simple_heavy : (s : Listing) (b left : ℕ) (out : List ℕ) (values : Slots) (goals rest : List Goal) (callers : List Kept) (g : Goal) (values' : Slots) (d : Effect)
     → goals ≡ g ∷ rest → IsTrue (is_first_plain (task_of g.kind)) → Ran values g values' (Some d) → left < suc d.extra
@@ -82,7 +82,7 @@ simple_heavy s b left out values goals rest callers g values' d first plain ran 
     let h : Simple = (plain_goal (task_of g.kind) plain).0 in
     let task : task_of g.kind ≡ Plain h = (plain_goal (task_of g.kind) plain).1 in
     ended_go s b left out (env_of values) (env_of values') g.line h d.extra (written_of d.written) (parts_of rest) (stacked callers)
-      (front_task s b left out values goals rest callers g (Plain h) first task st) (ran s h task) over
+    (front_task s b left out values goals rest callers g (Plain h) first task st) (ran s h task) over
 
 pub simple_without : (s : Listing) (b left : ℕ) (out : List ℕ) (values : Slots) (goals rest : List Goal) (callers : List Kept) (g : Goal) (values' : Slots)
     → goals ≡ g ∷ rest → IsTrue (is_first_plain (task_of g.kind)) → Ran values g values' None
@@ -91,7 +91,7 @@ simple_without s b left out values goals rest callers g values' first plain ran 
     let h : Simple = (plain_goal (task_of g.kind) plain).0 in
     let task : task_of g.kind ≡ Plain h = (plain_goal (task_of g.kind) plain).1 in
     ended_without s b left out (env_of values) g.line h (parts_of rest) (stacked callers)
-      (front_task s b left out values goals rest callers g (Plain h) first task st) (ran s h task)
+    (front_task s b left out values goals rest callers g (Plain h) first task st) (ran s h task)
 
 -- a conjunction
 pub each_went : (s : Listing) (b left : ℕ) (out : List ℕ) (values : Slots) (goals parts : List Goal) (callers : List Kept) (g : Goal)
@@ -102,11 +102,11 @@ each_went s b left out values goals parts callers g first is fits st =
     let all : listed (gathered (parts_of parts)) ++ [] ≡ parts_of parts = append-nil (listed (gathered (parts_of parts))) ∙ listed-gathered (parts_of parts) in
     subst (λ (ps : List Part). Stands s b (left - 1) out (env_of values) ps (stacked callers)) all
     (stands_each s b left out (env_of values) g.line (gathered (parts_of parts)) [] (stacked callers)
-      (front_task s b left out values goals [] callers g (Each (gathered (parts_of parts))) first is st) fits)
+    (front_task s b left out values goals [] callers g (Each (gathered (parts_of parts))) first is st) fits)
 
 pub each_heavy : (s : Listing) (b left : ℕ) (out : List ℕ) (values : Slots) (goals parts : List Goal) (callers : List Kept) (g : Goal)
     → goals ≡ g ∷ [] → task_of g.kind ≡ Each (gathered (parts_of parts)) → left < 1
     → Stands s b left out (env_of values) (parts_of goals) (stacked callers) → Ended s b out false
 each_heavy s b left out values goals parts callers g first is over st =
     ended_each s b left out (env_of values) g.line (gathered (parts_of parts)) [] (stacked callers)
-      (front_task s b left out values goals [] callers g (Each (gathered (parts_of parts))) first is st) over
+    (front_task s b left out values goals [] callers g (Each (gathered (parts_of parts))) first is st) over

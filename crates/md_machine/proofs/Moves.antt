@@ -96,8 +96,8 @@ return_to s b left out e c cs n a k (w ∷ ws) are owed =
       are_waiting = are.4;
       deep_enough = are.3;
       owes = subst (λ (g : List Part). Owes s b left out (rest s w.depth (frame w.act (back c.pairs e c.env) g) ws k)) are.1
-        (subst (λ (d : Env). Owes s b left out (rest s w.depth (frame w.act (back c.pairs e d) w.goals) ws k)) are.0
-        (subst (λ (ps : List (ℕ × ℕ)). Owes s b left out (rest s w.depth (frame w.act (back ps e w.env) w.goals) ws k)) are.2 after));
+          (subst (λ (d : Env). Owes s b left out (rest s w.depth (frame w.act (back c.pairs e d) w.goals) ws k)) are.0
+          (subst (λ (ps : List (ℕ × ℕ)). Owes s b left out (rest s w.depth (frame w.act (back ps e w.env) w.goals) ws k)) are.2 after));
     }
 
 pub stands_return : (s : Listing) (b left : ℕ) (out : List ℕ) (e : Env) (c : Caller) (cs : List Caller)
@@ -129,7 +129,7 @@ go_on s b left out e e' l g extra o goals cs (suc n) a k ws is fits deep are owe
   are_waiting = waiting_less left (left - suc extra) cs ws (omega arith) are;
   deep_enough = omega (arith, fits, deep);
   owes = owes_written s b (left - suc extra) out o _
-    (owes_turn s b left out a (suc extra) _ fits (owes_along s b left out _ _ (rest-go s n l a k e e' g extra o goals ws is) owed));
+      (owes_turn s b left out a (suc extra) _ fits (owes_along s b left out _ _ (rest-go s n l a k e e' g extra o goals ws is) owed));
 }
 
 pub stands_go : (s : Listing) (b left : ℕ) (out : List ℕ) (e e' : Env) (l : ℕ) (g : Simple) (extra : ℕ) (o : Option (List ℕ)) (goals : List Part) (cs : List Caller)
@@ -222,8 +222,8 @@ call_on : (s : Listing) (b left : ℕ) (out : List ℕ) (e : Env) (l site : ℕ)
 call_on s b left out e l site q ys goals cs m p zero a k ws is same one fits deep are owed = absurd (omega (arith, fits, deep))
 call_on s b left out e l site q ys goals cs m p (suc n) a k ws is same one fits deep are owed =
     let after : Owes s b (left - call_weight p) out (Call k (Some a) (Some site) m ∷ rest s n (frame k (entry p e ys) (p.body ∷ []))
-          (record { callee = k; depth = n; act = a; env = e; goals = goals; pairs = pairs_of p.head ys } ∷ ws) (suc k))
-        = owes_turn s b left out a (call_weight p) _ fits (owes_along s b left out _ _ (rest-call s n l a k e site q ys goals ws m p is same one) owed) in
+    (record { callee = k; depth = n; act = a; env = e; goals = goals; pairs = pairs_of p.head ys } ∷ ws) (suc k))
+    = owes_turn s b left out a (call_weight p) _ fits (owes_along s b left out _ _ (rest-call s n l a k e site q ys goals ws m p is same one) owed) in
     record {
       depth = n;
       act = k;
@@ -249,7 +249,7 @@ ended_call s b left out e l site q ys goals cs m p st is same one over =
     end_at_heavy s b left out e (At l (Invoke site q ys)) goals (call_weight p) st.depth st.act st.next st.waiting
     (record {
       items = λ n. Call st.next (Some st.act) (Some site) m ∷ rest s n (frame st.next (entry p e ys) (p.body ∷ []))
-        (record { callee = st.next; depth = n; act = st.act; env = e; goals = goals; pairs = pairs_of p.head ys } ∷ st.waiting) (suc st.next);
+          (record { callee = st.next; depth = n; act = st.act; env = e; goals = goals; pairs = pairs_of p.head ys } ∷ st.waiting) (suc st.next);
       shown = λ n. rest-call s n l st.act st.next e site q ys goals st.waiting m p is same one;
     })
     over st.owes
@@ -277,7 +277,7 @@ pub stands_start : (s : Listing) (b m : ℕ) (p : Procedure) → procedure_calle
     → Stands s b (b - call_weight p) [] (main_env (blank (length p.vars)) p.head) (p.body ∷ []) []
 stands_start s b m p is fits =
     let after : Owes s b (b - call_weight p) [] (Call 0 None None m ∷ rest s b (main_frame p) [] 1)
-        = owes_turn s b b [] 0 (call_weight p) _ fits (whole s b (m, p) is) in
+    = owes_turn s b b [] 0 (call_weight p) _ fits (whole s b (m, p) is) in
     record {
       depth = b;
       act = 0;

@@ -75,9 +75,9 @@ rest-arity s n l a k e site q ys goals ws m p is differ =
 pub rest-call : (s : Listing) (n l a k : ℕ) (e : Env) (site : ℕ) (q : PredName) (ys : List ℕ) (goals : List Part) (ws : List Waiting) (m : ℕ) (p : Procedure)
     → procedure_called s q ≡ Some (m, p) → nat_eq (0 + length ys) (length p.head) ≡ true → p.det ≡ One
     → rest s (suc n) (frame a e (At l (Invoke site q ys) ∷ goals)) ws k
-      ≡ Turn a (call_weight p) ∷ Call k (Some a) (Some site) m
-        ∷ rest s n (frame k (entry p e ys) (p.body ∷ []))
-          (record { callee = k; depth = n; act = a; env = e; goals = goals; pairs = pairs_of p.head ys } ∷ ws) (suc k)
+    ≡ Turn a (call_weight p) ∷ Call k (Some a) (Some site) m
+    ∷ rest s n (frame k (entry p e ys) (p.body ∷ []))
+    (record { callee = k; depth = n; act = a; env = e; goals = goals; pairs = pairs_of p.head ys } ∷ ws) (suc k)
 rest-call s n l a k e site q ys goals ws m p is same one =
     let go : Frame → List Frame → ℕ → Items = λ f js k. trace s n f js k in
     let f : Frame = frame a e (At l (Invoke site q ys) ∷ goals) in
@@ -85,6 +85,6 @@ rest-call s n l a k e site q ys goals ws m p is same one =
     ∙ (ap (λ b. first (call_if go f goals [] k site (m, p) [] ys b) k (found s ws) (missed ws)) same
     ∙ (ap (λ d. first (Turn a (call_weight p) ∷ Call k (Some a) (Some site) m ∷ run_body go d (body_frame k (entry p e ys) p (pairs_of p.head ys)) (frame a e goals) [] k) k (found s ws) (missed ws)) one
     ∙ ap (λ xs. Turn a (call_weight p) ∷ Call k (Some a) (Some site) m ∷ xs)
-      (first-first (trace s n (frame k (entry p e ys) (p.body ∷ [])) [] (suc k)) (suc k)
-        (λ e' n'. Exit k ∷ go (frame a (back (pairs_of p.head ys) e' e) goals) [] n')
-        (λ n'. Fail k ∷ []) (found s ws) (missed ws))))
+    (first-first (trace s n (frame k (entry p e ys) (p.body ∷ [])) [] (suc k)) (suc k)
+    (λ e' n'. Exit k ∷ go (frame a (back (pairs_of p.head ys) e' e) goals) [] n')
+    (λ n'. Fail k ∷ []) (found s ws) (missed ws))))

@@ -41,11 +41,21 @@ abbrev pub is_first_body : Part → Bool
 is_first_body (At l (Each ps)) = are_first_units (listed ps)
 is_first_body p = is_first_unit p
 
+-- the io state before a call, and after it
+abbrev pub is_before : Sort → Mode → Bool
+is_before world Di = true
+is_before t m = false
+
+abbrev pub is_after : Sort → Mode → Bool
+is_after world Uo = true
+is_after t m = false
+
 -- no arguments, or the io state before and after
 abbrev pub is_first_args : List (Sort × Mode) → Bool
 is_first_args [] = true
-is_first_args ((world, Di) ∷ (world, Uo) ∷ []) = true
-is_first_args args = false
+is_first_args (a ∷ []) = false
+is_first_args (a ∷ b ∷ []) = is_before a.0 a.1 && is_after b.0 b.1
+is_first_args (a ∷ b ∷ c ∷ args) = false
 
 abbrev pub is_one : Det → Bool
 is_one One = true

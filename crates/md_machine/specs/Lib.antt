@@ -7,3 +7,4 @@ pub mod Values
 pub mod Effect
 pub mod Machine
 pub mod Call
+pub mod Ran

@@ -2,8 +2,13 @@
 #![tactic(auto)]
 
 mod arguments;
+mod execute;
+mod form;
 mod index;
 mod machine;
 mod simple;
 mod value;
 mod weight;
+
+pub use execute::{End, Ran, walk};
+pub use form::is_first_form;

@@ -17,7 +17,7 @@ use crate::simple::run_simple;
 use crate::value::{Value, blank};
 use crate::weight::call_weight;
 use md_base::NoMemory;
-use md_hlds::{Goal, Pred, PredName};
+use md_hlds::{Goal, GoalKind, Pred, PredName};
 use std::alloc::Global;
 use std::{mem, slice};
 
@@ -67,7 +67,12 @@ impl<'a> Machine<'a> {
             None => Progress::Finished,
             Some(caller) => {
                 let mut frame = caller.frame;
-                give_back(caller.head, caller.arguments, &self.frame.values, &mut frame.values);
+                give_back(
+                    caller.head,
+                    caller.arguments,
+                    &self.frame.values,
+                    &mut frame.values,
+                );
                 self.frame = frame;
                 Progress::On
             }
@@ -159,6 +164,49 @@ impl<'a> Machine<'a> {
         })?;
         self.left -= weight as u32;
         Ok(Progress::On)
+    }
+}
+
+impl<'a> Machine<'a> {
+    /// Unfolds the goal at the front, or returns where no goal is left.
+    pub fn step(&mut self, alloc: Global, procedures: &Procedures<'a>) -> Result<Progress, NoMemory>
+        requires indexed { IsIndexed procedures.now }
+        requires form { IsTrue (are_first_procedures (procedures_of procedures.now.program.now.preds.items)) }
+        requires walkable { IsWalkable self.old }
+        ensures after { IfOk result (λ p. (b : ℕ) → StandsIn (listing_of procedures.now.program.now) b self.old → After (listing_of procedures.now.program.now) b p self.new) }
+        ensures walkable { OnOk result (IsWalkable self.new) }
+        ensures falls { IfOk result (λ p. p ≡ Progress.On → work self.new < work self.old) }
+    {
+        let goals = self.frame.goals;
+        match goals {
+            [] => Ok(self.give_back()),
+            [goal, rest @ ..] => self.unfold(alloc, procedures, goal, rest),
+        }
+    }
+
+    /// Unfolds a goal, which is at the front.
+    fn unfold(
+        &mut self,
+        alloc: Global,
+        procedures: &Procedures<'a>,
+        goal: &'a Goal,
+        rest: &'a [Goal],
+    ) -> Result<Progress, NoMemory>
+        requires front { self.old.frame.goals.now ≡ goal.now ∷ rest.now }
+        requires indexed { IsIndexed procedures.now }
+        requires form { IsTrue (are_first_procedures (procedures_of procedures.now.program.now.preds.items)) }
+        requires walkable { IsWalkable self.old }
+        ensures after { IfOk result (λ p. (b : ℕ) → StandsIn (listing_of procedures.now.program.now) b self.old → After (listing_of procedures.now.program.now) b p self.new) }
+        ensures walkable { OnOk result (IsWalkable self.new) }
+        ensures falls { IfOk result (λ p. p ≡ Progress.On → work self.new < work self.old) }
+    {
+        match &goal.kind {
+            GoalKind::Conj(parts) => Ok(self.open(goal, parts.as_slice())),
+            GoalKind::Call(_, name, arguments) => {
+                self.call(alloc, procedures, goal, name, arguments.as_slice(), rest)
+            }
+            _ => self.run_simple(goal, rest),
+        }
     }
 }
 

@@ -61,7 +61,11 @@ fn unify_variables<'a>(x: u32, y: u32, values: &mut [Option<Value<'a>>]) -> Opti
 }
 
 /// X = a literal.
-fn unify_literal<'a>(x: u32, literal: Value<'a>, values: &mut [Option<Value<'a>>]) -> Option<Effect<'a>>
+fn unify_literal<'a>(
+    x: u32,
+    literal: Value<'a>,
+    values: &mut [Option<Value<'a>>],
+) -> Option<Effect<'a>>
     ensures { Does (unify_constant (env_of values.old) x (value_of literal.entry) (value_at (env_of values.old) x)) (env_of values.new) result }
 {
     match value_at(values, x) {
@@ -80,7 +84,12 @@ fn unify_literal<'a>(x: u32, literal: Value<'a>, values: &mut [Option<Value<'a>>
 }
 
 /// These bytes are written, and the variable after them gets the io state.
-fn write_bytes<'a>(bytes: &'a [u8], before: u32, after: u32, values: &mut [Option<Value<'a>>]) -> Option<Effect<'a>>
+fn write_bytes<'a>(
+    bytes: &'a [u8],
+    before: u32,
+    after: u32,
+    values: &mut [Option<Value<'a>>],
+) -> Option<Effect<'a>>
     ensures { Does (write (env_of values.old) after bytes.now (value_at (env_of values.old) before) (value_at (env_of values.old) after)) (env_of values.new) result }
 {
     match (value_at(values, before), value_at(values, after)) {
@@ -96,7 +105,12 @@ fn write_bytes<'a>(bytes: &'a [u8], before: u32, after: u32, values: &mut [Optio
 }
 
 /// The text that X has is written.
-fn write_variable<'a>(x: u32, before: u32, after: u32, values: &mut [Option<Value<'a>>]) -> Option<Effect<'a>>
+fn write_variable<'a>(
+    x: u32,
+    before: u32,
+    after: u32,
+    values: &mut [Option<Value<'a>>],
+) -> Option<Effect<'a>>
     ensures { Does (write_text (env_of values.old) after (value_at (env_of values.old) x) (value_at (env_of values.old) before) (value_at (env_of values.old) after)) (env_of values.new) result }
 {
     match value_at(values, x) {

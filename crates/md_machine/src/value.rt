@@ -31,7 +31,11 @@ pub fn value_at<'a>(values: &[Option<Value<'a>>], place: u32) -> Option<Value<'a
     ensures { option_value result ≡ value_at (env_of values.now) place }
 {
     let place = place as usize;
-    if place < values.len() { values[place] } else { None }
+    if place < values.len() {
+        values[place]
+    } else {
+        None
+    }
 }
 
 /// Gives the variable at a place a value; at a place past the end it does nothing.

@@ -7,8 +7,8 @@ use Rattle.md_machine.proofs.arguments.give_back.Goals as goal
 
 pub returns : goal.returns
 returns c = elim c.in-None.ensures.steps [
-    inl w ↦ sym (ap (λ (ps : List (ℕ × ℕ)). back ps (env_of c.args.callee.now) (env_of c.loop-variable.caller))
+  | inl w ↦ sym (ap (λ (ps : List (ℕ × ℕ)). back ps (env_of c.args.callee.now) (env_of c.loop-variable.caller))
       (no_pairs_first (iter_rest c.loop-variable.variable-iterator.a) (iter_rest c.loop-variable.variable-iterator.b) w.1.0)) ∙ c.loop-variable.invariant
   | inr w ↦ sym (ap (λ (ps : List (ℕ × ℕ)). back ps (env_of c.args.callee.now) (env_of c.loop-variable.caller))
       (no_pairs_second (iter_rest c.loop-variable.variable-iterator.a) (iter_rest c.loop-variable.variable-iterator.b) w.1.0)) ∙ c.loop-variable.invariant
-  ]
+]

@@ -21,16 +21,16 @@ loop-number-preserved-in_ok-insert c name =
     ∙ (lookup-insert_entry name c.loop-number.numbers.entries c.in_ok-name.name (c.loop-number.number - 1)
     ∙ (ap (λ r. cond (is_name name c.in_ok-name.name) (Some (c.loop-number.number - 1)) r) (c.loop-number.invariant name)
     ∙ (ap (λ bytes. cond (bytes_eq name bytes) (Some (c.loop-number.number - 1)) (number_from name c.loop-number.number (procedures_of (drop c.loop-number.number c.args.program.now.preds.items))))
-        (c.in_ok-name.ensures.items ∙ c.as_bytes.ensures.bytes)
+    (c.in_ok-name.ensures.items ∙ c.as_bytes.ensures.bytes)
     ∙ sym (number_from-unqualified name c.args.program.now.preds.items (c.loop-number.number - 1) c.loop-number.number c.index-pred.result.now at
-        (omega (arith, c.loop-number.auto.number, c.len-number.ensures, c.args.program.now.preds.ok)) c.index-pred.ensures c.if-is_none.ensures))))
+    (omega (arith, c.loop-number.auto.number, c.len-number.ensures, c.args.program.now.preds.ok)) c.index-pred.ensures c.if-is_none.ensures))))
 
 pub loop-number-preserved : goal.loop-number-preserved
 loop-number-preserved c name =
     let at : c.loop-number.number ≡ suc (c.loop-number.number - 1) = omega arith in
     c.loop-number.invariant name
     ∙ sym (number_from-qualified name c.args.program.now.preds.items (c.loop-number.number - 1) c.loop-number.number c.index-pred.result.now at
-      (omega (arith, c.loop-number.auto.number, c.len-number.ensures, c.args.program.now.preds.ok)) c.index-pred.ensures c.if-is_none.ensures)
+    (omega (arith, c.loop-number.auto.number, c.len-number.ensures, c.args.program.now.preds.ok)) c.index-pred.ensures c.if-is_none.ensures)
 
 pub returns-clause-indexed : goal.returns-clause-indexed
 returns-clause-indexed c = λ name.

@@ -1,0 +1,16 @@
+pub mod Walks
+pub mod Threading
+pub mod Parts
+pub mod Enter
+pub mod Join
+pub mod Pass
+pub mod Skip
+pub mod Looking
+pub mod Close
+pub mod Classes
+pub mod Naming
+pub mod Chains
+pub mod Laying
+pub mod EntryPlaces
+pub mod Entered
+pub mod Worked

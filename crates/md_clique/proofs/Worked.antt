@@ -1,0 +1,57 @@
+-- The definitions, computed on three small graphs.
+--
+--   order2  0 → 1 → 2 → 3, and 1 and 4 call each other
+--   order1  0 → 1, and 1, 2 and 3 reach one another
+--   pair    0 calls 1 and 2, which call each other: their clique is entered twice
+use Rattle.std.proofs.Common.{◌≡◌, ℕ, zero, suc, ◌<◌, List, [], ◌∷◌, Option, Some, None, refl, arith}
+use Rattle.md_trace.specs.Reaches.{Reaches, here, more}
+use Rattle.md_clique.specs.Cliques.{clique_count, members_of}
+use Rattle.md_clique.specs.Entries.{edges_of, entries, AreReached}
+
+abbrev pub order2 : List (Option ℕ × ℕ)
+order2 = (None, 0) ∷ (Some 0, 1) ∷ (Some 1, 2) ∷ (Some 2, 3) ∷ (Some 1, 4) ∷ (Some 4, 1) ∷ []
+
+abbrev order2_cliques : List ℕ
+order2_cliques = 0 ∷ 1 ∷ 2 ∷ 3 ∷ 1 ∷ []
+
+order2_members : (clique_count order2_cliques ≡ 4) × (members_of order2_cliques 1 ≡ 1 ∷ 4 ∷ []) × (members_of order2_cliques 2 ≡ 2 ∷ [])
+order2_members = (refl, refl, refl)
+
+order2_entries : (entries order2_cliques order2 0 ≡ 0 ∷ []) × (entries order2_cliques order2 1 ≡ 1 ∷ []) × (entries order2_cliques order2 2 ≡ 2 ∷ []) × (entries order2_cliques order2 3 ≡ 3 ∷ [])
+order2_entries = (refl, refl, refl, refl)
+
+order2_walks : (v : ℕ) → v < 5 → Reaches (edges_of order2) 0 v
+order2_walks zero h = here 0
+order2_walks (suc zero) h = more 0 0 1 1 refl (here 1)
+order2_walks (suc (suc zero)) h = more 0 0 1 2 refl (more 1 1 2 2 refl (here 2))
+order2_walks (suc (suc (suc zero))) h = more 0 0 1 3 refl (more 1 1 2 3 refl (more 2 2 3 3 refl (here 3)))
+order2_walks (suc (suc (suc (suc zero)))) h = more 0 0 1 4 refl (more 3 1 4 4 refl (here 4))
+order2_walks (suc (suc (suc (suc (suc v))))) h = absurd (omega arith)
+
+pub order2_reached : (n : ℕ) → n ≡ 5 → AreReached order2 n
+order2_reached n e = record { place = 0; root = 0; is_root = refl; reached = λ v h. order2_walks v (omega arith) }
+
+abbrev order1 : List (Option ℕ × ℕ)
+order1 = (None, 0) ∷ (Some 0, 1) ∷ (Some 1, 2) ∷ (Some 2, 1) ∷ (Some 1, 3) ∷ (Some 3, 2) ∷ []
+
+abbrev order1_cliques : List ℕ
+order1_cliques = 0 ∷ 1 ∷ 1 ∷ 1 ∷ []
+
+order1_members : (clique_count order1_cliques ≡ 2) × (members_of order1_cliques 1 ≡ 1 ∷ 2 ∷ 3 ∷ []) × (entries order1_cliques order1 1 ≡ 1 ∷ [])
+order1_members = (refl, refl, refl)
+
+abbrev pub pair : List (Option ℕ × ℕ)
+pair = (None, 0) ∷ (Some 0, 1) ∷ (Some 0, 2) ∷ (Some 1, 2) ∷ (Some 2, 1) ∷ []
+
+-- the links at places 1 and 2 enter clique 1
+pair_entries : (entries (0 ∷ 1 ∷ 1 ∷ []) pair 0 ≡ 0 ∷ []) × (entries (0 ∷ 1 ∷ 1 ∷ []) pair 1 ≡ 1 ∷ 2 ∷ [])
+pair_entries = (refl, refl)
+
+pair_walks : (v : ℕ) → v < 3 → Reaches (edges_of pair) 0 v
+pair_walks zero h = here 0
+pair_walks (suc zero) h = more 0 0 1 1 refl (here 1)
+pair_walks (suc (suc zero)) h = more 1 0 2 2 refl (here 2)
+pair_walks (suc (suc (suc v))) h = absurd (omega arith)
+
+pub pair_reached : (n : ℕ) → n ≡ 3 → AreReached pair n
+pair_reached n e = record { place = 0; root = 0; is_root = refl; reached = λ v h. pair_walks v (omega arith) }

@@ -1,0 +1,15 @@
+use Rattle.std.proofs.Common.{◌≢◌}
+use Rattle.md_clique.specs.Search.{Stands, NoneRenewed, state_of}
+use Rattle.md_clique.specs.Kept.{kept, work}
+use Rattle.md_clique.specs.declared.search.State.TheVariants.{New}
+use Rattle.md_clique.proofs.search.Search.explore.Given as goal
+
+abbrev pub invariant-loop-self : goal.invariant-loop-self
+invariant-loop-self l = record {
+  stands : Stands l.links (kept l.self);
+  states : NoneRenewed l.fn.self.states.items l.self.states.items;
+  seen : state_of l.self.states.items l.root ≢ New;
+}
+
+abbrev pub decreases-loop-self : goal.decreases-loop-self
+decreases-loop-self l = work (kept l.self)

@@ -1,0 +1,6 @@
+use Rattle.md_clique.proofs.Pass.{pass_stands}
+use Rattle.md_clique.specs.Kept.{kept}
+use Rattle.md_clique.proofs.search.Search.pass.Goals as goal
+
+pub returns-clause-stands : goal.returns-clause-stands
+returns-clause-stands c = pass_stands c.args.links.now c.args.before.now c.requires.threaded (kept c.args.self.now) c.requires.stands c.args.node c.args.link c.requires.may

@@ -1,0 +1,10 @@
+pub mod Places
+pub mod Cliques
+pub mod Links
+pub mod Search
+pub mod Kept
+pub mod Numbering
+pub mod Members
+pub mod Layout
+pub mod Entries
+pub mod Found

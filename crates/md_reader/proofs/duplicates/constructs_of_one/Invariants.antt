@@ -1,0 +1,10 @@
+use Rattle.std.proofs.Common.{◌≡◌, ◌++◌, drop, map}
+use Rattle.std.specs.List.{flat_map}
+use Rattle.md_hlds.specs.Listing.{constructs_of}
+use Rattle.md_reader.specs.Duplicates as spec
+use Rattle.md_reader.specs.Views.{all_declared}
+use Rattle.md_reader.proofs.duplicates.constructs_of_one.Given as goal
+
+-- what is declared so far and in the rest is the whole
+abbrev pub invariant-loop-functor : goal.invariant-loop-functor
+invariant-loop-functor l = all_declared l.declared.items ++ map (spec.declared_construct l.line) (constructs_of (drop l.functor-index l.functors)) ≡ all_declared l.fn.declared.items ++ map (spec.declared_construct l.line) (constructs_of l.functors)

@@ -1,0 +1,15 @@
+use Rattle.std.proofs.Common.{rules, arith, ◌≡◌, Ok, ap, sym, ◌∙◌, refl}
+use Rattle.std.proofs.lemmas.Grind.{common_steps}
+use Rattle.md_hlds.specs.Listing.{Listing, listing_of, family_of}
+use Rattle.md_reader.specs.declared.program.Draft.{Draft}
+use Rattle.md_reader.specs.Input.{input_of}
+use Rattle.md_reader.specs.Rules.{declared_family, with_family}
+use Rattle.md_reader.proofs.Lists.{with_one_family}
+use Rattle.md_reader.proofs.program.declared_family.Goals as goal
+
+pub returns : goal.returns
+unfolding declared_family
+returns c =
+    let b = c.args.draft.now in
+    let after : Draft = record { «module» = b.module; module_line = b.module_line; types = c.push.new.self; preds = b.preds } in
+    rw c.in_ok-family.ensures (ap (λ (l : Listing). Ok (l, input_of c.family.new.input)) (sym (with_one_family b after c.in_ok-family.family refl refl refl c.in_ok-push.ensures.items)))

@@ -1,0 +1,15 @@
+use Rattle.std.proofs.Common.{rules, arith, ◌≡◌, Ok, ap, sym, ◌∙◌, refl}
+use Rattle.std.proofs.lemmas.Grind.{common_steps}
+use Rattle.md_hlds.specs.Listing.{Listing, listing_of, procedure_of}
+use Rattle.md_reader.specs.declared.program.Draft.{Draft}
+use Rattle.md_reader.specs.Input.{input_of}
+use Rattle.md_reader.specs.Rules.{declared_procedure, with_procedure}
+use Rattle.md_reader.proofs.Lists.{with_one_procedure}
+use Rattle.md_reader.proofs.program.declared_procedure.Goals as goal
+
+pub returns : goal.returns
+unfolding declared_procedure
+returns c =
+    let b = c.args.draft.now in
+    let after : Draft = record { «module» = b.module; module_line = b.module_line; types = b.types; preds = c.push.new.self } in
+    rw c.in_ok-procedure.ensures (ap (λ (l : Listing). Ok (l, input_of c.procedure.new.input)) (sym (with_one_procedure b after c.in_ok-procedure.procedure refl refl refl c.in_ok-push.ensures.items)))

@@ -1,0 +1,34 @@
+use Rattle.std.proofs.Common.{rules, arith, ◌≡◌, ◌≢◌, Ok, Err, ap, sym, ◌∙◌, refl, None, Some}
+use Rattle.std.proofs.lemmas.Grind.{common_steps}
+use Rattle.md_hlds.specs.Listing.{listing_of}
+use Rattle.md_token.specs.Token.{tokens_of, lexemes_of}
+use Rattle.md_reader.specs.declared.refused.Refusal.TheVariants as refusal
+use Rattle.md_reader.specs.Input.{input_of}
+use Rattle.md_reader.specs.Rules.{program, start}
+use Rattle.md_reader.specs.Duplicates.{duplicate}
+use Rattle.md_reader.specs.Reading.{reading, outcome_of, refused_of}
+use Rattle.md_reader.proofs.reading.read.Goals as goal
+
+pub returns-in-Err : goal.returns-in-Err
+unfolding reading
+returns-in-Err c =
+    let e : input_of c.start_input-input.result ≡ start (tokens_of c.args.text.now) = c.start_input-input.ensures ∙ ap start (ap lexemes_of c.deref.ensures.value ∙ c.in_ok-tokens.ensures) in
+    record {
+      answer = λ n.
+          let m : c.in-Err.refusal ≢ refusal.NoMemory = λ h. n (c.refused.ensures ∙ ap refused_of h) in
+          rw (rw e at (c.in-Err.ensures m)) (ap Err (sym c.refused.ensures));
+    }
+
+pub returns-in-None : goal.returns-in-None
+unfolding reading
+returns-in-None c =
+    let e : input_of c.start_input-input.result ≡ start (tokens_of c.args.text.now) = c.start_input-input.ensures ∙ ap start (ap lexemes_of c.deref.ensures.value ∙ c.in_ok-tokens.ensures) in
+    let d : duplicate (listing_of c.in-Ok.program) ≡ None = sym c.in_ok-duplicate-in-Ok.ensures ∙ c.in-None.is in
+    record { answer = rw (rw e at c.in-Ok.ensures, d) refl }
+
+pub returns : goal.returns
+unfolding reading
+returns c =
+    let e : input_of c.start_input-input.result ≡ start (tokens_of c.args.text.now) = c.start_input-input.ensures ∙ ap start (ap lexemes_of c.deref.ensures.value ∙ c.in_ok-tokens.ensures) in
+    let d : duplicate (listing_of c.in-Ok.program) ≡ Some c.in-Some.line = sym c.in_ok-duplicate-in-Ok.ensures ∙ c.in-Some.is in
+    record { answer = λ _. rw (rw e at c.in-Ok.ensures, d) refl }

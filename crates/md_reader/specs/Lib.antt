@@ -1,0 +1,6 @@
+pub mod Duplicates
+pub mod Grammar
+pub mod Input
+pub mod Reading
+pub mod Rules
+pub mod Views

@@ -1,0 +1,35 @@
+-- What a text is read as.
+use Rattle.std.specs.Prelude.{◌≡◌, ◌≢◌, ℕ, List, Option, Some, None, Result, Ok, Err}
+use Rattle.md_hlds.specs.declared.program.Program.{Program}
+use Rattle.md_hlds.specs.Listing.{Listing, listing_of}
+use Rattle.md_token.specs.Token.{tokens_of}
+use Rattle.md_reader.specs.declared.refused.Refusal.{Refusal}
+use Rattle.md_reader.specs.declared.refused.Refusal.TheVariants as refusal
+use Rattle.md_reader.specs.declared.refused.Refused.{Refused}
+use Rattle.md_reader.specs.declared.refused.Refused.TheVariants as refused
+use Rattle.md_reader.specs.Input.{Input, Outcome}
+use Rattle.md_reader.specs.Rules.{program, start}
+use Rattle.md_reader.specs.Duplicates.{duplicate}
+
+abbrev pub refused_of : Refusal → Refused
+refused_of (refusal.Syntax place) = refused.Syntax place.line
+refused_of (refusal.Limit place) = refused.Limit place.line
+refused_of refusal.NoMemory = refused.NoMemory
+
+-- a program that has a second declaration is refused
+abbrev pub without_duplicate : Listing → Option ℕ → Result Listing Refused
+without_duplicate l None = Ok l
+without_duplicate l (Some line) = Err (refused.Duplicate line)
+
+abbrev pub outcome_of : Outcome Listing → Result Listing Refused
+outcome_of (Ok read) = without_duplicate read.0 (duplicate read.0)
+outcome_of (Err e) = Err (refused_of e)
+
+-- the program that a text is read as, or why it is refused
+unfoldable pub reading : List ℕ → Result Listing Refused
+reading text = outcome_of (program (start (tokens_of text)))
+
+-- an answer is what the text is read as, unless memory is refused
+abbrev pub IsAnswer : Result Program Refused → List ℕ → Type 0
+IsAnswer (Ok p) text = reading text ≡ Ok (listing_of p)
+IsAnswer (Err e) text = e ≢ refused.NoMemory → reading text ≡ Err e

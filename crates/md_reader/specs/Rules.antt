@@ -1,0 +1,697 @@
+-- The rules of the grammar, as a reader that takes one token after the other.
+use Rattle.std.specs.Prelude.{ℕ, zero, suc, ◌+◌, ◌-◌, Bool, true, false, not, ◌||◌, ◌&&◌, if◌then◌else◌, ◌==◌, nat_lt, nat_le, List, [], ◌∷◌, ◌++◌, length, take, drop, Option, Some, None, unwrap_or, Result, Ok, Err, pos, negsuc, ◌-ℤ◌, codes, ℤ}
+use Rattle.std.specs.List.{prefix_len}
+use Rattle.std.specs.Str.{bytes_eq}
+use Rattle.md_hlds.specs.declared.types.Mode.{Mode}
+use Rattle.md_hlds.specs.declared.types.Mode.TheVariants as mode
+use Rattle.md_hlds.specs.declared.types.Det.{Det}
+use Rattle.md_hlds.specs.declared.types.Det.TheVariants as det
+use Rattle.md_hlds.specs.declared.goal.PredName.{PredName}
+use Rattle.md_hlds.specs.declared.goal.Term.{Term}
+use Rattle.md_hlds.specs.declared.goal.Term.TheVariants as term
+use Rattle.md_hlds.specs.declared.goal.Op.{Op}
+use Rattle.md_hlds.specs.declared.goal.Op.TheVariants as op
+use Rattle.md_hlds.specs.declared.goal.Cmp.{Cmp}
+use Rattle.md_hlds.specs.declared.goal.Cmp.TheVariants as cmp
+use Rattle.md_hlds.specs.Part.{Part, At, Task, Plain, Invoke, Apply, Each, Either, Choose, Unless, Once, gathered, Succeeds, Fails, Unifies, Computes, Compares, WritesInt, WritesText, EndsLine}
+use Rattle.md_hlds.specs.Listing.{Sort, number as int_sort, text as string_sort, world as io_sort, named, closure, gathered_sorts, Construct, Family, Procedure, Listing, same_qualifier}
+use Rattle.md_token.specs.declared.kind.Kind.{Kind}
+use Rattle.md_token.specs.declared.kind.Kind.TheVariants as kind
+use Rattle.md_token.specs.Kinds.{same_kind}
+use Rattle.md_token.specs.Token.{Lexeme, is_word_byte, word_kind}
+use Rattle.md_token.specs.Literal.{number_of, string_value}
+use Rattle.md_reader.specs.Input.{Input, Parser, Outcome, ◌>>=◌, ◌>>◌, and_then, pure, refuse, limit, peek, advance, eat, expect, turns, most, take_name, name, word, variable, site, token, kind_at, sees, next, end_clause}
+
+-- ---- names of predicates
+
+-- the part of a qualified name before its `.`, and the part after it
+abbrev pub qualifier_part : List ℕ → List ℕ
+qualifier_part text = take (prefix_len is_word_byte text) text
+
+abbrev pub name_part : List ℕ → List ℕ
+name_part text = drop (prefix_len is_word_byte text + 1) text
+
+-- a name as it is written, with its qualifier, if it has one
+pub record Written : Type 0 where
+  pub qualifier : Option (List ℕ)
+  pub name : List ℕ
+
+unfoldable pub qualified : List ℕ → Option Written
+qualified text =
+    if same_kind (word_kind (name_part text)) kind.Name then Some (record { qualifier = Some (qualifier_part text); name = name_part text })
+    else None
+
+abbrev pub written_by : List ℕ → Kind → Option Written
+written_by text kind.Name = Some (record { qualifier = None; name = text })
+written_by text kind.Qualified = qualified text
+written_by text _ = None
+
+-- the name that a token is
+unfoldable pub written : Lexeme → Option Written
+written t = written_by t.text t.kind
+
+-- a part of the name is too long
+abbrev pub is_long : Written → Bool
+is_long w = nat_lt most (length w.name) || nat_lt most (length (unwrap_or w.qualifier []))
+
+-- M.p is p, where M is the program's own module
+abbrev pub away_from : (home : List ℕ) → Option (List ℕ) → Option (List ℕ)
+away_from home None = None
+away_from home (Some qualifier) = if bytes_eq qualifier home then None else Some qualifier
+
+abbrev pub meant : (home : List ℕ) → Written → PredName
+meant home w = record { qualifier = away_from home w.qualifier; name = w.name }
+
+abbrev pub take_written : Option Written → Parser PredName
+take_written None = refuse
+take_written (Some w) = λ i. if is_long w then limit i else Ok (meant i.home w, next i)
+
+-- the name of a predicate or a functor, which may be qualified
+unfoldable pub pred_name : Parser PredName
+pred_name = λ i. take_written (written (token i)) i
+
+-- the name of a predicate that is declared
+abbrev pub is_io : Option (List ℕ) → Bool
+is_io None = false
+is_io (Some qualifier) = bytes_eq qualifier (codes "io")
+
+abbrev pub take_declared : Option Written → Parser PredName
+take_declared None = refuse
+take_declared (Some w) = if is_io w.qualifier then refuse else take_written (Some w)
+
+unfoldable pub declared_name : Parser PredName
+declared_name = λ i. take_declared (written (token i)) i
+
+abbrev pub same_name : PredName → PredName → Bool
+same_name p q = same_qualifier p.qualifier q.qualifier && bytes_eq p.name q.name
+
+abbrev pub take_same : PredName → Option Written → Parser (Unit {0})
+take_same q None = refuse
+take_same q (Some w) = λ i. if same_name (meant i.home w) q then Ok (tt, next i) else refuse i
+
+-- that name once more, at the head of its clause
+unfoldable pub this_name : PredName → Parser (Unit {0})
+this_name q = λ i. take_same q (written (token i)) i
+
+-- ---- lists of variables, which are pairwise different
+
+-- n more of them, at most, after those so far, up to the closing sign
+unfoldable pub variables_from : Kind → (n : ℕ) → (seen found : List ℕ) → Parser (List ℕ)
+variables_from closing zero seen found = λ i. and_then (variable seen i) (λ x j. limit i)
+variables_from closing (suc n) seen found = do
+  x ← variable seen
+  more ← eat kind.Comma
+  if more then variables_from closing n (seen ++ x ∷ []) (found ++ x ∷ []) else (do expect closing; pure (found ++ x ∷ []))
+
+-- one or more variables, and the closing sign; none of them is among those seen
+abbrev pub variables : Kind → List ℕ → Parser (List ℕ)
+variables closing seen = variables_from closing most seen []
+
+-- the variable that stood before a list, if one did
+abbrev pub seen_before : Option ℕ → List ℕ
+seen_before None = []
+seen_before (Some x) = x ∷ []
+
+-- nothing, or variables in parentheses
+unfoldable pub arguments : List ℕ → Parser (List ℕ)
+arguments seen = do
+  some ← eat kind.Open
+  if some then variables kind.Close seen else pure []
+
+-- after `[`: any number of variables, and `]`
+unfoldable pub quantified : Parser (List ℕ)
+quantified = do
+  none ← eat kind.CloseList
+  if none then pure [] else variables kind.CloseList []
+
+-- ---- terms
+
+abbrev pub operator : Kind → Option Op
+operator kind.Plus = Some op.Add
+operator kind.Minus = Some op.Sub
+operator kind.Times = Some op.Mul
+operator _ = None
+
+abbrev pub comparison : Kind → Option Cmp
+comparison kind.Less = Some cmp.Lt
+comparison kind.AtMost = Some cmp.Le
+comparison kind.Greater = Some cmp.Gt
+comparison kind.AtLeast = Some cmp.Ge
+comparison _ = None
+
+-- after `X = Y`: the end of the unification, or an operator and its second variable
+abbrev pub arithmetic : ℕ → ℕ → Option Op → Parser Task
+arithmetic x y None = pure (Plain (Unifies x (term.Var y)))
+arithmetic x y (Some o) = do
+  advance
+  z ← variable (x ∷ y ∷ [])
+  pure (Plain (Computes x y o z))
+
+-- the greatest integer, of 64 bits with its sign
+abbrev pub greatest : ℕ
+greatest = 9223372036854775807
+
+unfoldable pub positive : ℕ → Parser Task
+positive x = λ i. let n = number_of (token i).text in if nat_lt greatest n then limit i else Ok (Plain (Unifies x (term.Int (pos n))), next i)
+
+abbrev pub minus : ℕ → ℤ
+minus n = pos 0 -ℤ pos n
+
+abbrev pub take_negative : ℕ → ℕ → Parser Task
+take_negative x n = λ i. if nat_lt (suc greatest) n then limit i else Ok (Plain (Unifies x (term.Int (minus n))), next i)
+
+-- behind `-`
+unfoldable pub negated : ℕ → Parser Task
+negated x = λ i. if sees kind.Integer i then take_negative x (number_of (token i).text) i else refuse i
+
+abbrev pub most_bytes : ℕ
+most_bytes = 65535
+
+unfoldable pub literal : ℕ → Parser Task
+literal x = λ i. let value = string_value (token i).text in if nat_lt most_bytes (length value) then limit i else Ok (Plain (Unifies x (term.Str value)), next i)
+
+unfoldable pub application : ℕ → Parser Task
+application x = do
+  f ← pred_name
+  ys ← arguments (x ∷ [])
+  pure (Plain (Unifies x (term.Name f ys)))
+
+-- the second variable of a unification, or the second and the third of arithmetic
+unfoldable pub second : ℕ → Parser Task
+second x = do
+  y ← variable (x ∷ [])
+  t ← peek
+  arithmetic x y (operator t.kind)
+
+abbrev pub term_by : ℕ → Kind → Parser Task
+term_by x kind.Variable = second x
+term_by x kind.Minus = advance >> negated x
+term_by x kind.Integer = positive x
+term_by x kind.Text = literal x
+term_by x kind.Name = application x
+term_by x kind.Qualified = application x
+term_by x _ = refuse
+
+-- after `X =`: the rest of a unification or of arithmetic
+abbrev pub term_after : ℕ → Parser Task
+term_after x = λ i. term_by x (kind_at i) i
+
+-- ---- goals
+
+abbrev pub is_builtin : List ℕ → PredName → Bool
+is_builtin p q = is_io q.qualifier && bytes_eq q.name p
+
+-- a call of this name with these variables that is a builtin goal
+abbrev pub builtin : PredName → List ℕ → Option Task
+builtin q (a ∷ b ∷ []) = if is_builtin (codes "nl") q then Some (Plain (EndsLine a b)) else None
+builtin q (x ∷ a ∷ b ∷ []) =
+    if is_builtin (codes "write_int") q then Some (Plain (WritesInt x a b))
+    else if is_builtin (codes "write_string") q then Some (Plain (WritesText x a b))
+    else None
+builtin q _ = None
+
+abbrev pub called : PredName → List ℕ → Option Task → Parser Task
+called q ys (Some t) = pure t
+called q ys None = do
+  s ← site
+  pure (Invoke s q ys)
+
+unfoldable pub call : Parser Task
+call = do
+  q ← pred_name
+  ys ← arguments []
+  called q ys (builtin q ys)
+
+abbrev pub applied : List ℕ → Parser Task
+applied [] = refuse
+applied (f ∷ ys) = do
+  s ← site
+  pure (Apply s f ys)
+
+-- `call`, and the closure and its arguments
+unfoldable pub closure_call : Parser Task
+closure_call = do
+  expect kind.Call
+  expect kind.Open
+  ys ← variables kind.Close []
+  applied ys
+
+abbrev pub compared : ℕ → Option Cmp → Parser Task
+compared x None = refuse
+compared x (Some c) = do
+  advance
+  y ← variable (x ∷ [])
+  pure (Plain (Compares x c y))
+
+abbrev pub related : ℕ → Kind → Parser Task
+related x kind.Equals = advance >> term_after x
+related x k = compared x (comparison k)
+
+-- a goal that begins with a variable
+unfoldable pub relation : Parser Task
+relation = do
+  x ← variable []
+  t ← peek
+  related x t.kind
+
+abbrev pub line_of : Part → ℕ
+line_of (At line t) = line
+
+abbrev pub first_line : List Part → ℕ
+first_line [] = 0
+first_line (p ∷ ps) = line_of p
+
+-- the conjunction of these units; one alone is itself
+abbrev pub joined : List Part → Part
+joined [] = At 0 (Each (gathered []))
+joined (p ∷ []) = p
+joined (p ∷ q ∷ ps) = At (line_of p) (Each (gathered (p ∷ q ∷ ps)))
+
+-- a `(` that opens a goal within so many fewer than may be open
+unfoldable pub open_goal : ℕ → Parser ℕ
+open_goal zero = λ i. if sees kind.Open i then limit i else refuse i
+open_goal (suc room) = expect kind.Open
+
+-- The goals of one depth, by the conjunction of the next one.
+module _ (inner : Parser Part) where
+  unfoldable pub arms_from : (n : ℕ) → List Part → Parser (List Part)
+  arms_from zero found = refuse
+  arms_from (suc n) found = do
+    arm ← inner
+    more ← eat kind.Semicolon
+    if more then arms_from n (found ++ arm ∷ []) else (do expect kind.Close; pure (found ++ arm ∷ []))
+
+  -- the arms of a disjunction past the first one
+  unfoldable pub arms : Part → Parser (List Part)
+  arms first = λ i. arms_from (turns i) (first ∷ []) i
+
+  unfoldable pub disjunction : (line : ℕ) → Part → Parser Part
+  disjunction line first = do
+    expect kind.Semicolon
+    ps ← arms first
+    pure (At line (Either (gathered ps)))
+
+  -- the then and the else part of an if-then-else
+  unfoldable pub branches : Parser (Part × Part)
+  branches = do
+    expect kind.Then
+    t ← inner
+    expect kind.Semicolon
+    e ← inner
+    pure (t, e)
+
+  unfoldable pub choice : (line : ℕ) → Part → Parser Part
+  choice line c = do
+    b ← branches
+    expect kind.Close
+    pure (At line (Choose c b.0 b.1))
+
+  abbrev pub grouped : (line : ℕ) → Part → Kind → Parser Part
+  grouped line first kind.Close = advance >> pure first
+  grouped line first kind.Semicolon = disjunction line first
+  grouped line first kind.Then = choice line first
+  grouped line first _ = refuse
+
+module _ (room : ℕ) (inner : Parser Part) where
+  -- a conjunction, a disjunction or an if-then-else in parentheses
+  unfoldable pub group : Parser Part
+  group = do
+    line ← open_goal room
+    first ← inner
+    t ← peek
+    grouped inner line first t.kind
+
+  unfoldable pub negation : Parser Part
+  negation = do
+    line ← expect kind.Not
+    open_goal room
+    c ← inner
+    expect kind.Close
+    pure (At line (Unless c))
+
+  unfoldable pub quantification : Parser Part
+  quantification = do
+    line ← expect kind.Some
+    expect kind.OpenList
+    vs ← quantified
+    open_goal room
+    c ← inner
+    expect kind.Close
+    pure (At line (Once vs c))
+
+  abbrev pub at : ℕ → Parser Task → Parser Part
+  at line p = p >>= (λ t. pure (At line t))
+
+  abbrev pub unit_by : (line : ℕ) → Kind → Parser Part
+  unit_by line kind.True = advance >> pure (At line (Plain Succeeds))
+  unit_by line kind.Fail = advance >> pure (At line (Plain Fails))
+  unit_by line kind.Open = group
+  unit_by line kind.Not = negation
+  unit_by line kind.Some = quantification
+  unit_by line kind.Variable = at line relation
+  unit_by line kind.Call = at line closure_call
+  unit_by line kind.Name = at line call
+  unit_by line kind.Qualified = at line call
+  unit_by line _ = refuse
+
+  unfoldable pub unit : Parser Part
+  unit = λ i. unit_by (token i).line (kind_at i) i
+
+  unfoldable pub units_from : (n : ℕ) → List Part → Parser (List Part)
+  units_from zero found = refuse
+  units_from (suc n) found = do
+    u ← unit
+    more ← eat kind.Comma
+    if more then units_from n (found ++ u ∷ []) else pure (found ++ u ∷ [])
+
+  -- units with commas between them
+  unfoldable pub units : Parser (List Part)
+  units = λ i. units_from (turns i) [] i
+
+  abbrev pub conjunction_with : Parser Part
+  conjunction_with = do
+    us ← units
+    pure (joined us)
+
+-- a conjunction within which so many goals may be open
+unfoldable pub conjunction : ℕ → Parser Part
+conjunction zero = conjunction_with zero refuse
+conjunction (suc room) = conjunction_with (suc room) (conjunction room)
+
+-- the conjunction inside a goal that is opened there
+unfoldable pub within : ℕ → Parser Part
+within zero = refuse
+within (suc room) = conjunction room
+
+-- ---- types
+
+abbrev pub sort_named : List ℕ → Parser Sort
+sort_named t =
+    if bytes_eq t (codes "int") then advance >> pure int_sort
+    else if bytes_eq t (codes "string") then advance >> pure string_sort
+    else if bytes_eq t (codes "io") then advance >> pure io_sort
+    else take_name t >>= (λ n. pure (named n))
+
+unfoldable pub sort : Parser Sort
+sort = λ i. if sees kind.Name i then sort_named (token i).text i else refuse i
+
+-- n more types, at most, after those so far, and `)`
+unfoldable pub sorts_from : (n : ℕ) → List Sort → Parser (List Sort)
+sorts_from zero found = λ i. and_then (sort i) (λ t j. limit i)
+sorts_from (suc n) found = do
+  t ← sort
+  more ← eat kind.Comma
+  if more then sorts_from n (found ++ t ∷ []) else (do expect kind.Close; pure (found ++ t ∷ []))
+
+abbrev pub sorts : Parser (List Sort)
+sorts = sorts_from most []
+
+-- nothing, or types in parentheses
+unfoldable pub functor_arguments : Parser (List Sort)
+functor_arguments = do
+  some ← eat kind.Open
+  if some then sorts else pure []
+
+unfoldable pub functor : Parser Construct
+functor = do
+  f ← name
+  ts ← functor_arguments
+  pure (record { name = f; args = ts })
+
+unfoldable pub functors_from : (n : ℕ) → List Construct → Parser (List Construct)
+functors_from zero found = refuse
+functors_from (suc n) found = do
+  f ← functor
+  more ← eat kind.Semicolon
+  if more then functors_from n (found ++ f ∷ []) else (do expect kind.End; pure (found ++ f ∷ []))
+
+-- functors with `;` between them, and the end sign
+unfoldable pub functors : Parser (List Construct)
+functors = λ i. functors_from (turns i) [] i
+
+abbrev pub is_own_type : List ℕ → Bool
+is_own_type t = not ((bytes_eq t (codes "int") || bytes_eq t (codes "string")) || bytes_eq t (codes "io"))
+
+unfoldable pub type_name : Parser (List ℕ)
+type_name = λ i. if is_own_type (token i).text then name i else refuse i
+
+-- a type's declaration from `type` on
+unfoldable pub family : (line : ℕ) → Parser Family
+family line = do
+  word (codes "type")
+  t ← type_name
+  expect kind.Yields
+  fs ← functors
+  pure (record { name = t; line = line; functors = fs })
+
+-- ---- predicates
+
+abbrev pub mode_named : List ℕ → Option Mode
+mode_named t =
+    if bytes_eq t (codes "in") then Some mode.In
+    else if bytes_eq t (codes "out") then Some mode.Out
+    else if bytes_eq t (codes "di") then Some mode.Di
+    else if bytes_eq t (codes "uo") then Some mode.Uo
+    else None
+
+abbrev pub det_named : List ℕ → Option Det
+det_named t =
+    if bytes_eq t (codes "det") then Some det.Det
+    else if bytes_eq t (codes "semidet") then Some det.Semidet
+    else if bytes_eq t (codes "multi") then Some det.Multi
+    else if bytes_eq t (codes "nondet") then Some det.Nondet
+    else if bytes_eq t (codes "failure") then Some det.Failure
+    else None
+
+abbrev pub take_word : {A : Type 0} → Option A → Parser A
+take_word None = refuse
+take_word (Some x) = advance >> pure x
+
+unfoldable pub mode_word : Parser Mode
+mode_word = λ i. take_word (mode_named (token i).text) i
+
+unfoldable pub determinism : Parser Det
+determinism = λ i. take_word (det_named (token i).text) i
+
+abbrev pub ho_mode_by : Option Mode → Option Mode
+ho_mode_by (Some mode.In) = Some mode.In
+ho_mode_by (Some mode.Out) = Some mode.Out
+ho_mode_by _ = None
+
+abbrev pub ho_mode_named : List ℕ → Option Mode
+ho_mode_named t = ho_mode_by (mode_named t)
+
+-- the mode of a higher-order argument
+unfoldable pub ho_mode : Parser Mode
+ho_mode = λ i. take_word (ho_mode_named (token i).text) i
+
+unfoldable pub modes_from : (n : ℕ) → List Mode → Parser (List Mode)
+modes_from zero found = λ i. and_then (mode_word i) (λ m j. limit i)
+modes_from (suc n) found = do
+  m ← mode_word
+  more ← eat kind.Comma
+  if more then modes_from n (found ++ m ∷ []) else (do expect kind.Close; pure (found ++ m ∷ []))
+
+unfoldable pub inst_modes : Parser (List Mode)
+inst_modes = do
+  expect kind.Pred
+  expect kind.Open
+  modes_from most []
+
+-- `(pred(M1, ..) is D)`
+unfoldable pub inst : Parser (List Mode × Det)
+inst = do
+  expect kind.Open
+  ms ← inst_modes
+  expect kind.Is
+  d ← determinism
+  expect kind.Close
+  pure (ms, d)
+
+unfoldable pub ho_types : Parser (List Sort)
+ho_types = do
+  expect kind.Pred
+  expect kind.Open
+  ts ← sorts
+  expect kind.HasMode
+  pure ts
+
+unfoldable pub ho_argument : Parser (Sort × Mode)
+ho_argument = do
+  ts ← ho_types
+  m ← ho_mode
+  n ← inst
+  pure (closure (gathered_sorts ts) n.0 n.1, m)
+
+unfoldable pub plain_argument : Parser (Sort × Mode)
+plain_argument = do
+  t ← sort
+  expect kind.HasMode
+  m ← mode_word
+  pure (t, m)
+
+unfoldable pub argument : Parser (Sort × Mode)
+argument = λ i. if sees kind.Pred i then ho_argument i else plain_argument i
+
+-- the first token of an argument is at fault
+unfoldable pub excess : {A : Type 0} → Parser A
+excess = λ i. if sees kind.Pred i then limit i else and_then (sort i) (λ t j. limit i)
+
+unfoldable pub arguments_from : (n : ℕ) → List (Sort × Mode) → Parser (List (Sort × Mode))
+arguments_from zero found = excess
+arguments_from (suc n) found = do
+  a ← argument
+  more ← eat kind.Comma
+  if more then arguments_from n (found ++ a ∷ []) else (do expect kind.Close; pure (found ++ a ∷ []))
+
+-- nothing, or arguments in parentheses
+unfoldable pub declared_arguments : Parser (List (Sort × Mode))
+declared_arguments = do
+  some ← eat kind.Open
+  if some then arguments_from most [] else pure []
+
+-- the head's variables, n after the next one
+unfoldable pub head_from : (n : ℕ) → List ℕ → Parser (List ℕ)
+head_from zero found = do
+  x ← variable found
+  expect kind.Close
+  pure (found ++ x ∷ [])
+head_from (suc n) found = do
+  x ← variable found
+  expect kind.Comma
+  head_from n (found ++ x ∷ [])
+
+unfoldable pub head : (arity : ℕ) → Parser (List ℕ)
+head zero = pure []
+head (suc n) = do
+  expect kind.Open
+  head_from n []
+
+-- how many goals may be open at a place
+abbrev pub most_open : ℕ
+most_open = 200
+
+pub record Declaration : Type 0 where
+  pub name : PredName
+  pub args : List (Sort × Mode)
+  pub det : Det
+
+-- `is`, a determinism and the end sign
+unfoldable pub declared_determinism : Parser Det
+declared_determinism = do
+  expect kind.Is
+  d ← determinism
+  expect kind.End
+  pure d
+
+-- `pred`, and the declaration after it
+unfoldable pub declaration : Parser Declaration
+declaration = do
+  expect kind.Pred
+  q ← declared_name
+  as' ← declared_arguments
+  d ← declared_determinism
+  pure (record { name = q; args = as'; det = d })
+
+pub record Clause : Type 0 where
+  pub line : ℕ
+  pub head : List ℕ
+  pub body : Part
+  pub vars : List (List ℕ)
+
+-- `:-`, a conjunction and the end sign
+unfoldable pub body : Parser Part
+body = do
+  expect kind.Declare
+  g ← conjunction most_open
+  expect kind.End
+  pure g
+
+-- the clause of a predicate of this name with so many arguments
+unfoldable pub clause : PredName → (arity : ℕ) → Parser Clause
+clause q arity = do
+  t ← peek
+  this_name q
+  xs ← head arity
+  g ← body
+  vs ← end_clause
+  pure (record { line = t.line; head = xs; body = g; vars = vs })
+
+unfoldable pub procedure_from : (line : ℕ) → Declaration → Clause → Procedure
+procedure_from line d c = record { qualifier = d.name.qualifier; name = d.name.name; line = line; clause_line = c.line; args = d.args; det = d.det; vars = c.vars; head = c.head; body = c.body }
+
+unfoldable pub procedure : (line : ℕ) → Parser Procedure
+procedure line = do
+  d ← declaration
+  c ← clause d.name (length d.args)
+  pure (procedure_from line d c)
+
+-- ---- programs
+
+abbrev pub is_name : Kind → Bool
+is_name kind.Name = true
+is_name kind.True = true
+is_name kind.Fail = true
+is_name kind.Not = true
+is_name kind.Some = true
+is_name kind.Call = true
+is_name kind.Is = true
+is_name kind.Pred = true
+is_name _ = false
+
+-- the name of the program's own module, which is known from there on
+abbrev pub set_home : List ℕ → Parser (Unit {0})
+set_home m = λ i. Ok (tt, record i { home = m })
+
+unfoldable pub module_name : Parser (List ℕ)
+module_name = λ i.
+    if is_name (token i).kind && not (bytes_eq (token i).text (codes "io"))
+    then (do m ← take_name (token i).text; set_home (token i).text; pure m) i
+    else refuse i
+
+-- the declaration of the module
+unfoldable pub heading : Parser Listing
+heading = do
+  line ← expect kind.Declare
+  word (codes "module")
+  m ← module_name
+  expect kind.End
+  pure (record { module_name = m; module_line = line; types = []; procedures = [] })
+
+unfoldable pub with_family : Listing → Family → Listing
+with_family l t = record l { types = l.types ++ t ∷ [] }
+
+unfoldable pub with_procedure : Listing → Procedure → Listing
+with_procedure l p = record l { procedures = l.procedures ++ p ∷ [] }
+
+unfoldable pub declared_procedure : Listing → (line : ℕ) → Parser Listing
+declared_procedure l line = do
+  p ← procedure line
+  pure (with_procedure l p)
+
+unfoldable pub declared_family : Listing → (line : ℕ) → Parser Listing
+declared_family l line = do
+  t ← family line
+  pure (with_family l t)
+
+-- a declaration of a type, or of a predicate with its clause
+unfoldable pub declared : Listing → Parser Listing
+declared l = do
+  line ← expect kind.Declare
+  λ i. if sees kind.Pred i then declared_procedure l line i else declared_family l line i
+
+unfoldable pub declarations_from : (n : ℕ) → Listing → Parser Listing
+declarations_from zero l = refuse
+declarations_from (suc n) l = λ i. if sees kind.Stop i then Ok (l, i) else (declared l >>= declarations_from n) i
+
+-- the declarations after that of the module, up to the end of the text
+unfoldable pub declarations : Listing → Parser Listing
+declarations l = λ i. declarations_from (turns i) l i
+
+unfoldable pub program : Parser Listing
+program = do
+  l ← heading
+  declarations l
+
+abbrev pub start : List Lexeme → Input
+start ts = record { rest = ts; home = []; vars = []; sites = 0 }

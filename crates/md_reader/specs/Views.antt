@@ -1,0 +1,29 @@
+-- What the values of the reader's own types mean.
+use Rattle.std.specs.Prelude.{List, map, option_map}
+use Rattle.md_reader.specs.declared.duplicates.Declared.{Declared as Entry}
+use Rattle.md_reader.specs.Duplicates.{Declared}
+use Rattle.md_reader.specs.declared.names.Written.{Written as Text}
+use Rattle.md_reader.specs.declared.procedure.Declaration.{Declaration as Said}
+use Rattle.md_reader.specs.declared.procedure.Clause.{Clause as Shown}
+use Rattle.md_hlds.specs.Part.{part_of}
+use Rattle.md_hlds.specs.Listing.{Listing, args_of, families_of, procedures_of}
+use Rattle.md_reader.specs.declared.program.Draft.{Draft}
+use Rattle.md_reader.specs.Rules.{Written, Declaration, Clause}
+
+abbrev pub written_of : Text → Written
+written_of w = record { qualifier = option_map (λ q. q.now) w.qualifier; name = w.name.now }
+
+abbrev pub declaration_of : Said → Declaration
+declaration_of d = record { name = d.name; args = args_of d.args.items; det = d.det }
+
+abbrev pub clause_of : Shown → Clause
+clause_of c = record { line = c.line; head = c.head; body = part_of c.body; vars = c.vars.items }
+
+abbrev pub declared_of : Entry → Declared
+declared_of d = record { qualifier = option_map (λ q. q.now) d.qualifier; name = d.name.now; arity = d.arity; line = d.line }
+
+abbrev pub all_declared : List Entry → List Declared
+all_declared ds = map declared_of ds
+
+abbrev pub draft_of : Draft → Listing
+draft_of p = record { module_name = p.module; module_line = p.module_line; types = families_of p.types.items; procedures = procedures_of p.preds.items }

@@ -1,0 +1,124 @@
+// Calls, builtin goals, comparisons, and unifications with a variable before them.
+ghost use Rattle.std.specs.Prelude.{◌≡◌, option_map};
+ghost use Rattle.md_hlds.specs.Part.{task_of};
+ghost use Rattle.md_reader.specs.Input.{input_of, Reads};
+ghost use Rattle.md_reader.specs.Rules as spec;
+
+use crate::input::Input;
+use crate::names::pred_name;
+use crate::refused::Refusal;
+use crate::term::term;
+use crate::variables::{arguments, variables};
+use md_base::{Name, SiteId};
+use md_hlds::{Cmp, GoalKind, PredName, Variables};
+use md_token::{Kind, is_word};
+
+/// Takes a goal that begins with a variable.
+#[tactic(auto, unfolding(crate::specs::Rules::relation))]
+pub(crate) fn relation(input: &mut Input<'_>) -> Result<GoalKind, Refusal>
+    ensures { Reads task_of (spec.relation (input_of input.old)) result (input_of input.new) }
+{
+    let x = input.variable(&[])?;
+    match input.kind() {
+        Kind::Equals => {
+            input.advance();
+            term(input, x)
+        }
+        kind => compared(input, x, comparison(kind)),
+    }
+}
+
+fn compared(input: &mut Input<'_>, x: u32, comparison: Option<Cmp>) -> Result<GoalKind, Refusal>
+    ensures { Reads task_of (spec.compared x comparison (input_of input.old)) result (input_of input.new) }
+{
+    match comparison {
+        None => Err(input.refuse()),
+        Some(comparison) => {
+            input.advance();
+            let y = input.variable(&[x])?;
+            Ok(GoalKind::Compare(x, comparison, y))
+        }
+    }
+}
+
+fn comparison(kind: Kind) -> Option<Cmp>
+    ensures { result ≡ spec.comparison kind }
+{
+    match kind {
+        Kind::Less => Some(Cmp::Lt),
+        Kind::AtMost => Some(Cmp::Le),
+        Kind::Greater => Some(Cmp::Gt),
+        Kind::AtLeast => Some(Cmp::Ge),
+        _ => None,
+    }
+}
+
+/// Takes a call of a predicate, or a builtin goal.
+#[tactic(auto, unfolding(crate::specs::Rules::call))]
+pub(crate) fn call(input: &mut Input<'_>) -> Result<GoalKind, Refusal>
+    ensures { Reads task_of (spec.call (input_of input.old)) result (input_of input.new) }
+{
+    let name = pred_name(input)?;
+    let variables = arguments(input, None)?;
+    match builtin(&name, variables.as_slice()) {
+        Some(goal) => Ok(goal),
+        None => {
+            let site = input.site()?;
+            Ok(GoalKind::Call(SiteId::new(site), name, variables))
+        }
+    }
+}
+
+/// The builtin goal that a call of this name with these variables is, if it is one.
+fn builtin(name: &PredName, variables: &[u32]) -> Option<GoalKind>
+    ensures { option_map task_of result ≡ spec.builtin name.now variables.now }
+{
+    match variables {
+        [before, after] if is_builtin("nl", name) => Some(GoalKind::Nl(*before, *after)),
+        [x, before, after] if is_builtin("write_int", name) => {
+            Some(GoalKind::WriteInt(*x, *before, *after))
+        }
+        [x, before, after] if is_builtin("write_string", name) => {
+            Some(GoalKind::WriteStr(*x, *before, *after))
+        }
+        _ => None,
+    }
+}
+
+fn is_builtin(builtin: &str, name: &PredName) -> bool
+    ensures { result ≡ spec.is_builtin builtin.now name.now }
+{
+    is_io(&name.qualifier) && is_word(name.name.as_bytes(), builtin)
+}
+
+fn is_io(qualifier: &Option<Name>) -> bool
+    ensures { result ≡ spec.is_io qualifier.now }
+{
+    match qualifier {
+        None => false,
+        Some(qualifier) => is_word(qualifier.as_bytes(), "io"),
+    }
+}
+
+/// Takes a call of a closure.
+#[tactic(auto, unfolding(crate::specs::Rules::closure_call))]
+pub(crate) fn closure_call(input: &mut Input<'_>) -> Result<GoalKind, Refusal>
+    ensures { Reads task_of (spec.closure_call (input_of input.old)) result (input_of input.new) }
+{
+    input.expect(Kind::Call)?;
+    input.expect(Kind::Open)?;
+    let variables = variables(input, Kind::Close, None)?;
+    applied(input, variables)
+}
+
+fn applied(input: &mut Input<'_>, variables: Variables) -> Result<GoalKind, Refusal>
+    ensures { Reads task_of (spec.applied variables (input_of input.old)) result (input_of input.new) }
+{
+    let mut variables = variables.into_vec();
+    if variables.is_empty() {
+        return Err(input.refuse());
+    }
+    let closure = variables.remove(0);
+    let site = input.site()?;
+    Ok(GoalKind::HoCall(SiteId::new(site), closure, Variables::from_vec(variables)))
+}

@@ -1,0 +1,179 @@
+// Second declarations.
+ghost use Rattle.std.specs.Prelude.{◌≡◌, [], ◌++◌, OnOk, IfOk, map, option_map, length};
+ghost use Rattle.std.specs.List.{flat_map};
+ghost use Rattle.md_hlds.specs.Listing.{listing_of, families_of, procedures_of, constructs_of, sorts_of};
+ghost use Rattle.md_hlds.specs.Listing as listing;
+ghost use Rattle.md_reader.specs.Duplicates as spec;
+ghost use Rattle.md_reader.specs.Views.{declared_of, all_declared};
+
+use md_base::{Name, NoMemory};
+use md_hlds::{Functor, Pred, Program, Ty, TypeDef};
+use std::alloc::Global;
+
+/// What is declared, and the line of the declaration's `:-`.
+#[derive(Clone, Copy)]
+pub(crate) struct Declared<'a> {
+    pub qualifier: Option<&'a [u8]>,
+    pub name: &'a [u8],
+    pub arity: usize,
+    pub line: u32,
+}
+
+/// The line of the first second declaration, of a type, a functor or a predicate.
+#[tactic(auto, unfolding(crate::specs::Duplicates::duplicate))]
+pub(crate) fn duplicate(alloc: Global, program: &Program) -> Result<Option<u32>, NoMemory>
+    ensures { IfOk result (λ line. line ≡ spec.duplicate (listing_of program.now)) }
+{
+    let family = second_family(alloc, program)?;
+    let construct = second_construct(alloc, program)?;
+    let procedure = second_procedure(alloc, program)?;
+    Ok(earlier(family, earlier(construct, procedure)))
+}
+
+fn earlier(a: Option<u32>, b: Option<u32>) -> Option<u32>
+    ensures { result ≡ spec.earlier a b }
+{
+    match (a, b) {
+        (None, b) => b,
+        (Some(a), None) => Some(a),
+        (Some(a), Some(b)) => Some(a.min(b)),
+    }
+}
+
+#[tactic(auto, unfolding(crate::specs::Duplicates::second_family))]
+fn second_family(alloc: Global, program: &Program) -> Result<Option<u32>, NoMemory>
+    ensures { IfOk result (λ line. line ≡ spec.second_family (listing_of program.now)) }
+{
+    let declared = families(alloc, &program.types)?;
+    Ok(first_second(&declared))
+}
+
+#[tactic(auto, unfolding(crate::specs::Duplicates::second_construct))]
+fn second_construct(alloc: Global, program: &Program) -> Result<Option<u32>, NoMemory>
+    ensures { IfOk result (λ line. line ≡ spec.second_construct (listing_of program.now)) }
+{
+    let mut declared = Vec::new(alloc);
+    constructs(&mut declared, &program.types)?;
+    Ok(first_second(&declared))
+}
+
+#[tactic(auto, unfolding(crate::specs::Duplicates::second_procedure))]
+fn second_procedure(alloc: Global, program: &Program) -> Result<Option<u32>, NoMemory>
+    ensures { IfOk result (λ line. line ≡ spec.second_procedure (listing_of program.now)) }
+{
+    let declared = procedures(alloc, &program.preds)?;
+    Ok(first_second(&declared))
+}
+
+/// The line of the first one that was declared before.
+fn first_second(declared: &[Declared<'_>]) -> Option<u32>
+    ensures { result ≡ spec.first_second [] (all_declared declared.now) }
+{
+    for (place, one) in declared.iter().enumerate() {
+        let (seen, _) = declared.split_at(place);
+        if is_among(one, seen) {
+            return Some(one.line);
+        }
+    }
+    None
+}
+
+fn is_among(one: &Declared<'_>, seen: &[Declared<'_>]) -> bool
+    ensures { result ≡ spec.is_among (declared_of one.now) (all_declared seen.now) }
+{
+    for other in seen {
+        if same_declared(one, other) {
+            return true;
+        }
+    }
+    false
+}
+
+fn same_declared(a: &Declared<'_>, b: &Declared<'_>) -> bool
+    ensures { result ≡ spec.same_declared (declared_of a.now) (declared_of b.now) }
+{
+    same_qualifier(a.qualifier, b.qualifier) && a.name == b.name && a.arity == b.arity
+}
+
+fn same_qualifier(a: Option<&[u8]>, b: Option<&[u8]>) -> bool
+    ensures { result ≡ listing.same_qualifier (option_map (λ q. q.now) a.entry) (option_map (λ q. q.now) b.entry) }
+{
+    match (a, b) {
+        (None, None) => true,
+        (Some(a), Some(b)) => a == b,
+        _ => false,
+    }
+}
+
+fn families<'a>(alloc: Global, types: &'a [TypeDef]) -> Result<Vec<Declared<'a>>, NoMemory>
+    ensures { IfOk result (λ declared. all_declared declared.items ≡ map spec.declared_family (families_of types.now)) }
+{
+    let mut declared = Vec::new(alloc);
+    for family in types {
+        declared.push(Declared {
+            qualifier: None,
+            name: family.name.as_bytes(),
+            arity: 0,
+            line: family.line,
+        })?;
+    }
+    Ok(declared)
+}
+
+fn constructs<'a>(declared: &mut Vec<Declared<'a>>, types: &'a [TypeDef]) -> Result<(), NoMemory>
+    ensures { OnOk result (all_declared declared.new.items ≡ all_declared declared.old.items ++ flat_map spec.declared_constructs (families_of types.now)) }
+{
+    for family in types {
+        constructs_of_one(declared, family.line, &family.functors)?;
+    }
+    Ok(())
+}
+
+fn constructs_of_one<'a>(
+    declared: &mut Vec<Declared<'a>>,
+    line: u32,
+    functors: &'a [Functor],
+) -> Result<(), NoMemory>
+    ensures { OnOk result (all_declared declared.new.items ≡ all_declared declared.old.items ++ map (spec.declared_construct line) (constructs_of functors.now)) }
+{
+    for functor in functors {
+        declared.push(Declared {
+            qualifier: None,
+            name: functor.name.as_bytes(),
+            arity: arity(&functor.args),
+            line,
+        })?;
+    }
+    Ok(())
+}
+
+#[tactic(auto, using(crate::proofs::Lists::length_sorts_of))]
+fn arity(args: &[Ty]) -> usize
+    ensures { result ≡ length (sorts_of args.now) }
+{
+    args.len()
+}
+
+fn procedures<'a>(alloc: Global, preds: &'a [Pred]) -> Result<Vec<Declared<'a>>, NoMemory>
+    ensures { IfOk result (λ declared. all_declared declared.items ≡ map spec.declared_procedure (procedures_of preds.now)) }
+{
+    let mut declared = Vec::new(alloc);
+    for pred in preds {
+        declared.push(Declared {
+            qualifier: qualifier(&pred.qualifier),
+            name: pred.name.as_bytes(),
+            arity: 0,
+            line: pred.line,
+        })?;
+    }
+    Ok(declared)
+}
+
+fn qualifier(name: &Option<Name>) -> Option<&[u8]>
+    ensures { option_map (λ q. q.now) result ≡ name.now }
+{
+    match name {
+        None => None,
+        Some(name) => Some(name.as_bytes()),
+    }
+}

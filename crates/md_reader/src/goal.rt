@@ -1,0 +1,245 @@
+// Goals. They nest, and within each other at most so many are open.
+ghost use Rattle.std.specs.Prelude.{◌≡◌, ◌<◌, [], ◌∷◌, IfOk, IfErr, OnOk};
+ghost use Rattle.md_hlds.specs.Part.{part_of, parts_of, At, Choose};
+ghost use Rattle.md_reader.specs.Input.{input_of, Reads};
+ghost use Rattle.md_reader.specs.Rules as spec;
+
+use crate::call::{call, closure_call, relation};
+use crate::input::Input;
+use crate::refused::Refusal;
+use crate::variables::quantified;
+use md_hlds::{Goal, GoalKind};
+use md_token::Kind;
+use std::alloc::Global;
+
+/// Takes a conjunction within which so many goals may be open.
+#[cycle(goals)]
+pub(crate) fn conjunction(input: &mut Input<'_>, room: u32) -> Result<Goal, Refusal>
+    ensures { Reads part_of (spec.conjunction room (input_of input.old)) result (input_of input.new) }
+{
+    let units = units(input, room)?;
+    Ok(joined(units))
+}
+
+/// Takes units with commas between them.
+#[tactic(auto, unfolding(crate::specs::Rules::units))]
+#[cycle(goals)]
+fn units(input: &mut Input<'_>, room: u32) -> Result<Vec<Goal>, Refusal>
+    ensures { Reads (λ units. parts_of units.items) (spec.units room (spec.within room) (input_of input.old)) result (input_of input.new) }
+{
+    let mut found = Vec::new(input.alloc);
+    for _turn in 0..input.left() {
+        found.push(unit(input, room)?)?;
+        if !input.eat(Kind::Comma) {
+            return Ok(found);
+        }
+    }
+    Err(input.refuse())
+}
+
+/// The conjunction of these units; one alone is itself.
+fn joined(mut units: Vec<Goal>) -> Goal
+    ensures { part_of result ≡ spec.joined (parts_of units.items) }
+{
+    if units.len() == 1 {
+        return units.remove(0);
+    }
+    let line = first_line(&units);
+    Goal {
+        line,
+        kind: GoalKind::Conj(units),
+    }
+}
+
+/// The line of the first of these goals, or 0 where there is none.
+fn first_line(goals: &[Goal]) -> u32
+    ensures { result ≡ spec.first_line (parts_of goals.now) }
+{
+    match goals {
+        [] => 0,
+        [goal, ..] => goal.line,
+    }
+}
+
+/// Takes a unit of a conjunction.
+#[tactic(auto, unfolding(crate::specs::Rules::unit))]
+#[cycle(goals)]
+fn unit(input: &mut Input<'_>, room: u32) -> Result<Goal, Refusal>
+    ensures { Reads part_of (spec.unit room (spec.within room) (input_of input.old)) result (input_of input.new) }
+{
+    let line = input.token().line;
+    let kind = match input.kind() {
+        Kind::Open => return group(input, room),
+        Kind::Not => return negation(input, room),
+        Kind::Some => return quantification(input, room),
+        Kind::True => {
+            input.advance();
+            GoalKind::True
+        }
+        Kind::Fail => {
+            input.advance();
+            GoalKind::Fail
+        }
+        Kind::Variable => relation(input)?,
+        Kind::Call => closure_call(input)?,
+        Kind::Name | Kind::Qualified => call(input)?,
+        _ => return Err(input.refuse()),
+    };
+    Ok(Goal { line, kind })
+}
+
+/// Takes a conjunction, a disjunction or an if-then-else in parentheses.
+#[tactic(auto, unfolding(crate::specs::Rules::group))]
+#[cycle(goals)]
+fn group(input: &mut Input<'_>, room: u32) -> Result<Goal, Refusal>
+    ensures { Reads part_of (spec.group room (spec.within room) (input_of input.old)) result (input_of input.new) }
+{
+    let line = open_goal(input, room)?;
+    let first = inner(input, room)?;
+    match input.kind() {
+        Kind::Close => {
+            input.advance();
+            Ok(first)
+        }
+        Kind::Semicolon => disjunction(input, room, line, first),
+        Kind::Then => choice(input, room, line, first),
+        _ => Err(input.refuse()),
+    }
+}
+
+/// Takes the other arms of a disjunction, whose parenthesis stands on this line.
+#[tactic(auto, unfolding(crate::specs::Rules::disjunction))]
+#[cycle(goals)]
+fn disjunction(input: &mut Input<'_>, room: u32, line: u32, first: Goal) -> Result<Goal, Refusal>
+    requires { 0 < room }
+    ensures { Reads part_of (spec.disjunction (spec.within room) line (part_of first) (input_of input.old)) result (input_of input.new) }
+{
+    input.expect(Kind::Semicolon)?;
+    let arms = arms(input, room, first)?;
+    Ok(Goal {
+        line,
+        kind: GoalKind::Disj(arms),
+    })
+}
+
+#[tactic(auto, unfolding(crate::specs::Rules::arms))]
+#[cycle(goals)]
+fn arms(input: &mut Input<'_>, room: u32, first: Goal) -> Result<Vec<Goal>, Refusal>
+    requires { 0 < room }
+    ensures { Reads (λ arms. parts_of arms.items) (spec.arms (spec.within room) (part_of first) (input_of input.old)) result (input_of input.new) }
+{
+    let mut found = Vec::new(input.alloc);
+    found.push(first)?;
+    for _turn in 0..input.left() {
+        found.push(inner(input, room)?)?;
+        if !input.eat(Kind::Semicolon) {
+            input.expect(Kind::Close)?;
+            return Ok(found);
+        }
+    }
+    Err(input.refuse())
+}
+
+/// Takes the then and the else part of an if-then-else, whose parenthesis stands on this line.
+#[tactic(auto, unfolding(crate::specs::Rules::choice))]
+#[cycle(goals)]
+fn choice(input: &mut Input<'_>, room: u32, line: u32, condition: Goal) -> Result<Goal, Refusal>
+    requires { 0 < room }
+    ensures { Reads part_of (spec.choice (spec.within room) line (part_of condition) (input_of input.old)) result (input_of input.new) }
+{
+    let (then_part, else_part) = branches(input, room)?;
+    input.expect(Kind::Close)?;
+    if_goal(input.alloc, line, condition, then_part, else_part)
+}
+
+#[tactic(auto, unfolding(crate::specs::Rules::branches))]
+#[cycle(goals)]
+fn branches(input: &mut Input<'_>, room: u32) -> Result<(Goal, Goal), Refusal>
+    requires { 0 < room }
+    ensures { Reads (λ b. (part_of b.0, part_of b.1)) (spec.branches (spec.within room) (input_of input.old)) result (input_of input.new) }
+{
+    input.expect(Kind::Then)?;
+    let then_part = inner(input, room)?;
+    input.expect(Kind::Semicolon)?;
+    let else_part = inner(input, room)?;
+    Ok((then_part, else_part))
+}
+
+fn if_goal(
+    alloc: Global,
+    line: u32,
+    condition: Goal,
+    then_part: Goal,
+    else_part: Goal,
+) -> Result<Goal, Refusal>
+    ensures ok { IfOk result (λ goal. part_of goal ≡ At line (Choose (part_of condition) (part_of then_part) (part_of else_part))) }
+    ensures err { IfErr result (λ e. e ≡ Refusal.NoMemory) }
+{
+    let condition = Box::new(alloc, condition)?;
+    let then_part = Box::new(alloc, then_part)?;
+    let else_part = Box::new(alloc, else_part)?;
+    Ok(Goal {
+        line,
+        kind: GoalKind::If(condition, then_part, else_part),
+    })
+}
+
+/// Takes a negation.
+#[tactic(auto, unfolding(crate::specs::Rules::negation))]
+#[cycle(goals)]
+fn negation(input: &mut Input<'_>, room: u32) -> Result<Goal, Refusal>
+    ensures { Reads part_of (spec.negation room (spec.within room) (input_of input.old)) result (input_of input.new) }
+{
+    let line = input.expect(Kind::Not)?;
+    open_goal(input, room)?;
+    let goal = inner(input, room)?;
+    input.expect(Kind::Close)?;
+    let goal = Box::new(input.alloc, goal)?;
+    Ok(Goal {
+        line,
+        kind: GoalKind::Not(goal),
+    })
+}
+
+/// Takes a quantified goal.
+#[tactic(auto, unfolding(crate::specs::Rules::quantification))]
+#[cycle(goals)]
+fn quantification(input: &mut Input<'_>, room: u32) -> Result<Goal, Refusal>
+    ensures { Reads part_of (spec.quantification room (spec.within room) (input_of input.old)) result (input_of input.new) }
+{
+    let line = input.expect(Kind::Some)?;
+    input.expect(Kind::OpenList)?;
+    let variables = quantified(input)?;
+    open_goal(input, room)?;
+    let goal = inner(input, room)?;
+    input.expect(Kind::Close)?;
+    let goal = Box::new(input.alloc, goal)?;
+    Ok(Goal {
+        line,
+        kind: GoalKind::Some(variables, goal),
+    })
+}
+
+/// Takes the conjunction inside a goal that was opened.
+#[cycle(goals)]
+fn inner(input: &mut Input<'_>, room: u32) -> Result<Goal, Refusal>
+    requires { 0 < room }
+    ensures { Reads part_of (spec.within room (input_of input.old)) result (input_of input.new) }
+{
+    conjunction(input, room - 1)
+}
+
+/// Takes a `(` that opens a goal, and gives its line.
+fn open_goal(input: &mut Input<'_>, room: u32) -> Result<u32, Refusal>
+    ensures read { Reads (λ line. line) (spec.open_goal room (input_of input.old)) result (input_of input.new) }
+    ensures room { OnOk result (0 < room) }
+{
+    if room > 0 {
+        return input.expect(Kind::Open);
+    }
+    if input.sees(Kind::Open) {
+        Err(input.limit())
+    } else {
+        Err(input.refuse())
+    }
+}

@@ -1,0 +1,23 @@
+//! The text of a program to the program as data, and back.
+#![tactic(auto)]
+
+mod argument;
+mod call;
+mod duplicates;
+mod goal;
+mod input;
+mod names;
+mod procedure;
+mod program;
+mod reading;
+mod refused;
+mod scope;
+mod term;
+mod types;
+mod variables;
+
+pub use reading::read;
+pub use refused::Refused;
+
+#[cfg(test)]
+mod tests;

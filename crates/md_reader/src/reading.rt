@@ -1,0 +1,58 @@
+// The text of a program to the program.
+ghost use Rattle.std.specs.Prelude.{◌≡◌, ◌<◌, length};
+ghost use Rattle.md_token.specs.Token.{lexemes_of};
+ghost use Rattle.md_reader.specs.Input.{input_of};
+ghost use Rattle.md_reader.specs.Rules.{start};
+ghost use Rattle.md_reader.specs.Reading.{IsAnswer, refused_of};
+
+use crate::duplicates::duplicate;
+use crate::input::Input;
+use crate::program::program;
+use crate::refused::{Refusal, Refused};
+use crate::scope::Scope;
+use md_hlds::Program;
+use md_token::{Token, tokens};
+use std::alloc::Global;
+
+/// The program that a text spells. The text has fewer than 4,294,967,295 bytes.
+///
+/// A text that spells none is refused with the line of the first token at fault, for syntax or for a limit, or of the
+/// first second declaration.
+pub fn read(alloc: Global, text: &[u8]) -> Result<Program, Refused>
+    requires { length text.now < 4294967295 }
+    ensures answer { IsAnswer result text.now }
+{
+    let tokens = tokens(alloc, text)?;
+    let mut input = start_input(alloc, &tokens);
+    match program(&mut input) {
+        Err(refusal) => Err(refused(refusal)),
+        Ok(program) => match duplicate(alloc, &program)? {
+            None => Ok(program),
+            Some(line) => Err(Refused::Duplicate(line)),
+        },
+    }
+}
+
+/// The input of a whole text, by its tokens.
+#[tactic(auto, unfolding(crate::specs::Input::input_of))]
+fn start_input<'a>(alloc: Global, tokens: &'a [Token<'a>]) -> Input<'a>
+    ensures { input_of result ≡ start (lexemes_of tokens.now) }
+{
+    Input {
+        alloc,
+        rest: tokens,
+        home: b"",
+        scope: Scope::new(alloc),
+        sites: 0,
+    }
+}
+
+fn refused(refusal: Refusal) -> Refused
+    ensures { result ≡ refused_of refusal }
+{
+    match refusal {
+        Refusal::Syntax(place) => Refused::Syntax(place.line),
+        Refusal::Limit(place) => Refused::Limit(place.line),
+        Refusal::NoMemory => Refused::NoMemory,
+    }
+}

@@ -1,0 +1,4 @@
+pub mod Literals
+pub mod Scans
+pub mod Strings
+pub mod Words

@@ -1,0 +1,103 @@
+// The tokens of a whole text, one after the other.
+ghost use Rattle.std.specs.Prelude.{◌≡◌, ◌≤◌, ◌<◌, ◌+◌, length, drop, slice_index, IfSome, IfOk};
+ghost use Rattle.md_token.specs.Token as spec;
+
+use crate::bytes::{digits_length, is_blank, line_length};
+use crate::sign::sign_at;
+use crate::string::string_at;
+use crate::word::{name_at, variable_at};
+use crate::{Kind, Token};
+use md_base::NoMemory;
+use std::alloc::Global;
+
+/// The tokens of a text. Behind the last one stands `Stop`, the end of the text, or `Bad`, at the first byte of what makes
+/// no token. The text has fewer than 4,294,967,295 bytes.
+#[tactic(auto, unfolding(crate::specs::Token::tokens_of))]
+pub fn tokens<'a>(alloc: Global, text: &'a [u8]) -> Result<Vec<Token<'a>>, NoMemory>
+    requires { length text.now < 4294967295 }
+    ensures { IfOk result (λ found. spec.lexemes_of found.items ≡ spec.tokens_of text.now) }
+{
+    let mut found = Vec::new(alloc);
+    let mut rest = text;
+    let mut line = 1;
+    while !rest.is_empty() {
+        match front_at(rest) {
+            Front::Gap(more) => {
+                if rest[0] == b'\n' {
+                    line += 1;
+                }
+                let (_, after) = rest.split_at(more + 1);
+                rest = after;
+            }
+            Front::Piece(kind, more) => {
+                let (text, after) = rest.split_at(more + 1);
+                found.push(Token { kind, text, line })?;
+                rest = after;
+            }
+            Front::Unknown => {
+                found.push(Token {
+                    kind: Kind::Bad,
+                    text: b"",
+                    line,
+                })?;
+                return Ok(found);
+            }
+        }
+    }
+    found.push(Token {
+        kind: Kind::Stop,
+        text: b"",
+        line,
+    })?;
+    Ok(found)
+}
+
+/// What a text begins with.
+#[derive(Clone, Copy)]
+pub(crate) enum Front {
+    /// White space or a comment: how many bytes it has after its first.
+    Gap(usize),
+    /// A token: how many bytes it has after its first.
+    Piece(Kind, usize),
+    /// Bytes that make no token.
+    Unknown,
+}
+
+/// What a text that isn't empty begins with.
+#[tactic(auto, unfolding(crate::specs::Token::front_at))]
+fn front_at(text: &[u8]) -> Front
+    requires { 1 ≤ length text.now }
+    ensures front { result ≡ spec.front_at (slice_index text.now 0) (drop 1 text.now) }
+    ensures within { spec.more_of result + 1 ≤ length text.now }
+{
+    let byte = text[0];
+    let (_, bytes) = text.split_at(1);
+    if is_blank(byte) {
+        Front::Gap(0)
+    } else if byte == b'%' {
+        Front::Gap(line_length(bytes))
+    } else {
+        match token_at(text) {
+            None => Front::Unknown,
+            Some((kind, more)) => Front::Piece(kind, more),
+        }
+    }
+}
+
+/// The token at the front of a text that isn't empty: its kind, and how many bytes it has after its first.
+#[tactic(auto, unfolding(crate::specs::Token::token_at))]
+fn token_at(text: &[u8]) -> Option<(Kind, usize)>
+    requires { 1 ≤ length text.now }
+    ensures token { result ≡ spec.token_at (slice_index text.now 0) (drop 1 text.now) }
+    ensures within { IfSome result (λ found. found.1 + 1 ≤ length text.now) }
+{
+    let byte = text[0];
+    let (_, bytes) = text.split_at(1);
+    match byte {
+        b'a'..=b'z' => Some(name_at(text)),
+        b'A'..=b'Z' | b'_' => variable_at(byte, bytes),
+        b'0'..=b'9' => Some((Kind::Integer, digits_length(bytes))),
+        b'"' => string_at(bytes),
+        _ => sign_at(byte, bytes),
+    }
+}
