@@ -2,6 +2,7 @@ pub mod Added
 pub mod CalleeLists
 pub mod Calls
 pub mod Events
+pub mod Leading
 pub mod PointerSteps
 pub mod Returns
 pub mod RowSteps

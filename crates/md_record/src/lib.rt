@@ -2,6 +2,7 @@
 //! a fixed number of table steps, and one for each call site of the callee where a call makes a new context.
 #![tactic(auto)]
 
+mod leads;
 mod recorder;
 mod saved;
 

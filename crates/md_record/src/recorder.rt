@@ -1,6 +1,7 @@
 // The recorder, one port after the other.
 ghost use Rattle.std.specs.Prelude.{ℕ, ◌≡◌, ◌≤◌, ◌<◌, ◌+◌, List, ◌∷◌, length, IfOk, OnOk, OnErr, IfSome, Some, None};
 
+use crate::leads::lead;
 use crate::saved::Saved;
 use md_base::{CsdId, Measure, NoMemory, PdId, ProcId, SiteId, Steps};
 use md_dynamic::Tables;
@@ -35,6 +36,67 @@ impl Recorder {
     ghost use Rattle.md_static.specs.Tables.{site_table};
     ghost use Rattle.md_record.specs.Kept.{Kept, Stands};
     ghost use Rattle.md_record.specs.Belongs.{Belongs};
+
+    /// The current activation calls `callee` at `site`, or the run begins with the main procedure's call, at no site.
+    /// Memory is taken first, room for the chain included; where it is refused, all is as before.
+    pub fn call<L: Ledger>(
+        &mut self,
+        site: Option<SiteId>,
+        callee: ProcId,
+        steps: &mut Steps<L>,
+    ) -> Result<Saved, NoMemory>
+        requires { CanTake (Stands self.old) (next_call site callee) }
+        ensures taken { OnOk result (Takes (Stands self.old) (Stands self.new) (next_call site callee)) }
+        ensures marked { IfOk result (λ saved. MarksNewest (Stands self.old) (Belongs saved) (next_call site callee)) }
+        ensures refused { OnErr result (StandsAsBefore (Stands self.old) (Stands self.new)) }
+    {
+        match site {
+            None => self.call_main(callee, steps),
+            Some(site) => self.call_at(site, callee, steps),
+        }
+    }
+
+    /// The first call, that of the main procedure: it is counted on the root link. Four table steps.
+    fn call_main<L: Ledger>(&mut self, callee: ProcId, steps: &mut Steps<L>) -> Result<Saved, NoMemory>
+        requires { CanTake (Stands self.old) (next_call None callee) }
+        ensures taken { OnOk result (Takes (Stands self.old) (Stands self.new) (next_call None callee)) }
+        ensures marked { IfOk result (λ saved. MarksNewest (Stands self.old) (Belongs saved) (next_call None callee)) }
+        ensures refused { OnErr result (StandsAsBefore (Stands self.old) (Stands self.new)) }
+        ensures cost { steps.new ≤ steps.old + 4 }
+    {
+        let root = CsdId::new(0);
+        self.chain.reserve(1)?;
+        self.tables.count(root, Measure::Calls, 1, steps);
+        let end = self.tables.end_of(root, steps);
+        self.tables.set_active(callee, Some(end), steps);
+        self.chain.push_reserved((root, end));
+        Ok(Saved {
+            top: end,
+            middle: root,
+            old: None,
+        })
+    }
+
+    /// A call by the current activation at a site.
+    fn call_at<L: Ledger>(&mut self, site: SiteId, callee: ProcId, steps: &mut Steps<L>) -> Result<Saved, NoMemory>
+        requires { CanTake (Stands self.old) (next_call (Some site) callee) }
+        ensures taken { OnOk result (Takes (Stands self.old) (Stands self.new) (next_call (Some site) callee)) }
+        ensures marked { IfOk result (λ saved. MarksNewest (Stands self.old) (Belongs saved) (next_call (Some site) callee)) }
+        ensures refused { OnErr result (StandsAsBefore (Stands self.old) (Stands self.new)) }
+    {
+        let node = self.latest().unwrap().1;
+        self.chain.reserve(1)?;
+        let old = self.tables.active(callee, steps);
+        let link = lead(&mut self.tables, node, site, callee, old, steps)?;
+        let end = self.tables.end_of(link, steps);
+        self.tables.set_active(callee, Some(end), steps);
+        self.chain.push_reserved((link, end));
+        Ok(Saved {
+            top: end,
+            middle: link,
+            old,
+        })
+    }
 
     /// The activation with this mark returns with a solution: an exit on its link, and the pointer of its procedure
     /// goes back to what it was before the call. Four table steps.
