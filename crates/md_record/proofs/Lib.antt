@@ -1,7 +1,10 @@
 pub mod Added
 pub mod CalleeLists
+pub mod Callings
 pub mod Calls
 pub mod Events
+pub mod Finishing
+pub mod First
 pub mod Leading
 pub mod PointerSteps
 pub mod Returns

@@ -19,24 +19,24 @@ pub(crate) fn lead<L: Ledger>(
     node: PdId,
     site: SiteId,
     callee: ProcId,
-    old: Option<PdId>,
+    old: &Option<PdId>,
     steps: &mut Steps<L>,
 ) -> Result<CsdId, NoMemory>
     requires owned { Owns tables.old node site }
     requires may_lead { MayLead tables.old site callee }
     requires there { callee < length tables.old.statics.procs }
-    requires active { slice_get tables.old.active callee ≡ Some old }
-    requires of_callee { IfSome old (λ v. slice_get tables.old.nodes v ≡ Some callee) }
+    requires active { slice_get tables.old.active callee ≡ Some old.now }
+    requires of_callee { IfSome old.now (λ v. slice_get tables.old.nodes v ≡ Some callee) }
     requires links_there { LinksThere tables.old node site }
     requires room { length tables.old.links < 4294967295 }
-    ensures ok { IfOk result (λ link. LeadsBy tables.old tables.new node site callee old link) }
+    ensures ok { IfOk result (λ link. LeadsBy tables.old tables.new node site callee old.now link) }
     ensures err { OnErr result (tables.new ≡ tables.old) }
     ensures cost { IfOk result (λ link. LeadCost tables.old tables.new node site callee link steps.old steps.new) }
     ensures cost_refused { OnErr result (steps.new ≤ steps.old + lead_refused_cost tables.old node site callee) }
 {
     match tables.site(site).kind {
-        SiteKind::Plain(_) => lead_plain(tables, node, site, callee, old, steps),
-        SiteKind::HigherOrder => lead_many(tables, node, site, callee, old, steps),
+        SiteKind::Plain(_) => lead_plain(tables, node, site, callee, *old, steps),
+        SiteKind::HigherOrder => lead_many(tables, node, site, callee, *old, steps),
     }
 }
 

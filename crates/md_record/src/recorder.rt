@@ -29,6 +29,7 @@ impl Model for Recorder {
 
 impl Recorder {
     ghost use Rattle.std.specs.Prelude.{ℕ, ◌≡◌, ◌≤◌, ◌<◌, ◌+◌, ◌-◌, slice_get, List, ◌∷◌, length, IfOk, OnOk, OnErr, IfSome, Some, None};
+    ghost use Rattle.std.specs.Option.{option_map};
     ghost use Rattle.md_trace.specs.declared.event.Event.{Event};
     ghost use Rattle.md_trace.specs.declared.event.Event.TheVariants.{Exit, Redo, Fail};
     ghost use Rattle.md_trace.specs.Sinks.{CanTake, CanTakeMarked, Takes, TakesMarked, MarksNewest, StandsAsBefore, next_call, next_alloc};
@@ -84,10 +85,10 @@ impl Recorder {
         ensures marked { IfOk result (λ saved. MarksNewest (Stands self.old) (Belongs saved) (next_call (Some site) callee)) }
         ensures refused { OnErr result (StandsAsBefore (Stands self.old) (Stands self.new)) }
     {
-        let node = self.latest().unwrap().1;
+        let node = self.current();
         self.chain.reserve(1)?;
         let old = self.tables.active(callee, steps);
-        let link = lead(&mut self.tables, node, site, callee, old, steps)?;
+        let link = lead(&mut self.tables, node, site, callee, &old, steps)?;
         let end = self.tables.end_of(link, steps);
         self.tables.set_active(callee, Some(end), steps);
         self.chain.push_reserved((link, end));
@@ -148,6 +149,14 @@ impl Recorder {
             self.tables.count(latest.0, Measure::Allocs, 1, steps);
             self.tables.count(latest.0, Measure::Words, words, steps);
         }
+    }
+
+    /// The context of the activation that runs.
+    fn current(&self) -> PdId
+        requires { 0 < length self.now.chain }
+        ensures { option_map (λ e. e.1) (slice_get self.now.chain (length self.now.chain - 1)) ≡ Some result }
+    {
+        self.chain[self.chain.len() - 1].1
     }
 
     /// The link of the activation that runs, with its context.
