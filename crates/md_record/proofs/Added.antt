@@ -81,12 +81,12 @@ no-member t h v s q caller none =
     let ls = links t.main (placed_of t.main h) in
     let l = (begun t.main h (Some s) q).link in
     elim (cases_Bool (is_among l ls)) [
-      inl good ↦
-        let there = among-there l ls good in
-        let at = at-is-true v s there.1.link (ap (λ (z : Link). z.caller) there.3 ∙ caller) (ap (λ (z : Link). z.site) there.3) in
-        let member = callees-has 0 ls v s there.0 there.1 there.2 at in
-        absurd (none member.0 (there.1.link.procedure, 0 + there.0) member.1 (ap (λ (z : Link). z.procedure) there.3))
-    | inr bad ↦ bad
+      | inl good ↦
+          let there = among-there l ls good in
+          let at = at-is-true v s there.1.link (ap (λ (z : Link). z.caller) there.3 ∙ caller) (ap (λ (z : Link). z.site) there.3) in
+          let member = callees-has 0 ls v s there.0 there.1 there.2 at in
+          absurd (none member.0 (there.1.link.procedure, 0 + there.0) member.1 (ap (λ (z : Link). z.procedure) there.3))
+      | inr bad ↦ bad
     ]
 
 -- at a plain site the slot has the link of its callee, or none where the link is not there
@@ -97,7 +97,7 @@ plain-fresh t h k v s q c x st there kind callee caller fresh =
     let l = (begun t.main h (Some s) q).link in
     let table : slice_get t.sites s ≡ Some (call_site x) = ap (λ (z : SiteTable). slice_get z.sites s) st.table ∙ slice_get-map call_site k.rows.statics.sites s ∙ ap (option_map call_site) there in
     callees-none 0 ls v s (λ j z is. elim (cases_Bool (is_at v s z.link)) [
-        inl good ↦
+      | inl good ↦
           let at = is-at-true v s z.link good in
           let fits = sited-link t h j z st.history is s (call_site x) at.1 table in
           let P : Option ℕ → Type 0 = λ o. MatchOption o (z.link.procedure < t.procedures) (λ d. z.link.procedure ≡ d) in
@@ -106,7 +106,7 @@ plain-fresh t h k v s q c x st there kind callee caller fresh =
           let e : z.link ≡ l = ap (λ d. made d z.link.site z.link.procedure) (at.0 ∙ sym caller) ∙ ap (λ n. made l.caller n z.link.procedure) at.1 ∙ ap (λ p. made l.caller (Some s) p) same in
           absurd (false≢true (sym fresh ∙ there-among l ls j z is e))
       | inr bad ↦ bad
-      ])
+    ])
 
 -- there are few enough links for one more
 pub links-fit : (t : SiteTable) (h : List Event) (k : Kept) (s : Option ℕ) (q : ℕ) → Stands k t h → MayFollow t h (the_call h s q) → length k.rows.links < 4294967295
@@ -153,10 +153,10 @@ old-caller t h s q i w z nodes is right2 fresh {v} caller below len at calls =
     let x = begun m h s q in
     let right = right-of t h is in
     elim (get-push-either (links m xs) (leading x.link x.context) z i at) [
-      inl new ↦ (let e : Some v ≡ Some w = sym caller ∙ ap (λ (y : Leading). y.link.caller) (sym new.1) ∙ calls in let same : v ≡ w = cc in omega (arith, same))
-    | inr old ↦ elim (right.used i z old) [
-        inl root ↦ absurd (let e : None ≡ Some w = ap (λ (y : Leading). y.link.caller) (sym root) ∙ calls in cc)
-      | inr used ↦ (let there = right.callers used.0 used.1 w used.2 (ap (λ (y : Leading). y.link.caller) (sym used.3) ∙ calls) in omega (arith, len))
+      | inl new ↦ (let e : Some v ≡ Some w = sym caller ∙ ap (λ (y : Leading). y.link.caller) (sym new.1) ∙ calls in let same : v ≡ w = cc in omega (arith, same))
+      | inr old ↦ elim (right.used i z old) [
+        | inl root ↦ absurd (let e : None ≡ Some w = ap (λ (y : Leading). y.link.caller) (sym root) ∙ calls in cc)
+        | inr used ↦ (let there = right.callers used.0 used.1 w used.2 (ap (λ (y : Leading). y.link.caller) (sym used.3) ∙ calls) in omega (arith, len))
       ]
     ]
 
@@ -216,7 +216,7 @@ shows-context t h k0 k2 r1 a v s q j to st may now site caller fresh due adds la
     let slots : k2.rows.slots ≡ adds.slots.0 ++ map empty_slot (sites_of q k0.rows.statics.sites) ∷ [] = ap (λ (r : Rows). r.slots) points ∙ adds.slots.2 in
     let filled = filled-from t h k0 adds.slots.0 a v s q j st site caller fresh number adds.slots.1 in
     let callers : (i : ℕ) (z : Leading) (w : ℕ) → slice_get (ls ++ leading x.link x.context ∷ []) i ≡ Some z → z.link.caller ≡ Some w → w < length k0.rows.nodes = λ i z w is calls.
-        old-caller t h (Some s) q i w z k0.rows.nodes st.history right2 fresh caller (get-within k0.rows.nodes v site.row.owner site.owner) (ap length st.contexts_are) is calls in
+    old-caller t h (Some s) q i w z k0.rows.nodes st.history right2 fresh caller (get-within k0.rows.nodes v site.row.owner site.owner) (ap length st.contexts_are) is calls in
     let grown = slots-new k0.rows.statics.sites k0.rows.nodes k2.rows.nodes adds.slots.0 k2.rows.slots (ls ++ leading x.link x.context ∷ []) q filled st.sound.owners_rise nodes slots callers in
     let W : List Leading → Type 0 = λ l. SlotsAre k0.rows.statics.sites k2.rows.nodes k2.rows.slots l in
     record {

@@ -171,8 +171,8 @@ end-procedure t h k j to l st at =
     let xs = placed_of m h in
     let right = right-of t h st.history in
     elim (right.used j (leading l to) at) [
-      inl root ↦ ap (λ ns. slice_get ns to) st.contexts_are ∙ ap (slice_get (contexts m xs)) (ap (λ (z : Leading). z.to) root) ∙ first-context m xs ∙ ap (λ (z : Leading). Some z.link.procedure) (sym root)
-    | inr old ↦ ap (λ ns. slice_get ns to) st.contexts_are ∙ ap (slice_get (contexts m xs)) (ap (λ (z : Leading). z.to) old.3) ∙ right.in_contexts old.0 old.1 old.2 ∙ ap (λ (z : Leading). Some z.link.procedure) (sym old.3)
+      | inl root ↦ ap (λ ns. slice_get ns to) st.contexts_are ∙ ap (slice_get (contexts m xs)) (ap (λ (z : Leading). z.to) root) ∙ first-context m xs ∙ ap (λ (z : Leading). Some z.link.procedure) (sym root)
+      | inr old ↦ ap (λ ns. slice_get ns to) st.contexts_are ∙ ap (slice_get (contexts m xs)) (ap (λ (z : Leading). z.to) old.3) ∙ right.in_contexts old.0 old.1 old.2 ∙ ap (λ (z : Leading). Some z.link.procedure) (sym old.3)
     ]
 
 -- what comes of a call at a site

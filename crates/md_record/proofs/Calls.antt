@@ -75,7 +75,7 @@ stands-call t h k0 k2 s q j to st may new =
     let below : q < length k0.rows.statics.procs = omega (arith, callee-below t h (current h) s q st.history may.3, procs) in
     let due : Some to ≡ nearest q (x ∷ c) = ap Some new.to_is ∙ sym (nearest-same q x c refl) in
     let active : ActiveIs (length k0.rows.statics.procs) (x ∷ c) k2.rows.active =
-        active-set (length k0.rows.statics.procs) q c (x ∷ c) k0.rows.active k2.rows.active (Some to) st.active_is below new.active_is due (λ r ne. nearest-other r x c ne) in
+    active-set (length k0.rows.statics.procs) q c (x ∷ c) k0.rows.active k2.rows.active (Some to) st.active_is below new.active_is due (λ r ne. nearest-other r x c ne) in
     let A : List Placed → Type 0 = λ z. ActiveIs (length k0.rows.statics.procs) z k2.rows.active in
     let B : Static → Type 0 = λ z. ActiveIs (length z.procs) (current_chain m (the_call h s q ∷ h)) k2.rows.active in
     let steps : AreSteps (links m (x ∷ xs)) (x ∷ c) ((j, to) ∷ reverse k0.chain) = (new.link_is, new.to_is, steps-more (links m xs) (links m (x ∷ xs)) c (reverse k0.chain) (links-more m x xs) st.chain_is) in
@@ -83,7 +83,7 @@ stands-call t h k0 k2 s q j to st may new =
     let C : List (ℕ × ℕ) → Type 0 = λ es. AreSteps (links m (x ∷ xs)) (x ∷ c) es in
     let D : List Placed → Type 0 = λ z. AreSteps (links m (x ∷ xs)) z (reverse k2.chain) in
     let len : length k2.chain ≡ length (current_chain m (the_call h s q ∷ h)) =
-        sym (length-reverse k2.chain) ∙ ap length turned ∙ ap suc (steps-length (links m xs) c (reverse k0.chain) st.chain_is) ∙ ap length (sym chained) in
+    sym (length-reverse k2.chain) ∙ ap length turned ∙ ap suc (steps-length (links m xs) c (reverse k0.chain) st.chain_is) ∙ ap length (sym chained) in
     record {
       history = (st.history, may);
       sound = subst S (sym new.statics) st.sound;
@@ -122,19 +122,19 @@ contexts-some m [] = omega arith
 contexts-some m (x ∷ xs) =
     let rest = contexts-some m xs in
     elim (cases_Bool (eqb x.context (length (contexts m xs)))) [
-      inl good ↦ rw good (omega (arith, length-append (contexts m xs) (x.link.procedure ∷ [])))
-    | inr bad ↦ rw bad rest
+      | inl good ↦ rw good (omega (arith, length-append (contexts m xs) (x.link.procedure ∷ [])))
+      | inr bad ↦ rw bad rest
     ]
 
 -- each link leads to a context that is there
 pub ends-there : (m : ℕ) (xs : List Placed) (j : ℕ) (y : Leading) → AreRight m xs → slice_get (links m xs) j ≡ Some y → y.to < length (contexts m xs)
 ends-there m xs j y r at =
     elim (r.used j y at) [
-      inl root ↦ omega (arith, ap (λ (z : Leading). z.to) root, contexts-some m xs)
-    | inr old ↦
-        let e : y.to ≡ old.1.context = ap (λ (z : Leading). z.to) old.3 in
-        let below = get-within (contexts m xs) old.1.context old.1.link.procedure (r.in_contexts old.0 old.1 old.2) in
-        omega (arith, e)
+      | inl root ↦ omega (arith, ap (λ (z : Leading). z.to) root, contexts-some m xs)
+      | inr old ↦
+          let e : y.to ≡ old.1.context = ap (λ (z : Leading). z.to) old.3 in
+          let below = get-within (contexts m xs) old.1.context old.1.link.procedure (r.in_contexts old.0 old.1 old.2) in
+          omega (arith, e)
     ]
 
 -- an activation whose context is an older one makes none
@@ -169,8 +169,8 @@ shows-found t h k0 k2 r1 s q j to st may at counts points chained more fits =
     let below : x.context < length (contexts m xs) = omega (arith, end, ends-there m xs j (leading x.link to) right at) in
     let g = counts_in m (the_call h s q ∷ h) in
     let rows = counted k0.rows r1 ls (counts_in m h) g j (leading x.link to) Calls 1 (rows-by m h ls k0.rows.links st.rows_are) at counts
-        (set-call t m (has_link x.link) h (current h) s q st.history (has-same x.link x refl))
-        (λ i z there ne. set-call-other t m (has_link z.link) h (current h) s q st.history (has-other z.link x (links-differ m xs i j z (leading x.link to) there at ne))) in
+    (set-call t m (has_link x.link) h (current h) s q st.history (has-same x.link x refl))
+    (λ i z there ne. set-call-other t m (has_link z.link) h (current h) s q st.history (has-other z.link x (links-differ m xs i j z (leading x.link to) there at ne))) in
     let R : List LinkRow → Type 0 = λ rs. RowsAre m (the_call h s q ∷ h) ls rs in
     let L : List Leading → Type 0 = λ l. RowsAre m (the_call h s q ∷ h) l k2.rows.links in
     let nodes : k2.rows.nodes ≡ k0.rows.nodes = ap (λ (r : Rows). r.nodes) points ∙ rows.1.nodes in
@@ -222,8 +222,8 @@ zero-counts m h l miss =
 pub first-with : (m : ℕ) (xs : List Placed) (l : Link) → AreRight m xs → is_among l (links m xs) ≡ false → find (has_link l) xs ≡ None
 first-with m xs l r fresh = none-finds (has_link l) xs (λ b y is.
     elim (same-link-tells l y.link) [
-      inl same ↦ absurd (let j = r.linked b y is in false≢true (sym fresh ∙ there-among l (links m xs) j.0 (leading y.link y.context) j.1 (sym same.1)))
-    | inr other ↦ other.0
+      | inl same ↦ absurd (let j = r.linked b y is in false≢true (sym fresh ∙ there-among l (links m xs) j.0 (leading y.link y.context) j.1 (sym same.1)))
+      | inr other ↦ other.0
     ])
 
 -- the context that the second and the third rule give
@@ -249,14 +249,14 @@ rows-grown t h s q v rows rows2 is fresh caller are more =
     let miss = first-with m xs x.link (right-of t h is) fresh in
     let own : set_counts m h2 (has_link x.link) ≡ only_calls 1 = set-call t m (has_link x.link) h (current h) (Some s) q is (has-same x.link x refl) ∙ ap (λ c. with_more c Calls 1) (zero-counts m h x.link miss) in
     let row : ◌≡◌ {A = LinkRow} (link_row v s x.context 1) (row_by (counts_in m h2) (leading x.link x.context)) =
-        ap (λ (c : Option ℕ). let r : LinkRow = record { caller = c; site = Some s; callee = x.context; own = only_calls 1 } in r) (sym caller)
-        ∙ ap (λ (c : Counts). let r : LinkRow = record { caller = x.link.caller; site = Some s; callee = x.context; own = c } in r) (sym own) in
+    ap (λ (c : Option ℕ). let r : LinkRow = record { caller = c; site = Some s; callee = x.context; own = only_calls 1 } in r) (sym caller)
+    ∙ ap (λ (c : Counts). let r : LinkRow = record { caller = x.link.caller; site = Some s; callee = x.context; own = c } in r) (sym own) in
     let R : List Leading → Type 0 = λ l. RowsAre m h2 l rows2 in
     let new : LinkRow = link_row v s x.context 1 in
     let all : RowsAre m h2 (ls ++ leading x.link x.context ∷ []) rows2 = record {
       each = omega (arith, ap length more, length-append rows (new ∷ []), length-append ls (leading x.link x.context ∷ []), are.each);
       right = λ i z there. elim (get-push-either ls (leading x.link x.context) z i there) [
-          inl last ↦
+        | inl last ↦
             let read : slice_get rows2 i ≡ Some new = ap (λ rs. slice_get rs i) more ∙ ap (slice_get (rows ++ new ∷ [])) (last.0 ∙ sym are.each) ∙ get-push-new rows new in
             read ∙ ap Some row ∙ ap (λ w. Some (row_by (counts_in m h2) w)) (sym last.1)
         | inr old ↦
@@ -264,7 +264,7 @@ rows-grown t h s q v rows rows2 is fresh caller are more =
             let still : set_counts m h2 (has_link z.link) ≡ set_counts m h (has_link z.link) = set-call-other t m (has_link z.link) h (current h) (Some s) q is (has-other z.link x ne) in
             ap (λ rs. slice_get rs i) more ∙ get-push-old rows new i (get-within rows i (row_by (counts_in m h) z) (are.right i z old)) ∙ are.right i z old
             ∙ ap (λ (c : Counts). let r : LinkRow = record { caller = z.link.caller; site = z.link.site; callee = z.to; own = c } in Some r) (sym still)
-        ];
+      ];
     } in
     subst R (sym grow) all
 

@@ -45,74 +45,74 @@ slot-empty (OneCallee c) = refl
 slot-empty HigherOrder = refl
 
 module _ (sites : List Site) (nodes : List ℕ) (slots mid : List (List Slot)) (ls : List Leading) (new : Leading) (v s q : ℕ) (x : Site) (are : SlotsAre sites nodes slots ls) (rise : OwnersRiseFrom 0 sites)
-  (site : slice_get sites s ≡ Some x) (owner : slice_get nodes v ≡ Some x.owner) (was : WasFilled slots mid v (place_of sites x.owner s) q (length ls))
-  (caller_is : new.link.caller ≡ Some v) (site_is : new.link.site ≡ Some s) (procedure_is : new.link.procedure ≡ q) (fresh : (c : ℕ) → callee_of x.kind ≡ Some c → callees_of ls v s ≡ [])
+    (site : slice_get sites s ≡ Some x) (owner : slice_get nodes v ≡ Some x.owner) (was : WasFilled slots mid v (place_of sites x.owner s) q (length ls))
+    (caller_is : new.link.caller ≡ Some v) (site_is : new.link.site ≡ Some s) (procedure_is : new.link.procedure ≡ q) (fresh : (c : ℕ) → callee_of x.kind ≡ Some c → callees_of ls v s ≡ [])
   where
-  new-row : List Slot
-  new-row = set was.row (place_of sites x.owner s) (filled was.slot q (length ls))
+    new-row : List Slot
+    new-row = set was.row (place_of sites x.owner s) (filled was.slot q (length ls))
 
-  abbrev Right : ℕ → ℕ → Site → Type 0
-  Right w n z = slot_at sites mid z.owner w n ≡ Some (slot_for z.kind (callees_of (ls ++ new ∷ []) w n))
+    abbrev Right : ℕ → ℕ → Site → Type 0
+    Right w n z = slot_at sites mid z.owner w n ≡ Some (slot_for z.kind (callees_of (ls ++ new ∷ []) w n))
 
-  -- another site, or another context
-  elsewhere : (w n : ℕ) → ((w ≡ v) → (n ≡ s) → ⊥) → callees_of (ls ++ new ∷ []) w n ≡ callees_of ls w n
-  elsewhere w n ne = callees-push-other 0 ls new w n (at-is-false w n new.link (λ c d. ne (let e : Some w ≡ Some v = sym c ∙ caller_is in cc) (let e : Some n ≡ Some s = sym d ∙ site_is in cc)))
+    -- another site, or another context
+    elsewhere : (w n : ℕ) → ((w ≡ v) → (n ≡ s) → ⊥) → callees_of (ls ++ new ∷ []) w n ≡ callees_of ls w n
+    elsewhere w n ne = callees-push-other 0 ls new w n (at-is-false w n new.link (λ c d. ne (let e : Some w ≡ Some v = sym c ∙ caller_is in cc) (let e : Some n ≡ Some s = sym d ∙ site_is in cc)))
 
-  the-slot : slice_get mid v ≡ Some (set was.row (place_of sites x.owner s) (filled was.slot q (length ls)))
-  the-slot = ap (λ zs. slice_get zs v) was.now_is ∙ get-set-same slots v (set was.row (place_of sites x.owner s) (filled was.slot q (length ls))) (get-within slots v was.row was.row_is)
+    the-slot : slice_get mid v ≡ Some (set was.row (place_of sites x.owner s) (filled was.slot q (length ls)))
+    the-slot = ap (λ zs. slice_get zs v) was.now_is ∙ get-set-same slots v (set was.row (place_of sites x.owner s) (filled was.slot q (length ls))) (get-within slots v was.row was.row_is)
 
-  old-slot : was.slot ≡ slot_for x.kind (callees_of ls v s)
-  old-slot =
-      let at = slot-row sites slots x.owner v s (slot_for x.kind (callees_of ls v s)) (are.right v s x site owner) in
-      let row : at.0 ≡ was.row = cc (at.1, was.row_is) in
-      let there : slice_get was.row (place_of sites x.owner s) ≡ Some (slot_for x.kind (callees_of ls v s)) = ap (λ r. slice_get r (place_of sites x.owner s)) (sym row) ∙ at.2 in
-      cc (there, was.slot_is)
+    old-slot : was.slot ≡ slot_for x.kind (callees_of ls v s)
+    old-slot =
+        let at = slot-row sites slots x.owner v s (slot_for x.kind (callees_of ls v s)) (are.right v s x site owner) in
+        let row : at.0 ≡ was.row = cc (at.1, was.row_is) in
+        let there : slice_get was.row (place_of sites x.owner s) ≡ Some (slot_for x.kind (callees_of ls v s)) = ap (λ r. slice_get r (place_of sites x.owner s)) (sym row) ∙ at.2 in
+        cc (there, was.slot_is)
 
-  here : Right v s x
-  here =
-      let place = place_of sites x.owner s in
-      let read : slot_at sites mid x.owner v s ≡ Some (filled was.slot q (length ls)) =
-          ap (option_and_then (λ ys. slice_get ys place)) the-slot ∙ get-set-same was.row place (filled was.slot q (length ls)) (get-within was.row place was.slot was.slot_is) in
-      let grown : callees_of (ls ++ new ∷ []) v s ≡ callees_of ls v s ++ (q, length ls) ∷ [] =
-          callees-push-same 0 ls new v s (at-is-true v s new.link caller_is site_is) ∙ ap (λ r. callees_of ls v s ++ (r, 0 + length ls) ∷ []) procedure_is ∙ (let e : 0 + length ls ≡ length ls = omega arith in ap (λ k. callees_of ls v s ++ (q, k) ∷ []) e) in
-      read ∙ ap (λ o. Some (filled o q (length ls))) old-slot ∙ ap Some (slot-more x.kind (callees_of ls v s) q (length ls) fresh) ∙ ap (λ es. Some (slot_for x.kind es)) (sym grown)
+    here : Right v s x
+    here =
+        let place = place_of sites x.owner s in
+        let read : slot_at sites mid x.owner v s ≡ Some (filled was.slot q (length ls)) =
+        ap (option_and_then (λ ys. slice_get ys place)) the-slot ∙ get-set-same was.row place (filled was.slot q (length ls)) (get-within was.row place was.slot was.slot_is) in
+        let grown : callees_of (ls ++ new ∷ []) v s ≡ callees_of ls v s ++ (q, length ls) ∷ [] =
+        callees-push-same 0 ls new v s (at-is-true v s new.link caller_is site_is) ∙ ap (λ r. callees_of ls v s ++ (r, 0 + length ls) ∷ []) procedure_is ∙ (let e : 0 + length ls ≡ length ls = omega arith in ap (λ k. callees_of ls v s ++ (q, k) ∷ []) e) in
+        read ∙ ap (λ o. Some (filled o q (length ls))) old-slot ∙ ap Some (slot-more x.kind (callees_of ls v s) q (length ls) fresh) ∙ ap (λ es. Some (slot_for x.kind es)) (sym grown)
 
-  same-context : (n : ℕ) (z : Site) → slice_get sites n ≡ Some z → z.owner ≡ x.owner → n ≢ s → Right v n z
-  same-context n z there mine ne =
-      let place = place_of sites x.owner s in
-      let first = site-place x.owner s 0 sites x rise site refl in
-      let second = site-place x.owner n 0 sites z rise there mine in
-      let apart : place_of sites x.owner n ≢ place = λ e. ne (omega (arith, e, first.0, second.0)) in
-      let old = are.right v n z there (owner ∙ ap Some (sym mine)) in
-      let at = slot-row sites slots z.owner v n (slot_for z.kind (callees_of ls v n)) old in
-      let row : at.0 ≡ was.row = cc (at.1, was.row_is) in
-      let place_same : place_of sites z.owner n ≡ place_of sites x.owner n = ap (λ p. place_of sites p n) mine in
-      let read : slot_at sites mid z.owner v n ≡ slice_get was.row (place_of sites z.owner n) =
-          ap (option_and_then (λ ys. slice_get ys (place_of sites z.owner n))) the-slot
-          ∙ get-set-other was.row place (place_of sites z.owner n) (filled was.slot q (length ls)) (λ e. apart (sym place_same ∙ e)) in
-      read ∙ ap (λ r. slice_get r (place_of sites z.owner n)) (sym row) ∙ at.2 ∙ ap (λ es. Some (slot_for z.kind es)) (sym (elsewhere v n (λ e d. ne d)))
+    same-context : (n : ℕ) (z : Site) → slice_get sites n ≡ Some z → z.owner ≡ x.owner → n ≢ s → Right v n z
+    same-context n z there mine ne =
+        let place = place_of sites x.owner s in
+        let first = site-place x.owner s 0 sites x rise site refl in
+        let second = site-place x.owner n 0 sites z rise there mine in
+        let apart : place_of sites x.owner n ≢ place = λ e. ne (omega (arith, e, first.0, second.0)) in
+        let old = are.right v n z there (owner ∙ ap Some (sym mine)) in
+        let at = slot-row sites slots z.owner v n (slot_for z.kind (callees_of ls v n)) old in
+        let row : at.0 ≡ was.row = cc (at.1, was.row_is) in
+        let place_same : place_of sites z.owner n ≡ place_of sites x.owner n = ap (λ p. place_of sites p n) mine in
+        let read : slot_at sites mid z.owner v n ≡ slice_get was.row (place_of sites z.owner n) =
+        ap (option_and_then (λ ys. slice_get ys (place_of sites z.owner n))) the-slot
+        ∙ get-set-other was.row place (place_of sites z.owner n) (filled was.slot q (length ls)) (λ e. apart (sym place_same ∙ e)) in
+        read ∙ ap (λ r. slice_get r (place_of sites z.owner n)) (sym row) ∙ at.2 ∙ ap (λ es. Some (slot_for z.kind es)) (sym (elsewhere v n (λ e d. ne d)))
 
-  pub slots-filled : SlotsAre sites nodes mid (ls ++ new ∷ [])
-  slots-filled = record {
-    each = filled-length slots mid v (place_of sites x.owner s) q (length ls) was ∙ are.each;
-    right = λ w n z there mine. elim (cases_eq w v) [
-        inl same ↦
-          let both : z.owner ≡ x.owner = (let a : slice_get nodes v ≡ Some z.owner = ap (slice_get nodes) (sym same) ∙ mine in cc (a, owner)) in
-          let R : ℕ → Type 0 = λ k. Right k n z in
-          subst R (sym same) (elim (cases_eq n s) [
-              inl again ↦
-                let e : x ≡ z = (let a : slice_get sites s ≡ Some z = ap (slice_get sites) (sym again) ∙ there in cc (a, site)) in
-                let Q : ℕ → Type 0 = λ k. Right v k z in
-                let S : Site → Type 0 = λ y. Right v s y in
-                subst Q (sym again) (subst S e here)
-            | inr other ↦ same-context n z there both other
+    pub slots-filled : SlotsAre sites nodes mid (ls ++ new ∷ [])
+    slots-filled = record {
+      each = filled-length slots mid v (place_of sites x.owner s) q (length ls) was ∙ are.each;
+      right = λ w n z there mine. elim (cases_eq w v) [
+        | inl same ↦
+            let both : z.owner ≡ x.owner = (let a : slice_get nodes v ≡ Some z.owner = ap (slice_get nodes) (sym same) ∙ mine in cc (a, owner)) in
+            let R : ℕ → Type 0 = λ k. Right k n z in
+            subst R (sym same) (elim (cases_eq n s) [
+              | inl again ↦
+                  let e : x ≡ z = (let a : slice_get sites s ≡ Some z = ap (slice_get sites) (sym again) ∙ there in cc (a, site)) in
+                  let Q : ℕ → Type 0 = λ k. Right v k z in
+                  let S : Site → Type 0 = λ y. Right v s y in
+                  subst Q (sym again) (subst S e here)
+              | inr other ↦ same-context n z there both other
             ])
-      | inr other ↦
-          let read : slot_at sites mid z.owner w n ≡ slot_at sites slots z.owner w n =
-              ap (option_and_then (λ ys. slice_get ys (place_of sites z.owner n))) (ap (λ zs. slice_get zs w) was.now_is ∙ get-set-other slots v w (set was.row (place_of sites x.owner s) (filled was.slot q (length ls))) other) in
-          read ∙ are.right w n z there mine ∙ ap (λ es. Some (slot_for z.kind es)) (sym (elsewhere w n (λ e d. other e)))
+        | inr other ↦
+            let read : slot_at sites mid z.owner w n ≡ slot_at sites slots z.owner w n =
+            ap (option_and_then (λ ys. slice_get ys (place_of sites z.owner n))) (ap (λ zs. slice_get zs w) was.now_is ∙ get-set-other slots v w (set was.row (place_of sites x.owner s) (filled was.slot q (length ls))) other) in
+            read ∙ are.right w n z there mine ∙ ap (λ es. Some (slot_for z.kind es)) (sym (elsewhere w n (λ e d. other e)))
       ];
-  }
+    }
 
 -- a new context has the empty slots of its procedure's sites
 pub slots-new : (sites : List Site) (nodes nodes2 : List ℕ) (slots slots2 : List (List Slot)) (ls : List Leading) (q : ℕ) → SlotsAre sites nodes slots ls → OwnersRiseFrom 0 sites →
@@ -123,7 +123,7 @@ slots-new sites nodes nodes2 slots slots2 ls q are rise nodes_are slots_are call
     record {
       each = omega (arith, are.each, ap length nodes_are, ap length slots_are, length-append nodes (q ∷ []), length-append slots (empty ∷ []));
       right = λ v s z there mine. elim (get-push-either nodes q z.owner v (ap (λ ns. slice_get ns v) (sym nodes_are) ∙ mine)) [
-          inl new ↦
+        | inl new ↦
             let read : slice_get slots2 v ≡ Some empty = ap (λ zs. slice_get zs v) slots_are ∙ ap (slice_get (slots ++ empty ∷ [])) (new.0 ∙ sym are.each) ∙ get-push-new slots empty in
             let placed = site-place q s 0 sites z rise there new.1 in
             let place : place_of sites z.owner s ≡ s - first_site q sites = ap (λ p. place_of sites p s) new.1 in
@@ -134,5 +134,5 @@ slots-new sites nodes nodes2 slots slots2 ls q are rise nodes_are slots_are call
             let below : v < length slots = (let b = get-within nodes v z.owner old in omega (arith, are.each)) in
             let read : slice_get slots2 v ≡ slice_get slots v = ap (λ zs. slice_get zs v) slots_are ∙ get-push-old slots empty v below in
             ap (option_and_then (λ ys. slice_get ys (place_of sites z.owner s))) read ∙ are.right v s z there old
-        ];
+      ];
     }

@@ -65,9 +65,10 @@ count-frame r0 r1 j by measure below counts =
     let row = get-there r0.links j below in
     let new : LinkRow = record row.0 { own = with_more row.0.own measure by } in
     let P : Option LinkRow → Type 0 = λ o. IfSome o (λ w. r1 ≡ record r0 { links = set r0.links j (record w { own = with_more w.own measure by }) }) in
-    let is : r1 ≡ record r0 { links = set r0.links j new } = subst P row.1 counts in
-    (record { statics = ap (λ (r : Rows). r.statics) is; nodes = ap (λ (r : Rows). r.nodes) is; slots = ap (λ (r : Rows). r.slots) is; active = ap (λ (r : Rows). r.active) is },
-     ap (λ (r : Rows). length r.links) is ∙ length-set r0.links j new)
+    let is : r1 ≡ record r0 { links = set r0.links j new } = subst P row.1 counts in (
+      record { statics = ap (λ (r : Rows). r.statics) is; nodes = ap (λ (r : Rows). r.nodes) is; slots = ap (λ (r : Rows). r.slots) is; active = ap (λ (r : Rows). r.active) is },
+      ap (λ (r : Rows). length r.links) is ∙ length-set r0.links j new,
+    )
 
 -- the procedure of a mark is one of the table
 pub mark-below : (t : SiteTable) (h : List Event) (k : Kept) (a top middle q : ℕ) (old : Option ℕ) → Stands k t h → BelongsTo top middle old t h a → slice_get k.rows.nodes top ≡ Some q → q < length k.rows.statics.procs

@@ -40,8 +40,8 @@ IsPlaceOf r node site q k n =
 abbrev pub LeadCost : Rows → Rows → ℕ → ℕ → ℕ → ℕ → ℕ → ℕ → Type 0
 LeadCost old new node site q k before after =
     IsSomeAnd (slice_get old.statics.sites site) (λ x. MatchOption (callee_of x.kind)
-        ((n : ℕ) × IsPlaceOf old node site q k n × (after ≤ before + (n + (7 + new_sites old new q))))
-        (λ c. after ≤ before + (6 + new_sites old new q)))
+    ((n : ℕ) × IsPlaceOf old node site q k n × (after ≤ before + (n + (7 + new_sites old new q))))
+    (λ c. after ≤ before + (6 + new_sites old new q)))
 
 -- no more are taken where memory is refused
 abbrev pub lead_refused_cost : Rows → ℕ → ℕ → ℕ → ℕ

@@ -58,7 +58,11 @@ impl Recorder {
     }
 
     /// The first call, that of the main procedure: it is counted on the root link. Four table steps.
-    fn call_main<L: Ledger>(&mut self, callee: ProcId, steps: &mut Steps<L>) -> Result<Saved, NoMemory>
+    fn call_main<L: Ledger>(
+        &mut self,
+        callee: ProcId,
+        steps: &mut Steps<L>,
+    ) -> Result<Saved, NoMemory>
         requires { CanTake (Stands self.old) (next_call None callee) }
         ensures taken { OnOk result (Takes (Stands self.old) (Stands self.new) (next_call None callee)) }
         ensures marked { IfOk result (λ saved. MarksNewest (Stands self.old) (Belongs saved) (next_call None callee)) }
@@ -79,7 +83,12 @@ impl Recorder {
     }
 
     /// A call by the current activation at a site.
-    fn call_at<L: Ledger>(&mut self, site: SiteId, callee: ProcId, steps: &mut Steps<L>) -> Result<Saved, NoMemory>
+    fn call_at<L: Ledger>(
+        &mut self,
+        site: SiteId,
+        callee: ProcId,
+        steps: &mut Steps<L>,
+    ) -> Result<Saved, NoMemory>
         requires { CanTake (Stands self.old) (next_call (Some site) callee) }
         ensures taken { OnOk result (Takes (Stands self.old) (Stands self.new) (next_call (Some site) callee)) }
         ensures marked { IfOk result (λ saved. MarksNewest (Stands self.old) (Belongs saved) (next_call (Some site) callee)) }

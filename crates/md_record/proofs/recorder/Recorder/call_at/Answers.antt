@@ -122,7 +122,7 @@ returns-clause-taken g c = λ t h st may.
     let leads = subst P rows c.in_ok-link.ensures.ok in
     let o = outcome t h k c.lead.new.tables c.args.site c.args.callee c.current-node.result c.in_ok-link.link c.active-old.result st may n active leads in
     let pushed : c.push_reserved.new.self.items ≡ k.chain ++ (c.in_ok-link.link, c.end_of-end.result) ∷ [] =
-        c.push_reserved.ensures.items ∙ ap (λ xs. xs ++ (c.in_ok-link.link, c.end_of-end.result) ∷ []) c.in_ok-reserve.ensures.items ∙ ap (λ (z : Kept). z.chain ++ (c.in_ok-link.link, c.end_of-end.result) ∷ []) c.self.view_is in
+    c.push_reserved.ensures.items ∙ ap (λ xs. xs ++ (c.in_ok-link.link, c.end_of-end.result) ∷ []) c.in_ok-reserve.ensures.items ∙ ap (λ (z : Kept). z.chain ++ (c.in_ok-link.link, c.end_of-end.result) ∷ []) c.self.view_is in
     let more : k.room ≤ k2.room = omega (arith, c.in_ok-reserve.ensures.capacity, c.push_reserved.ensures.capacity, ap (λ (z : Kept). z.room) c.self.view_is) in
     let fits : length k2.chain ≤ k2.room = omega (arith, c.push_reserved.ensures.capacity, c.push_reserved.ensures.len, c.in_ok-reserve.ensures.ok, c.in_ok-reserve.ensures.len, c.push_reserved.new.self.ok.0) in
     let s = shows-end t h k k2 c.lead.new.tables c.args.site c.args.callee c.in_ok-link.link c.end_of-end.result o c.end_of-end.ensures.value c.set_active.ensures.value pushed more fits in
@@ -139,7 +139,7 @@ returns-clause-marked g c = λ t h st may.
     let leads = subst P rows c.in_ok-link.ensures.ok in
     let o = outcome t h k c.lead.new.tables c.args.site c.args.callee c.current-node.result c.in_ok-link.link c.active-old.result st may n active leads in
     let pushed : c.push_reserved.new.self.items ≡ k.chain ++ (c.in_ok-link.link, c.end_of-end.result) ∷ [] =
-        c.push_reserved.ensures.items ∙ ap (λ xs. xs ++ (c.in_ok-link.link, c.end_of-end.result) ∷ []) c.in_ok-reserve.ensures.items ∙ ap (λ (z : Kept). z.chain ++ (c.in_ok-link.link, c.end_of-end.result) ∷ []) c.self.view_is in
+    c.push_reserved.ensures.items ∙ ap (λ xs. xs ++ (c.in_ok-link.link, c.end_of-end.result) ∷ []) c.in_ok-reserve.ensures.items ∙ ap (λ (z : Kept). z.chain ++ (c.in_ok-link.link, c.end_of-end.result) ∷ []) c.self.view_is in
     let more : k.room ≤ k2.room = omega (arith, c.in_ok-reserve.ensures.capacity, c.push_reserved.ensures.capacity, ap (λ (z : Kept). z.room) c.self.view_is) in
     let fits : length k2.chain ≤ k2.room = omega (arith, c.push_reserved.ensures.capacity, c.push_reserved.ensures.len, c.in_ok-reserve.ensures.ok, c.in_ok-reserve.ensures.len, c.push_reserved.new.self.ok.0) in
     let s = shows-end t h k k2 c.lead.new.tables c.args.site c.args.callee c.in_ok-link.link c.end_of-end.result o c.end_of-end.ensures.value c.set_active.ensures.value pushed more fits in

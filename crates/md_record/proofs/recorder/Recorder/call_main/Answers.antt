@@ -32,7 +32,7 @@ returns-clause-taken g c = λ t h st may.
     let read = ap (λ j. option_map (λ (w : LinkRow). w.callee) (slice_get c.count.new.self.links j)) (sym c.new-root.ensures) ∙ c.end_of-end.ensures.value in
     let k2 : Kept = record { rows = c.set_active.new.self; chain = c.push_reserved.new.self.items; room = c.push_reserved.new.self.cap } in
     let pushed : c.push_reserved.new.self.items ≡ k.chain ++ (0, c.end_of-end.result) ∷ [] =
-        c.push_reserved.ensures.items ∙ ap (λ xs. xs ++ (root, c.end_of-end.result) ∷ []) c.in_ok-reserve.ensures.items ∙ ap (λ j. c.self.inside.chain.items ++ (j, c.end_of-end.result) ∷ []) c.new-root.ensures ∙ ap (λ (z : Kept). z.chain ++ (0, c.end_of-end.result) ∷ []) c.self.view_is in
+    c.push_reserved.ensures.items ∙ ap (λ xs. xs ++ (root, c.end_of-end.result) ∷ []) c.in_ok-reserve.ensures.items ∙ ap (λ j. c.self.inside.chain.items ++ (j, c.end_of-end.result) ∷ []) c.new-root.ensures ∙ ap (λ (z : Kept). z.chain ++ (0, c.end_of-end.result) ∷ []) c.self.view_is in
     let more : k.room ≤ k2.room = omega (arith, c.in_ok-reserve.ensures.capacity, c.push_reserved.ensures.capacity, ap (λ (z : Kept). z.room) c.self.view_is) in
     let fits : length k2.chain ≤ k2.room = omega (arith, c.push_reserved.ensures.capacity, c.push_reserved.ensures.len, c.in_ok-reserve.ensures.ok, c.in_ok-reserve.ensures.len, c.push_reserved.new.self.ok.0) in
     let s = main-shows t h k k2 c.count.new.self c.args.callee c.end_of-end.result st may counts read c.set_active.ensures.value pushed more fits in
@@ -48,7 +48,7 @@ returns-clause-marked g c = λ t h st may.
     let read = ap (λ j. option_map (λ (w : LinkRow). w.callee) (slice_get c.count.new.self.links j)) (sym c.new-root.ensures) ∙ c.end_of-end.ensures.value in
     let k2 : Kept = record { rows = c.set_active.new.self; chain = c.push_reserved.new.self.items; room = c.push_reserved.new.self.cap } in
     let pushed : c.push_reserved.new.self.items ≡ k.chain ++ (0, c.end_of-end.result) ∷ [] =
-        c.push_reserved.ensures.items ∙ ap (λ xs. xs ++ (root, c.end_of-end.result) ∷ []) c.in_ok-reserve.ensures.items ∙ ap (λ j. c.self.inside.chain.items ++ (j, c.end_of-end.result) ∷ []) c.new-root.ensures ∙ ap (λ (z : Kept). z.chain ++ (0, c.end_of-end.result) ∷ []) c.self.view_is in
+    c.push_reserved.ensures.items ∙ ap (λ xs. xs ++ (root, c.end_of-end.result) ∷ []) c.in_ok-reserve.ensures.items ∙ ap (λ j. c.self.inside.chain.items ++ (j, c.end_of-end.result) ∷ []) c.new-root.ensures ∙ ap (λ (z : Kept). z.chain ++ (0, c.end_of-end.result) ∷ []) c.self.view_is in
     let more : k.room ≤ k2.room = omega (arith, c.in_ok-reserve.ensures.capacity, c.push_reserved.ensures.capacity, ap (λ (z : Kept). z.room) c.self.view_is) in
     let fits : length k2.chain ≤ k2.room = omega (arith, c.push_reserved.ensures.capacity, c.push_reserved.ensures.len, c.in_ok-reserve.ensures.ok, c.in_ok-reserve.ensures.len, c.push_reserved.new.self.ok.0) in
     let s = main-shows t h k k2 c.count.new.self c.args.callee c.end_of-end.result st may counts read c.set_active.ensures.value pushed more fits in

@@ -51,6 +51,6 @@ returns-clause-taken g c = λ t h a st b may.
     let counts = subst P (ap (λ (z : Kept). z.rows) c.self.view_is) c.count.ensures.value in
     let below = mark-below t h k0 a m.top m.middle c.proc_of-proc.result m.old st b at in
     let popped : c.pop.new.self.items ≡ take (length k0.chain - 1) k0.chain =
-        c.pop.ensures.rest ∙ ap (λ n. take (n - 1) c.self.inside.chain.items) c.self.inside.chain.ok.0 ∙ ap (λ (z : Kept). take (length z.chain - 1) z.chain) c.self.view_is in
+    c.pop.ensures.rest ∙ ap (λ n. take (n - 1) c.self.inside.chain.items) c.self.inside.chain.ok.0 ∙ ap (λ (z : Kept). take (length z.chain - 1) z.chain) c.self.view_is in
     let room : c.pop.new.self.cap ≡ k0.room = c.pop.ensures.capacity ∙ ap (λ (z : Kept). z.room) c.self.view_is in
     kept-exit t h k0 k2 c.count.new.self a m.top m.middle c.proc_of-proc.result m.old st b at below may counts c.set_active.ensures.value popped room
