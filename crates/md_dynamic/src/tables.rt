@@ -79,6 +79,14 @@ impl Tables {
         })
     }
 
+    /// A call site, as the program's tables have it. No table step: these tables never change.
+    pub fn site(&self, site: SiteId) -> Site
+        requires { site < length self.now.statics.sites }
+        ensures { slice_get self.now.statics.sites site ≡ Some result }
+    {
+        self.statics.sites()[site.number() as usize]
+    }
+
     /// The procedure of a context. One table step.
     pub fn proc_of<L: Ledger>(&self, node: PdId, steps: &mut Steps<L>) -> ProcId
         requires { node < length self.now.nodes }

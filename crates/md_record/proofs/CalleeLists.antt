@@ -20,9 +20,9 @@ at-is-true v s l caller site =
 -- a test that would give what is not so fails
 pub at-is-false : (v s : ℕ) (l : Link) → ((l.caller ≡ Some v) → (l.site ≡ Some s) → ⊥) → is_at v s l ≡ false
 at-is-false v s l not_so = elim (cases_Bool (is_at v s l)) [
-    inl good ↦ absurd (let both = is-at-true v s l good in not_so both.0 both.1)
+  | inl good ↦ absurd (let both = is-at-true v s l good in not_so both.0 both.1)
   | inr bad ↦ bad
-  ]
+]
 
 pub callees-push-same : (n : ℕ) (ls : List Leading) (x : Leading) (v s : ℕ) → is_at v s x.link ≡ true → callees_from n (ls ++ x ∷ []) v s ≡ callees_from n ls v s ++ (x.link.procedure, n + length ls) ∷ []
 callees-push-same n [] x v s is = let e : n ≡ n + 0 = omega arith in rw is (ap (λ k. (x.link.procedure, k) ∷ []) e)
@@ -31,8 +31,8 @@ callees-push-same n (y ∷ ys) x v s is =
     let e : suc n + length ys ≡ n + suc (length ys) = omega arith in
     let all : callees_from (suc n) (ys ++ x ∷ []) v s ≡ callees_from (suc n) ys v s ++ (x.link.procedure, n + suc (length ys)) ∷ [] = rest ∙ ap (λ k. callees_from (suc n) ys v s ++ (x.link.procedure, k) ∷ []) e in
     elim (cases_Bool (is_at v s y.link)) [
-      inl good ↦ rw good (ap (λ es. (y.link.procedure, n) ∷ es) all)
-    | inr bad ↦ rw bad all
+      | inl good ↦ rw good (ap (λ es. (y.link.procedure, n) ∷ es) all)
+      | inr bad ↦ rw bad all
     ]
 
 pub callees-push-other : (n : ℕ) (ls : List Leading) (x : Leading) (v s : ℕ) → is_at v s x.link ≡ false → callees_from n (ls ++ x ∷ []) v s ≡ callees_from n ls v s
@@ -40,8 +40,8 @@ callees-push-other n [] x v s is = rw is
 callees-push-other n (y ∷ ys) x v s is =
     let rest = callees-push-other (suc n) ys x v s is in
     elim (cases_Bool (is_at v s y.link)) [
-      inl good ↦ rw good (ap (λ es. (y.link.procedure, n) ∷ es) rest)
-    | inr bad ↦ rw bad rest
+      | inl good ↦ rw good (ap (λ es. (y.link.procedure, n) ∷ es) rest)
+      | inr bad ↦ rw bad rest
     ]
 
 pub callees-none : (n : ℕ) (ls : List Leading) (v s : ℕ) → ((j : ℕ) (x : Leading) → slice_get ls j ≡ Some x → is_at v s x.link ≡ false) → callees_from n ls v s ≡ []
@@ -54,22 +54,22 @@ pub callees-member : (n : ℕ) (ls : List Leading) (v s i : ℕ) (e : ℕ × ℕ
 callees-member n [] v s i e is = absurd (cc)
 callees-member n (y ∷ ys) v s zero e is =
     elim (cases_Bool (is_at v s y.link)) [
-      inl good ↦
-        let first : Some (y.link.procedure, n) ≡ Some e = rw good at is in
-        let same : ◌≡◌ {A = ℕ × ℕ} (y.link.procedure, n) e = cc in
-        (0, y, refl, (let k : n ≡ e.1 = ap (λ (p : ℕ × ℕ). p.1) same in omega (arith, k)), ap (λ (p : ℕ × ℕ). p.0) (sym same), good)
-    | inr bad ↦
-        let rest = callees-member (suc n) ys v s zero e (rw bad at is) in
-        (suc rest.0, rest.1, rest.2, omega (arith, rest.3), rest.4, rest.5)
+      | inl good ↦
+          let first : Some (y.link.procedure, n) ≡ Some e = rw good at is in
+          let same : ◌≡◌ {A = ℕ × ℕ} (y.link.procedure, n) e = cc in
+          (0, y, refl, (let k : n ≡ e.1 = ap (λ (p : ℕ × ℕ). p.1) same in omega (arith, k)), ap (λ (p : ℕ × ℕ). p.0) (sym same), good)
+      | inr bad ↦
+          let rest = callees-member (suc n) ys v s zero e (rw bad at is) in
+          (suc rest.0, rest.1, rest.2, omega (arith, rest.3), rest.4, rest.5)
     ]
 callees-member n (y ∷ ys) v s (suc i) e is =
     elim (cases_Bool (is_at v s y.link)) [
-      inl good ↦
-        let rest = callees-member (suc n) ys v s i e (rw good at is) in
-        (suc rest.0, rest.1, rest.2, omega (arith, rest.3), rest.4, rest.5)
-    | inr bad ↦
-        let rest = callees-member (suc n) ys v s (suc i) e (rw bad at is) in
-        (suc rest.0, rest.1, rest.2, omega (arith, rest.3), rest.4, rest.5)
+      | inl good ↦
+          let rest = callees-member (suc n) ys v s i e (rw good at is) in
+          (suc rest.0, rest.1, rest.2, omega (arith, rest.3), rest.4, rest.5)
+      | inr bad ↦
+          let rest = callees-member (suc n) ys v s (suc i) e (rw bad at is) in
+          (suc rest.0, rest.1, rest.2, omega (arith, rest.3), rest.4, rest.5)
     ]
 
 -- each link of the site there is a member
@@ -85,8 +85,8 @@ callees-has n (y ∷ ys) v s (suc j) x is at =
     let k : suc n + j ≡ n + suc j = omega arith in
     let found : slice_get (callees_from (suc n) ys v s) rest.0 ≡ Some (x.link.procedure, n + suc j) = rest.1 ∙ ap (λ i. Some (x.link.procedure, i)) k in
     elim (cases_Bool (is_at v s y.link)) [
-      inl good ↦ (suc rest.0, rw good found)
-    | inr bad ↦ (rest.0, rw bad found)
+      | inl good ↦ (suc rest.0, rw good found)
+      | inr bad ↦ (rest.0, rw bad found)
     ]
 
 pub first-none : (es : List (ℕ × ℕ)) → first_link es ≡ None → es ≡ []

@@ -53,8 +53,8 @@ kept-exit t h k0 k2 r1 a top middle q old st b at below may counts points popped
     let y = b.activation in
     let l : Leading = record { link = y.link; to = y.context } in
     let rows = counted k0.rows r1 ls (counts_in m h) (counts_in m (Exit a ∷ h)) middle l Exits 1 (rows-by m h ls k0.rows.links st.rows_are) b.middle_is counts
-        (set-exit t m (has_link y.link) h a y b.there (has-same y.link y refl))
-        (λ i z there ne. set-exit-other t m (has_link z.link) h a y b.there (has-other z.link y (links-differ m xs i middle z l there b.middle_is ne))) in
+    (set-exit t m (has_link y.link) h a y b.there (has-same y.link y refl))
+    (λ i z there ne. set-exit-other t m (has_link z.link) h a y b.there (has-other z.link y (links-differ m xs i middle z l there b.middle_is ne))) in
     let same = points-same r1 k2.rows q old points in
     let active : k2.rows.active ≡ set k0.rows.active q old = ap (λ (r : Rows). r.active) points ∙ ap (λ xs. set xs q old) rows.1.active in
     let after = left t h k0 a top middle q old k2.rows.active k2.chain st b at below may active popped in
@@ -70,8 +70,8 @@ kept-fail t h k0 k2 r1 a top middle q old st b at below may counts points popped
     let y = b.activation in
     let l : Leading = record { link = y.link; to = y.context } in
     let rows = counted k0.rows r1 ls (counts_in m h) (counts_in m (Fail a ∷ h)) middle l Fails 1 (rows-by m h ls k0.rows.links st.rows_are) b.middle_is counts
-        (set-fail t m (has_link y.link) h a y b.there (has-same y.link y refl))
-        (λ i z there ne. set-fail-other t m (has_link z.link) h a y b.there (has-other z.link y (links-differ m xs i middle z l there b.middle_is ne))) in
+    (set-fail t m (has_link y.link) h a y b.there (has-same y.link y refl))
+    (λ i z there ne. set-fail-other t m (has_link z.link) h a y b.there (has-other z.link y (links-differ m xs i middle z l there b.middle_is ne))) in
     let same = points-same r1 k2.rows q old points in
     let active : k2.rows.active ≡ set k0.rows.active q old = ap (λ (r : Rows). r.active) points ∙ ap (λ xs. set xs q old) rows.1.active in
     let after = left t h k0 a top middle q old k2.rows.active k2.chain st b at below may active popped in
@@ -87,8 +87,8 @@ kept-redo t h k0 k2 r1 a top middle q old st b at below may counts points pushed
     let y = b.activation in
     let l : Leading = record { link = y.link; to = y.context } in
     let rows = counted k0.rows r1 ls (counts_in m h) (counts_in m (Redo a ∷ h)) middle l Redos 1 (rows-by m h ls k0.rows.links st.rows_are) b.middle_is counts
-        (set-redo t m (has_link y.link) h a y b.there (has-same y.link y refl))
-        (λ i z there ne. set-redo-other t m (has_link z.link) h a y b.there (has-other z.link y (links-differ m xs i middle z l there b.middle_is ne))) in
+    (set-redo t m (has_link y.link) h a y b.there (has-same y.link y refl))
+    (λ i z there ne. set-redo-other t m (has_link z.link) h a y b.there (has-other z.link y (links-differ m xs i middle z l there b.middle_is ne))) in
     let same = points-same r1 k2.rows q (Some top) points in
     let active : k2.rows.active ≡ set k0.rows.active q (Some top) = ap (λ (r : Rows). r.active) points ∙ ap (λ xs. set xs q (Some top)) rows.1.active in
     let after = back t h k0 a top middle q old k2.rows.active k2.chain st b at below may active pushed in
@@ -133,8 +133,8 @@ kept-alloc t h k0 k2 r1 a w j st at link may one more chain_same room =
     let apart : (i : ℕ) (z : Leading) → slice_get ls i ≡ Some z → i ≢ j → same_link z.link y.link ≡ false = λ i z is ne. has-other z.link y (links-differ m xs i j z l is there ne) in
     let first = counted k0.rows r1 ls f mid j l Allocs 1 (rows-by m h ls k0.rows.links st.rows_are) there one here (λ i z is ne. rw (apart i z is ne)) in
     let second = counted r1 k2.rows ls mid g j l Words w first.0 there more
-        (set-alloc t m (has_link y.link) h a w y at.there (has-same y.link y refl) ∙ ap (λ c. with_more c Words w) (sym here))
-        (λ i z is ne. set-alloc-other t m (has_link z.link) h a w y at.there (apart i z is ne) ∙ (let e : mid z ≡ f z = rw (apart i z is ne) in sym e)) in
+    (set-alloc t m (has_link y.link) h a w y at.there (has-same y.link y refl) ∙ ap (λ c. with_more c Words w) (sym here))
+    (λ i z is ne. set-alloc-other t m (has_link z.link) h a w y at.there (apart i z is ne) ∙ (let e : mid z ≡ f z = rw (apart i z is ne) in sym e)) in
     let A : List (Option ℕ) → Type 0 = λ x. ActiveIs (length k0.rows.statics.procs) (current_chain m h) x in
     let S : List (ℕ × ℕ) → Type 0 = λ es. AreSteps ls (current_chain m h) (reverse es) in
     stands-same t h (Alloc a w ∷ h) k0 k2 st (st.history, may) refl (second.1.statics ∙ first.1.statics) (second.1.nodes ∙ first.1.nodes) (second.1.slots ∙ first.1.slots)

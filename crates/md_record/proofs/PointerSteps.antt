@@ -21,9 +21,9 @@ active-set procs q c c2 active active2 to are below is due others =
     record {
       each = ap length is ∙ length-set active q to ∙ are.each;
       right = λ r h. elim (cases_eq r q) [
-          inl same ↦ ap (λ xs. slice_get xs r) is ∙ ap (slice_get (set active q to)) same ∙ get-set-same active q to (omega (arith, are.each)) ∙ ap Some due ∙ ap (λ p. Some (nearest p c2)) (sym same)
+        | inl same ↦ ap (λ xs. slice_get xs r) is ∙ ap (slice_get (set active q to)) same ∙ get-set-same active q to (omega (arith, are.each)) ∙ ap Some due ∙ ap (λ p. Some (nearest p c2)) (sym same)
         | inr other ↦ ap (λ xs. slice_get xs r) is ∙ get-set-other active q r to other ∙ are.right r h ∙ ap Some (sym (others r other))
-        ];
+      ];
     }
 
 -- longer lists of links keep the kept chain right

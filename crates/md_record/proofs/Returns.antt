@@ -98,11 +98,12 @@ left t h k a top middle q old active2 chain2 st b at below now active_is chain_i
     let S : List Placed → Type 0 = λ c. AreSteps (links m xs) c (reverse k.chain) in
     let w = ends-with (links m xs) y rest k.chain (subst S unfolded st.chain_is) in
     let popped = chain-popped (links m xs) y rest k.chain chain2 chain_is w in
-    let R : List (ℕ × ℕ) → Type 0 = λ es. AreSteps (links m xs) rest (reverse es) in
-    (active-set (length k.rows.statics.procs) q (y ∷ rest) rest k.rows.active active2 old (subst A unfolded st.active_is) below active_is due
-     (λ r ne. sym (nearest-other r y rest (λ e. ne (e ∙ mine)))),
-     subst R (sym popped) w.steps,
-     omega (arith, ap length unfolded, current-longest m h))
+    let R : List (ℕ × ℕ) → Type 0 = λ es. AreSteps (links m xs) rest (reverse es) in (
+      active-set (length k.rows.statics.procs) q (y ∷ rest) rest k.rows.active active2 old (subst A unfolded st.active_is) below active_is due
+          (λ r ne. sym (nearest-other r y rest (λ e. ne (e ∙ mine)))),
+      subst R (sym popped) w.steps,
+      omega (arith, ap length unfolded, current-longest m h),
+    )
 
 -- after a redo they are those of the activation's chain
 pub back : (t : SiteTable) (h : List Event) (k : Kept) (a top middle q : ℕ) (old : Option ℕ) (active2 : List (Option ℕ)) (chain2 : List (ℕ × ℕ)) → Stands k t h → BelongsTo top middle old t h a → slice_get k.rows.nodes top ≡ Some q →
@@ -118,7 +119,7 @@ back t h k a top middle q old active2 chain2 st b at below may active_is chain_i
     let mine : y.link.procedure ≡ q = mark-procedure t h k a top middle q old st b at in
     let due : Some top ≡ nearest q (y ∷ c) = ap Some b.top_is ∙ sym (nearest-same q y c mine) in
     let new : ActiveIs (length k.rows.statics.procs) (y ∷ c) active2 =
-        active-set (length k.rows.statics.procs) q c (y ∷ c) k.rows.active active2 (Some top) st.active_is below active_is due (λ r ne. nearest-other r y c (λ e. ne (e ∙ mine))) in
+    active-set (length k.rows.statics.procs) q c (y ∷ c) k.rows.active active2 (Some top) st.active_is below active_is due (λ r ne. nearest-other r y c (λ e. ne (e ∙ mine))) in
     let pushed : AreSteps (links m xs) (y ∷ c) ((middle, top) ∷ reverse k.chain) = (b.middle_is, b.top_is, st.chain_is) in
     let A : List Placed → Type 0 = λ z. ActiveIs (length k.rows.statics.procs) z active2 in
     let S : List (ℕ × ℕ) → Type 0 = λ es. AreSteps (links m xs) (y ∷ c) es in

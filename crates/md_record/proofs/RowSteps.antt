@@ -51,18 +51,19 @@ counted r0 r1 ls f g j l measure by are at counts changed others =
     let P : Option LinkRow → Type 0 = λ o. IfSome o (λ row. r1 ≡ record r0 { links = set r0.links j (record row { own = with_more row.own measure by }) }) in
     let is : r1 ≡ record r0 { links = set r0.links j new } = subst P (are.right j l at) counts in
     let rows : r1.links ≡ set r0.links j new = ap (λ (r : Rows). r.links) is in
-    let row : Counts → LinkRow = λ c. record (row_by f l) { own = c } in
-    (record {
-       each = ap length rows ∙ length-set r0.links j new ∙ are.each;
-       right = λ i z there. elim (cases_eq i j) [
-           inl same ↦
-             let e : z ≡ l = cc (sym there, ap (slice_get ls) same, at) in
-             ap (λ xs. slice_get xs i) rows ∙ ap (slice_get (set r0.links j new)) same ∙ get-set-same r0.links j new (get-within r0.links j (row_by f l) (are.right j l at)) ∙ ap (λ c. Some (row c)) (sym changed) ∙ ap (λ w. Some (row_by g w)) (sym e)
-         | inr other ↦
-             ap (λ xs. slice_get xs i) rows ∙ get-set-other r0.links j i new other ∙ are.right i z there ∙ ap (λ c. let w : LinkRow = record (row_by f z) { own = c } in Some w) (sym (others i z there other))
-         ];
-     },
-     record { statics = ap (λ (r : Rows). r.statics) is; nodes = ap (λ (r : Rows). r.nodes) is; slots = ap (λ (r : Rows). r.slots) is; active = ap (λ (r : Rows). r.active) is })
+    let row : Counts → LinkRow = λ c. record (row_by f l) { own = c } in (
+      record {
+        each = ap length rows ∙ length-set r0.links j new ∙ are.each;
+        right = λ i z there. elim (cases_eq i j) [
+          | inl same ↦
+              let e : z ≡ l = cc (sym there, ap (slice_get ls) same, at) in
+              ap (λ xs. slice_get xs i) rows ∙ ap (slice_get (set r0.links j new)) same ∙ get-set-same r0.links j new (get-within r0.links j (row_by f l) (are.right j l at)) ∙ ap (λ c. Some (row c)) (sym changed) ∙ ap (λ w. Some (row_by g w)) (sym e)
+          | inr other ↦
+              ap (λ xs. slice_get xs i) rows ∙ get-set-other r0.links j i new other ∙ are.right i z there ∙ ap (λ c. let w : LinkRow = record (row_by f z) { own = c } in Some w) (sym (others i z there other))
+        ];
+      },
+      record { statics = ap (λ (r : Rows). r.statics) is; nodes = ap (λ (r : Rows). r.nodes) is; slots = ap (λ (r : Rows). r.slots) is; active = ap (λ (r : Rows). r.active) is },
+    )
 
 -- an activation with a link passes the test of that link, and not that of another
 pub has-same : (l : Link) (y : Placed) → y.link ≡ l → has_link l y ≡ true
