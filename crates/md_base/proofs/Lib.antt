@@ -1,3 +1,4 @@
 pub mod Differ
 pub mod Told
 pub mod Stored
+mod Worked

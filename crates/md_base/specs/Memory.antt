@@ -71,6 +71,15 @@ pub record WholeLink : Type 0 where
   pub written : List ℕ
   pub most : ℕ
 
+pub record FailingLink : Type 0 where
+  pub stream : Stream
+  pub written : List ℕ
+  pub most : ℕ
+  pub fail : List ℕ
+  pub calls : ℕ
+  pub read_faults : ℕ
+  pub write_faults : ℕ
+
 -- nothing was read from it and nothing written to it
 pub record IsFreshLink (link : WholeLink) : Type 0 where
   pub unread : link.stream ≡ fresh link.stream.left
@@ -88,3 +97,26 @@ told_link link = record { stream = link.stream; written = link.written; read_fau
 -- what a net in memory tells
 abbrev pub connections_of : WholeNet → Connections
 connections_of net = record { coming = map (λ link. link.stream.left) net.coming; served = map told_link net.served }
+
+-- the same of connections and nets of which chosen calls fail
+pub record IsFreshFailingLink (link : FailingLink) : Type 0 where
+  pub unread : link.stream ≡ fresh link.stream.left
+  pub unwritten : link.written ≡ []
+  pub reads_well : link.read_faults ≡ 0
+  pub writes_well : link.write_faults ≡ 0
+
+pub record FailingNet : Type 0 where
+  pub coming : List FailingLink
+  pub served : List FailingLink
+  pub bound : Bool
+  pub fail : List ℕ
+  pub calls : ℕ
+  pub faults : ℕ
+
+abbrev pub told_failing_link : FailingLink → Connection
+told_failing_link link =
+    record { stream = link.stream; written = link.written; read_faults = link.read_faults; write_faults = link.write_faults }
+
+abbrev pub failing_connections_of : FailingNet → Connections
+failing_connections_of net =
+    record { coming = map (λ link. link.stream.left) net.coming; served = map told_failing_link net.served }

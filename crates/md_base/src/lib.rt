@@ -17,13 +17,14 @@ mod outside;
 mod std_sink;
 mod std_store;
 mod steps;
+mod tcp;
 
 pub use distinct::all_differ;
 pub use failed::Failed;
 pub use files::{ReadFault, WriteFault, read_all, write_file, write_whole};
 pub use measure::{Counts, Measure};
-pub use memory_link::SureLink;
-pub use memory_net::SureNet;
+pub use memory_link::{MemLink, SureLink};
+pub use memory_net::{MemNet, SureNet};
 pub use memory_sink::{MemSink, SureSink};
 pub use memory_store::{MemStore, SureStore};
 pub use name::{Name, Text};
@@ -32,6 +33,7 @@ pub use outside::{Link, Net, Sink, Source, Store};
 pub use std_sink::StdSink;
 pub use std_store::StdStore;
 pub use steps::Steps;
+pub use tcp::{TcpLink, TcpNet};
 
 #[cfg(test)]
 mod tests;

@@ -1,11 +1,117 @@
 // Nets in memory.
-ghost use Rattle.std.specs.Prelude.{◌≡◌, [], ◌∷◌, ◌++◌, Some, All, IsTrue, IfSome, IfNone, false};
+ghost use Rattle.std.specs.Prelude.{◌≡◌, ◌↔◌, [], ◌∷◌, ◌++◌, Some, All, Contains, IsTrue, IfOk, IfSome, IfNone, OnOk, OnErr, IsErrOf, false};
 ghost use Rattle.std.specs.Vec.Iter.{into_iter_items};
-ghost use Rattle.md_base.specs.Memory.{IsFreshLink, connections_of};
+ghost use Rattle.md_base.specs.Outside.{HasCause, one_more};
+ghost use Rattle.md_base.specs.Nets.{TakesFirst, NoneComing};
+ghost use Rattle.md_base.specs.Memory.{IsFreshLink, connections_of, IsFreshFailingLink, failing_connections_of};
 
-use crate::{Failed, Net, NoMemory, SureLink};
+use crate::failures::is_due;
+use crate::{Failed, MemLink, Net, NoMemory, SureLink};
 use std::marker::Model;
 use std::vec::IntoIter;
+
+/// A net in memory of which chosen calls fail: the connections to come and those that were served, in order.
+#[derive(Drop)]
+pub struct MemNet {
+    coming: IntoIter<MemLink>,
+    served: Vec<MemLink>,
+    bound: bool,
+    fail: Vec<u64>,
+    calls: u64,
+    faults: u64,
+}
+
+impl Model for MemNet {
+    ghost use Rattle.std.specs.Prelude.{All};
+    ghost use Rattle.std.specs.Vec.Iter.{into_iter_items};
+    ghost use Rattle.md_base.specs.Memory.{FailingNet, IsFreshFailingLink};
+
+    ghost Value = { FailingNet };
+
+    ghost view = { λ n. record {
+      coming = into_iter_items n.coming;
+      served = n.served.items;
+      bound = n.bound;
+      fail = n.fail.items;
+      calls = n.calls;
+      faults = n.faults;
+    } };
+
+    ghost invariant = { λ n. All IsFreshFailingLink (into_iter_items n.coming) };
+}
+
+impl MemNet {
+    /// A net to which these connections will come, each as it was made, and which fails at the calls of `bind` and
+    /// `next` whose numbers, counted from 1, are in `fail`.
+    pub fn new(coming: Vec<MemLink>, fail: Vec<u64>) -> MemNet
+        requires { All IsFreshFailingLink coming.items }
+        ensures { result ≡ record { coming = coming.items; served = []; bound = false; fail = fail.items; calls = 0; faults = 0 } }
+    {
+        let served = Vec::new(*coming.allocator());
+        MemNet {
+            coming: coming.into_iter(),
+            served,
+            bound: false,
+            fail,
+            calls: 0,
+            faults: 0,
+        }
+    }
+
+    /// The connections that were served, as they stood then.
+    pub fn served(&self) -> &[MemLink]
+        ensures { result.now ≡ self.now.served }
+    {
+        self.served.as_slice()
+    }
+}
+
+impl Net for MemNet {
+    type Conn = MemLink;
+
+    ghost connections = { λ n. Some (failing_connections_of n) };
+
+    ghost faults = { λ n. n.faults };
+
+    ghost IsBound = { λ n. IsTrue n.bound };
+
+    fn bind(&mut self, _port: u16) -> Result<(), Failed> {
+        if is_due(&self.fail, &mut self.calls) {
+            self.faults = self.faults.saturating_add(1);
+            return Err(Failed::Device);
+        }
+        self.bound = true;
+        Ok(())
+    }
+
+    fn next(&mut self) -> Result<Option<MemLink>, Failed> {
+        if is_due(&self.fail, &mut self.calls) {
+            self.faults = self.faults.saturating_add(1);
+            return Err(Failed::Device);
+        }
+        let Some(link) = first_failing_of(&mut self.coming) else {
+            return Ok(None);
+        };
+        Ok(Some(link))
+    }
+
+    fn done(&mut self, link: MemLink) -> Result<(), NoMemory> {
+        self.served.push(link)?;
+        Ok(())
+    }
+}
+
+/// Takes the first of the connections to come.
+fn first_failing_of(coming: &mut IntoIter<MemLink>) -> Option<MemLink>
+    requires { All IsFreshFailingLink (into_iter_items coming.old) }
+    ensures first { IfSome result (λ link. into_iter_items coming.old ≡ link ∷ into_iter_items coming.new) }
+    ensures fresh { IfSome result IsFreshFailingLink }
+    ensures stays { All IsFreshFailingLink (into_iter_items coming.new) }
+    ensures none { IfNone result (into_iter_items coming.old ≡ []) }
+    ensures none_left { IfNone result (into_iter_items coming.new ≡ []) }
+{
+    coming.next()
+}
 
 /// A net in memory that never fails: the connections to come and those that were served, in order.
 #[derive(Drop)]

@@ -1,11 +1,12 @@
 // Stores, sinks and links with short reads and writes, and with faults at each call in turn.
 
 use crate::{
-    Counts, Failed, Measure, MemSink, MemStore, Name, Net, ReadFault, Sink, Source, StdSink,
-    StdStore, Store, SureLink, SureNet, SureSink, SureStore, Text, WriteFault, read_all,
-    write_file, write_whole,
+    Counts, Failed, Measure, MemLink, MemNet, MemSink, MemStore, Name, Net, ReadFault, Sink,
+    Source, StdSink, StdStore, Store, SureLink, SureNet, SureSink, SureStore, TcpNet, Text,
+    WriteFault, read_all, write_file, write_whole,
 };
 use std::alloc::{AllocError, Global};
+use std::net::{Ipv4Addr, SocketAddr, TcpStream};
 use std::test::Fail;
 use std::{fs, io};
 
@@ -226,5 +227,67 @@ fn names_are_copied_and_compared(rt: HostRuntime) -> Result<(), Fail> {
     assert!(rt; Name::from_bytes(alloc, b"")?.is_none());
     let text = Text::from_bytes(alloc, b"text")?;
     assert_eq!(rt; text.copy(alloc)?.as_bytes(), b"text".as_slice());
+    Ok(())
+}
+
+#[test]
+fn each_call_of_a_connection_that_fails_is_told(rt: HostRuntime) -> Result<(), Fail> {
+    let alloc = rt.alloc();
+    for call in 1..4u64 {
+        let mut coming = Vec::new(alloc);
+        coming.push(MemLink::new(b"ask".to_vec(alloc)?, 3, [call].to_vec(alloc)?))?;
+        let mut net = MemNet::new(coming, Vec::new(alloc));
+        net.bind(80)?;
+        let mut link = net.next()?.ok_or("a connection")?;
+        let mut buf = [0u8; 4];
+        assert_eq!(rt;
+            link.read(&mut buf).err().is_some(),
+            call == 1,
+            "call {call}"
+        );
+        assert_eq!(rt;
+            link.write(b"answer").err().is_some(),
+            call == 2,
+            "call {call}"
+        );
+        assert_eq!(rt;
+            link.read(&mut buf).err().is_some(),
+            call == 3,
+            "call {call}"
+        );
+        net.done(link)?;
+        let written: &[u8] = if call == 2 { b"" } else { b"ans" };
+        assert_eq!(rt; net.served().len(), 1);
+        assert_eq!(rt; net.served()[0].written(), written);
+    }
+    Ok(())
+}
+
+#[test]
+fn each_call_of_a_net_that_fails_is_told(rt: HostRuntime) -> Result<(), Fail> {
+    let alloc = rt.alloc();
+    let mut net = MemNet::new(Vec::new(alloc), [1, 3].to_vec(alloc)?);
+    assert_eq!(rt; net.bind(80).err(), Some(Failed::Device));
+    net.bind(80)?;
+    assert_eq!(rt; net.next().err(), Some(Failed::Device));
+    assert!(rt; net.next()?.is_none());
+    Ok(())
+}
+
+#[test]
+fn a_connection_over_tcp_is_served(rt: HostRuntime) -> Result<(), Fail> {
+    let port = (20_000 + std::process::id(rt.process()) % 10_000) as u16;
+    let mut net = TcpNet::new(&rt);
+    net.bind(port)?;
+    let mut client = TcpStream::connect(&rt, SocketAddr::from((Ipv4Addr::LOCALHOST, port)))?;
+    io::Write::write_all(&mut client, b"ask")?;
+    let mut link = net.next()?.ok_or("a connection")?;
+    let mut buf = [0u8; 8];
+    assert_eq!(rt; link.read(&mut buf)?, 3);
+    assert_eq!(rt; &buf[..3], b"ask".as_slice());
+    write_whole(&mut link, b"answer")?;
+    net.done(link)?;
+    assert_eq!(rt; io::Read::read(&mut client, &mut buf)?, 6);
+    assert_eq!(rt; &buf[..6], b"answer".as_slice());
     Ok(())
 }

@@ -37,7 +37,7 @@ crosses es cs k a b (more t x y z link rest) ends out = elim (cases_eq (get_or c
 ]
 
 -- an edge is a link
-edge_is_link : (links : List (Option ℕ × ℕ)) (t x y : ℕ) → slice_get (edges_of links) t ≡ Some (x, y) → (p : ℕ) × (slice_get links p ≡ Some (Some x, y))
+pub edge_is_link : (links : List (Option ℕ × ℕ)) (t x y : ℕ) → slice_get (edges_of links) t ≡ Some (x, y) → (p : ℕ) × (slice_get links p ≡ Some (Some x, y))
 edge_is_link [] t x y is = cc
 edge_is_link ((None, to) ∷ links) t x y is = let r = edge_is_link links t x y is in (suc r.0, r.1)
 edge_is_link ((Some from, to) ∷ links) zero x y is = let e : (from, to) ≡ (x, y) = cc in (0, ap (λ (q : ℕ × ℕ). Some (Some q.0, q.1)) e)

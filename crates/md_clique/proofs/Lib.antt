@@ -14,3 +14,9 @@ pub mod Laying
 pub mod EntryPlaces
 pub mod Entered
 pub mod Worked
+pub mod Growth
+pub mod Growing
+pub mod Coming
+pub mod EnteredOnce
+pub mod StationPaths
+pub mod OneNumbering

@@ -8,3 +8,4 @@ pub mod Members
 pub mod Layout
 pub mod Entries
 pub mod Found
+pub mod OneEntry

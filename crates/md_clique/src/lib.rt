@@ -5,6 +5,7 @@
 mod clique;
 mod entries;
 mod graph;
+mod laws;
 mod members;
 mod numbering;
 mod search;
@@ -13,6 +14,7 @@ mod threads;
 pub use clique::Cliques;
 pub use entries::{EnterFault, entering};
 pub use graph::cliques;
+pub use laws::{cliques_are_determined, each_clique_has_one_entry, stations_lead_up_to_the_root};
 
 #[cfg(test)]
 mod tests;

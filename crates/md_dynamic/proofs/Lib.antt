@@ -1,3 +1,4 @@
 pub mod Growth
 pub mod Places
 pub mod SpanSteps
+pub mod Validity

@@ -1,5 +1,7 @@
 pub mod Fills
 pub mod Links
+pub mod Profile
 pub mod Rows
 pub mod Slots
 pub mod Spans
+pub mod Valid

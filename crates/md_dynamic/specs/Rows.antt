@@ -62,10 +62,9 @@ list_in r node site = many_links (slot_in r node site)
 abbrev pub MayLead : Rows → ℕ → ℕ → Type 0
 MayLead r site q = IsSomeAnd (slice_get r.statics.sites site) (λ x. MatchOption (callee_of x.kind) (q < length r.statics.procs) (λ c. q ≡ c))
 
--- the slot or list does not have this procedure yet
-pub record IsFresh (r : Rows) (node site q : ℕ) : Type 0 where
-  pub plain : link_in r node site ≡ None
-  pub many : All (λ e. e.0 ≢ q) (list_in r node site)
+-- a plain site's slot is empty, or a higher-order site's list does not have this procedure yet
+abbrev pub IsFresh : Rows → ℕ → ℕ → ℕ → Type 0
+IsFresh r node site q = IsSomeAnd (slice_get r.statics.sites site) (λ x. MatchOption (callee_of x.kind) (All (λ e. e.0 ≢ q) (list_in r node site)) (λ c. link_in r node site ≡ None))
 
 -- one more link, which leads to a context that is there, in its slot; nothing else
 pub record AddsLink (old new : Rows) (node site q to calls k : ℕ) : Type 0 where
@@ -113,5 +112,7 @@ pub record AreTables (s : Static) (spans : List Span) (nodes : List ℕ) (slots 
   pub slots_each : length slots ≡ length nodes
   pub sizes : (v p : ℕ) (xs : List Slot) → slice_get nodes v ≡ Some p → slice_get slots v ≡ Some xs → length xs ≡ length (sites_of p s.sites)
   pub pointers : length active ≡ length s.procs
+  pub active_there : (q v : ℕ) → slice_get active q ≡ Some (Some v) → slice_get nodes v ≡ Some q
+  pub short : (v k : ℕ) (xs : List Slot) (ys : List (ℕ × ℕ)) → slice_get slots v ≡ Some xs → slice_get xs k ≡ Some (Many ys) → length ys ≤ length links
   pub fewer : length nodes ≤ length links
   pub few : length links < 2 ^ 32

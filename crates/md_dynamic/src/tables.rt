@@ -9,6 +9,7 @@ ghost use Rattle.md_dynamic.specs.Links.{link_row, root_row};
 ghost use Rattle.md_dynamic.specs.Fills.{FillsSlot};
 
 use crate::link::LinkRow;
+use crate::profile::Profile;
 use crate::slot::{Slot, Slots};
 use crate::span::{Span, spans_of};
 use md_base::{Counts, CsdId, Measure, NoMemory, PdId, ProcId, SiteId, Steps};
@@ -78,6 +79,14 @@ impl Tables {
         })
     }
 
+    /// A call site, as the program's tables have it. No table step: these tables never change.
+    pub fn site(&self, site: SiteId) -> Site
+        requires { site < length self.now.statics.sites }
+        ensures { slice_get self.now.statics.sites site ≡ Some result }
+    {
+        self.statics.sites()[site.number() as usize]
+    }
+
     /// The procedure of a context. One table step.
     pub fn proc_of<L: Ledger>(&self, node: PdId, steps: &mut Steps<L>) -> ProcId
         requires { node < length self.now.nodes }
@@ -102,6 +111,7 @@ impl Tables {
     pub fn active<L: Ledger>(&self, callee: ProcId, steps: &mut Steps<L>) -> Option<PdId>
         requires { callee < length self.now.statics.procs }
         ensures value { slice_get self.now.active callee ≡ Some result }
+        ensures of_callee { IfSome result (λ v. slice_get self.now.nodes v ≡ Some callee) }
         ensures cost { steps.new ≡ steps.old + 1 }
     {
         steps.tick();
@@ -144,6 +154,7 @@ impl Tables {
     ) -> Option<(ProcId, CsdId)>
         requires { Owns self.now node site }
         ensures value { result ≡ slice_get (list_in self.now node site) place }
+        ensures short { length (list_in self.now node site) ≤ length self.now.links }
         ensures cost { steps.new ≡ steps.old + 1 }
     {
         steps.tick();
@@ -185,6 +196,7 @@ impl Tables {
         ensures err { OnErr result (self.new ≡ self.old) }
         ensures cost { OnOk result (steps.new ≡ steps.old + add_cost self.old callee to) }
         ensures cost_refused { OnErr result (steps.new ≤ steps.old + add_cost self.old callee to) }
+        ensures forward { steps.old ≤ steps.new }
     {
         // What always holds of the tables says that what a site calls is there.
         let _ = &self.statics;
@@ -210,6 +222,7 @@ impl Tables {
         ensures err { OnErr result (self.new ≡ self.old) }
         ensures cost { OnOk result (steps.new ≡ steps.old + 3) }
         ensures cost_refused { OnErr result (steps.new ≤ steps.old + 3) }
+        ensures forward { steps.old ≤ steps.new }
     {
         let place = self.place(node, site);
         let link = CsdId::new(self.links.len() as u32);
@@ -238,6 +251,7 @@ impl Tables {
         ensures err { OnErr result (self.new ≡ self.old) }
         ensures cost { OnOk result (steps.new ≡ steps.old + (4 + length (sites_of callee self.old.statics.sites))) }
         ensures cost_refused { OnErr result (steps.new ≤ steps.old + (4 + length (sites_of callee self.old.statics.sites))) }
+        ensures forward { steps.old ≤ steps.new }
     {
         let empty = self.empty_for(callee, steps)?;
         self.add_with(node, site, callee, empty, calls, steps)
@@ -261,6 +275,7 @@ impl Tables {
         ensures err { OnErr result (self.new ≡ self.old) }
         ensures cost { OnOk result (steps.new ≡ steps.old + 4) }
         ensures cost_refused { OnErr result (steps.new ≤ steps.old + 4) }
+        ensures forward { steps.old ≤ steps.new }
     {
         let place = self.place(node, site);
         let link = CsdId::new(self.links.len() as u32);
@@ -369,4 +384,22 @@ fn empty_slots<L: Ledger>(alloc: Global, sites: &[Site], blank: Blank) -> Result
 {
     let mut steps = Steps::<L>::open(blank);
     Slots::empty(alloc, sites, &mut steps)
+}
+
+impl Tables {
+    /// The profile of what the tables hold. Takes no memory.
+    pub fn freeze(self, finished: bool) -> Profile
+        ensures { result ≡ record { statics = self.statics; nodes = self.nodes; links = self.links; finished = finished } }
+    {
+        let Tables {
+            statics,
+            spans: _,
+            nodes,
+            slots: _,
+            links,
+            active: _,
+            alloc: _,
+        } = self;
+        Profile::from_parts(statics, nodes, links, finished)
+    }
 }

@@ -13,13 +13,13 @@ use Rattle.std.specs.declared.cmp.Ordering.TheVariants.{Less, Equal, Greater}
 use Rattle.md_static.specs.declared.entry.Proc.{Proc}
 use Rattle.md_static.specs.Sound.{proc_key, key_seen}
 
-pairs_of : {X Y : Type 0} (f : X → Y) (R : Y → Y → Type 0) (xs : List X) → AllPairs R (map f xs) → AllPairs (λ a b. R (f a) (f b)) xs
+pub pairs_of : {X Y : Type 0} (f : X → Y) (R : Y → Y → Type 0) (xs : List X) → AllPairs R (map f xs) → AllPairs (λ a b. R (f a) (f b)) xs
 pairs_of {X} {Y} f R xs all i j d less within =
     let whole : R (get_or (map f xs) i (f d)) (get_or (map f xs) j (f d)) = all i j (f d) less (omega (arith, length-map xs f)) in
     let first : R (f (get_or xs i d)) (get_or (map f xs) j (f d)) = subst (λ (y : Y). R y (get_or (map f xs) j (f d))) (get_or-map f xs i d (f d) (omega arith)) whole in
     subst (λ (y : Y). R (f (get_or xs i d)) y) (get_or-map f xs j d (f d) within) first
 
-pairs_over : {X Y : Type 0} (f : X → Y) (R : Y → Y → Type 0) (xs : List X) → AllPairs (λ a b. R (f a) (f b)) xs → AllPairs R (map f xs)
+pub pairs_over : {X Y : Type 0} (f : X → Y) (R : Y → Y → Type 0) (xs : List X) → AllPairs (λ a b. R (f a) (f b)) xs → AllPairs R (map f xs)
 pairs_over {X} {Y} f R [] all i j d less within = absurd (omega arith)
 pairs_over {X} {Y} f R (x ∷ xs) all i j d less within =
     let there : j < length (x ∷ xs) = omega (arith, length-map (x ∷ xs) f) in
@@ -41,7 +41,7 @@ names_told keys names are = (
   λ all i j d less within equal. pairs_of (λ (key : Bor (List ℕ)). key.now) (λ m n. m ≢ n) keys (subst (λ (xs : List (List ℕ)). AllPairs (λ m n. m ≢ n) xs) (sym are) all) i j d less within (text_equal _ _ equal),
 )
 
-number_equal : (a b : ℕ) → nat_cmp a b ≡ Equal → a ≡ b
+pub number_equal : (a b : ℕ) → nat_cmp a b ≡ Equal → a ≡ b
 number_equal a b equal = elim (cases_order a b) [
   | inl same ↦ same
   | inr apart ↦ elim apart [
@@ -50,7 +50,7 @@ number_equal a b equal = elim (cases_order a b) [
   ]
 ]
 
-both_equal : (r o : Ordering) → ordering_then r o ≡ Equal → (r ≡ Equal) × (o ≡ Equal)
+pub both_equal : (r o : Ordering) → ordering_then r o ≡ Equal → (r ≡ Equal) × (o ≡ Equal)
 both_equal Less o equal = absurd (cc equal)
 both_equal Equal o equal = (refl, equal)
 both_equal Greater o equal = absurd (cc equal)

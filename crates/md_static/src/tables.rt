@@ -59,9 +59,10 @@ impl Statics {
     }
 
     /// The same tables once more.
-    pub fn copy(&self, alloc: Global) -> Result<Statics, NoMemory>
+    pub fn copy(&self) -> Result<Statics, NoMemory>
         ensures { IfOk result (λ copy. copy ≡ self.now) }
     {
+        let alloc: Global = *self.modules.allocator();
         let modules = copy_names(alloc, &self.modules)?;
         let procs = copy_procs(alloc, &self.procs)?;
         let sites = Vec::from_slice(alloc, &self.sites)?;

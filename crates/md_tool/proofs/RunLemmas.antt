@@ -4,6 +4,7 @@ use Rattle.std.specs.Prelude.{Result, Ok, Err, MatchResult}
 use Rattle.md_hlds.specs.Listing.{Listing}
 use Rattle.md_reader.specs.declared.refused.Refused.{Refused}
 use Rattle.md_reader.specs.declared.refused.Refused.TheVariants as refused
+use Rattle.md_reader.specs.Grammar.{Spells}
 use Rattle.md_reader.specs.Reading.{reading, IsAnswer}
 use Rattle.md_hlds.specs.declared.program.Program.{Program}
 use Rattle.md_hlds.specs.Listing.{listing_of}
@@ -16,21 +17,21 @@ use Rattle.md_machine.specs.Ran.{says_finished}
 use Rattle.std.proofs.Common.{true, false}
 use Rattle.md_tool.specs.Due.{ProgramRuns, ProgramFault, TextRuns, TextFault, refusal_of, IsText, HasRun, HasRunInPart, ShowEnds, RunEnds}
 
-fault_of_text : (text : List ℕ) (p : Listing) (f : Fault) → reading text ≡ Ok p → ProgramFault p f → TextFault text f
-fault_of_text text p NotBuilt spelled other = record { program = p; spelled = spelled; form = other }
-fault_of_text text p NoMemory spelled h = tt
-fault_of_text text p Usage spelled h = absurd h
-fault_of_text text p Read spelled h = absurd h
-fault_of_text text p TooLong spelled h = absurd h
-fault_of_text text p (Syntax line) spelled h = absurd h
-fault_of_text text p (Limit line) spelled h = absurd h
-fault_of_text text p (Duplicate line) spelled h = absurd h
-fault_of_text text p OutOfSteps spelled h = absurd h
-fault_of_text text p Write spelled h = absurd h
+fault_of_text : (text : List ℕ) (p : Listing) (f : Fault) → Spells text p → reading text ≡ Ok p → ProgramFault p f → TextFault text f
+fault_of_text text p NotBuilt spelled is_read other = record { program = p; spelled = spelled; is_read = is_read; form = other }
+fault_of_text text p NoMemory spelled is_read h = tt
+fault_of_text text p Usage spelled is_read h = absurd h
+fault_of_text text p Read spelled is_read h = absurd h
+fault_of_text text p TooLong spelled is_read h = absurd h
+fault_of_text text p (Syntax line) spelled is_read h = absurd h
+fault_of_text text p (Limit line) spelled is_read h = absurd h
+fault_of_text text p (Duplicate line) spelled is_read h = absurd h
+fault_of_text text p OutOfSteps spelled is_read h = absurd h
+fault_of_text text p Write spelled is_read h = absurd h
 
-pub text_runs : (text : List ℕ) (p : Listing) (r : Result Ran Fault) → reading text ≡ Ok p → MatchResult r (ProgramRuns p) (ProgramFault p) → MatchResult r (TextRuns text) (TextFault text)
-text_runs text p (Ok ran) spelled h = record { runs = record { program = p; spelled = spelled; form = h.form }; is_run = h.is_run }
-text_runs text p (Err f) spelled h = fault_of_text text p f spelled h
+pub text_runs : (text : List ℕ) (p : Listing) (r : Result Ran Fault) → Spells text p → reading text ≡ Ok p → MatchResult r (ProgramRuns p) (ProgramFault p) → MatchResult r (TextRuns text) (TextFault text)
+text_runs text p (Ok ran) spelled is_read h = record { runs = record { program = p; spelled = spelled; is_read = is_read; form = h.form }; is_run = h.is_run }
+text_runs text p (Err f) spelled is_read h = fault_of_text text p f spelled is_read h
 
 -- a run whose output was written whole
 ran_whole : (held : Option Files) (file text : List ℕ) (before now : Option (List ℕ)) (ran : Ran) (end : Bool)

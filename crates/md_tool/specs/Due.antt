@@ -6,6 +6,7 @@ use Rattle.md_hlds.specs.Listing.{Listing}
 use Rattle.md_hlds.specs.Run.{run, output, is_finished}
 use Rattle.md_reader.specs.declared.refused.Refused.{Refused}
 use Rattle.md_reader.specs.declared.refused.Refused.TheVariants as refused
+use Rattle.md_reader.specs.Grammar.{Spells}
 use Rattle.md_reader.specs.Reading.{reading}
 use Rattle.md_machine.specs.FirstForm.{is_first_form}
 use Rattle.md_machine.specs.Ran.{IsRunOf, says_finished}
@@ -24,10 +25,11 @@ budget = 1000000
 abbrev pub longest : ℕ
 longest = 1048576
 
--- a text that spells a program which can be run
+-- a text that spells a program which can be run; the program is also what the rules read, so it is the only one
 pub record Runs (text : List ℕ) : Type 0 where
   pub program : Listing
-  pub spelled : reading text ≡ Ok program
+  pub spelled : Spells text program
+  pub is_read : reading text ≡ Ok program
   pub form : IsTrue (is_first_form program)
 
 -- the bytes that the run of the program writes, and whether it is finished
@@ -40,7 +42,8 @@ finished r = is_finished (run r.program budget)
 -- a text that spells a program of another form
 pub record IsOther (text : List ℕ) : Type 0 where
   pub program : Listing
-  pub spelled : reading text ≡ Ok program
+  pub spelled : Spells text program
+  pub is_read : reading text ≡ Ok program
   pub form : is_first_form program ≡ false
 
 -- what a run of a text came to

@@ -2,3 +2,4 @@ pub mod Form
 pub mod Fault
 pub mod Due
 pub mod Told
+pub mod Meaning

@@ -3,6 +3,7 @@ ghost use Rattle.std.specs.Prelude.{◌≡◌, ◌⊎◌, None, Some, MatchOptio
 ghost use Rattle.md_base.specs.Outside.{Rose};
 ghost use Rattle.md_tool.specs.Form.{words_of, form};
 ghost use Rattle.md_tool.specs.Told.{Tells, CommandEnds, TopEnds};
+ghost use Rattle.md_tool.specs.Meaning.{Means};
 
 use crate::fault::Fault;
 use crate::form::file_of;
@@ -28,6 +29,8 @@ pub fn top<S: Store, O: Sink, E: Sink, N: Net>(
     err: &mut E,
     net: &mut N,
 ) -> Status
+    ensures status { Means (form (words_of words.now)) (S.held store.old) (O.held out.old) (O.held out.new)
+        (Rose (S.read_faults store.old) (S.read_faults store.new)) (Rose (O.write_faults out.old) (O.write_faults out.new)) result.0 }
     ensures ends { TopEnds (form (words_of words.now)) (S.held store.old) (O.held out.old) (O.held out.new) (E.held err.old) (E.held err.new)
         (Rose (S.read_faults store.old) (S.read_faults store.new)) (Rose (O.write_faults out.old) (O.write_faults out.new))
         (Rose (E.write_faults err.old) (E.write_faults err.new)) result.0 }
@@ -35,11 +38,27 @@ pub fn top<S: Store, O: Sink, E: Sink, N: Net>(
     ensures net { net.new ≡ net.old }
 {
     let _ = net;
+    Status(run_command(alloc, words, store, out, err))
+}
+
+/// Does what the words ask for, tells a fault, and gives the status.
+fn run_command<S: Store, O: Sink, E: Sink>(
+    alloc: Global,
+    words: &[String],
+    store: &mut S,
+    out: &mut O,
+    err: &mut E,
+) -> u8
+    ensures ends { TopEnds (form (words_of words.now)) (S.held store.old) (O.held out.old) (O.held out.new) (E.held err.old) (E.held err.new)
+        (Rose (S.read_faults store.old) (S.read_faults store.new)) (Rose (O.write_faults out.old) (O.write_faults out.new))
+        (Rose (E.write_faults err.old) (E.write_faults err.new)) result }
+    ensures store { S.held store.new ≡ S.held store.old }
+{
     match file_of(words) {
-        None => Status(tell(alloc, Fault::Usage, "", err)),
+        None => tell(alloc, Fault::Usage, "", err),
         Some(file) => match run_file(alloc, file, store, out) {
-            Ok(()) => Status(0),
-            Err(fault) => Status(tell(alloc, fault, file, err)),
+            Ok(()) => 0,
+            Err(fault) => tell(alloc, fault, file, err),
         },
     }
 }

@@ -1,7 +1,9 @@
 pub mod Chains
 pub mod CounterSteps
 pub mod Counting
+pub mod Finds
 pub mod Histories
+pub mod LinkFacts
 pub mod Lists
 pub mod Longest
 pub mod Numbered

@@ -6,7 +6,7 @@ use Rattle.md_tool.proofs.RunLemmas.{text_runs, text_refused}
 use Rattle.md_tool.proofs.run.run_text.Goals as goal
 
 pub returns-in-Ok : goal.returns-in-Ok
-returns-in-Ok c = text_runs c.args.text.now (listing_of c.in-Ok.program) c.run_program.result c.in-Ok.ensures.answer c.run_program.ensures
+returns-in-Ok c = text_runs c.args.text.now (listing_of c.in-Ok.program) c.run_program.result c.in-Ok.ensures.spelled c.in-Ok.ensures.answer c.run_program.ensures
 
 pub returns-in-Err : goal.returns-in-Err
 returns-in-Err c =

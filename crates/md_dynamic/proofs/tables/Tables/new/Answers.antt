@@ -1,7 +1,6 @@
 use Rattle.std.proofs.Common.{ℕ, ◌<◌, ◌≡◌, List, [], ◌∷◌, length, map, replicate, None, take, drop, sym, ap, ◌∙◌, subst, arith}
 use Rattle.md_static.specs.declared.entry.Site.{Site}
 use Rattle.md_static.specs.Sites.{sites_of}
-use Rattle.std.proofs.lemmas.List.{length-replicate}
 use Rattle.md_dynamic.specs.Links.{root_row}
 use Rattle.md_dynamic.specs.Slots.{empty_slot}
 use Rattle.md_dynamic.specs.Spans.{AreSpans}
@@ -30,10 +29,9 @@ invariant_of-result c =
     let own : c.own_sites-own.result.now ≡ sites_of c.args.main s.sites = c.own_sites-own.ensures ∙ ap (λ zs. take sp.count (drop sp.first zs)) c.sites-2.ensures ∙ span.1 in
     let slots : c.in_ok-slots.slots.items ≡ map empty_slot (sites_of c.args.main s.sites) ∷ [] = c.in_ok-slots.ensures.items ∙ ap (λ e. e ∷ []) c.in_ok-empty.ensures ∙ ap (λ zs. map empty_slot zs ∷ []) own in
     let active : c.in_ok-active.active.items ≡ replicate (length s.procs) None = c.in_ok-active.ensures ∙ ap (λ zs. replicate (length zs) None) c.procs-procs.ensures in
-    let pointers : length c.in_ok-active.active.items ≡ length s.procs = ap length active ∙ length-replicate (length s.procs) None in
     let root : c.in_ok-links.links.items ≡ root_row ∷ [] = c.in_ok-links.ensures.items ∙ ap (λ r. r ∷ []) c.root_link.ensures in
     new-tables s spans c.args.main c.in_ok-nodes.nodes.items c.in_ok-slots.slots.items c.in_ok-links.links.items root_row c.in_ok-active.active.items c.requires.sound right c.requires.main_there
-    c.in_ok-nodes.ensures.items slots root pointers
+    c.in_ok-nodes.ensures.items slots root active
 
 pub returns : goal.returns
 returns c =
@@ -47,7 +45,6 @@ returns c =
     let own : c.own_sites-own.result.now ≡ sites_of c.args.main s.sites = c.own_sites-own.ensures ∙ ap (λ zs. take sp.count (drop sp.first zs)) c.sites-2.ensures ∙ span.1 in
     let slots : c.in_ok-slots.slots.items ≡ map empty_slot (sites_of c.args.main s.sites) ∷ [] = c.in_ok-slots.ensures.items ∙ ap (λ e. e ∷ []) c.in_ok-empty.ensures ∙ ap (λ zs. map empty_slot zs ∷ []) own in
     let active : c.in_ok-active.active.items ≡ replicate (length s.procs) None = c.in_ok-active.ensures ∙ ap (λ zs. replicate (length zs) None) c.procs-procs.ensures in
-    let pointers : length c.in_ok-active.active.items ≡ length s.procs = ap length active ∙ length-replicate (length s.procs) None in
     let root : c.in_ok-links.links.items ≡ root_row ∷ [] = c.in_ok-links.ensures.items ∙ ap (λ r. r ∷ []) c.root_link.ensures in
     same-rows s c.in_ok-nodes.nodes.items (c.args.main ∷ []) c.in_ok-slots.slots.items (map empty_slot (sites_of c.args.main s.sites) ∷ []) c.in_ok-links.links.items (root_row ∷ []) c.in_ok-active.active.items (replicate (length s.procs) None)
     c.in_ok-nodes.ensures.items slots root active

@@ -1,0 +1,7 @@
+use Rattle.std.proofs.Common.{◌≢◌, All, slice_get}
+use Rattle.md_dynamic.specs.Rows.{list_in, link_in}
+use Rattle.md_closure.proofs.Fresh.{fresh-from}
+use Rattle.md_closure.proofs.callees.find_or_add.Goals as goal
+
+pub add-requires-clause-fresh : goal.add-requires-clause-fresh
+add-requires-clause-fresh g c = fresh-from c.args.tables.now c.args.node c.args.site c.args.callee (slice_get c.args.tables.now.statics.sites c.args.site) c.requires.higher_order c.in_default.ensures.found.0

@@ -1,0 +1,14 @@
+//! Costs by context and by clique: own counts, and totals that climb the tree of cliques (Conway and Somogyi 2001,
+//! section 3).
+#![tactic(auto)]
+
+mod loaded;
+mod own;
+mod propagating;
+mod sums;
+mod totals;
+mod tree;
+
+pub use loaded::Loaded;
+pub use propagating::{CostFault, propagate};
+pub use sums::Sums;

@@ -1,0 +1,88 @@
+-- Finding or adding the link of a callee, and counting the call on it.
+use Rattle.std.proofs.Common.{ℕ, ◌+◌, ◌-◌, ◌≡◌, ◌≢◌, ◌<◌, ◌≤◌, ◌⊎◌, inl, inr, All, List, [], ◌∷◌, ◌++◌, length, if◌then◌else◌, ◌==◌, Option, Some, None, IfSome, IsSomeAnd, MatchOption, slice_get, set, refl, sym, ap, ◌∙◌, subst, arith}
+use Rattle.std.proofs.lemmas.Bool.{eq-eqb, ne_eqb}
+use Rattle.std.proofs.lemmas.List.{set_at, length-append, length-set}
+use Rattle.md_base.specs.declared.measure.Measure.TheVariants.{Calls}
+use Rattle.md_static.specs.declared.entry.Site.{Site}
+use Rattle.md_static.specs.Sites.{sites_of}
+use Rattle.md_static.specs.Tables.{callee_of}
+use Rattle.md_trace.specs.Count.{with_more}
+use Rattle.md_trace.proofs.Lists.{get-push-new}
+use Rattle.md_closure.specs.Callees.{HasLinkAt, FindsOrAdds}
+use Rattle.md_closure.proofs.Fresh.{fresh-from}
+use Rattle.md_dynamic.specs.declared.link.LinkRow.{LinkRow}
+use Rattle.md_dynamic.specs.declared.slot.Slot.{Slot}
+use Rattle.md_dynamic.specs.Fills.{FillsSlot}
+use Rattle.md_dynamic.specs.Links.{link_row}
+use Rattle.md_dynamic.specs.Rows.{Rows, IsFresh, Adds, AddsLink, AddsContext, add_cost, list_in, link_in, place_in}
+use Rattle.md_record.specs.Leads.{CountsOn, HasLink, LeadsBy, IsPlaceOf, new_sites}
+
+-- a link just added, counted once
+counted-new : (r1 r2 : Rows) (old : List LinkRow) (node site to k : ℕ) → r1.links ≡ old ++ link_row node site to 0 ∷ [] → k ≡ length old → CountsOn r1 r2 k Calls 1 → r2 ≡ record r1 { links = old ++ link_row node site to 1 ∷ [] }
+counted-new r1 r2 old node site to k is number counts =
+    let row = link_row node site to 0 in
+    let at : slice_get r1.links k ≡ Some row = ap (λ xs. slice_get xs k) is ∙ ap (slice_get (old ++ row ∷ [])) number ∙ get-push-new old row in
+    let P : Option LinkRow → Type 0 = λ o. IfSome o (λ w. r2 ≡ record r1 { links = set r1.links k (record w { own = with_more w.own Calls 1 }) }) in
+    let e = subst P at counts in
+    let written : set r1.links k (link_row node site to 1) ≡ old ++ link_row node site to 1 ∷ [] = ap (λ xs. set xs k (link_row node site to 1)) is ∙ set_at old row [] (link_row node site to 1) k (sym number) in
+    e ∙ ap (λ xs. let r : Rows = record r1 { links = xs } in r) written
+
+pub adds-counted : (r0 r1 r2 : Rows) (node site q : ℕ) (to : Option ℕ) (k : ℕ) → Adds r0 r1 node site q to 0 k → CountsOn r1 r2 k Calls 1 → Adds r0 r2 node site q to 1 k
+adds-counted r0 r1 r2 node site q None k adds counts =
+    let e = counted-new r1 r2 r0.links node site (length r0.nodes) k adds.links adds.number counts in
+    record {
+      number = adds.number;
+      statics = ap (λ (r : Rows). r.statics) e ∙ adds.statics;
+      nodes = ap (λ (r : Rows). r.nodes) e ∙ adds.nodes;
+      slots = (adds.slots.0, adds.slots.1, ap (λ (r : Rows). r.slots) e ∙ adds.slots.2);
+      links = ap (λ (r : Rows). r.links) e;
+      active = ap (λ (r : Rows). r.active) e ∙ adds.active;
+    }
+adds-counted r0 r1 r2 node site q (Some to) k adds counts =
+    let e = counted-new r1 r2 r0.links node site to k adds.links adds.number counts in
+    let P : List (List Slot) → Type 0 = λ z. FillsSlot r0.slots z node (place_in r0 node site) q k in
+    record {
+      number = adds.number;
+      statics = ap (λ (r : Rows). r.statics) e ∙ adds.statics;
+      nodes = ap (λ (r : Rows). r.nodes) e ∙ adds.nodes;
+      slots = subst P (sym (ap (λ (r : Rows). r.slots) e)) adds.slots;
+      links = ap (λ (r : Rows). r.links) e;
+      active = ap (λ (r : Rows). r.active) e ∙ adds.active;
+    }
+
+-- a higher-order site has a link that is in its list
+many-has : (r : Rows) (node site q k : ℕ) (o : Option Site) → IsSomeAnd o (λ x. callee_of x.kind ≡ None) → (place : ℕ) × HasLinkAt (list_in r node site) q place k →
+    IsSomeAnd o (λ x. MatchOption (callee_of x.kind) ((place : ℕ) × HasLinkAt (list_in r node site) q place k) (λ c. link_in r node site ≡ Some k))
+many-has r node site q k None is at = absurd is
+many-has r node site q k (Some x) is at =
+    let P : Option ℕ → Type 0 = λ c. MatchOption c ((place : ℕ) × HasLinkAt (list_in r node site) q place k) (λ d. link_in r node site ≡ Some k) in
+    subst P (sym is) at
+
+pub many-leads : (r0 r1 r2 : Rows) (node site q k taken : ℕ) (old : Option ℕ) → IsSomeAnd (slice_get r0.statics.sites site) (λ x. callee_of x.kind ≡ None) → slice_get r0.active q ≡ Some old →
+    FindsOrAdds r0 r1 node site q k taken → CountsOn r1 r2 k Calls 1 → LeadsBy r0 r2 node site q old k
+many-leads r0 r1 r2 node site q k taken old kind active (inl found) counts =
+    let P : Rows → Type 0 = λ z. CountsOn z r2 k Calls 1 in
+    inl (many-has r0 node site q k (slice_get r0.statics.sites site) kind (found.0, found.1), subst P found.2 counts)
+many-leads r0 r1 r2 node site q k taken old kind active (inr new) counts =
+    let Q : Option (Option ℕ) → Type 0 = λ o. IfSome o (λ to. Adds r0 r1 node site q to 0 k × (taken ≡ (length (list_in r0 node site) + 1) + (1 + add_cost r0 q to))) in
+    let adds = subst Q active new.1 in
+    inr (fresh-from r0 node site q (slice_get r0.statics.sites site) kind new.0, adds-counted r0 r1 r2 node site q old k adds.0 counts)
+
+-- where a context was added its sites count
+sites-new : (old new : Rows) (q : ℕ) → length new.nodes ≡ length old.nodes + 1 → new_sites old new q ≡ length (sites_of q old.statics.sites)
+sites-new old new q longer = rw (ne_eqb (length new.nodes) (length old.nodes) (λ e. absurd (omega (arith, e))))
+
+added-cost : (r0 r2 : Rows) (node site q k : ℕ) (to : Option ℕ) → Adds r0 r2 node site q to 1 k → add_cost r0 q to ≤ 4 + new_sites r0 r2 q
+added-cost r0 r2 node site q k None adds = (let n = sites-new r0 r2 q (ap length adds.nodes ∙ length-append r0.nodes (q ∷ [])) in omega (arith, n))
+added-cost r0 r2 node site q k (Some to) adds = omega arith
+
+pub many-cost : (r0 r1 r2 : Rows) (node site q k taken before mid after : ℕ) (old : Option ℕ) → slice_get r0.active q ≡ Some old → FindsOrAdds r0 r1 node site q k taken → CountsOn r1 r2 k Calls 1 →
+    taken ≡ mid - before → before ≤ mid → after ≡ mid + 2 → (n : ℕ) × IsPlaceOf r0 node site q k n × (after ≤ before + (n + (7 + new_sites r0 r2 q)))
+many-cost r0 r1 r2 node site q k taken before mid after old active (inl found) counts took forward last =
+    (found.0 + 1, inl (found.0, found.1, refl), omega (arith, took, found.3, last))
+many-cost r0 r1 r2 node site q k taken before mid after old active (inr new) counts took forward last =
+    let n = length (list_in r0 node site) + 1 in
+    let Q : Option (Option ℕ) → Type 0 = λ o. IfSome o (λ to. Adds r0 r1 node site q to 0 k × (taken ≡ (length (list_in r0 node site) + 1) + (1 + add_cost r0 q to))) in
+    let adds = subst Q active new.1 in
+    let cost = added-cost r0 r2 node site q k old (adds-counted r0 r1 r2 node site q old k adds.0 counts) in
+    (n, inr (new.0, refl), omega (arith, took, adds.1, last, cost))

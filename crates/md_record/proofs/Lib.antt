@@ -1,0 +1,13 @@
+pub mod Added
+pub mod CalleeLists
+pub mod Callings
+pub mod Calls
+pub mod Events
+pub mod Finishing
+pub mod First
+pub mod Leading
+pub mod PointerSteps
+pub mod Returns
+pub mod RowSteps
+pub mod SlotSteps
+pub mod Uses

@@ -1,0 +1,95 @@
+// The link of a call: found in its site's slot, or added.
+ghost use Rattle.std.specs.Prelude.{ℕ, ◌≡◌, ◌≤◌, ◌<◌, ◌+◌, ◌-◌, length, slice_get, IfOk, OnOk, OnErr, IfSome, IsSomeAnd, Some, None};
+ghost use Rattle.md_static.specs.Sites.{sites_of};
+ghost use Rattle.md_static.specs.Tables.{callee_of};
+ghost use Rattle.md_dynamic.specs.Rows.{Owns, MayLead, list_in};
+ghost use Rattle.md_record.specs.Leads.{LeadsBy, LinksThere, IsPlaceOf, LeadCost, lead_refused_cost, new_sites};
+ghost use Rattle.md_closure.specs.Callees.{find_or_add_cost};
+
+use md_base::{CsdId, Measure, NoMemory, PdId, ProcId, SiteId, Steps};
+use md_closure::find_or_add;
+use md_dynamic::Tables;
+use md_static::SiteKind;
+use std::sync::ledger::Ledger;
+
+/// Counts a call on the link of `callee` at a site in a context, and gives the link. Where it is not there yet it is
+/// added, and leads to `old`, which is the callee's active context, or to a new context where there is none.
+pub(crate) fn lead<L: Ledger>(
+    tables: &mut Tables,
+    node: PdId,
+    site: SiteId,
+    callee: ProcId,
+    old: &Option<PdId>,
+    steps: &mut Steps<L>,
+) -> Result<CsdId, NoMemory>
+    requires owned { Owns tables.old node site }
+    requires may_lead { MayLead tables.old site callee }
+    requires there { callee < length tables.old.statics.procs }
+    requires active { slice_get tables.old.active callee ≡ Some old.now }
+    requires of_callee { IfSome old.now (λ v. slice_get tables.old.nodes v ≡ Some callee) }
+    requires links_there { LinksThere tables.old node site }
+    requires room { length tables.old.links < 4294967295 }
+    ensures ok { IfOk result (λ link. LeadsBy tables.old tables.new node site callee old.now link) }
+    ensures err { OnErr result (tables.new ≡ tables.old) }
+    ensures cost { IfOk result (λ link. LeadCost tables.old tables.new node site callee link steps.old steps.new) }
+    ensures cost_refused { OnErr result (steps.new ≤ steps.old + lead_refused_cost tables.old node site callee) }
+{
+    match tables.site(site).kind {
+        SiteKind::Plain(_) => lead_plain(tables, node, site, callee, *old, steps),
+        SiteKind::HigherOrder => lead_many(tables, node, site, callee, *old, steps),
+    }
+}
+
+/// The same at a plain site: at most six table steps, and one for each call site of the callee where its context is new.
+fn lead_plain<L: Ledger>(
+    tables: &mut Tables,
+    node: PdId,
+    site: SiteId,
+    callee: ProcId,
+    old: Option<PdId>,
+    steps: &mut Steps<L>,
+) -> Result<CsdId, NoMemory>
+    requires owned { Owns tables.old node site }
+    requires may_lead { MayLead tables.old site callee }
+    requires plain { IsSomeAnd (slice_get tables.old.statics.sites site) (λ x. callee_of x.kind ≡ Some callee) }
+    requires of_callee { IfSome old (λ v. slice_get tables.old.nodes v ≡ Some callee) }
+    requires links_there { LinksThere tables.old node site }
+    requires room { length tables.old.links < 4294967295 }
+    ensures ok { IfOk result (λ link. LeadsBy tables.old tables.new node site callee old link) }
+    ensures err { OnErr result (tables.new ≡ tables.old) }
+    ensures cost { OnOk result (steps.new ≤ steps.old + (6 + new_sites tables.old tables.new callee)) }
+    ensures cost_refused { OnErr result (steps.new ≤ steps.old + (6 + length (sites_of callee tables.old.statics.sites))) }
+{
+    match tables.slot(node, site, steps) {
+        Some(link) => {
+            tables.count(link, Measure::Calls, 1, steps);
+            Ok(link)
+        }
+        None => tables.add(node, site, callee, old, 1, steps),
+    }
+}
+
+/// The same at a higher-order site.
+fn lead_many<L: Ledger>(
+    tables: &mut Tables,
+    node: PdId,
+    site: SiteId,
+    callee: ProcId,
+    old: Option<PdId>,
+    steps: &mut Steps<L>,
+) -> Result<CsdId, NoMemory>
+    requires owned { Owns tables.old node site }
+    requires there { callee < length tables.old.statics.procs }
+    requires higher_order { IsSomeAnd (slice_get tables.old.statics.sites site) (λ x. callee_of x.kind ≡ None) }
+    requires active { slice_get tables.old.active callee ≡ Some old }
+    requires links_there { LinksThere tables.old node site }
+    requires room { length tables.old.links < 4294967295 }
+    ensures ok { IfOk result (λ link. LeadsBy tables.old tables.new node site callee old link) }
+    ensures err { OnErr result (tables.new ≡ tables.old) }
+    ensures cost { IfOk result (λ link. (n : ℕ) × IsPlaceOf tables.old node site callee link n × (steps.new ≤ steps.old + (n + (7 + new_sites tables.old tables.new callee)))) }
+    ensures cost_refused { OnErr result (steps.new ≤ steps.old + find_or_add_cost tables.old node site callee) }
+{
+    let link = find_or_add(tables, node, site, callee, steps)?;
+    tables.count(link, Measure::Calls, 1, steps);
+    Ok(link)
+}

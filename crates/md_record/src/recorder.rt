@@ -1,0 +1,177 @@
+// The recorder, one port after the other.
+ghost use Rattle.std.specs.Prelude.{ℕ, ◌≡◌, ◌≤◌, ◌<◌, ◌+◌, List, ◌∷◌, length, IfOk, OnOk, OnErr, IfSome, Some, None};
+
+use crate::leads::lead;
+use crate::saved::Saved;
+use md_base::{CsdId, Measure, NoMemory, PdId, ProcId, SiteId, Steps};
+use md_dynamic::Tables;
+use md_static::Statics;
+use std::alloc::Global;
+use std::marker::Model;
+use std::sync::ledger::Ledger;
+
+/// Keeps the contexts and links of the events so far, and the links of the current chain.
+#[derive(Drop)]
+pub struct Recorder {
+    tables: Tables,
+    /// The link of each activation of the current chain, with the context to which it leads; the latest is last.
+    chain: Vec<(CsdId, PdId)>,
+}
+
+impl Model for Recorder {
+    ghost use Rattle.std.specs.Prelude.{vec_capacity};
+    ghost use Rattle.md_record.specs.Kept.{Kept};
+
+    ghost Value = { Kept };
+
+    ghost view = { λ r. record { rows = r.tables; chain = r.chain.items; room = vec_capacity r.chain } };
+}
+
+impl Recorder {
+    ghost use Rattle.std.specs.Prelude.{ℕ, ◌≡◌, ◌≤◌, ◌<◌, ◌+◌, ◌-◌, slice_get, List, ◌∷◌, length, IfOk, OnOk, OnErr, IfSome, Some, None};
+    ghost use Rattle.std.specs.Option.{option_map};
+    ghost use Rattle.md_trace.specs.declared.event.Event.{Event};
+    ghost use Rattle.md_trace.specs.declared.event.Event.TheVariants.{Exit, Redo, Fail};
+    ghost use Rattle.md_trace.specs.Sinks.{CanTake, CanTakeMarked, Takes, TakesMarked, MarksNewest, StandsAsBefore, next_call, next_alloc};
+    ghost use Rattle.md_static.specs.Sound.{IsSound};
+    ghost use Rattle.md_static.specs.Tables.{site_table};
+    ghost use Rattle.md_record.specs.Kept.{Kept, Stands};
+    ghost use Rattle.md_record.specs.Belongs.{Belongs};
+
+    /// The current activation calls `callee` at `site`, or the run begins with the main procedure's call, at no site.
+    /// Memory is taken first, room for the chain included; where it is refused, all is as before.
+    pub fn call<L: Ledger>(
+        &mut self,
+        site: Option<SiteId>,
+        callee: ProcId,
+        steps: &mut Steps<L>,
+    ) -> Result<Saved, NoMemory>
+        requires { CanTake (Stands self.old) (next_call site callee) }
+        ensures taken { OnOk result (Takes (Stands self.old) (Stands self.new) (next_call site callee)) }
+        ensures marked { IfOk result (λ saved. MarksNewest (Stands self.old) (Belongs saved) (next_call site callee)) }
+        ensures refused { OnErr result (StandsAsBefore (Stands self.old) (Stands self.new)) }
+    {
+        match site {
+            None => self.call_main(callee, steps),
+            Some(site) => self.call_at(site, callee, steps),
+        }
+    }
+
+    /// The first call, that of the main procedure: it is counted on the root link. Four table steps.
+    fn call_main<L: Ledger>(
+        &mut self,
+        callee: ProcId,
+        steps: &mut Steps<L>,
+    ) -> Result<Saved, NoMemory>
+        requires { CanTake (Stands self.old) (next_call None callee) }
+        ensures taken { OnOk result (Takes (Stands self.old) (Stands self.new) (next_call None callee)) }
+        ensures marked { IfOk result (λ saved. MarksNewest (Stands self.old) (Belongs saved) (next_call None callee)) }
+        ensures refused { OnErr result (StandsAsBefore (Stands self.old) (Stands self.new)) }
+        ensures cost { steps.new ≤ steps.old + 4 }
+    {
+        let root = CsdId::new(0);
+        self.chain.reserve(1)?;
+        self.tables.count(root, Measure::Calls, 1, steps);
+        let end = self.tables.end_of(root, steps);
+        self.tables.set_active(callee, Some(end), steps);
+        self.chain.push_reserved((root, end));
+        Ok(Saved {
+            top: end,
+            middle: root,
+            old: None,
+        })
+    }
+
+    /// A call by the current activation at a site.
+    fn call_at<L: Ledger>(
+        &mut self,
+        site: SiteId,
+        callee: ProcId,
+        steps: &mut Steps<L>,
+    ) -> Result<Saved, NoMemory>
+        requires { CanTake (Stands self.old) (next_call (Some site) callee) }
+        ensures taken { OnOk result (Takes (Stands self.old) (Stands self.new) (next_call (Some site) callee)) }
+        ensures marked { IfOk result (λ saved. MarksNewest (Stands self.old) (Belongs saved) (next_call (Some site) callee)) }
+        ensures refused { OnErr result (StandsAsBefore (Stands self.old) (Stands self.new)) }
+    {
+        let node = self.current();
+        self.chain.reserve(1)?;
+        let old = self.tables.active(callee, steps);
+        let link = lead(&mut self.tables, node, site, callee, &old, steps)?;
+        let end = self.tables.end_of(link, steps);
+        self.tables.set_active(callee, Some(end), steps);
+        self.chain.push_reserved((link, end));
+        Ok(Saved {
+            top: end,
+            middle: link,
+            old,
+        })
+    }
+
+    /// The activation with this mark returns with a solution: an exit on its link, and the pointer of its procedure
+    /// goes back to what it was before the call. Four table steps.
+    pub fn exit<L: Ledger>(&mut self, saved: &Saved, steps: &mut Steps<L>)
+        requires { CanTakeMarked (Stands self.old) (Belongs saved.now) Exit }
+        ensures taken { TakesMarked (Stands self.old) (Stands self.new) (Belongs saved.now) Exit }
+        ensures cost { steps.new ≡ steps.old + 4 }
+    {
+        let proc = self.tables.proc_of(saved.top, steps);
+        self.tables.count(saved.middle, Measure::Exits, 1, steps);
+        self.tables.set_active(proc, saved.old, steps);
+        self.chain.pop();
+    }
+
+    /// The activation with this mark has no further solution: a fail on its link, and the pointer of its procedure goes
+    /// back to what it was before the call. Four table steps.
+    pub fn fail<L: Ledger>(&mut self, saved: &Saved, steps: &mut Steps<L>)
+        requires { CanTakeMarked (Stands self.old) (Belongs saved.now) Fail }
+        ensures taken { TakesMarked (Stands self.old) (Stands self.new) (Belongs saved.now) Fail }
+        ensures cost { steps.new ≡ steps.old + 4 }
+    {
+        let proc = self.tables.proc_of(saved.top, steps);
+        self.tables.count(saved.middle, Measure::Fails, 1, steps);
+        self.tables.set_active(proc, saved.old, steps);
+        self.chain.pop();
+    }
+
+    /// The activation with this mark is asked for a further solution: a redo on its link, and its context is active
+    /// again. Four table steps.
+    pub fn redo<L: Ledger>(&mut self, saved: &Saved, steps: &mut Steps<L>)
+        requires { CanTakeMarked (Stands self.old) (Belongs saved.now) Redo }
+        ensures taken { TakesMarked (Stands self.old) (Stands self.new) (Belongs saved.now) Redo }
+        ensures cost { steps.new ≡ steps.old + 4 }
+    {
+        let proc = self.tables.proc_of(saved.top, steps);
+        self.tables.count(saved.middle, Measure::Redos, 1, steps);
+        self.tables.set_active(proc, Some(saved.top), steps);
+        self.chain.push_reserved((saved.middle, saved.top));
+    }
+
+    /// The current activation builds a term of this many words: an allocation and its words on its link. Four table
+    /// steps.
+    pub fn alloc<L: Ledger>(&mut self, words: u32, steps: &mut Steps<L>)
+        requires { CanTake (Stands self.old) (next_alloc words) }
+        ensures taken { Takes (Stands self.old) (Stands self.new) (next_alloc words) }
+        ensures cost { steps.new ≤ steps.old + 4 }
+    {
+        if let Some(latest) = self.latest() {
+            self.tables.count(latest.0, Measure::Allocs, 1, steps);
+            self.tables.count(latest.0, Measure::Words, words, steps);
+        }
+    }
+
+    /// The context of the activation that runs.
+    fn current(&self) -> PdId
+        requires { 0 < length self.now.chain }
+        ensures { option_map (λ e. e.1) (slice_get self.now.chain (length self.now.chain - 1)) ≡ Some result }
+    {
+        self.chain[self.chain.len() - 1].1
+    }
+
+    /// The link of the activation that runs, with its context.
+    fn latest(&self) -> Option<(CsdId, PdId)>
+        ensures { result ≡ slice_get self.now.chain (length self.now.chain - 1) }
+    {
+        self.chain.last().copied()
+    }
+}
