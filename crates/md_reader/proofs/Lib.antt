@@ -1,5 +1,6 @@
 pub mod Goals
 pub mod Lists
 pub mod Sound
+pub mod SoundGoals
 pub mod Steps
 pub mod Turns
