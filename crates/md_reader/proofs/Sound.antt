@@ -25,8 +25,8 @@ sorts_found zero found xs i j h = let a = bind_ok (rule.sort i) _ _ h in absurd 
 sorts_found (suc n) found xs i j h =
     let a = bind_ok (rule.sort i) _ _ h in
     elim (eaten kind.Comma a.0.1 _ _ _ a.2) [
-      inl s ↦ found_also (Is rule.sort) kind.Comma kind.Close n found xs a.0.0 i a.0.1 (next a.0.1) j a.1 s.0 (sorts_found n (found ++ a.0.0 ∷ []) xs (next a.0.1) j s.1)
-    | inr q ↦ let b = closed kind.Close (found ++ a.0.0 ∷ []) xs a.0.1 j q in found_last (Is rule.sort) kind.Comma kind.Close n found xs a.0.0 i a.0.1 j a.1 b.0 b.1
+      | inl s ↦ found_also (Is rule.sort) kind.Comma kind.Close n found xs a.0.0 i a.0.1 (next a.0.1) j a.1 s.0 (sorts_found n (found ++ a.0.0 ∷ []) xs (next a.0.1) j s.1)
+      | inr q ↦ let b = closed kind.Close (found ++ a.0.0 ∷ []) xs a.0.1 j q in found_last (Is rule.sort) kind.Comma kind.Close n found xs a.0.0 i a.0.1 j a.1 b.0 b.1
     ]
 
 pub modes_found : (n : ℕ) (found xs : List Mode) (i j : Input) → rule.modes_from n found i ≡ Ok (xs, j) → Found (Is rule.mode_word) kind.Comma kind.Close n found xs i j
@@ -35,8 +35,8 @@ modes_found zero found xs i j h = let a = bind_ok (rule.mode_word i) _ _ h in ab
 modes_found (suc n) found xs i j h =
     let a = bind_ok (rule.mode_word i) _ _ h in
     elim (eaten kind.Comma a.0.1 _ _ _ a.2) [
-      inl s ↦ found_also (Is rule.mode_word) kind.Comma kind.Close n found xs a.0.0 i a.0.1 (next a.0.1) j a.1 s.0 (modes_found n (found ++ a.0.0 ∷ []) xs (next a.0.1) j s.1)
-    | inr q ↦ let b = closed kind.Close (found ++ a.0.0 ∷ []) xs a.0.1 j q in found_last (Is rule.mode_word) kind.Comma kind.Close n found xs a.0.0 i a.0.1 j a.1 b.0 b.1
+      | inl s ↦ found_also (Is rule.mode_word) kind.Comma kind.Close n found xs a.0.0 i a.0.1 (next a.0.1) j a.1 s.0 (modes_found n (found ++ a.0.0 ∷ []) xs (next a.0.1) j s.1)
+      | inr q ↦ let b = closed kind.Close (found ++ a.0.0 ∷ []) xs a.0.1 j q in found_last (Is rule.mode_word) kind.Comma kind.Close n found xs a.0.0 i a.0.1 j a.1 b.0 b.1
     ]
 
 -- ---- types
@@ -45,8 +45,8 @@ pub functor_arguments_sound : (ts : List Sort) (i j : Input) → rule.functor_ar
 unfolding rule.functor_arguments
 functor_arguments_sound ts i j h =
     elim (eaten kind.Open i _ _ _ h) [
-      inl s ↦ g.FunctorArguments.some ts i (next i) j s.0 (enclosed_found (Is rule.sort) kind.Close ts (next i) j (sorts_found most [] ts (next i) j s.1))
-    | inr q ↦ nothing (λ ts. g.FunctorArguments ts i) [] ts i j q (g.FunctorArguments.none i)
+      | inl s ↦ g.FunctorArguments.some ts i (next i) j s.0 (enclosed_found (Is rule.sort) kind.Close ts (next i) j (sorts_found most [] ts (next i) j s.1))
+      | inr q ↦ nothing (λ ts. g.FunctorArguments ts i) [] ts i j q (g.FunctorArguments.none i)
     ]
 
 pub functor_sound : (f : Construct) (i j : Input) → rule.functor i ≡ Ok (f, j) → g.Functor f i j
@@ -62,8 +62,8 @@ functors_found zero found xs i j h = absurd (cc)
 functors_found (suc n) found xs i j h =
     let a = bind_ok (rule.functor i) _ _ h in
     elim (eaten kind.Semicolon a.0.1 _ _ _ a.2) [
-      inl s ↦ found_also g.Functor kind.Semicolon kind.End n found xs a.0.0 i a.0.1 (next a.0.1) j (functor_sound a.0.0 i a.0.1 a.1) s.0 (functors_found n (found ++ a.0.0 ∷ []) xs (next a.0.1) j s.1)
-    | inr q ↦ let b = closed kind.End (found ++ a.0.0 ∷ []) xs a.0.1 j q in found_last g.Functor kind.Semicolon kind.End n found xs a.0.0 i a.0.1 j (functor_sound a.0.0 i a.0.1 a.1) b.0 b.1
+      | inl s ↦ found_also g.Functor kind.Semicolon kind.End n found xs a.0.0 i a.0.1 (next a.0.1) j (functor_sound a.0.0 i a.0.1 a.1) s.0 (functors_found n (found ++ a.0.0 ∷ []) xs (next a.0.1) j s.1)
+      | inr q ↦ let b = closed kind.End (found ++ a.0.0 ∷ []) xs a.0.1 j q in found_last g.Functor kind.Semicolon kind.End n found xs a.0.0 i a.0.1 j (functor_sound a.0.0 i a.0.1 a.1) b.0 b.1
     ]
 
 pub family_sound : (line : ℕ) (t : Family) (i j : Input) → rule.family line i ≡ Ok (t, j) → g.TypeDeclaration line t i j
@@ -87,12 +87,12 @@ variables_found closing (suc n) seen found xs i j h =
     let a = bind_ok (variable seen i) _ _ h in
     let v = variable_new seen a.0.0 i a.0.1 a.1 in
     elim (eaten kind.Comma a.0.1 _ _ _ a.2) [
-      inl s ↦
-        let r = variables_found closing n (seen ++ a.0.0 ∷ []) (found ++ a.0.0 ∷ []) xs (next a.0.1) j s.1 in
-        (found_also (Is (variable [])) kind.Comma closing n found xs a.0.0 i a.0.1 (next a.0.1) j v.0 s.0 r.0, (v.1, r.1))
-    | inr q ↦
-        let b = closed closing (found ++ a.0.0 ∷ []) xs a.0.1 j q in
-        (found_last (Is (variable [])) kind.Comma closing n found xs a.0.0 i a.0.1 j v.0 b.0 b.1, (v.1, tt))
+      | inl s ↦
+          let r = variables_found closing n (seen ++ a.0.0 ∷ []) (found ++ a.0.0 ∷ []) xs (next a.0.1) j s.1 in
+          (found_also (Is (variable [])) kind.Comma closing n found xs a.0.0 i a.0.1 (next a.0.1) j v.0 s.0 r.0, (v.1, r.1))
+      | inr q ↦
+          let b = closed closing (found ++ a.0.0 ∷ []) xs a.0.1 j q in
+          (found_last (Is (variable [])) kind.Comma closing n found xs a.0.0 i a.0.1 j v.0 b.0 b.1, (v.1, tt))
     ]
 
 pub variables_sound : (closing : Kind) (seen xs : List ℕ) (i j : Input) → rule.variables closing seen i ≡ Ok (xs, j) → g.Variables closing seen xs i j
@@ -104,16 +104,16 @@ pub arguments_sound : (seen xs : List ℕ) (i j : Input) → rule.arguments seen
 unfolding rule.arguments
 arguments_sound seen xs i j h =
     elim (eaten kind.Open i _ _ _ h) [
-      inl s ↦ g.Arguments.some xs i (next i) j s.0 (variables_sound kind.Close seen xs (next i) j s.1)
-    | inr q ↦ nothing (λ xs. g.Arguments seen xs i) [] xs i j q (g.Arguments.none i)
+      | inl s ↦ g.Arguments.some xs i (next i) j s.0 (variables_sound kind.Close seen xs (next i) j s.1)
+      | inr q ↦ nothing (λ xs. g.Arguments seen xs i) [] xs i j q (g.Arguments.none i)
     ]
 
 pub quantified_sound : (xs : List ℕ) (i j : Input) → rule.quantified i ≡ Ok (xs, j) → g.Quantified xs i j
 unfolding rule.quantified
 quantified_sound xs i j h =
     elim (eaten kind.CloseList i _ _ _ h) [
-      inl s ↦ nothing (λ xs j. g.Quantified xs i j) [] xs (next i) j s.1 (g.Quantified.none i (next i) s.0)
-    | inr q ↦ g.Quantified.some xs i j (variables_sound kind.CloseList [] xs i j q)
+      | inl s ↦ nothing (λ xs j. g.Quantified xs i j) [] xs (next i) j s.1 (g.Quantified.none i (next i) s.0)
+      | inr q ↦ g.Quantified.some xs i j (variables_sound kind.CloseList [] xs i j q)
     ]
 
 -- ---- terms and calls

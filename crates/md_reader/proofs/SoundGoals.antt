@@ -35,12 +35,12 @@ arms_found room inner S (suc n) found ps i j h =
     let a = bind_ok (inner i) _ _ h in
     let p = S a.0.0 i a.0.1 a.1 in
     elim (eaten kind.Semicolon a.0.1 _ _ _ a.2) [
-      inl s ↦
-        let f = arms_found room inner S n (found ++ a.0.0 ∷ []) ps (next a.0.1) j s.1 in
-        record { more = a.0.0 ∷ f.more; end = f.end; all = f.all ∙ append_assoc found (a.0.0 ∷ []) f.more; arms = g.Arms.also_arm room a.0.0 f.more i a.0.1 (next a.0.1) f.end p s.0 f.arms; close = f.close }
-    | inr q ↦
-        let b = closed kind.Close (found ++ a.0.0 ∷ []) ps a.0.1 j q in
-        record { more = a.0.0 ∷ []; end = a.0.1; all = b.1; arms = g.Arms.last_arm room a.0.0 i a.0.1 p; close = b.0 }
+      | inl s ↦
+          let f = arms_found room inner S n (found ++ a.0.0 ∷ []) ps (next a.0.1) j s.1 in
+          record { more = a.0.0 ∷ f.more; end = f.end; all = f.all ∙ append_assoc found (a.0.0 ∷ []) f.more; arms = g.Arms.also_arm room a.0.0 f.more i a.0.1 (next a.0.1) f.end p s.0 f.arms; close = f.close }
+      | inr q ↦
+          let b = closed kind.Close (found ++ a.0.0 ∷ []) ps a.0.1 j q in
+          record { more = a.0.0 ∷ []; end = a.0.1; all = b.1; arms = g.Arms.last_arm room a.0.0 i a.0.1 p; close = b.0 }
     ]
 
 disjunction_sound : (room line : ℕ) (inner : Parser Part) → InnerSound room inner → (first p : Part) (i k m j : Input) → Is (expect kind.Open) line i k → g.Conjunction room first k m → rule.disjunction inner line first m ≡ Ok (p, j) → g.Goal (suc room) p i j
@@ -172,11 +172,11 @@ units_found room inner S (suc n) found ps i j h =
     let a = bind_ok (rule.unit room inner i) _ _ h in
     let u = unit_sound room inner S a.0.0 i a.0.1 a.1 in
     elim (eaten kind.Comma a.0.1 _ _ _ a.2) [
-      inl s ↦
-        let f = units_found room inner S n (found ++ a.0.0 ∷ []) ps (next a.0.1) j s.1 in
-        record { more = a.0.0 ∷ f.more; all = f.all ∙ append_assoc found (a.0.0 ∷ []) f.more; units = g.Units.also room a.0.0 f.more i a.0.1 (next a.0.1) j u s.0 f.units }
-    | inr q ↦
-        record { more = a.0.0 ∷ []; all = sym (ok_value (found ++ a.0.0 ∷ []) ps a.0.1 j q); units = subst (λ (m : Input). g.Units room (a.0.0 ∷ []) i m) (ok_input (found ++ a.0.0 ∷ []) ps a.0.1 j q) (g.Units.last room a.0.0 i a.0.1 u) }
+      | inl s ↦
+          let f = units_found room inner S n (found ++ a.0.0 ∷ []) ps (next a.0.1) j s.1 in
+          record { more = a.0.0 ∷ f.more; all = f.all ∙ append_assoc found (a.0.0 ∷ []) f.more; units = g.Units.also room a.0.0 f.more i a.0.1 (next a.0.1) j u s.0 f.units }
+      | inr q ↦
+          record { more = a.0.0 ∷ []; all = sym (ok_value (found ++ a.0.0 ∷ []) ps a.0.1 j q); units = subst (λ (m : Input). g.Units room (a.0.0 ∷ []) i m) (ok_input (found ++ a.0.0 ∷ []) ps a.0.1 j q) (g.Units.last room a.0.0 i a.0.1 u) }
     ]
 
 conjunction_with_sound : (room : ℕ) (inner : Parser Part) → WithinSound room inner → InnerSound room (rule.conjunction_with room inner)

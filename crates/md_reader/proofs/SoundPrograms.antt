@@ -66,8 +66,8 @@ argument_sound : (x : Sort × Mode) (i j : Input) → rule.argument i ≡ Ok (x,
 unfolding rule.argument
 argument_sound x i j h =
     elim (chosen (sees kind.Pred i) (rule.ho_argument i) (rule.plain_argument i) (Ok (x, j)) h) [
-      inl l ↦ ho_argument_sound x i j l.1
-    | inr r ↦ plain_argument_sound x i j r.1
+      | inl l ↦ ho_argument_sound x i j l.1
+      | inr r ↦ plain_argument_sound x i j r.1
     ]
 
 excess_none : (i : Input) (x : List (Sort × Mode) × Input) → rule.excess i ≡ Ok x → ⊥
@@ -82,16 +82,16 @@ arguments_found (suc n) found xs i j h =
     let a = bind_ok (rule.argument i) _ _ h in
     let p = argument_sound a.0.0 i a.0.1 a.1 in
     elim (eaten kind.Comma a.0.1 _ _ _ a.2) [
-      inl s ↦ found_also g.Argument kind.Comma kind.Close n found xs a.0.0 i a.0.1 (next a.0.1) j p s.0 (arguments_found n (found ++ a.0.0 ∷ []) xs (next a.0.1) j s.1)
-    | inr q ↦ let b = closed kind.Close (found ++ a.0.0 ∷ []) xs a.0.1 j q in found_last g.Argument kind.Comma kind.Close n found xs a.0.0 i a.0.1 j p b.0 b.1
+      | inl s ↦ found_also g.Argument kind.Comma kind.Close n found xs a.0.0 i a.0.1 (next a.0.1) j p s.0 (arguments_found n (found ++ a.0.0 ∷ []) xs (next a.0.1) j s.1)
+      | inr q ↦ let b = closed kind.Close (found ++ a.0.0 ∷ []) xs a.0.1 j q in found_last g.Argument kind.Comma kind.Close n found xs a.0.0 i a.0.1 j p b.0 b.1
     ]
 
 declared_arguments_sound : (xs : List (Sort × Mode)) (i j : Input) → rule.declared_arguments i ≡ Ok (xs, j) → g.DeclaredArguments xs i j
 unfolding rule.declared_arguments
 declared_arguments_sound xs i j h =
     elim (eaten kind.Open i _ _ _ h) [
-      inl s ↦ g.DeclaredArguments.some xs i (next i) j s.0 (enclosed_found g.Argument kind.Close xs (next i) j (arguments_found most [] xs (next i) j s.1))
-    | inr q ↦ nothing (λ xs. g.DeclaredArguments xs i) [] xs i j q (g.DeclaredArguments.none i)
+      | inl s ↦ g.DeclaredArguments.some xs i (next i) j s.0 (enclosed_found g.Argument kind.Close xs (next i) j (arguments_found most [] xs (next i) j s.1))
+      | inr q ↦ nothing (λ xs. g.DeclaredArguments xs i) [] xs i j q (g.DeclaredArguments.none i)
     ]
 
 declaration_sound : (d : rule.Declaration) (i j : Input) → rule.declaration i ≡ Ok (d, j) → g.PredDeclaration d i j
@@ -170,17 +170,17 @@ unfolding rule.declared rule.declared_procedure rule.declared_family rule.proced
 declared_sound before after i j h =
     let a = bind_ok (expect kind.Declare i) _ _ h in
     elim (chosen (sees kind.Pred a.0.1) (rule.declared_procedure before a.0.0 a.0.1) (rule.declared_family before a.0.0 a.0.1) (Ok (after, j)) a.2) [
-      inl l ↦
-        let b = made (rule.procedure a.0.0) (rule.with_procedure before) after a.0.1 j l.1 in
-        let d = bind_ok (rule.declaration a.0.1) _ _ b.1 in
-        let c = made (rule.clause d.0.0.name (length d.0.0.args)) (rule.procedure_from a.0.0 d.0.0) b.0 d.0.1 j d.2 in
-        subst (λ (l : Listing). g.Declared before l i j) (sym b.2)
-        (subst (λ (p : Procedure). g.Declared before (rule.with_procedure before p) i j) (sym c.2)
-        (g.Declared.predicate d.0.0 c.0 a.0.0 i a.0.1 d.0.1 j a.1 (declaration_sound d.0.0 a.0.1 d.0.1 d.1) (clause_sound d.0.0.name (length d.0.0.args) c.0 d.0.1 j c.1)))
-    | inr r ↦
-        let b = made (rule.family a.0.0) (rule.with_family before) after a.0.1 j r.1 in
-        subst (λ (l : Listing). g.Declared before l i j) (sym b.2)
-        (g.Declared.type b.0 a.0.0 i a.0.1 j a.1 (family_sound a.0.0 b.0 a.0.1 j b.1))
+      | inl l ↦
+          let b = made (rule.procedure a.0.0) (rule.with_procedure before) after a.0.1 j l.1 in
+          let d = bind_ok (rule.declaration a.0.1) _ _ b.1 in
+          let c = made (rule.clause d.0.0.name (length d.0.0.args)) (rule.procedure_from a.0.0 d.0.0) b.0 d.0.1 j d.2 in
+          subst (λ (l : Listing). g.Declared before l i j) (sym b.2)
+          (subst (λ (p : Procedure). g.Declared before (rule.with_procedure before p) i j) (sym c.2)
+          (g.Declared.predicate d.0.0 c.0 a.0.0 i a.0.1 d.0.1 j a.1 (declaration_sound d.0.0 a.0.1 d.0.1 d.1) (clause_sound d.0.0.name (length d.0.0.args) c.0 d.0.1 j c.1)))
+      | inr r ↦
+          let b = made (rule.family a.0.0) (rule.with_family before) after a.0.1 j r.1 in
+          subst (λ (l : Listing). g.Declared before l i j) (sym b.2)
+          (g.Declared.type b.0 a.0.0 i a.0.1 j a.1 (family_sound a.0.0 b.0 a.0.1 j b.1))
     ]
 
 declarations_sound : (n : ℕ) (before after : Listing) (i j : Input) → rule.declarations_from n before i ≡ Ok (after, j) → g.Declarations before after i j × (sees kind.Stop j ≡ true)
@@ -188,11 +188,11 @@ unfolding rule.declarations_from
 declarations_sound zero before after i j h = absurd (cc)
 declarations_sound (suc n) before after i j h =
     elim (chosen (sees kind.Stop i) (pure before i) (and_then (rule.declared before i) (rule.declarations_from n)) (Ok (after, j)) h) [
-      inl l ↦ nothing (λ after j. g.Declarations before after i j × (sees kind.Stop j ≡ true)) before after i j l.1 (g.Declarations.none before i, l.0)
-    | inr r ↦
-        let a = bind_ok (rule.declared before i) _ _ r.1 in
-        let d = declarations_sound n a.0.0 after a.0.1 j a.2 in
-        (g.Declarations.also before a.0.0 after i a.0.1 j (declared_sound before a.0.0 i a.0.1 a.1) d.0, d.1)
+      | inl l ↦ nothing (λ after j. g.Declarations before after i j × (sees kind.Stop j ≡ true)) before after i j l.1 (g.Declarations.none before i, l.0)
+      | inr r ↦
+          let a = bind_ok (rule.declared before i) _ _ r.1 in
+          let d = declarations_sound n a.0.0 after a.0.1 j a.2 in
+          (g.Declarations.also before a.0.0 after i a.0.1 j (declared_sound before a.0.0 i a.0.1 a.1) d.0, d.1)
     ]
 
 pub program_sound : (l : Listing) (i j : Input) → rule.program i ≡ Ok (l, j) → g.Program l i j × (sees kind.Stop j ≡ true)

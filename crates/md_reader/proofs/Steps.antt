@@ -60,13 +60,13 @@ found_last item between closing n found xs x i k j h c e = record { more = x ∷
 
 abbrev pub found_also : {A : Type 0} (item : A → Input → Input → Type 0) (between closing : Kind) (n : ℕ) (found xs : List A) (x : A) (i k m j : Input) → item x i k → Sign between k m → Found item between closing n (found ++ x ∷ []) xs m j → Found item between closing (suc n) found xs i j
 found_also item between closing n found xs x i k m j h s f = record {
-    more = x ∷ f.more;
-    end = f.end;
-    all = f.all ∙ append_assoc found (x ∷ []) f.more;
-    listed = also x f.more i k m f.end h s f.listed;
-    few = let few : length f.more ≤ n = f.few in omega arith;
-    close = f.close;
-  }
+  more = x ∷ f.more;
+  end = f.end;
+  all = f.all ∙ append_assoc found (x ∷ []) f.more;
+  listed = also x f.more i k m f.end h s f.listed;
+  few = let few : length f.more ≤ n = f.few in omega arith;
+  close = f.close;
+}
 
 -- three tests that all failed
 pub past_three : {B E : Type 0} (a b c : Bool) (d e f : E) (v : Result B E) (y : B) → cond a (Err d) (cond b (Err e) (cond c (Err f) v)) ≡ Ok y → (a ≡ false) × (b ≡ false) × (c ≡ false) × (v ≡ Ok y)

@@ -129,11 +129,7 @@ fn declared(input: &mut Input<'_>, draft: &mut Draft) -> Result<(), Refusal>
 }
 
 #[tactic(auto, unfolding(crate::specs::Rules::declared_procedure))]
-fn declared_procedure(
-    input: &mut Input<'_>,
-    draft: &mut Draft,
-    line: u32,
-) -> Result<(), Refusal>
+fn declared_procedure(input: &mut Input<'_>, draft: &mut Draft, line: u32) -> Result<(), Refusal>
     ensures { Reads (λ _. draft_of draft.new) (spec.declared_procedure (draft_of draft.old) line (input_of input.old)) result (input_of input.new) }
 {
     let procedure = procedure(input, line)?;

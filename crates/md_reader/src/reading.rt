@@ -1,6 +1,8 @@
 // The text of a program to the program.
-ghost use Rattle.std.specs.Prelude.{◌≡◌, ◌<◌, length};
+ghost use Rattle.std.specs.Prelude.{◌≡◌, ◌<◌, IfOk, length};
 ghost use Rattle.md_token.specs.Token.{lexemes_of};
+ghost use Rattle.md_hlds.specs.Listing.{listing_of};
+ghost use Rattle.md_reader.specs.Grammar.{Spells};
 ghost use Rattle.md_reader.specs.Input.{input_of};
 ghost use Rattle.md_reader.specs.Rules.{start};
 ghost use Rattle.md_reader.specs.Reading.{IsAnswer, refused_of};
@@ -20,6 +22,7 @@ use std::alloc::Global;
 /// first second declaration.
 pub fn read(alloc: Global, text: &[u8]) -> Result<Program, Refused>
     requires { length text.now < 4294967295 }
+    ensures spelled { IfOk result (λ program. Spells text.now (listing_of program)) }
     ensures answer { IsAnswer result text.now }
 {
     let tokens = tokens(alloc, text)?;
