@@ -16,11 +16,14 @@ use Rattle.md_reader.proofs.Steps.{bind_ok, closed, made, chosen, ok_value, ok_i
 use Rattle.md_reader.proofs.Sound.{sorts_found, modes_found, family_sound, arguments_sound, quantified_sound, relation_sound, call_sound, closure_call_sound}
 use Rattle.md_reader.proofs.SoundGoals.{conjunction_sound}
 use Rattle.md_reader.specs.Input.{variable, with_variable}
-use Rattle.md_reader.specs.Grammar.{Spells}
+use Rattle.md_reader.specs.Grammar.{Spells, Repeats}
 use Rattle.md_token.specs.Token.{Lexeme, tokens_of}
 use Rattle.md_reader.specs.declared.refused.Refused.{Refused}
+use Rattle.md_reader.specs.declared.refused.Refused.TheVariants as refused
+use Rattle.md_reader.specs.declared.refused.Refusal.{Refusal}
+use Rattle.md_reader.specs.declared.refused.Refusal.TheVariants as refusal
 use Rattle.md_reader.specs.Duplicates.{duplicate}
-use Rattle.md_reader.specs.Reading.{reading, outcome_of, without_duplicate}
+use Rattle.md_reader.specs.Reading.{reading, outcome_of, without_duplicate, refused_of, HasCause}
 
 -- ---- predicates
 
@@ -222,3 +225,26 @@ read_sound text (Ok p) l e h =
 pub reading_sound : (text : List ℕ) (l : Listing) → reading text ≡ Ok l → Spells text l
 unfolding reading
 reading_sound text l h = read_sound text (rule.program (rule.start (tokens_of text))) l refl h
+
+twice_of : (m : Listing) (line : ℕ) (d : Option ℕ) → duplicate m ≡ d → without_duplicate m d ≡ Err (refused.Duplicate line) → duplicate m ≡ Some line
+twice_of m line None e h = absurd (cc)
+twice_of m line (Some other) e h = cc
+
+read_repeats : (text : List ℕ) (r : Outcome Listing) (line : ℕ) → rule.program (rule.start (tokens_of text)) ≡ r → outcome_of r ≡ Err (refused.Duplicate line) → Repeats text line
+read_repeats text (Err (refusal.Syntax place)) line e h = absurd (cc)
+read_repeats text (Err (refusal.Limit place)) line e h = absurd (cc)
+read_repeats text (Err refusal.NoMemory) line e h = absurd (cc)
+read_repeats text (Ok p) line e h =
+    let s = program_sound p.0 (rule.start (tokens_of text)) p.1 e in
+    record { listing = p.0; end = p.1; program = s.0; whole = s.1; second = twice_of p.0 line (duplicate p.0) refl h }
+
+-- where a second declaration is answered, there is one
+pub reading_repeats : (text : List ℕ) (line : ℕ) → reading text ≡ Err (refused.Duplicate line) → Repeats text line
+unfolding reading
+reading_repeats text line h = read_repeats text (rule.program (rule.start (tokens_of text))) line refl h
+
+-- a fault of a token is no second declaration
+pub fault_cause : (r : Refusal) (text : List ℕ) → HasCause (refused_of r) text
+fault_cause (refusal.Syntax place) text = tt
+fault_cause (refusal.Limit place) text = tt
+fault_cause refusal.NoMemory text = tt

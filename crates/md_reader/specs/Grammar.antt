@@ -177,3 +177,12 @@ pub record Spells (text : List ℕ) (l : Listing) : Type 0 where
   pub program : Program l (rule.start (tokens_of text)) end
   pub whole : sees kind.Stop end ≡ yes
   pub once : duplicate l ≡ None
+
+-- The tokens of the text, all of them, are a program's by the grammar, within the limits, but something is declared a
+-- second time, first at this line.
+pub record Repeats (text : List ℕ) (line : ℕ) : Type 0 where
+  pub listing : Listing
+  pub end : Input
+  pub program : Program listing (rule.start (tokens_of text)) end
+  pub whole : sees kind.Stop end ≡ yes
+  pub second : duplicate listing ≡ Some line

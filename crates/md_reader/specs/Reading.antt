@@ -1,5 +1,5 @@
 -- What a text is read as.
-use Rattle.std.specs.Prelude.{◌≡◌, ◌≢◌, ℕ, List, Option, Some, None, Result, Ok, Err}
+use Rattle.std.specs.Prelude.{⊤, ◌≡◌, ◌≢◌, ℕ, List, Option, Some, None, Result, Ok, Err}
 use Rattle.md_hlds.specs.declared.program.Program.{Program}
 use Rattle.md_hlds.specs.Listing.{Listing, listing_of}
 use Rattle.md_token.specs.Token.{tokens_of}
@@ -10,6 +10,7 @@ use Rattle.md_reader.specs.declared.refused.Refused.TheVariants as refused
 use Rattle.md_reader.specs.Input.{Input, Outcome}
 use Rattle.md_reader.specs.Rules.{program, start}
 use Rattle.md_reader.specs.Duplicates.{duplicate}
+use Rattle.md_reader.specs.Grammar.{Repeats}
 
 abbrev pub refused_of : Refusal → Refused
 refused_of (refusal.Syntax place) = refused.Syntax place.line
@@ -33,3 +34,10 @@ reading text = outcome_of (program (start (tokens_of text)))
 abbrev pub IsAnswer : Result Program Refused → List ℕ → Type 0
 IsAnswer (Ok p) text = reading text ≡ Ok (listing_of p)
 IsAnswer (Err e) text = e ≢ refused.NoMemory → reading text ≡ Err e
+
+-- why a second declaration is answered
+abbrev pub HasCause : Refused → List ℕ → Type 0
+HasCause (refused.Duplicate line) text = Repeats text line
+HasCause (refused.Syntax line) text = ⊤
+HasCause (refused.Limit line) text = ⊤
+HasCause refused.NoMemory text = ⊤

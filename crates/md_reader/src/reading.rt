@@ -1,11 +1,11 @@
 // The text of a program to the program.
-ghost use Rattle.std.specs.Prelude.{◌≡◌, ◌<◌, IfOk, length};
+ghost use Rattle.std.specs.Prelude.{◌≡◌, ◌<◌, IfErr, IfOk, length};
 ghost use Rattle.md_token.specs.Token.{lexemes_of};
 ghost use Rattle.md_hlds.specs.Listing.{listing_of};
 ghost use Rattle.md_reader.specs.Grammar.{Spells};
 ghost use Rattle.md_reader.specs.Input.{input_of};
 ghost use Rattle.md_reader.specs.Rules.{start};
-ghost use Rattle.md_reader.specs.Reading.{IsAnswer, refused_of};
+ghost use Rattle.md_reader.specs.Reading.{HasCause, IsAnswer, refused_of};
 
 use crate::duplicates::duplicate;
 use crate::input::Input;
@@ -23,6 +23,7 @@ use std::alloc::Global;
 pub fn read(alloc: Global, text: &[u8]) -> Result<Program, Refused>
     requires { length text.now < 4294967295 }
     ensures spelled { IfOk result (λ program. Spells text.now (listing_of program)) }
+    ensures duplicate { IfErr result (λ refused. HasCause refused text.now) }
     ensures answer { IsAnswer result text.now }
 {
     let tokens = tokens(alloc, text)?;

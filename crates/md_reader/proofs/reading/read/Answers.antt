@@ -3,11 +3,12 @@ use Rattle.std.proofs.lemmas.Grind.{common_steps}
 use Rattle.md_hlds.specs.Listing.{listing_of}
 use Rattle.md_token.specs.Token.{tokens_of, lexemes_of}
 use Rattle.md_reader.specs.declared.refused.Refusal.TheVariants as refusal
+use Rattle.md_reader.specs.declared.refused.Refused.TheVariants as refused
 use Rattle.md_reader.specs.Input.{input_of}
 use Rattle.md_reader.specs.Rules.{program, start}
 use Rattle.md_reader.specs.Duplicates.{duplicate}
 use Rattle.md_reader.specs.Reading.{reading, outcome_of, refused_of}
-use Rattle.md_reader.proofs.SoundPrograms.{reading_sound}
+use Rattle.md_reader.proofs.SoundPrograms.{reading_sound, reading_repeats, fault_cause}
 use Rattle.md_reader.proofs.reading.read.Goals as goal
 
 pub returns-in-Err : goal.returns-in-Err
@@ -16,6 +17,7 @@ returns-in-Err c =
     let e : input_of c.start_input-input.result ≡ start (tokens_of c.args.text.now) = c.start_input-input.ensures ∙ ap start (ap lexemes_of c.deref.ensures.value ∙ c.in_ok-tokens.ensures) in
     record {
       spelled = tt;
+      duplicate = rw c.refused.ensures (fault_cause c.in-Err.refusal c.args.text.now);
       answer = λ n.
           let m : c.in-Err.refusal ≢ refusal.NoMemory = λ h. n (c.refused.ensures ∙ ap refused_of h) in
           rw (rw e at (c.in-Err.ensures m)) (ap Err (sym c.refused.ensures));
@@ -27,11 +29,12 @@ returns-in-None c =
     let e : input_of c.start_input-input.result ≡ start (tokens_of c.args.text.now) = c.start_input-input.ensures ∙ ap start (ap lexemes_of c.deref.ensures.value ∙ c.in_ok-tokens.ensures) in
     let d : duplicate (listing_of c.in-Ok.program) ≡ None = sym c.in_ok-duplicate-in-Ok.ensures ∙ c.in-None.is in
     let read : reading c.args.text.now ≡ Ok (listing_of c.in-Ok.program) = rw (rw e at c.in-Ok.ensures, d) refl in
-    record { spelled = reading_sound c.args.text.now (listing_of c.in-Ok.program) read; answer = read }
+    record { spelled = reading_sound c.args.text.now (listing_of c.in-Ok.program) read; duplicate = tt; answer = read }
 
 pub returns : goal.returns
 unfolding reading
 returns c =
     let e : input_of c.start_input-input.result ≡ start (tokens_of c.args.text.now) = c.start_input-input.ensures ∙ ap start (ap lexemes_of c.deref.ensures.value ∙ c.in_ok-tokens.ensures) in
     let d : duplicate (listing_of c.in-Ok.program) ≡ Some c.in-Some.line = sym c.in_ok-duplicate-in-Ok.ensures ∙ c.in-Some.is in
-    record { spelled = tt; answer = λ _. rw (rw e at c.in-Ok.ensures, d) refl }
+    let read : reading c.args.text.now ≡ Err (refused.Duplicate c.in-Some.line) = rw (rw e at c.in-Ok.ensures, d) refl in
+    record { spelled = tt; duplicate = reading_repeats c.args.text.now c.in-Some.line read; answer = λ _. read }
