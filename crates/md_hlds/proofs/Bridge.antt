@@ -1,14 +1,14 @@
 -- The goals of a vector inside a goal, and the types of a vector inside a type, as plain data.
-use Rattle.std.proofs.Common.{◌≡◌, refl, ap, ◌∙◌, sym, ℕ, List, [], ◌∷◌, ◌++◌, length, Vec, Some, slice_get}
+use Rattle.std.proofs.Common.{◌≡◌, refl, ap, ◌∙◌, List, [], ◌∷◌, ◌++◌, Vec}
 use Rattle.std.specs.declared.alloc.Global.{Global}
 use Rattle.md_hlds.specs.declared.goal.Goal.{Goal}
-use Rattle.md_hlds.specs.declared.goal.GoalKind.{GoalKind, Conj, Disj, Row_of-Goal, end_of-Goal, more_of-Goal, items-the_row-Goal, items_hidden-the_row-Goal-0}
+use Rattle.md_hlds.specs.declared.goal.GoalKind.{Conj, Disj, Row_of-Goal, end_of-Goal, more_of-Goal, items-the_row-Goal, items_hidden-the_row-Goal-0}
 use Rattle.md_hlds.specs.declared.goal.GoalKind.TheBlock.{hidden-the_row-Goal-0}
-use Rattle.md_hlds.specs.declared.types.Ty.{Ty, Ho, Row_of-Ty, end_of-Ty, more_of-Ty, items-the_row-Ty, items_hidden-the_row-Ty-0}
+use Rattle.md_hlds.specs.declared.types.Ty.{Ho, Row_of-Ty, end_of-Ty, more_of-Ty, items-the_row-Ty, items_hidden-the_row-Ty-0}
 use Rattle.md_hlds.specs.declared.types.Ty.TheBlock.{hidden-the_row-Ty-0}
 use Rattle.md_hlds.specs.declared.types.HoTy.{HoTy}
-use Rattle.md_hlds.specs.Part.{Part, At, Task, Each, Either, Parts, nothing, also, listed, gathered, task_of, row_parts, part_of, parts_of}
-use Rattle.md_hlds.specs.Listing.{Sort, closure, Sorts, no_sorts, also_sort, listed_sorts, gathered_sorts, sort_of, row_sorts, sorts_of}
+use Rattle.md_hlds.specs.Part.{Part, At, Each, Either, Parts, nothing, also, listed, gathered, task_of, row_parts, part_of, parts_of}
+use Rattle.md_hlds.specs.Listing.{Sort, closure, also_sort, listed_sorts, gathered_sorts, sort_of, row_sorts, sorts_of}
 
 row_parts-gathered : {n : _} (row : Row_of-Goal n) → row_parts row ≡ gathered (parts_of (items-the_row-Goal n row))
 row_parts-gathered end_of-Goal = refl

@@ -1,9 +1,9 @@
 -- The procedures of a program's predicates, and their call sites.
-use Rattle.std.proofs.Common.{◌≡◌, refl, ap, ◌∙◌, sym, subst, arith, ℕ, zero, suc, ◌+◌, ◌<◌, ◌≤◌, List, [], ◌∷◌, ◌++◌, length, take, map, Option, Some, None, MatchOption, slice_get, get_or, length-append, option_map, Bor}
+use Rattle.std.proofs.Common.{◌≡◌, refl, ap, ◌∙◌, sym, subst, arith, ℕ, zero, suc, ◌+◌, ◌<◌, ◌≤◌, List, [], ◌∷◌, length, take, map, Option, Some, None, MatchOption, slice_get, get_or, length-append, option_map, Bor}
 use Rattle.std.specs.Slice.{IsGetResult}
 use Rattle.md_hlds.specs.declared.program.Pred.{Pred}
 use Rattle.md_hlds.specs.Part.{part_of, site_lines}
-use Rattle.md_hlds.specs.Listing.{Procedure, procedure_of, procedures_of, owned_by, sites_from}
+use Rattle.md_hlds.specs.Listing.{procedure_of, procedures_of, owned_by, sites_from}
 use Rattle.md_hlds.proofs.SiteLemmas.{found_in_first, found_in_second}
 
 pub length-procedures_of : (ps : List Pred) → length (procedures_of ps) ≡ length ps

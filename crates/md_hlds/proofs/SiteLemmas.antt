@@ -1,9 +1,9 @@
 -- Call sites of goals one after the other.
-use Rattle.std.proofs.Common.{◌≡◌, refl, ap, ◌∙◌, sym, subst, arith, ℕ, zero, suc, ◌+◌, ◌-◌, ◌<◌, ◌≤◌, List, [], ◌∷◌, ◌++◌, length, take, Vec, Box, Option, Some, None, slice_get, get_or, append_assoc, length-append, add-one}
+use Rattle.std.proofs.Common.{◌≡◌, refl, ap, ◌∙◌, sym, subst, arith, ℕ, zero, suc, ◌+◌, ◌<◌, List, [], ◌∷◌, ◌++◌, length, take, Vec, Box, Option, Some, None, slice_get, get_or, length-append}
 use Rattle.std.specs.declared.alloc.Global.{Global}
 use Rattle.md_hlds.specs.declared.goal.Goal.{Goal}
 use Rattle.md_hlds.specs.declared.goal.GoalKind.{GoalKind, Conj, Disj, If}
-use Rattle.md_hlds.specs.Part.{Part, Task, Parts, gathered, part_of, parts_of, task_of, task_lines, parts_lines, site_lines}
+use Rattle.md_hlds.specs.Part.{gathered, part_of, parts_of, task_of, task_lines, parts_lines, site_lines}
 use Rattle.md_hlds.specs.Sites.{FindsSite}
 use Rattle.md_hlds.proofs.Bridge.{task_of-Conj, task_of-Disj}
 

@@ -1,10 +1,9 @@
 -- Laws of traces: what `first` and `joined` do one inside the other, and what the budget does at a turn.
-use Rattle.std.proofs.Common.{◌≡◌, refl, ap, arith, ℕ, suc, ◌-◌, ◌<◌, ◌≤◌, true, false, List, [], ◌∷◌, ◌++◌, Option}
-use Rattle.std.specs.Prelude.{nat_le}
+use Rattle.std.proofs.Common.{◌≡◌, refl, ap, ℕ, suc, ◌-◌, ◌<◌, ◌≤◌, [], ◌∷◌}
 use Rattle.std.proofs.lemmas.Bool.{le-leb, lt-leb}
 use Rattle.md_hlds.specs.Value.{Env}
-use Rattle.md_hlds.specs.Trace.{Item, Turn, Call, Exit, Redo, Fail, Alloc, Out, Answer, Stuck, Deep, Items, joined, first}
-use Rattle.md_hlds.specs.Run.{cut, cut_turn, output, is_finished, events}
+use Rattle.md_hlds.specs.Trace.{Turn, Call, Exit, Redo, Fail, Alloc, Out, Answer, Stuck, Deep, Items, joined, first}
+use Rattle.md_hlds.specs.Run.{cut, cut_turn}
 
 -- the first answer of what follows a first answer
 pub first-first : (xs : Items) (k : ℕ) (found : Env → ℕ → Items) (missed : ℕ → Items) (later : Env → ℕ → Items) (never : ℕ → Items)

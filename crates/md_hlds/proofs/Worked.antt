@@ -1,22 +1,19 @@
 -- The definition of a run, computed on small programs: the words of each theorem were worked out by hand from the
 -- rules of the language, and `refl` says that the definition gives them.
-use Rattle.std.proofs.Common.{◌≡◌, refl, ℕ, zero, suc, pos, true, false, Bool, List, [], ◌∷◌, ◌++◌, Option, Some, None, length}
+use Rattle.std.proofs.Common.{◌≡◌, refl, ℕ, zero, suc, pos, true, false, Bool, List, [], ◌∷◌, ◌++◌, Some, None, length}
 use Rattle.std.specs.Prelude.{codes}
 use Rattle.std.specs.Fmt.{digits}
 use Rattle.md_hlds.specs.declared.types.Det.{Det}
-use Rattle.md_hlds.specs.declared.types.Det.TheVariants.{Semidet, Multi, Nondet, Failure}
+use Rattle.md_hlds.specs.declared.types.Det.TheVariants.{Nondet}
 use Rattle.md_hlds.specs.declared.types.Det.TheVariants.{Det as One}
-use Rattle.md_hlds.specs.declared.types.Mode.{Mode}
-use Rattle.md_hlds.specs.declared.types.Mode.TheVariants.{In, Out as Outwards, Di, Uo}
 use Rattle.md_hlds.specs.declared.goal.PredName.{PredName}
-use Rattle.md_hlds.specs.declared.goal.Term.{Term}
 use Rattle.md_hlds.specs.declared.goal.Term.TheVariants.{Var, Int, Str, Name}
 use Rattle.md_hlds.specs.declared.goal.Op.TheVariants.{Add, Sub, Mul}
-use Rattle.md_hlds.specs.declared.goal.Cmp.TheVariants.{Lt, Le, Gt, Ge}
-use Rattle.md_hlds.specs.Part.{Part, At, Task, Plain, Invoke, Apply, Each, Either, Choose, Unless, Once, Parts, gathered, Succeeds, Fails, Unifies, Computes, Compares, WritesInt, WritesText, EndsLine}
-use Rattle.md_hlds.specs.Listing.{Listing, Procedure, Family, Construct, Sort, number, text, world, named}
+use Rattle.md_hlds.specs.declared.goal.Cmp.TheVariants.{Le, Gt}
+use Rattle.md_hlds.specs.Part.{Part, At, Task, Plain, Invoke, Apply, Each, Either, Choose, Unless, Once, gathered, Succeeds, Unifies, Computes, Compares, WritesInt, WritesText, EndsLine}
+use Rattle.md_hlds.specs.Listing.{Listing, Procedure, Family, number, named}
 use Rattle.md_hlds.specs.Value.{Number, Literal}
-use Rattle.md_hlds.specs.Trace.{Item, Items, Turn, Call, Exit, Redo, Fail, Alloc, Out, Answer}
+use Rattle.md_hlds.specs.Trace.{Turn, Call, Exit, Redo, Fail, Alloc, Out, Answer}
 use Rattle.md_hlds.specs.Run.{run, output, is_finished, events}
 
 -- words for writing programs: the definition of a run doesn't read lines

@@ -1,11 +1,9 @@
 -- The run of a program within a budget of steps, what it writes, whether it is finished, and its events.
-use Rattle.std.specs.Prelude.{ℕ, suc, ◌+◌, ◌-◌, pos, Bool, true, false, ◌&&◌, List, [], ◌∷◌, ◌++◌, length, Option, Some, None, cond, nat_eq, nat_le}
-use Rattle.std.specs.Str.{bytes_eq}
-use Rattle.md_hlds.specs.Listing.{Listing, Procedure, find_procedure, procedure_called}
+use Rattle.std.specs.Prelude.{ℕ, ◌-◌, pos, Bool, true, false, List, [], ◌∷◌, ◌++◌, length, Option, Some, None, nat_le}
+use Rattle.md_hlds.specs.Listing.{Listing, Procedure, procedure_called}
 use Rattle.md_hlds.specs.declared.goal.PredName.{PredName}
-use Rattle.md_hlds.specs.Part.{site_count}
-use Rattle.md_hlds.specs.Value.{Value, Number, Env, bound, blank}
-use Rattle.md_hlds.specs.Trace.{Item, Turn, Call, Exit, Redo, Fail, Alloc, Out, Answer, Stuck, Deep, Items, Frame, first, trace, call_weight}
+use Rattle.md_hlds.specs.Value.{Number, Env, bound, blank}
+use Rattle.md_hlds.specs.Trace.{Turn, Call, Exit, Fail, Out, Answer, Stuck, Deep, Items, Frame, first, trace, call_weight}
 
 -- Items up to the first turn that is heavier than what is left of the budget; that turn isn't made.
 abbrev pub cut_turn : ℕ → ℕ → ℕ → Items → Bool → Items

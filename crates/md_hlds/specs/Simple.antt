@@ -1,5 +1,5 @@
 -- What a simple goal gives in an environment: it goes by which variables have a value, and never by a mode.
-use Rattle.std.specs.Prelude.{ℕ, ◌+◌, ℤ, pos, Bool, true, false, ◌&&◌, List, [], ◌∷◌, ◌++◌, length, Option, Some, None, cond, nat_eq}
+use Rattle.std.specs.Prelude.{ℕ, ◌+◌, ℤ, pos, Bool, true, false, ◌&&◌, List, [], ◌∷◌, length, Option, Some, None, cond, nat_eq}
 use Rattle.std.specs.Int.{w64, int_wrapping_add, int_wrapping_sub, int_wrapping_mul}
 use Rattle.std.specs.Ordering.{int_cmp, is_lt, is_le, is_gt, is_ge}
 use Rattle.std.specs.Fmt.{signed_decimal}
@@ -13,7 +13,7 @@ use Rattle.md_hlds.specs.declared.goal.Cmp.TheVariants.{Lt, Le, Gt, Ge}
 use Rattle.md_hlds.specs.declared.goal.PredName.{PredName}
 use Rattle.md_hlds.specs.Part.{Simple, Succeeds, Fails, Unifies, Computes, Compares, WritesInt, WritesText, EndsLine}
 use Rattle.md_hlds.specs.Listing.{Listing, Procedure, procedure_called, is_functor}
-use Rattle.md_hlds.specs.Value.{Value, Values, Number, Literal, Built, Closure, listed_values, gathered_values, value_count, Compared, compared, Env, value_at, values_at, bound}
+use Rattle.md_hlds.specs.Value.{Value, Number, Literal, Built, Closure, listed_values, gathered_values, value_count, Compared, compared, Env, value_at, values_at, bound}
 
 -- What a simple goal does. Its weight is suc extra.
 pub data Outcome : Type 0 where

@@ -5,9 +5,9 @@ use Rattle.std.specs.Ordering.{int_eq}
 use Rattle.std.specs.Str.{bytes_eq}
 use Rattle.md_hlds.specs.declared.goal.Term.{Term}
 use Rattle.md_hlds.specs.declared.goal.Term.TheVariants.{Var, Int, Str, Name}
-use Rattle.md_hlds.specs.Part.{Simple, Unifies, Part, At, Task, Plain, Each, Parts, nothing, also}
+use Rattle.md_hlds.specs.Part.{Unifies, Part, At, Plain, Each, Parts, nothing, also}
 use Rattle.md_hlds.specs.Listing.{Listing, is_functor}
-use Rattle.md_hlds.specs.Value.{Value, Number, Literal, Built, Closure, value_count}
+use Rattle.md_hlds.specs.Value.{Value, Number, Literal, Built, value_count}
 
 -- what tells one arm from another
 pub data Key : Type 0 where

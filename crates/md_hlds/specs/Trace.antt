@@ -1,14 +1,12 @@
 -- The unfolded trace of a job: every goal that is unfolded, every port of every activation, every allocation and all
 -- that is written, in order. This is the four-port view of a nondeterministic call (Byrd's box) read as lists: it has
 -- no stack of choices and no resume address.
-use Rattle.std.specs.Prelude.{ℕ, suc, zero, ◌+◌, Bool, true, false, List, [], ◌∷◌, ◌++◌, length, Option, Some, None, cond, nat_eq}
+use Rattle.std.specs.Prelude.{ℕ, suc, zero, ◌+◌, Bool, true, false, List, [], ◌∷◌, ◌++◌, length, Option, Some, None, nat_eq}
 use Rattle.md_hlds.specs.declared.types.Det.{Det}
-use Rattle.md_hlds.specs.declared.types.Det.TheVariants.{Semidet, Multi, Nondet, Failure}
-use Rattle.md_hlds.specs.declared.types.Det.TheVariants.{Det as One}
-use Rattle.md_hlds.specs.declared.goal.PredName.{PredName}
-use Rattle.md_hlds.specs.Part.{Simple, Part, At, Task, Plain, Invoke, Apply, Each, Either, Choose, Unless, Once, Parts, nothing, also, listed, site_count}
+use Rattle.md_hlds.specs.declared.types.Det.TheVariants.{Multi, Nondet}
+use Rattle.md_hlds.specs.Part.{Part, At, Task, Plain, Invoke, Apply, Each, Either, Choose, Unless, Once, Parts, nothing, also, listed, site_count}
 use Rattle.md_hlds.specs.Listing.{Listing, Procedure, procedure_called, nth_procedure}
-use Rattle.md_hlds.specs.Value.{Value, Values, Number, Literal, Built, Closure, listed_values, Env, value_at, bound, blank}
+use Rattle.md_hlds.specs.Value.{Value, Closure, listed_values, Env, value_at, bound, blank}
 use Rattle.md_hlds.specs.Simple.{Outcome, Go, No, Stop, simple}
 use Rattle.md_hlds.specs.Switch.{Key, switch_shape, arm_for}
 

@@ -1,5 +1,5 @@
 -- Values, how many pairs of nodes a comparison of two of them looks at, and environments.
-use Rattle.std.specs.Prelude.{ℕ, suc, zero, ◌+◌, ℤ, Bool, true, false, ◌&&◌, List, [], ◌∷◌, length, Option, Some, None, cond, nat_eq, slice_get, slice_set}
+use Rattle.std.specs.Prelude.{ℕ, suc, zero, ◌+◌, ℤ, Bool, true, false, ◌&&◌, List, [], ◌∷◌, Option, Some, None, cond, nat_eq, slice_get, slice_set}
 use Rattle.std.specs.Ordering.{int_eq}
 use Rattle.std.specs.Str.{bytes_eq}
 

@@ -5,6 +5,8 @@
 mod goal;
 mod program;
 mod sites;
+#[cfg(test)]
+mod tests;
 mod types;
 mod variables;
 

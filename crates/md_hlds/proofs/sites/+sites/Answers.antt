@@ -1,4 +1,4 @@
-use Rattle.std.proofs.Common.{◌≡◌, ◌∙◌, arith, ap, sym, add-one}
+use Rattle.std.proofs.Common.{◌∙◌, arith, ap, sym, add-one}
 use Rattle.md_hlds.specs.Part.{part_of, site_lines}
 use Rattle.md_hlds.proofs.SiteLemmas.{lines_of, finds_along, task_lines-Conj, task_lines-Disj, task_lines-If, third_of_three, found_at, length-lines_more}
 use Rattle.md_hlds.proofs.sites.+sites.Goals as goal

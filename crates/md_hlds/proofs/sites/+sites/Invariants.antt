@@ -1,5 +1,5 @@
 use Rattle.std.proofs.Common.{◌≡◌, ◌+◌, length, take}
-use Rattle.md_hlds.specs.Part.{part_of, parts_of, parts_lines, gathered, site_lines}
+use Rattle.md_hlds.specs.Part.{parts_of, parts_lines, gathered}
 use Rattle.md_hlds.proofs.sites.+sites.Given as goal
 
 abbrev pub invariant-find_in_all-loop-goal : goal.invariant-find_in_all-loop-goal

@@ -1,4 +1,4 @@
-use Rattle.std.proofs.Common.{arith, add-one, length, refl}
+use Rattle.std.proofs.Common.{arith, add-one}
 use Rattle.md_hlds.proofs.ProcedureLemmas.{site_at, length-sites_more}
 use Rattle.md_hlds.proofs.program.Program.site.Goals as goal
 

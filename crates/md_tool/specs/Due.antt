@@ -1,0 +1,136 @@
+-- What a run owes, and what there is of it after the call.
+use Rattle.std.specs.Prelude.{ℕ, ◌≡◌, ◌⊎◌, ◌≤◌, Bool, true, false, IsTrue, List, length, Option, Result, Ok, Err}
+use Rattle.md_base.specs.Outside.{added, PartAdded}
+use Rattle.md_base.specs.Files.{Files, FileIs, FileIsLonger}
+use Rattle.md_hlds.specs.Listing.{Listing}
+use Rattle.md_hlds.specs.Run.{run, output, is_finished}
+use Rattle.md_reader.specs.declared.refused.Refused.{Refused}
+use Rattle.md_reader.specs.declared.refused.Refused.TheVariants as refused
+use Rattle.md_reader.specs.Reading.{reading}
+use Rattle.md_machine.specs.FirstForm.{is_first_form}
+use Rattle.md_machine.specs.Ran.{IsRunOf, says_finished}
+use Rattle.md_machine.specs.declared.execute.End.{End}
+use Rattle.md_machine.specs.declared.execute.End.TheVariants.{Finished}
+use Rattle.md_machine.specs.declared.execute.End.TheVariants.{OutOfSteps as RanOut}
+use Rattle.md_machine.specs.declared.execute.Ran.{Ran}
+use Rattle.md_tool.specs.declared.fault.Fault.{Fault}
+use Rattle.md_tool.specs.declared.fault.Fault.TheVariants.{Usage, Read, TooLong, Syntax, Limit, Duplicate, NotBuilt, OutOfSteps, Write, NoMemory}
+
+-- the budget of a run
+abbrev pub budget : ℕ
+budget = 1000000
+
+-- the longest text of a program, in bytes
+abbrev pub longest : ℕ
+longest = 1048576
+
+-- a text that spells a program which can be run
+pub record Runs (text : List ℕ) : Type 0 where
+  pub program : Listing
+  pub spelled : reading text ≡ Ok program
+  pub form : IsTrue (is_first_form program)
+
+-- the bytes that the run of the program writes, and whether it is finished
+abbrev pub output_of : {text : List ℕ} → Runs text → List ℕ
+output_of r = output (run r.program budget)
+
+abbrev pub finished : {text : List ℕ} → Runs text → Bool
+finished r = is_finished (run r.program budget)
+
+-- a text that spells a program of another form
+pub record IsOther (text : List ℕ) : Type 0 where
+  pub program : Listing
+  pub spelled : reading text ≡ Ok program
+  pub form : is_first_form program ≡ false
+
+-- what a run of a text came to
+pub record TextRuns (text : List ℕ) (ran : Ran) : Type 0 where
+  pub runs : Runs text
+  pub is_run : IsRunOf runs.program budget ran
+
+-- what a run of a program came to, and why it isn't run
+pub record ProgramRuns (program : Listing) (ran : Ran) : Type 0 where
+  pub form : IsTrue (is_first_form program)
+  pub is_run : IsRunOf program budget ran
+
+abbrev pub ProgramFault : Listing → Fault → Type 0
+ProgramFault program NotBuilt = is_first_form program ≡ false
+ProgramFault program NoMemory = Unit {0}
+ProgramFault program fault = ⊥
+
+-- why a text isn't run
+abbrev pub TextFault : List ℕ → Fault → Type 0
+TextFault text NotBuilt = IsOther text
+TextFault text (Syntax line) = reading text ≡ Err (refused.Syntax line)
+TextFault text (Limit line) = reading text ≡ Err (refused.Limit line)
+TextFault text (Duplicate line) = reading text ≡ Err (refused.Duplicate line)
+TextFault text NoMemory = Unit {0}
+TextFault text fault = ⊥
+
+-- the fault that a refused text is
+abbrev pub refusal_of : Refused → Fault
+refusal_of (refused.Syntax line) = Syntax line
+refusal_of (refused.Limit line) = Limit line
+refusal_of (refused.Duplicate line) = Duplicate line
+refusal_of refused.NoMemory = NoMemory
+
+-- why a file's text isn't read: `read_faults_rose` is what the store's count says
+abbrev pub ReadFails : Option Files → List ℕ → Type 0 → Fault → Type 0
+ReadFails held file read_faults_rose Read = read_faults_rose
+ReadFails held file read_faults_rose TooLong = FileIsLonger held file longest
+ReadFails held file read_faults_rose NoMemory = Unit {0}
+ReadFails held file read_faults_rose fault = ⊥
+
+-- the text of a file, which is short enough for a program
+pub record IsText (held : Option Files) (file text : List ℕ) : Type 0 where
+  pub is_file : FileIs held file text
+  pub short : length text ≤ longest
+
+-- what the end of a run tells
+abbrev pub told_of : End → Result (Unit {0}) Fault
+told_of Finished = Ok tt
+told_of RanOut = Err OutOfSteps
+
+-- what a run wrote was written, or a front of it
+abbrev pub ShowEnds : Ran → Option (List ℕ) → Option (List ℕ) → Type 0 → Result (Unit {0}) Fault → Type 0
+ShowEnds ran before now writes (Ok done) = (now ≡ added ran.output.items before) × (says_finished ran.end ≡ true)
+ShowEnds ran before now writes (Err OutOfSteps) = (now ≡ added ran.output.items before) × (says_finished ran.end ≡ false)
+ShowEnds ran before now writes (Err Write) = writes × PartAdded ran.output.items before now
+ShowEnds ran before now writes (Err NoMemory) = PartAdded ran.output.items before now
+ShowEnds ran before now writes (Err fault) = ⊥
+
+-- the file's program was run, and all that its run writes was written
+pub record HasRun (held : Option Files) (file : List ℕ) (before now : Option (List ℕ)) (finished' : Bool) : Type 0 where
+  pub text : List ℕ
+  pub is_text : IsText held file text
+  pub runs : Runs text
+  pub written : now ≡ added (output_of runs) before
+  pub end : finished runs ≡ finished'
+
+-- the file's program was run, and a front of what its run writes was written
+pub record HasRunInPart (held : Option Files) (file : List ℕ) (before now : Option (List ℕ)) : Type 0 where
+  pub text : List ℕ
+  pub is_text : IsText held file text
+  pub runs : Runs text
+  pub written : PartAdded (output_of runs) before now
+
+-- the file's text isn't run, and nothing was written
+pub record IsRefused (held : Option Files) (file : List ℕ) (before now : Option (List ℕ)) (fault : Fault) : Type 0 where
+  pub text : List ℕ
+  pub is_text : IsText held file text
+  pub cause : TextFault text fault
+  pub untouched : now ≡ before
+
+-- what a run of a file came to
+abbrev pub RunEnds : Option Files → List ℕ → Option (List ℕ) → Option (List ℕ) → Type 0 → Type 0 → Result (Unit {0}) Fault → Type 0
+RunEnds held file before now reads writes (Ok done) = HasRun held file before now true
+RunEnds held file before now reads writes (Err OutOfSteps) = HasRun held file before now false
+RunEnds held file before now reads writes (Err Read) = reads × (now ≡ before)
+RunEnds held file before now reads writes (Err TooLong) = FileIsLonger held file longest × (now ≡ before)
+RunEnds held file before now reads writes (Err (Syntax line)) = IsRefused held file before now (Syntax line)
+RunEnds held file before now reads writes (Err (Limit line)) = IsRefused held file before now (Limit line)
+RunEnds held file before now reads writes (Err (Duplicate line)) = IsRefused held file before now (Duplicate line)
+RunEnds held file before now reads writes (Err NotBuilt) = IsRefused held file before now NotBuilt
+RunEnds held file before now reads writes (Err Write) = writes × HasRunInPart held file before now
+RunEnds held file before now reads writes (Err NoMemory) = (now ≡ before) ⊎ HasRunInPart held file before now
+RunEnds held file before now reads writes (Err Usage) = ⊥

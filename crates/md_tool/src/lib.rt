@@ -1,0 +1,13 @@
+//! The command line of the profiler: which words are a command, what the command does to files and streams, and what it
+//! tells of a fault.
+#![tactic(auto)]
+
+mod command;
+mod fault;
+mod form;
+mod run;
+
+#[cfg(test)]
+mod tests;
+
+pub use command::{Status, top};
