@@ -4,3 +4,4 @@ pub mod SumSteps
 pub mod OwnSteps
 pub mod ClimbSteps
 pub mod TreeSteps
+pub mod Worked

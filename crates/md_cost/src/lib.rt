@@ -12,3 +12,6 @@ mod tree;
 pub use loaded::Loaded;
 pub use propagating::{CostFault, propagate};
 pub use sums::Sums;
+
+#[cfg(test)]
+mod tests;
