@@ -2,6 +2,7 @@ pub mod Added
 pub mod CalleeLists
 pub mod Callings
 pub mod Calls
+pub mod Ends
 pub mod Events
 pub mod Finishing
 pub mod First

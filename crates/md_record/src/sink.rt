@@ -50,7 +50,12 @@ impl PortSink for Recorder {
 }
 
 /// The same, with a fresh ledger.
-fn call_counted<L: Ledger>(recorder: &mut Recorder, site: Option<SiteId>, callee: ProcId, blank: Blank) -> Result<Saved, NoMemory>
+fn call_counted<L: Ledger>(
+    recorder: &mut Recorder,
+    site: Option<SiteId>,
+    callee: ProcId,
+    blank: Blank,
+) -> Result<Saved, NoMemory>
     requires name { blank.name ≡ L.name }
     requires parts { blank.parts ≡ L.parts }
     requires some { 0 < blank.parts }
