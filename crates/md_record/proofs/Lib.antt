@@ -1,5 +1,6 @@
 pub mod Added
 pub mod CalleeLists
+pub mod CallCosts
 pub mod Callings
 pub mod Calls
 pub mod Ends

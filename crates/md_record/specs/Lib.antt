@@ -1,4 +1,5 @@
 pub mod Belongs
+pub mod Costs
 pub mod Kept
 pub mod Laws
 pub mod Leads

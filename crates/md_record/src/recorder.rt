@@ -37,6 +37,7 @@ impl Recorder {
     ghost use Rattle.md_static.specs.Tables.{site_table};
     ghost use Rattle.md_record.specs.Kept.{Kept, Stands};
     ghost use Rattle.md_record.specs.Belongs.{Belongs};
+    ghost use Rattle.md_record.specs.Costs.{CallCost, SiteCost};
     ghost use Rattle.md_record.specs.Profiles.{IsProfileOf};
     ghost use Rattle.md_trace.specs.PortHistory.{SiteTable};
 
@@ -75,6 +76,7 @@ impl Recorder {
         ensures taken { OnOk result (Takes (Stands self.old) (Stands self.new) (next_call site callee)) }
         ensures marked { IfOk result (λ saved. MarksNewest (Stands self.old) (Belongs saved) (next_call site callee)) }
         ensures refused { OnErr result (StandsAsBefore (Stands self.old) (Stands self.new)) }
+        ensures cost { IfOk result (λ saved. CallCost self.old self.new site callee saved.middle steps.old steps.new) }
     {
         match site {
             None => self.call_main(callee, steps),
@@ -118,6 +120,7 @@ impl Recorder {
         ensures taken { OnOk result (Takes (Stands self.old) (Stands self.new) (next_call (Some site) callee)) }
         ensures marked { IfOk result (λ saved. MarksNewest (Stands self.old) (Belongs saved) (next_call (Some site) callee)) }
         ensures refused { OnErr result (StandsAsBefore (Stands self.old) (Stands self.new)) }
+        ensures cost { IfOk result (λ saved. SiteCost self.old self.new site callee saved.middle steps.old steps.new) }
     {
         let node = self.current();
         self.chain.reserve(1)?;
