@@ -145,7 +145,7 @@ impl Recorder {
     {
         let proc = self.tables.proc_of(saved.top, steps);
         self.tables.count(saved.middle, Measure::Exits, 1, steps);
-        self.tables.set_active(proc, saved.old, steps);
+        self.tables.set_active(proc, saved.old, steps); // as before the call
         self.chain.pop();
     }
 
