@@ -11,8 +11,8 @@ pub find-passes : {A : Type 0} (test : A → Bool) (xs : List A) (y : A) → fin
 find-passes test [] y is = absurd (cc)
 find-passes test (x ∷ xs) y is =
     elim (cases_Bool (test x)) [
-      inl good ↦ let here : Some x ≡ Some y = rw good at is in let same : x ≡ y = cc in subst (λ z. test z ≡ true) same good
-    | inr bad ↦ find-passes test xs y (rw bad at is)
+      | inl good ↦ let here : Some x ≡ Some y = rw good at is in let same : x ≡ y = cc in subst (λ z. test z ≡ true) same good
+      | inr bad ↦ find-passes test xs y (rw bad at is)
     ]
 
 -- and is there
@@ -20,8 +20,8 @@ pub find-there : (test : Placed → Bool) (xs : List Placed) (y : Placed) → fi
 find-there test [] y is = absurd (cc)
 find-there test (x ∷ xs) y is =
     elim (cases_Bool (test x)) [
-      inl good ↦ let here : Some x ≡ Some y = rw good at is in (length xs, numbered-new x xs ∙ here)
-    | inr bad ↦ let rest = find-there test xs y (rw bad at is) in (rest.0, numbered-more x xs rest.0 (numbered-below xs rest.0 y rest.1) ∙ rest.1)
+      | inl good ↦ let here : Some x ≡ Some y = rw good at is in (length xs, numbered-new x xs ∙ here)
+      | inr bad ↦ let rest = find-there test xs y (rw bad at is) in (rest.0, numbered-more x xs rest.0 (numbered-below xs rest.0 y rest.1) ∙ rest.1)
     ]
 
 -- nothing is found where nobody passes
@@ -29,10 +29,10 @@ pub find-none : (test : Placed → Bool) (xs : List Placed) (a : ℕ) (y : Place
 find-none test [] a y miss is = absurd (cc)
 find-none test (x ∷ xs) a y miss is =
     elim (cases_Bool (test x)) [
-      inl good ↦ absurd (let here : Some x ≡ None = rw good at miss in cc)
-    | inr bad ↦ elim (numbered-either x xs a y is) [
-        inl new ↦ subst (λ z. test z ≡ false) (sym new.1) bad
-      | inr old ↦ find-none test xs a y (rw bad at miss) old
+      | inl good ↦ absurd (let here : Some x ≡ None = rw good at miss in cc)
+      | inr bad ↦ elim (numbered-either x xs a y is) [
+        | inl new ↦ subst (λ z. test z ≡ false) (sym new.1) bad
+        | inr old ↦ find-none test xs a y (rw bad at miss) old
       ]
     ]
 
@@ -47,13 +47,13 @@ chain-there test [] o y is = absurd (cc)
 chain-there test (x ∷ xs) None y is = absurd (cc)
 chain-there test (x ∷ xs) (Some a) y is =
     elim (eqb_tells a (length xs)) [
-      inl e ↦
-        let here : find test (x ∷ chain xs x.parent) ≡ Some y = rw e.0 at is in
-        elim (cases_Bool (test x)) [
-          inl good ↦ let first : Some x ≡ Some y = rw good at here in (length xs, numbered-new x xs ∙ first)
-        | inr bad ↦ let rest = chain-there test xs x.parent y (rw bad at here) in (rest.0, numbered-more x xs rest.0 (numbered-below xs rest.0 y rest.1) ∙ rest.1)
-        ]
-    | inr e ↦ let rest = chain-there test xs (Some a) y (rw e.0 at is) in (rest.0, numbered-more x xs rest.0 (numbered-below xs rest.0 y rest.1) ∙ rest.1)
+      | inl e ↦
+          let here : find test (x ∷ chain xs x.parent) ≡ Some y = rw e.0 at is in
+          elim (cases_Bool (test x)) [
+            | inl good ↦ let first : Some x ≡ Some y = rw good at here in (length xs, numbered-new x xs ∙ first)
+            | inr bad ↦ let rest = chain-there test xs x.parent y (rw bad at here) in (rest.0, numbered-more x xs rest.0 (numbered-below xs rest.0 y rest.1) ∙ rest.1)
+          ]
+      | inr e ↦ let rest = chain-there test xs (Some a) y (rw e.0 at is) in (rest.0, numbered-more x xs rest.0 (numbered-below xs rest.0 y rest.1) ∙ rest.1)
     ]
 
 -- tests of numbers and links tell
@@ -79,6 +79,6 @@ same-link-refl a = rw (same-option-refl a.caller, same-option-refl a.site, eq-eq
 
 pub same-link-tells : (a b : Link) → ((same_link a b ≡ true) × (a ≡ b)) ⊎ ((same_link a b ≡ false) × (a ≢ b))
 same-link-tells a b = elim (cases_Bool (same_link a b)) [
-    inl good ↦ inl (good, same-link-true a b good)
+  | inl good ↦ inl (good, same-link-true a b good)
   | inr bad ↦ inr (bad, λ e. false≢true (sym bad ∙ (let P : Link → Type 0 = λ z. same_link a z ≡ true in subst P e (same-link-refl a))))
-  ]
+]

@@ -67,16 +67,16 @@ rule m a before l =
 pub contexts-more : (m : ℕ) (x : Placed) (xs : List Placed) (c p : ℕ) → slice_get (contexts m xs) c ≡ Some p → slice_get (contexts m (x ∷ xs)) c ≡ Some p
 contexts-more m x xs c p is =
     elim (eqb_tells x.context (length (contexts m xs))) [
-      inl e ↦ rw e.0 (get-push-old (contexts m xs) x.link.procedure c (get-within (contexts m xs) c p is) ∙ is)
-    | inr e ↦ rw e.0 is
+      | inl e ↦ rw e.0 (get-push-old (contexts m xs) x.link.procedure c (get-within (contexts m xs) c p is) ∙ is)
+      | inr e ↦ rw e.0 is
     ]
 
 -- nor a link
 pub links-more : (m : ℕ) (x : Placed) (xs : List Placed) (j : ℕ) (y : Leading) → slice_get (links m xs) j ≡ Some y → slice_get (links m (x ∷ xs)) j ≡ Some y
 links-more m x xs j y is =
     elim (cases_Bool (is_among x.link (links m xs))) [
-      inl e ↦ rw e is
-    | inr e ↦ rw e (get-push-old (links m xs) (record { link = x.link; to = x.context }) j (get-within (links m xs) j y is) ∙ is)
+      | inl e ↦ rw e is
+      | inr e ↦ rw e (get-push-old (links m xs) (record { link = x.link; to = x.context }) j (get-within (links m xs) j y is) ∙ is)
     ]
 
 -- a link is among others where one of them is it
@@ -84,8 +84,8 @@ pub among-there : (l : Link) (ls : List Leading) → is_among l ls ≡ true → 
 among-there l [] is = absurd (false≢true is)
 among-there l (x ∷ xs) is =
     elim (cases_Bool (same_link l x.link)) [
-      inl good ↦ (0, x, refl, sym (same-link-true l x.link good))
-    | inr bad ↦ let rest = among-there l xs (rw bad at is) in (suc rest.0, rest.1, rest.2, rest.3)
+      | inl good ↦ (0, x, refl, sym (same-link-true l x.link good))
+      | inr bad ↦ let rest = among-there l xs (rw bad at is) in (suc rest.0, rest.1, rest.2, rest.3)
     ]
 
 pub there-among : (l : Link) (ls : List Leading) (j : ℕ) (x : Leading) → slice_get ls j ≡ Some x → x.link ≡ l → is_among l ls ≡ true
@@ -118,16 +118,16 @@ only-root m (suc j) x is = absurd (cc)
 contexts-longer : (m : ℕ) (x : Placed) (xs : List Placed) → length (contexts m xs) ≤ length (contexts m (x ∷ xs))
 contexts-longer m x xs =
     elim (eqb_tells x.context (length (contexts m xs))) [
-      inl e ↦ rw e.0 (omega (arith, length-append (contexts m xs) (x.link.procedure ∷ [])))
-    | inr e ↦ rw e.0 (omega arith)
+      | inl e ↦ rw e.0 (omega (arith, length-append (contexts m xs) (x.link.procedure ∷ [])))
+      | inr e ↦ rw e.0 (omega arith)
     ]
 
 used-before : (m : ℕ) (x : Placed) (xs : List Placed) (j : ℕ) (y : Leading) → AreRight m xs → slice_get (links m xs) j ≡ Some y →
     (y ≡ leading (root_link m) 0) ⊎ ((a : ℕ) × (z : Placed) × (numbered (x ∷ xs) a ≡ Some z) × (y ≡ leading z.link z.context))
 used-before m x xs j y r is =
     elim (r.used j y is) [
-      inl root ↦ inl root
-    | inr old ↦ inr (old.0, old.1, numbered-more x xs old.0 (numbered-below xs old.0 old.1 old.2) ∙ old.2, old.3)
+      | inl root ↦ inl root
+      | inr old ↦ inr (old.0, old.1, numbered-more x xs old.0 (numbered-below xs old.0 old.1 old.2) ∙ old.2, old.3)
     ]
 
 -- a link of a longer list is one of before, or that of the new activation
@@ -135,10 +135,10 @@ used-more : (m : ℕ) (x : Placed) (xs : List Placed) (j : ℕ) (y : Leading) �
     (y ≡ leading (root_link m) 0) ⊎ ((a : ℕ) × (z : Placed) × (numbered (x ∷ xs) a ≡ Some z) × (y ≡ leading z.link z.context))
 used-more m x xs j y r is =
     elim (cases_Bool (is_among x.link (links m xs))) [
-      inl e ↦ used-before m x xs j y r (rw e at is)
-    | inr e ↦ elim (get-push-either (links m xs) (leading x.link x.context) y j (rw e at is)) [
-        inl new ↦ inr (length xs, x, numbered-new x xs, new.1)
-      | inr old ↦ used-before m x xs j y r old
+      | inl e ↦ used-before m x xs j y r (rw e at is)
+      | inr e ↦ elim (get-push-either (links m xs) (leading x.link x.context) y j (rw e at is)) [
+        | inl new ↦ inr (length xs, x, numbered-new x xs, new.1)
+        | inr old ↦ used-before m x xs j y r old
       ]
     ]
 
@@ -159,18 +159,18 @@ right-step m x xs r new_linked new_context new_caller =
     let more : length (contexts m xs) ≤ length (contexts m (x ∷ xs)) = contexts-longer m x xs in
     record {
       linked = λ a y is. elim (numbered-either x xs a y is) [
-          inl new ↦ let P : Placed → Type 0 = λ z. (j : ℕ) × (slice_get (links m (x ∷ xs)) j ≡ Some (leading z.link z.context)) in subst P (sym new.1) new_linked
+        | inl new ↦ let P : Placed → Type 0 = λ z. (j : ℕ) × (slice_get (links m (x ∷ xs)) j ≡ Some (leading z.link z.context)) in subst P (sym new.1) new_linked
         | inr old ↦ let k = r.linked a y old in (k.0, links-more m x xs k.0 (leading y.link y.context) k.1)
-        ];
+      ];
       used = λ j y is. used-more m x xs j y r is;
       in_contexts = λ a y is. elim (numbered-either x xs a y is) [
-          inl new ↦ let P : Placed → Type 0 = λ z. slice_get (contexts m (x ∷ xs)) z.context ≡ Some z.link.procedure in subst P (sym new.1) new_context
+        | inl new ↦ let P : Placed → Type 0 = λ z. slice_get (contexts m (x ∷ xs)) z.context ≡ Some z.link.procedure in subst P (sym new.1) new_context
         | inr old ↦ contexts-more m x xs y.context y.link.procedure (r.in_contexts a y old)
-        ];
+      ];
       callers = λ a y v is c. elim (numbered-either x xs a y is) [
-          inl new ↦ omega (arith, more, new_caller v (ap (λ (z : Placed). z.link.caller) (sym new.1) ∙ c))
+        | inl new ↦ omega (arith, more, new_caller v (ap (λ (z : Placed). z.link.caller) (sym new.1) ∙ c))
         | inr old ↦ omega (arith, more, r.callers a y v old c)
-        ];
+      ];
     }
 
 -- main's activation
@@ -183,16 +183,16 @@ right-first m =
 pub not-among : (m : ℕ) (xs : List Placed) (l : Link) (v : ℕ) → AreRight m xs → l.caller ≡ Some v → find (has_link l) xs ≡ None → is_among l (links m xs) ≡ false
 not-among m xs l v r caller miss =
     elim (cases_Bool (is_among l (links m xs))) [
-      inl good ↦
-        let there = among-there l (links m xs) good in
-        absurd (elim (r.used there.0 there.1 there.2) [
-          inl root ↦ let e : None ≡ Some v = ap (λ (z : Leading). z.link.caller) (sym root) ∙ ap (λ (z : Link). z.caller) there.3 ∙ caller in cc
-        | inr old ↦
-            let e : old.1.link ≡ l = ap (λ (z : Leading). z.link) (sym old.3) ∙ there.3 in
-            let P : Link → Type 0 = λ z. same_link l z ≡ true in
-            false≢true (sym (find-none (has_link l) xs old.0 old.1 miss old.2) ∙ subst P (sym e) (same-link-refl l))
-        ])
-    | inr bad ↦ bad
+      | inl good ↦
+          let there = among-there l (links m xs) good in
+          absurd (elim (r.used there.0 there.1 there.2) [
+            | inl root ↦ let e : None ≡ Some v = ap (λ (z : Leading). z.link.caller) (sym root) ∙ ap (λ (z : Link). z.caller) there.3 ∙ caller in cc
+            | inr old ↦
+                let e : old.1.link ≡ l = ap (λ (z : Leading). z.link) (sym old.3) ∙ there.3 in
+                let P : Link → Type 0 = λ z. same_link l z ≡ true in
+                false≢true (sym (find-none (has_link l) xs old.0 old.1 miss old.2) ∙ subst P (sym e) (same-link-refl l))
+          ])
+      | inr bad ↦ bad
     ]
 
 -- a later activation, by each rule
@@ -201,32 +201,32 @@ right-later m a v xs l r caller there =
     let x = place m xs (Some a) l in
     let calls : (w : ℕ) → l.caller ≡ Some w → w < length (contexts m xs) = λ w is. let e : v ≡ w = cc in omega (arith, e) in
     elim (rule m a xs l) [
-      inl known ↦
-        let y = known.0 in
-        let same : y.link ≡ l = sym (same-link-true l y.link (find-passes (has_link l) xs y known.1)) in
-        let at = find-there (has_link l) xs y known.1 in
-        let j = r.linked at.0 y at.1 in
-        let e : leading y.link y.context ≡ leading l x.context = ap (λ z. leading z y.context) same ∙ ap (leading l) (sym known.2) in
-        let c : slice_get (contexts m (x ∷ xs)) y.context ≡ Some y.link.procedure = contexts-more m x xs y.context y.link.procedure (r.in_contexts at.0 y at.1) in
-        right-step m x xs r (j.0, links-more m x xs j.0 (leading y.link y.context) j.1 ∙ ap Some e)
-        (ap (slice_get (contexts m (x ∷ xs))) known.2 ∙ c ∙ ap (λ (z : Link). Some z.procedure) same) calls
-    | inr other ↦
-        let miss : find (has_link l) xs ≡ None = elim other [ inl chained ↦ chained.1 | inr new ↦ new.0 ] in
-        let fresh = not-among m xs l v r caller miss in
-        let linked : slice_get (links m (x ∷ xs)) (length (links m xs)) ≡ Some (leading l x.context) = rw fresh (get-push-new (links m xs) (leading l x.context)) in
-        elim other [
-          inl chained ↦
-            let y = chained.0 in
-            let at = chain-there (has_procedure l.procedure) xs (Some a) y chained.2 in
-            let same : l.procedure ≡ y.link.procedure = eqb-true l.procedure y.link.procedure (find-passes (has_procedure l.procedure) (chain xs (Some a)) y chained.2) in
-            let c : slice_get (contexts m (x ∷ xs)) y.context ≡ Some y.link.procedure = contexts-more m x xs y.context y.link.procedure (r.in_contexts at.0 y at.1) in
-            right-step m x xs r (length (links m xs), linked) (ap (slice_get (contexts m (x ∷ xs))) chained.3 ∙ c ∙ ap Some (sym same)) calls
-        | inr new ↦
-            let test : eqb x.context (length (contexts m xs)) ≡ true = eq-eqb x.context (length (contexts m xs)) new.2 in
-            let grown : contexts m (x ∷ xs) ≡ contexts m xs ++ l.procedure ∷ [] = rw test in
-            right-step m x xs r (length (links m xs), linked)
-            (ap (slice_get (contexts m (x ∷ xs))) new.2 ∙ ap (λ cs. slice_get cs (length (contexts m xs))) grown ∙ get-push-new (contexts m xs) l.procedure) calls
-        ]
+      | inl known ↦
+          let y = known.0 in
+          let same : y.link ≡ l = sym (same-link-true l y.link (find-passes (has_link l) xs y known.1)) in
+          let at = find-there (has_link l) xs y known.1 in
+          let j = r.linked at.0 y at.1 in
+          let e : leading y.link y.context ≡ leading l x.context = ap (λ z. leading z y.context) same ∙ ap (leading l) (sym known.2) in
+          let c : slice_get (contexts m (x ∷ xs)) y.context ≡ Some y.link.procedure = contexts-more m x xs y.context y.link.procedure (r.in_contexts at.0 y at.1) in
+          right-step m x xs r (j.0, links-more m x xs j.0 (leading y.link y.context) j.1 ∙ ap Some e)
+          (ap (slice_get (contexts m (x ∷ xs))) known.2 ∙ c ∙ ap (λ (z : Link). Some z.procedure) same) calls
+      | inr other ↦
+          let miss : find (has_link l) xs ≡ None = elim other [ inl chained ↦ chained.1 | inr new ↦ new.0 ] in
+          let fresh = not-among m xs l v r caller miss in
+          let linked : slice_get (links m (x ∷ xs)) (length (links m xs)) ≡ Some (leading l x.context) = rw fresh (get-push-new (links m xs) (leading l x.context)) in
+          elim other [
+            | inl chained ↦
+                let y = chained.0 in
+                let at = chain-there (has_procedure l.procedure) xs (Some a) y chained.2 in
+                let same : l.procedure ≡ y.link.procedure = eqb-true l.procedure y.link.procedure (find-passes (has_procedure l.procedure) (chain xs (Some a)) y chained.2) in
+                let c : slice_get (contexts m (x ∷ xs)) y.context ≡ Some y.link.procedure = contexts-more m x xs y.context y.link.procedure (r.in_contexts at.0 y at.1) in
+                right-step m x xs r (length (links m xs), linked) (ap (slice_get (contexts m (x ∷ xs))) chained.3 ∙ c ∙ ap Some (sym same)) calls
+            | inr new ↦
+                let test : eqb x.context (length (contexts m xs)) ≡ true = eq-eqb x.context (length (contexts m xs)) new.2 in
+                let grown : contexts m (x ∷ xs) ≡ contexts m xs ++ l.procedure ∷ [] = rw test in
+                right-step m x xs r (length (links m xs), linked)
+                (ap (slice_get (contexts m (x ∷ xs))) new.2 ∙ ap (λ cs. slice_get cs (length (contexts m xs))) grown ∙ get-push-new (contexts m xs) l.procedure) calls
+          ]
     ]
 
 right-more : (m : ℕ) (xs : List Activation) (p s : Option ℕ) (q : ℕ) → AreRight m (placed m xs) → IsCall m xs p s q →
@@ -254,21 +254,21 @@ links-distinct m [] zero (suc k) x y a b same = absurd (cc)
 links-distinct m [] (suc j) k x y a b same = absurd (cc)
 links-distinct m (z ∷ zs) j k x y a b same =
     elim (cases_Bool (is_among z.link (links m zs))) [
-      inl e ↦ links-distinct m zs j k x y (rw e at a) (rw e at b) same
-    | inr e ↦
-        let ls = links m zs in
-        let new = leading z.link z.context in
-        let other : (i : ℕ) (w : Leading) → slice_get ls i ≡ Some w → w.link ≡ z.link → ⊥ = λ i w is mine. false≢true (sym e ∙ there-among z.link ls i w is mine) in
-        elim (get-push-either ls new x j (rw e at a)) [
-          inl first ↦ elim (get-push-either ls new y k (rw e at b)) [
-            inl second ↦ first.0 ∙ sym second.0
-          | inr old ↦ absurd (other k y old (sym same ∙ ap (λ (w : Leading). w.link) first.1))
+      | inl e ↦ links-distinct m zs j k x y (rw e at a) (rw e at b) same
+      | inr e ↦
+          let ls = links m zs in
+          let new = leading z.link z.context in
+          let other : (i : ℕ) (w : Leading) → slice_get ls i ≡ Some w → w.link ≡ z.link → ⊥ = λ i w is mine. false≢true (sym e ∙ there-among z.link ls i w is mine) in
+          elim (get-push-either ls new x j (rw e at a)) [
+            | inl first ↦ elim (get-push-either ls new y k (rw e at b)) [
+              | inl second ↦ first.0 ∙ sym second.0
+              | inr old ↦ absurd (other k y old (sym same ∙ ap (λ (w : Leading). w.link) first.1))
+            ]
+            | inr first ↦ elim (get-push-either ls new y k (rw e at b)) [
+              | inl second ↦ absurd (other j x first (same ∙ ap (λ (w : Leading). w.link) second.1))
+              | inr old ↦ links-distinct m zs j k x y first old same
+            ]
           ]
-        | inr first ↦ elim (get-push-either ls new y k (rw e at b)) [
-            inl second ↦ absurd (other j x first (same ∙ ap (λ (w : Leading). w.link) second.1))
-          | inr old ↦ links-distinct m zs j k x y first old same
-          ]
-        ]
     ]
 
 -- no more links than activations, and the root link
@@ -277,8 +277,8 @@ links-few m [] = omega arith
 links-few m (x ∷ xs) =
     let rest = links-few m xs in
     elim (cases_Bool (is_among x.link (links m xs))) [
-      inl e ↦ rw e (omega (arith, rest))
-    | inr e ↦ rw e (omega (arith, rest, length-append (links m xs) (leading x.link x.context ∷ [])))
+      | inl e ↦ rw e (omega (arith, rest))
+      | inr e ↦ rw e (omega (arith, rest, length-append (links m xs) (leading x.link x.context ∷ [])))
     ]
 
 -- what a site says of the procedure that is called there
@@ -304,8 +304,8 @@ pub sited-activation : (t : SiteTable) (h : List Event) (a : ℕ) (x : Activatio
 sited-activation t [] a x is at = absurd (cc)
 sited-activation t (Call b p s q ∷ h) a x is at =
     elim (numbered-either (record { parent = p; site = s; procedure = q }) (activations h) a x at) [
-      inl new ↦ let P : Activation → Type 0 = λ z. SitedAs t z.site z.procedure in subst P (sym new.1) (sited-call t h p s q is.1.3)
-    | inr old ↦ sited-activation t h a x is.0 old
+      | inl new ↦ let P : Activation → Type 0 = λ z. SitedAs t z.site z.procedure in subst P (sym new.1) (sited-call t h p s q is.1.3)
+      | inr old ↦ sited-activation t h a x is.0 old
     ]
 sited-activation t (Exit b ∷ h) a x is at = sited-activation t h a x is.0 at
 sited-activation t (Redo b ∷ h) a x is at = sited-activation t h a x is.0 at
@@ -317,16 +317,16 @@ pub sited-link : (t : SiteTable) (h : List Event) (j : ℕ) (x : Leading) → Is
 sited-link t h j x is at =
     let m = t.main in
     elim ((are-right m (activations h) (are-calls t h is)).used j x at) [
-      inl root ↦ λ n z s there. absurd (let e : None ≡ Some n = ap (λ (w : Leading). w.link.site) (sym root) ∙ s in cc)
-    | inr old ↦
-        let below = numbered-below (placed_of m h) old.0 old.1 old.2 in
-        let act = numbered-there (activations h) old.0 (omega (arith, length-placed m (activations h))) in
-        let both = numbered-placed m (activations h) old.0 act.0 act.1 in
-        let same : both.0 ≡ old.1 = cc (both.1, old.2) in
-        let y : x.link ≡ old.1.link = ap (λ (w : Leading). w.link) old.3 in
-        let site : x.link.site ≡ act.0.site = ap (λ (l : Link). l.site) y ∙ ap (λ (w : Placed). w.link.site) (sym same) ∙ both.2.site in
-        let procedure : x.link.procedure ≡ act.0.procedure = ap (λ (l : Link). l.procedure) y ∙ ap (λ (w : Placed). w.link.procedure) (sym same) ∙ both.2.procedure in
-        let P : Option ℕ → Type 0 = λ s. SitedAs t s act.0.procedure in
-        let Q : ℕ → Type 0 = λ q. SitedAs t x.link.site q in
-        subst Q (sym procedure) (subst P (sym site) (sited-activation t h old.0 act.0 is act.1))
+      | inl root ↦ λ n z s there. absurd (let e : None ≡ Some n = ap (λ (w : Leading). w.link.site) (sym root) ∙ s in cc)
+      | inr old ↦
+          let below = numbered-below (placed_of m h) old.0 old.1 old.2 in
+          let act = numbered-there (activations h) old.0 (omega (arith, length-placed m (activations h))) in
+          let both = numbered-placed m (activations h) old.0 act.0 act.1 in
+          let same : both.0 ≡ old.1 = cc (both.1, old.2) in
+          let y : x.link ≡ old.1.link = ap (λ (w : Leading). w.link) old.3 in
+          let site : x.link.site ≡ act.0.site = ap (λ (l : Link). l.site) y ∙ ap (λ (w : Placed). w.link.site) (sym same) ∙ both.2.site in
+          let procedure : x.link.procedure ≡ act.0.procedure = ap (λ (l : Link). l.procedure) y ∙ ap (λ (w : Placed). w.link.procedure) (sym same) ∙ both.2.procedure in
+          let P : Option ℕ → Type 0 = λ s. SitedAs t s act.0.procedure in
+          let Q : ℕ → Type 0 = λ q. SitedAs t x.link.site q in
+          subst Q (sym procedure) (subst P (sym site) (sited-activation t h old.0 act.0 is act.1))
     ]
