@@ -1,7 +1,9 @@
 pub mod Added
 pub mod CalleeLists
+pub mod CallCosts
 pub mod Callings
 pub mod Calls
+pub mod Ends
 pub mod Events
 pub mod Finishing
 pub mod First

@@ -1,5 +1,9 @@
 pub mod Belongs
+pub mod Costs
 pub mod Kept
+pub mod Laws
 pub mod Leads
 pub mod Marks
 pub mod Parts
+pub mod Profiles
+pub mod Stays

@@ -5,6 +5,7 @@
 mod leads;
 mod recorder;
 mod saved;
+mod sink;
 
 pub use recorder::Recorder;
 pub use saved::Saved;

@@ -4,7 +4,7 @@ ghost use Rattle.std.specs.Prelude.{ℕ, ◌≡◌, ◌≤◌, ◌<◌, ◌+◌,
 use crate::leads::lead;
 use crate::saved::Saved;
 use md_base::{CsdId, Measure, NoMemory, PdId, ProcId, SiteId, Steps};
-use md_dynamic::Tables;
+use md_dynamic::{Profile, Tables};
 use md_static::Statics;
 use std::alloc::Global;
 use std::marker::Model;
@@ -28,7 +28,7 @@ impl Model for Recorder {
 }
 
 impl Recorder {
-    ghost use Rattle.std.specs.Prelude.{ℕ, ◌≡◌, ◌≤◌, ◌<◌, ◌+◌, ◌-◌, slice_get, List, ◌∷◌, length, IfOk, OnOk, OnErr, IfSome, Some, None};
+    ghost use Rattle.std.specs.Prelude.{ℕ, ◌≡◌, ◌≤◌, ◌<◌, ◌+◌, ◌-◌, slice_get, List, [], ◌∷◌, length, IfOk, OnOk, OnErr, IfSome, Some, None};
     ghost use Rattle.std.specs.Option.{option_map};
     ghost use Rattle.md_trace.specs.declared.event.Event.{Event};
     ghost use Rattle.md_trace.specs.declared.event.Event.TheVariants.{Exit, Redo, Fail};
@@ -37,6 +37,32 @@ impl Recorder {
     ghost use Rattle.md_static.specs.Tables.{site_table};
     ghost use Rattle.md_record.specs.Kept.{Kept, Stands};
     ghost use Rattle.md_record.specs.Belongs.{Belongs};
+    ghost use Rattle.md_record.specs.Costs.{CallCost, SiteCost};
+    ghost use Rattle.md_record.specs.Profiles.{IsProfileOf};
+    ghost use Rattle.md_trace.specs.PortHistory.{SiteTable};
+
+    /// A recorder of a run that has not begun: it stands for the empty history over the site table of its statics and
+    /// the main procedure. Context 0 and link 0 are there.
+    pub fn new(alloc: Global, statics: Statics, main: ProcId) -> Result<Recorder, NoMemory>
+        requires sound { IsSound statics }
+        requires main_there { main < length statics.procs }
+        ensures stands { IfOk result (λ recorder. Stands recorder (site_table statics main) []) }
+    {
+        let tables = Tables::new(alloc, statics, main)?;
+        Ok(Recorder {
+            tables,
+            chain: Vec::new(alloc),
+        })
+    }
+
+    /// The profile of the events so far: for each history for which the recorder stands it has that history's contexts
+    /// and links with their own counts. Takes no memory.
+    pub fn into_profile(self, finished: bool) -> Profile
+        ensures exact { (t : SiteTable) (h : List Event) → Stands self t h → IsProfileOf self.rows.statics t.main h finished result }
+    {
+        let Recorder { tables, chain: _ } = self;
+        tables.freeze(finished)
+    }
 
     /// The current activation calls `callee` at `site`, or the run begins with the main procedure's call, at no site.
     /// Memory is taken first, room for the chain included; where it is refused, all is as before.
@@ -50,6 +76,7 @@ impl Recorder {
         ensures taken { OnOk result (Takes (Stands self.old) (Stands self.new) (next_call site callee)) }
         ensures marked { IfOk result (λ saved. MarksNewest (Stands self.old) (Belongs saved) (next_call site callee)) }
         ensures refused { OnErr result (StandsAsBefore (Stands self.old) (Stands self.new)) }
+        ensures cost { IfOk result (λ saved. CallCost self.old self.new site callee saved.middle steps.old steps.new) }
     {
         match site {
             None => self.call_main(callee, steps),
@@ -93,6 +120,7 @@ impl Recorder {
         ensures taken { OnOk result (Takes (Stands self.old) (Stands self.new) (next_call (Some site) callee)) }
         ensures marked { IfOk result (λ saved. MarksNewest (Stands self.old) (Belongs saved) (next_call (Some site) callee)) }
         ensures refused { OnErr result (StandsAsBefore (Stands self.old) (Stands self.new)) }
+        ensures cost { IfOk result (λ saved. SiteCost self.old self.new site callee saved.middle steps.old steps.new) }
     {
         let node = self.current();
         self.chain.reserve(1)?;
@@ -117,7 +145,7 @@ impl Recorder {
     {
         let proc = self.tables.proc_of(saved.top, steps);
         self.tables.count(saved.middle, Measure::Exits, 1, steps);
-        self.tables.set_active(proc, saved.old, steps);
+        self.tables.set_active(proc, saved.old, steps); // as before the call
         self.chain.pop();
     }
 

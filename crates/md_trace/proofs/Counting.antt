@@ -30,7 +30,7 @@ capped-zero : (s : ℕ) → capped (0 + s) ≡ capped s
 capped-zero s = omega arith
 
 -- an event of an activation that does not pass changes nothing
-sum-other : (test : ℕ → Bool) (m : Measure) (e : Event) (h : List Event) → test (activation_of e) ≡ false → sum_where test m (e ∷ h) ≡ sum_where test m h
+pub sum-other : (test : ℕ → Bool) (m : Measure) (e : Event) (h : List Event) → test (activation_of e) ≡ false → sum_where test m (e ∷ h) ≡ sum_where test m h
 sum-other test m e h miss = rw miss (omega arith)
 
 pub counts-other : (test : ℕ → Bool) (e : Event) (h : List Event) → test (activation_of e) ≡ false → counts_where test (e ∷ h) ≡ counts_where test h
@@ -39,7 +39,7 @@ counts-other test e h miss =
     same-counts _ _ (k Calls) (k Exits) (k Fails) (k Redos) (k Allocs) (k Words)
 
 -- the amount of an event of an activation that passes is added
-sum-passing : (test : ℕ → Bool) (m : Measure) (e : Event) (h : List Event) → test (activation_of e) ≡ true → sum_where test m (e ∷ h) ≡ amount m e + sum_where test m h
+pub sum-passing : (test : ℕ → Bool) (m : Measure) (e : Event) (h : List Event) → test (activation_of e) ≡ true → sum_where test m (e ∷ h) ≡ amount m e + sum_where test m h
 sum-passing test m e h pass = rw pass
 
 grown : (test : ℕ → Bool) (m : Measure) (e : Event) (h : List Event) (n : ℕ) → test (activation_of e) ≡ true → amount m e ≡ n → capped (sum_where test m (e ∷ h)) ≡ capped (capped (sum_where test m h) + n)

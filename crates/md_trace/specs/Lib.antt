@@ -1,4 +1,5 @@
 pub mod Activation
+pub mod Balance
 pub mod Cliques
 pub mod Context
 pub mod Count

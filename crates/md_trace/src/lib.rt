@@ -2,12 +2,14 @@
 //! list of events, and the sinks that take the events one after the other.
 #![tactic(auto)]
 
+mod balance;
 mod count;
 mod counter;
 mod event;
 mod port_sink;
 mod silent;
 
+pub use balance::links_balance;
 pub use count::count_up;
 pub use counter::Counter;
 pub use event::Event;

@@ -9,6 +9,7 @@ use Rattle.md_dynamic.specs.Rows.{Rows, Owns, MayLead}
 use Rattle.md_record.specs.Kept.{Kept}
 use Rattle.md_record.specs.Leads.{LeadsBy, LinksThere}
 use Rattle.md_record.proofs.Added.{links-fit}
+use Rattle.md_record.proofs.CallCosts.{site-cost}
 use Rattle.md_record.proofs.Callings.{Calling, calling, calling-owns, calling-leads, calling-links, chain-some, outcome}
 use Rattle.md_record.proofs.Calls.{Shows, stands-call, marks-call}
 use Rattle.md_record.proofs.Finishing.{due-of, end-from, shows-end}
@@ -144,3 +145,10 @@ returns-clause-marked g c = λ t h st may.
     let fits : length k2.chain ≤ k2.room = omega (arith, c.push_reserved.ensures.capacity, c.push_reserved.ensures.len, c.in_ok-reserve.ensures.ok, c.in_ok-reserve.ensures.len, c.push_reserved.new.self.ok.0) in
     let s = shows-end t h k k2 c.lead.new.tables c.args.site c.args.callee c.in_ok-link.link c.end_of-end.result o c.end_of-end.ensures.value c.set_active.ensures.value pushed more fits in
     marks-call t h k k2 (Some c.args.site) c.args.callee c.in_ok-link.link c.end_of-end.result c.active-old.result st may s (due-of t h k c.args.site c.args.callee c.current-node.result c.active-old.result st n active)
+
+pub returns-clause-cost : goal.returns-clause-cost
+returns-clause-cost g c =
+    let k = c.args.self.now in
+    let k2 : Kept = record { rows = c.set_active.new.self; chain = c.push_reserved.new.self.items; room = c.push_reserved.new.self.cap } in
+    site-cost k k2 c.self.inside.tables c.lead.new.tables c.current-node.result c.args.site c.args.callee c.in_ok-link.link c.args.steps.now c.active-old.new.steps c.lead.new.steps c.set_active.new.steps
+    (ap (λ (z : Kept). z.rows) c.self.view_is) (ap (λ (z : Rows). z.nodes) c.set_active.ensures.value) c.current-node.ensures c.active-old.ensures.cost (omega (arith, c.set_active.ensures.cost, c.end_of-end.ensures.cost)) c.in_ok-link.ensures.cost

@@ -1,0 +1,4 @@
+use Rattle.md_record.proofs.sink.RecorderPortSink.call.Given as goal
+
+abbrev pub ghosts-call_counted : goal.ghosts-call_counted
+ghosts-call_counted a = record { name = a.blank.name; parts = a.blank.parts }
