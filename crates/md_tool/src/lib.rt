@@ -6,7 +6,6 @@ mod command;
 mod fault;
 mod form;
 mod run;
-
 #[cfg(test)]
 mod tests;
 

@@ -6,11 +6,14 @@ use md_base::{MemSink, MemStore, SureNet};
 use std::alloc::Global;
 use std::test::Fail;
 
-const HELLO: &str = ":- module t.\n:- pred main(io::di, io::uo) is det.\nmain(IO0, IO) :- S = \"hello\", io.write_string(S, IO0, IO1), io.nl(IO1, IO).\n";
+const HELLO: &str =
+    ":- module t.\n:- pred main(io::di, io::uo) is det.\nmain(IO0, IO) :- S = \"hello\", io.write_string(S, IO0, IO1), io.nl(IO1, IO).\n";
 
-const TWO: &str = ":- module t.\n:- pred main(io::di, io::uo) is det.\nmain(IO0, IO) :- p(IO0, IO1), p(IO1, IO).\n:- pred p(io::di, io::uo) is det.\np(IO0, IO) :- q, io.nl(IO0, IO).\n:- pred q is det.\nq :- true.\n";
+const TWO: &str =
+    ":- module t.\n:- pred main(io::di, io::uo) is det.\nmain(IO0, IO) :- p(IO0, IO1), p(IO1, IO).\n:- pred p(io::di, io::uo) is det.\np(IO0, IO) :- q, io.nl(IO0, IO).\n:- pred q is det.\nq :- true.\n";
 
-const COUNT: &str = ":- module t.\n:- pred main(io::di, io::uo) is det.\nmain(IO0, IO) :- N = 3, count(N), IO = IO0.\n:- pred count(int::in) is det.\ncount(N) :- Z = 0, ( N =< Z -> true ; D = 1, M = N - D, count(M) ).\n";
+const COUNT: &str =
+    ":- module t.\n:- pred main(io::di, io::uo) is det.\nmain(IO0, IO) :- N = 3, count(N), IO = IO0.\n:- pred count(int::in) is det.\ncount(N) :- Z = 0, ( N =< Z -> true ; D = 1, M = N - D, count(M) ).\n";
 
 /// The most bytes that one call takes or gives, and the numbers of the calls that are to fail, for the store, for `out`
 /// and for `err`.
@@ -38,12 +41,22 @@ fn run(alloc: Global, words: &[&str], text: &str, outside: &Outside<'_>) -> Resu
         given.push(String::from_str(alloc, word)?)?;
     }
     let mut files = Vec::new(alloc);
-    files.push((String::from_str(alloc, "a.m")?, text.as_bytes().to_vec(alloc)?))?;
+    files.push((
+        String::from_str(alloc, "a.m")?,
+        text.as_bytes().to_vec(alloc)?,
+    ))?;
     let mut store = MemStore::new(files, outside.most, outside.store.to_vec(alloc)?);
     let mut out = MemSink::new(Vec::new(alloc), outside.most, outside.out.to_vec(alloc)?);
     let mut err = MemSink::new(Vec::new(alloc), outside.most, outside.err.to_vec(alloc)?);
     let mut net = SureNet::new(Vec::new(alloc));
-    let Status(status) = top(alloc, given.as_slice(), &mut store, &mut out, &mut err, &mut net);
+    let Status(status) = top(
+        alloc,
+        given.as_slice(),
+        &mut store,
+        &mut out,
+        &mut err,
+        &mut net,
+    );
     Ok(Came {
         status,
         out: out.bytes().to_vec(alloc)?,
@@ -89,9 +102,17 @@ fn words_are_a_command_or_a_usage_fault(rt: HostRuntime) -> Result<(), Fail> {
         (["run", "a.m"].as_slice(), "", 0),
         (["run", "--", "a.m"].as_slice(), "", 0),
         (["run", "a.m", "--"].as_slice(), "", 0),
-        (["run", "gone.m"].as_slice(), "mdprof: gone.m: read fault\n", 2),
+        (
+            ["run", "gone.m"].as_slice(),
+            "mdprof: gone.m: read fault\n",
+            2,
+        ),
         (["run", "-"].as_slice(), "mdprof: -: read fault\n", 2),
-        (["run", "--", "-x"].as_slice(), "mdprof: -x: read fault\n", 2),
+        (
+            ["run", "--", "-x"].as_slice(),
+            "mdprof: -x: read fault\n",
+            2,
+        ),
         ([].as_slice(), USAGE, 1),
         (["run"].as_slice(), USAGE, 1),
         (["run", "--"].as_slice(), USAGE, 1),
@@ -114,7 +135,10 @@ fn a_text_of_one_byte_too_many_is_too_long(rt: HostRuntime) -> Result<(), Fail> 
     let spaces = " ".repeat(alloc, 1_048_577)?;
     let long = run(alloc, &["run", "a.m"], spaces.as_str(), &calm(65_536))?;
     assert_eq!(rt; long.status, 3);
-    assert_eq!(rt; long.err.as_slice(), b"mdprof: a.m: longer than 1048576 bytes\n".as_slice());
+    assert_eq!(rt;
+        long.err.as_slice(),
+        b"mdprof: a.m: longer than 1048576 bytes\n".as_slice()
+    );
     Ok(())
 }
 
@@ -129,7 +153,10 @@ fn each_read_that_fails_is_a_read_fault(rt: HostRuntime) -> Result<(), Fail> {
         };
         let came = run(rt.alloc(), &["run", "a.m"], HELLO, &outside)?;
         assert_eq!(rt; came.status, 2, "call {call}");
-        assert_eq!(rt; came.err.as_slice(), b"mdprof: a.m: read fault\n".as_slice());
+        assert_eq!(rt;
+            came.err.as_slice(),
+            b"mdprof: a.m: read fault\n".as_slice()
+        );
         assert_eq!(rt; came.out.is_empty(), true);
     }
     Ok(())
@@ -167,7 +194,10 @@ fn a_line_that_cannot_be_told_does_not_change_the_status(rt: HostRuntime) -> Res
         let came = run(rt.alloc(), &["run", "a.m"], COUNT, &outside)?;
         assert_eq!(rt; came.status, 3, "call {call}");
         assert_eq!(rt; came.err.len() as u64, 5 * (call - 1));
-        assert_eq!(rt; b"mdprof: a.m: not built\n".starts_with(came.err.as_slice()), true);
+        assert_eq!(rt;
+            b"mdprof: a.m: not built\n".starts_with(came.err.as_slice()),
+            true
+        );
     }
     Ok(())
 }

@@ -6,7 +6,7 @@ use Rattle.md_tool.proofs.command.top.Goals as goal
 pub returns-clause-status : goal.returns-clause-status
 returns-clause-status g c =
     top_means (form (words_of c.args.words.now)) (g.S.Store.held c.args.store.now) (g.O.Sink.held c.args.out.now) (g.O.Sink.held c.run_command.new.out)
-      (g.E.Sink.held c.args.err.now) (g.E.Sink.held c.run_command.new.err)
-      (Rose (g.S.Store.read_faults c.args.store.now) (g.S.Store.read_faults c.run_command.new.store))
-      (Rose (g.O.Sink.write_faults c.args.out.now) (g.O.Sink.write_faults c.run_command.new.out))
-      (Rose (g.E.Sink.write_faults c.args.err.now) (g.E.Sink.write_faults c.run_command.new.err)) c.run_command.result c.run_command.ensures.ends
+    (g.E.Sink.held c.args.err.now) (g.E.Sink.held c.run_command.new.err)
+    (Rose (g.S.Store.read_faults c.args.store.now) (g.S.Store.read_faults c.run_command.new.store))
+    (Rose (g.O.Sink.write_faults c.args.out.now) (g.O.Sink.write_faults c.run_command.new.out))
+    (Rose (g.E.Sink.write_faults c.args.err.now) (g.E.Sink.write_faults c.run_command.new.err)) c.run_command.result c.run_command.ensures.ends

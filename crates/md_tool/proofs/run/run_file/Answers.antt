@@ -5,6 +5,6 @@ use Rattle.md_tool.proofs.run.run_file.Goals as goal
 pub returns-clause-ends : goal.returns-clause-ends
 returns-clause-ends g c =
     shown (g.S.Store.held c.args.store.now) c.args.file.now c.in_ok-text.text.items (g.O.Sink.held c.args.out.now) (g.O.Sink.held c.show.new.out)
-      (Rose (g.S.Store.read_faults c.args.store.now) (g.S.Store.read_faults c.read_text.new.store))
-      (Rose (g.O.Sink.write_faults c.args.out.now) (g.O.Sink.write_faults c.show.new.out))
-      c.in_ok-ran.ran c.show.result c.in_ok-text.ensures.read (rw c.deref.ensures.value at c.in_ok-ran.ensures) c.show.ensures
+    (Rose (g.S.Store.read_faults c.args.store.now) (g.S.Store.read_faults c.read_text.new.store))
+    (Rose (g.O.Sink.write_faults c.args.out.now) (g.O.Sink.write_faults c.show.new.out))
+    c.in_ok-ran.ran c.show.result c.in_ok-text.ensures.read (rw c.deref.ensures.value at c.in_ok-ran.ensures) c.show.ensures
