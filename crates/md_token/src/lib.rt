@@ -8,6 +8,8 @@ mod literal;
 mod scan;
 mod sign;
 mod string;
+#[cfg(test)]
+mod tests;
 mod token;
 mod word;
 

@@ -8,6 +8,8 @@ mod counter;
 mod event;
 mod port_sink;
 mod silent;
+#[cfg(test)]
+mod tests;
 
 pub use balance::links_balance;
 pub use count::count_up;
