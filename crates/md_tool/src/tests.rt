@@ -143,6 +143,47 @@ fn a_text_of_one_byte_too_many_is_too_long(rt: HostRuntime) -> Result<(), Fail> 
 }
 
 #[test]
+fn a_run_that_is_too_long_is_out_of_steps(rt: HostRuntime) -> Result<(), Fail> {
+    // Sixteen writes of 62,500 bytes, of which fifteen fit in the budget.
+    let alloc = rt.alloc();
+    let mut text = String::from_str(
+        alloc,
+        ":- module t.\n:- pred main(io::di, io::uo) is det.\nmain(A, Q) :- S = \"",
+    )?;
+    text.push_str("x".repeat(alloc, 62_500)?.as_str())?;
+    text.push_str("\"")?;
+    for (before, after) in [
+        ("A", "B"),
+        ("B", "C"),
+        ("C", "D"),
+        ("D", "E"),
+        ("E", "F"),
+        ("F", "G"),
+        ("G", "H"),
+        ("H", "I"),
+        ("I", "J"),
+        ("J", "K"),
+        ("K", "L"),
+        ("L", "M"),
+        ("M", "N"),
+        ("N", "O"),
+        ("O", "P"),
+        ("P", "Q"),
+    ] {
+        for piece in [", io.write_string(S, ", before, ", ", after, ")"] {
+            text.push_str(piece)?;
+        }
+    }
+    text.push_str(".\n")?;
+    let came = run(alloc, &["run", "a.m"], text.as_str(), &calm(65_536))?;
+    assert_eq!(rt; came.status, 4);
+    assert_eq!(rt; came.err.as_slice(), b"mdprof: out of steps\n".as_slice());
+    assert_eq!(rt; came.out.len(), 937_500);
+    assert_eq!(rt; came.out.iter().all(|byte| *byte == b'x'), true);
+    Ok(())
+}
+
+#[test]
 fn each_read_that_fails_is_a_read_fault(rt: HostRuntime) -> Result<(), Fail> {
     for call in 1..5u64 {
         let outside = Outside {
