@@ -5,12 +5,15 @@ use md_static::{Proc, Site, SiteKind, Statics};
 use std::alloc::Global;
 use std::test::Fail;
 
-/// From which context, at which call site, to which context.
-type Ends = (Option<u32>, Option<u32>, u32);
-
-const ROOT: Ends = (None, None, 0);
-
-const COUNTING: [Ends; 3] = [ROOT, (Some(0), Some(0), 1), (Some(1), Some(1), 1)];
+/// The link to main.
+fn root() -> LinkRow {
+    LinkRow {
+        caller: None,
+        site: None,
+        callee: PdId::new(0),
+        own: Counts::default(),
+    }
+}
 
 fn name(alloc: Global, bytes: &[u8]) -> Result<Name, Fail> {
     Ok(Name::from_bytes(alloc, bytes)?.ok_or("a name")?)
@@ -46,11 +49,12 @@ fn tables(alloc: Global, main: &[u8], owner: u32) -> Result<Statics, Fail> {
     Ok(Statics::from_parts(modules, procs, sites))
 }
 
-fn row(ends: Ends) -> LinkRow {
+/// A link from a context, at a call site, to a context.
+fn link(caller: u32, site: u32, callee: u32) -> LinkRow {
     LinkRow {
-        caller: ends.0.map(|number| PdId::new(number)),
-        site: ends.1.map(|number| SiteId::new(number)),
-        callee: PdId::new(ends.2),
+        caller: Some(PdId::new(caller)),
+        site: Some(SiteId::new(site)),
+        callee: PdId::new(callee),
         own: Counts::default(),
     }
 }
@@ -58,21 +62,15 @@ fn row(ends: Ends) -> LinkRow {
 fn profile(
     alloc: Global,
     statics: Statics,
-    nodes: &[u32],
-    links: &[Ends],
+    nodes: &[ProcId],
+    links: &[LinkRow],
 ) -> Result<Profile, NoMemory> {
-    let mut procs = Vec::new(alloc);
-    for node in nodes {
-        procs.push(ProcId::new(*node))?;
-    }
-    let mut rows = Vec::new(alloc);
-    for ends in links {
-        rows.push(row(*ends))?;
-    }
+    let procs = Vec::from_slice(alloc, nodes)?;
+    let rows = Vec::from_slice(alloc, links)?;
     Ok(Profile::from_parts(statics, procs, rows, true))
 }
 
-fn verdict(alloc: Global, nodes: &[u32], links: &[Ends]) -> Result<Option<CheckFault>, Fail> {
+fn verdict(alloc: Global, nodes: &[ProcId], links: &[LinkRow]) -> Result<Option<CheckFault>, Fail> {
     Ok(
         profile(alloc, tables(alloc, b"main", 1)?, nodes, links)?
             .check()
@@ -83,49 +81,62 @@ fn verdict(alloc: Global, nodes: &[u32], links: &[Ends]) -> Result<Option<CheckF
 #[test]
 fn the_profile_of_a_run_is_valid(rt: HostRuntime) -> Result<(), Fail> {
     let alloc = rt.alloc();
-    assert_eq!(rt; verdict(alloc, &[0, 1], &COUNTING)?, None);
-    assert_eq!(rt; verdict(alloc, &[0], &[ROOT])?, None);
+    let (main, count) = (ProcId::new(0), ProcId::new(1));
+    let counting = [root(), link(0, 0, 1), link(1, 1, 1)];
+    assert_eq!(rt; verdict(alloc, &[main, count], &counting)?, None);
+    assert_eq!(rt; verdict(alloc, &[main], &[root()])?, None);
     Ok(())
 }
 
 #[test]
 fn each_rule_of_contexts_and_links_is_asked(rt: HostRuntime) -> Result<(), Fail> {
     let alloc = rt.alloc();
-    let broken = Some(CheckFault::Broken);
-    let [root, first, second] = COUNTING;
-    assert_eq!(rt; verdict(alloc, &[], &COUNTING)?, broken, "no context");
-    assert_eq!(rt; verdict(alloc, &[0, 1], &[])?, broken, "no link");
-    assert_eq!(rt;
-        verdict(alloc, &[0, 2], &COUNTING)?,
-        broken,
-        "no such procedure"
-    );
-    assert_eq!(rt;
-        verdict(alloc, &[0, 1], &[first, second])?,
-        broken,
-        "no root link"
-    );
-    assert_eq!(rt;
-        verdict(alloc, &[0, 1], &[root, (Some(0), Some(0), 2), second])?,
-        broken,
-        "no such callee"
-    );
-    assert_eq!(rt;
-        verdict(alloc, &[0, 1], &[root, first, (Some(1), Some(0), 1)])?,
-        broken,
-        "another's site"
-    );
-    assert_eq!(rt;
-        verdict(alloc, &[0, 1], &[root, first, second, second])?,
-        broken,
-        "a link twice"
-    );
-    assert_eq!(rt; verdict(alloc, &[0, 1, 1], &COUNTING)?, broken, "an orphan");
-    assert_eq!(rt;
-        verdict(alloc, &[0, 1], &[root, first, root])?,
-        broken,
-        "two root links"
-    );
+    let (main, count) = (ProcId::new(0), ProcId::new(1));
+    let both = [main, count];
+    let root = root();
+    let (first, second) = (link(0, 0, 1), link(1, 1, 1));
+    let counting = [root, first, second];
+    for (nodes, links, rule) in [
+        ([].as_slice(), counting.as_slice(), "no context"),
+        (both.as_slice(), [].as_slice(), "no link"),
+        (
+            [main, ProcId::new(2)].as_slice(),
+            counting.as_slice(),
+            "no such procedure",
+        ),
+        (both.as_slice(), [first, second].as_slice(), "no root link"),
+        (
+            both.as_slice(),
+            [root, link(0, 0, 2), second].as_slice(),
+            "no such callee",
+        ),
+        (
+            both.as_slice(),
+            [root, first, link(1, 0, 1)].as_slice(),
+            "another's site",
+        ),
+        (
+            both.as_slice(),
+            [root, first, second, second].as_slice(),
+            "a link twice",
+        ),
+        (
+            [main, count, count].as_slice(),
+            counting.as_slice(),
+            "an orphan",
+        ),
+        (
+            both.as_slice(),
+            [root, first, root].as_slice(),
+            "two root links",
+        ),
+    ] {
+        assert_eq!(rt;
+            verdict(alloc, nodes, links)?,
+            Some(CheckFault::Broken),
+            "{rule}"
+        );
+    }
     Ok(())
 }
 
@@ -133,11 +144,12 @@ fn each_rule_of_contexts_and_links_is_asked(rt: HostRuntime) -> Result<(), Fail>
 fn the_tables_are_asked_too(rt: HostRuntime) -> Result<(), Fail> {
     let alloc = rt.alloc();
     let broken = Some(CheckFault::Broken);
-    let twice = profile(alloc, tables(alloc, b"count", 1)?, &[0], &[ROOT])?;
+    let main = ProcId::new(0);
+    let twice = profile(alloc, tables(alloc, b"count", 1)?, &[main], &[root()])?;
     assert_eq!(rt; twice.check().err(), broken);
-    let upper = profile(alloc, tables(alloc, b"Main", 1)?, &[0], &[ROOT])?;
+    let upper = profile(alloc, tables(alloc, b"Main", 1)?, &[main], &[root()])?;
     assert_eq!(rt; upper.check().err(), broken);
-    let owner = profile(alloc, tables(alloc, b"main", 2)?, &[0], &[ROOT])?;
+    let owner = profile(alloc, tables(alloc, b"main", 2)?, &[main], &[root()])?;
     assert_eq!(rt; owner.check().err(), broken);
     Ok(())
 }
