@@ -91,52 +91,50 @@ fn the_profile_of_a_run_is_valid(rt: HostRuntime) -> Result<(), Fail> {
 #[test]
 fn each_rule_of_contexts_and_links_is_asked(rt: HostRuntime) -> Result<(), Fail> {
     let alloc = rt.alloc();
-    let (main, count) = (ProcId::new(0), ProcId::new(1));
-    let both = [main, count];
-    let root = root();
-    let (first, second) = (link(0, 0, 1), link(1, 1, 1));
-    let counting = [root, first, second];
-    for (nodes, links, rule) in [
-        ([].as_slice(), counting.as_slice(), "no context"),
-        (both.as_slice(), [].as_slice(), "no link"),
-        (
-            [main, ProcId::new(2)].as_slice(),
-            counting.as_slice(),
-            "no such procedure",
-        ),
-        (both.as_slice(), [first, second].as_slice(), "no root link"),
-        (
-            both.as_slice(),
-            [root, link(0, 0, 2), second].as_slice(),
-            "no such callee",
-        ),
-        (
-            both.as_slice(),
-            [root, first, link(1, 0, 1)].as_slice(),
-            "another's site",
-        ),
-        (
-            both.as_slice(),
-            [root, first, second, second].as_slice(),
-            "a link twice",
-        ),
-        (
-            [main, count, count].as_slice(),
-            counting.as_slice(),
-            "an orphan",
-        ),
-        (
-            both.as_slice(),
-            [root, first, root].as_slice(),
-            "two root links",
-        ),
-    ] {
-        assert_eq!(rt;
-            verdict(alloc, nodes, links)?,
-            Some(CheckFault::Broken),
-            "{rule}"
-        );
-    }
+    let broken = Some(CheckFault::Broken);
+    let (main, count, other) = (ProcId::new(0), ProcId::new(1), ProcId::new(2));
+    let (root, first, second) = (root(), link(0, 0, 1), link(1, 1, 1));
+    assert_eq!(rt;
+        verdict(alloc, &[], &[root, first, second])?,
+        broken,
+        "no context"
+    );
+    assert_eq!(rt; verdict(alloc, &[main, count], &[])?, broken, "no link");
+    assert_eq!(rt;
+        verdict(alloc, &[main, other], &[root, first, second])?,
+        broken,
+        "no such procedure"
+    );
+    assert_eq!(rt;
+        verdict(alloc, &[main, count], &[first, second])?,
+        broken,
+        "no root link"
+    );
+    assert_eq!(rt;
+        verdict(alloc, &[main, count], &[root, link(0, 0, 2), second])?,
+        broken,
+        "no such callee"
+    );
+    assert_eq!(rt;
+        verdict(alloc, &[main, count], &[root, first, link(1, 0, 1)])?,
+        broken,
+        "another's site"
+    );
+    assert_eq!(rt;
+        verdict(alloc, &[main, count], &[root, first, second, second])?,
+        broken,
+        "a link twice"
+    );
+    assert_eq!(rt;
+        verdict(alloc, &[main, count, count], &[root, first, second])?,
+        broken,
+        "an orphan"
+    );
+    assert_eq!(rt;
+        verdict(alloc, &[main, count], &[root, first, root])?,
+        broken,
+        "two root links"
+    );
     Ok(())
 }
 
