@@ -14,7 +14,6 @@ use crate::slot::{Slot, Slots};
 use crate::span::{Span, spans_of};
 use md_base::{Counts, CsdId, Measure, NoMemory, PdId, ProcId, SiteId, Steps};
 use md_static::{Site, Statics};
-use md_trace::count_up;
 use std::alloc::Global;
 use std::marker::{Brand, Model};
 use std::sync::ledger::{Blank, Ledger};
@@ -172,7 +171,7 @@ impl Tables {
     {
         steps.tick();
         steps.tick();
-        count_up(&mut self.links[link.number() as usize].own, measure, by);
+        self.links[link.number() as usize].own.add(measure, by);
     }
 
     /// Adds a link of a site in a context, with that many calls and other counts of 0, and puts it into the site's slot

@@ -1,7 +1,6 @@
 // The counter: own counts per procedure, without contexts.
 ghost use Rattle.std.specs.Prelude.{◌≡◌, ◌<◌, ◌≤◌, ◌-◌, ◌∷◌, ◌++◌, [], List, ℕ, length, slice_get, slice_set, Some, IfSome, OnOk, OnErr, IfOk, replicate};
 
-use crate::count::count_up;
 use crate::port_sink::PortSink;
 use md_base::{Counts, Measure, NoMemory, ProcId, SiteId};
 use std::alloc::Global;
@@ -55,7 +54,7 @@ impl Counter {
         requires { p < length self.old.own }
         ensures { CountsUp self.old self.new p measure by }
     {
-        count_up(&mut self.own[p.number() as usize], measure, by);
+        self.own[p.number() as usize].add(measure, by);
     }
 
     /// Puts a procedure at the end of the chain.

@@ -1,9 +1,6 @@
-use Rattle.std.proofs.Common.{ℕ, ◌<◌, ◌≡◌, Some, length, slice_get, ◌-◌, unwrap_or, sym, ◌∙◌, subst, ap, arith}
-use Rattle.std.proofs.lemmas.List.{length-set}
-use Rattle.md_base.specs.declared.measure.Counts.{Counts}
+use Rattle.std.proofs.Common.{◌≡◌, Some, unwrap_or, ◌∙◌, ap, arith}
 use Rattle.md_trace.specs.Activation.{activations, procedure_of}
-use Rattle.md_trace.specs.PortHistory.{SiteTable, current}
-use Rattle.md_trace.specs.Counted.{Counted, CountsFor, CountsUp}
+use Rattle.md_trace.specs.PortHistory.{current}
 use Rattle.md_trace.proofs.Histories.{procedure-of-table}
 use Rattle.md_trace.proofs.CounterSteps.{top-is, counter-alloc}
 use Rattle.md_trace.proofs.counter.CounterPortSink.alloc.Goals as goal
