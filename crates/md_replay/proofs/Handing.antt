@@ -1,5 +1,5 @@
 -- One more event, and the marks of the activations.
-use Rattle.std.proofs.Common.{ℕ, suc, ◌+◌, ◌≡◌, ◌<◌, inl, inr, true, List, [], ◌∷◌, ◌++◌, length, reverse, take, drop, get_or, Option, Some, unwrap_or, slice_get, sym, ap, ◌∙◌, subst, arith}
+use Rattle.std.proofs.Common.{ℕ, suc, ◌+◌, ◌≡◌, ◌<◌, inl, inr, true, List, [], ◌∷◌, ◌++◌, length, reverse, take, drop, get_or, Option, Some, unwrap_or, slice_get, refl, sym, ap, ◌∙◌, subst, arith}
 use Rattle.std.proofs.lemmas.List.{length-append, reverse-append, take-append-drop, take_more}
 use Rattle.std.proofs.lemmas.Option.{get_or_from_slice_get}
 use Rattle.md_trace.specs.declared.event.Event.{Event}
@@ -71,3 +71,8 @@ pub next-follows : (t : SiteTable) (events : List Event) (n : ℕ) (e : Event) �
 next-follows t events n e below is history =
     let P : List Event → Type 0 = λ h. IsPortHistory t h in
     (subst P (turned-more events n e below is) (first-events t events (n + 1) history)).1
+
+-- all events
+pub all-events : (events : List Event) → take (length events) events ≡ events
+all-events [] = refl
+all-events (e ∷ es) = ap (λ xs. e ∷ xs) (all-events es)
