@@ -23,6 +23,7 @@ pub fn find_or_add<L: Ledger>(
     requires room { length tables.old.links < 4294967295 }
     ensures ok { IfOk result (λ link. FindsOrAdds tables.old tables.new node site callee link (steps.new - steps.old)) }
     ensures err { OnErr result (tables.new ≡ tables.old) }
+    ensures statics { tables.new.statics ≡ tables.old.statics }
     ensures fresh { OnErr result (All (λ e. e.0 ≢ callee) (list_in tables.old node site)) }
     ensures forward { steps.old ≤ steps.new }
     ensures cost_refused { OnErr result (steps.new ≤ steps.old + find_or_add_cost tables.old node site callee) }

@@ -32,6 +32,7 @@ pub(crate) fn lead<L: Ledger>(
     requires room { length tables.old.links < 4294967295 }
     ensures ok { IfOk result (λ link. LeadsBy tables.old tables.new node site callee old.now link) }
     ensures err { OnErr result (tables.new ≡ tables.old) }
+    ensures statics { tables.new.statics ≡ tables.old.statics }
     ensures fresh { OnErr result (IsFresh tables.old node site callee) }
     ensures cost { IfOk result (λ link. LeadCost tables.old tables.new node site callee link steps.old steps.new) }
     ensures cost_refused { OnErr result (steps.new ≤ steps.old + lead_refused_cost tables.old node site callee) }
@@ -59,6 +60,7 @@ fn lead_plain<L: Ledger>(
     requires room { length tables.old.links < 4294967295 }
     ensures ok { IfOk result (λ link. LeadsBy tables.old tables.new node site callee old link) }
     ensures err { OnErr result (tables.new ≡ tables.old) }
+    ensures statics { tables.new.statics ≡ tables.old.statics }
     ensures fresh { OnErr result (IsFresh tables.old node site callee) }
     ensures cost { OnOk result (steps.new ≤ steps.old + (6 + new_sites tables.old tables.new callee)) }
     ensures cost_refused { OnErr result (steps.new ≤ steps.old + (6 + length (sites_of callee tables.old.statics.sites))) }
@@ -89,6 +91,7 @@ fn lead_many<L: Ledger>(
     requires room { length tables.old.links < 4294967295 }
     ensures ok { IfOk result (λ link. LeadsBy tables.old tables.new node site callee old link) }
     ensures err { OnErr result (tables.new ≡ tables.old) }
+    ensures statics { tables.new.statics ≡ tables.old.statics }
     ensures fresh { OnErr result (IsFresh tables.old node site callee) }
     ensures cost { IfOk result (λ link. (n : ℕ) × IsPlaceOf tables.old node site callee link n × (steps.new ≤ steps.old + (n + (7 + new_sites tables.old tables.new callee)))) }
     ensures cost_refused { OnErr result (steps.new ≤ steps.old + find_or_add_cost tables.old node site callee) }

@@ -49,6 +49,7 @@ impl Recorder {
         requires sound { IsSound statics }
         requires main_there { main < length statics.procs }
         ensures stands { IfOk result (λ recorder. Stands recorder (site_table statics main) []) }
+        ensures statics { IfOk result (λ recorder. recorder.rows.statics ≡ statics) }
     {
         let tables = Tables::new(alloc, statics, main)?;
         Ok(Recorder {
@@ -80,6 +81,7 @@ impl Recorder {
         ensures taken { OnOk result (Takes (Stands self.old) (Stands self.new) (next_call site callee)) }
         ensures marked { IfOk result (λ saved. MarksNewest (Stands self.old) (Belongs saved) (next_call site callee)) }
         ensures refused { OnErr result (StandsAsBefore (Stands self.old) (Stands self.new)) }
+        ensures statics { self.new.rows.statics ≡ self.old.rows.statics }
         ensures needed { OnErr result (TakesMemory (Stands self.old) site callee) }
         ensures cost { IfOk result (λ saved. CallCost self.old self.new site callee saved.middle steps.old steps.new) }
     {
@@ -99,6 +101,7 @@ impl Recorder {
         ensures taken { OnOk result (Takes (Stands self.old) (Stands self.new) (next_call None callee)) }
         ensures marked { IfOk result (λ saved. MarksNewest (Stands self.old) (Belongs saved) (next_call None callee)) }
         ensures refused { OnErr result (StandsAsBefore (Stands self.old) (Stands self.new)) }
+        ensures statics { self.new.rows.statics ≡ self.old.rows.statics }
         ensures needed { OnErr result (TakesMemory (Stands self.old) None callee) }
         ensures cost { steps.new ≤ steps.old + 4 }
     {
@@ -126,6 +129,7 @@ impl Recorder {
         ensures taken { OnOk result (Takes (Stands self.old) (Stands self.new) (next_call (Some site) callee)) }
         ensures marked { IfOk result (λ saved. MarksNewest (Stands self.old) (Belongs saved) (next_call (Some site) callee)) }
         ensures refused { OnErr result (StandsAsBefore (Stands self.old) (Stands self.new)) }
+        ensures statics { self.new.rows.statics ≡ self.old.rows.statics }
         ensures needed { OnErr result (TakesMemory (Stands self.old) (Some site) callee) }
         ensures cost { IfOk result (λ saved. SiteCost self.old self.new site callee saved.middle steps.old steps.new) }
     {
@@ -148,6 +152,7 @@ impl Recorder {
     pub fn exit<L: Ledger>(&mut self, saved: &Saved, steps: &mut Steps<L>)
         requires { CanTakeMarked (Stands self.old) (Belongs saved.now) Exit }
         ensures taken { TakesMarked (Stands self.old) (Stands self.new) (Belongs saved.now) Exit }
+        ensures statics { self.new.rows.statics ≡ self.old.rows.statics }
         ensures cost { steps.new ≡ steps.old + 4 }
     {
         let proc = self.tables.proc_of(saved.top, steps);
@@ -161,6 +166,7 @@ impl Recorder {
     pub fn fail<L: Ledger>(&mut self, saved: &Saved, steps: &mut Steps<L>)
         requires { CanTakeMarked (Stands self.old) (Belongs saved.now) Fail }
         ensures taken { TakesMarked (Stands self.old) (Stands self.new) (Belongs saved.now) Fail }
+        ensures statics { self.new.rows.statics ≡ self.old.rows.statics }
         ensures cost { steps.new ≡ steps.old + 4 }
     {
         let proc = self.tables.proc_of(saved.top, steps);
@@ -174,6 +180,7 @@ impl Recorder {
     pub fn redo<L: Ledger>(&mut self, saved: &Saved, steps: &mut Steps<L>)
         requires { CanTakeMarked (Stands self.old) (Belongs saved.now) Redo }
         ensures taken { TakesMarked (Stands self.old) (Stands self.new) (Belongs saved.now) Redo }
+        ensures statics { self.new.rows.statics ≡ self.old.rows.statics }
         ensures cost { steps.new ≡ steps.old + 4 }
     {
         let proc = self.tables.proc_of(saved.top, steps);
@@ -187,6 +194,7 @@ impl Recorder {
     pub fn alloc<L: Ledger>(&mut self, words: u32, steps: &mut Steps<L>)
         requires { CanTake (Stands self.old) (next_alloc words) }
         ensures taken { Takes (Stands self.old) (Stands self.new) (next_alloc words) }
+        ensures statics { self.new.rows.statics ≡ self.old.rows.statics }
         ensures cost { steps.new ≤ steps.old + 4 }
     {
         if let Some(latest) = self.latest() {

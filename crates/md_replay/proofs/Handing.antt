@@ -27,6 +27,10 @@ the-call t h a p s q may = ap (λ n. Call n p s q) may.0 ∙ ap (λ o. Call (len
 pub the-alloc : (h : List Event) (a w : ℕ) → current h ≡ Some a → Alloc a w ≡ next_alloc w h
 the-alloc h a w now = ap (λ o. Alloc (unwrap_or o 0) w) (sym now)
 
+-- before the first call there are no marks
+pub no-marks : {M : Type 0} (belongs : M → SiteTable → List Event → ℕ → Type 0) (t : SiteTable) (marks : List M) → marks ≡ [] → AreMarks belongs marks t []
+no-marks belongs t marks is = record { each = ap length is; right = λ a m at. absurd (let e : slice_get [] a ≡ Some m = ap (λ xs. slice_get xs a) (sym is) ∙ at in cc e) }
+
 module _ {M : Type 0} (belongs : M → SiteTable → List Event → ℕ → Type 0) (t : SiteTable) (h : List Event) (e : Event) (stays : (m : M) (a : ℕ) → belongs m t h a → belongs m t (e ∷ h) a) where
   -- an event that is no call leaves the marks
   pub marks-stay : (marks : List M) → length (activations (e ∷ h)) ≡ length (activations h) → AreMarks belongs marks t h → AreMarks belongs marks t (e ∷ h)

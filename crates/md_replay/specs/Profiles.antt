@@ -12,10 +12,10 @@ use Rattle.md_record.specs.Profiles.{IsProfileOf}
 abbrev pub AreHistory : Static → ℕ → List Event → Type 0
 AreHistory statics main events = IsPortHistory (site_table statics main) (reverse events)
 
--- a valid profile with the contexts and links of the events, or none where they are no port history
+-- the valid profile of the events, or none where they are no port history
 abbrev pub ProfileOf : Static → ℕ → List Event → Bool → Option ProfileRows → Type 0
 ProfileOf statics main events finished None = AreHistory statics main events → ⊥
-ProfileOf statics main events finished (Some profile) = AreHistory statics main events × IsProfileOf profile.statics main (reverse events) finished profile × IsValid profile
+ProfileOf statics main events finished (Some profile) = AreHistory statics main events × IsProfileOf statics main (reverse events) finished profile × IsValid profile
 
 -- a counter that has counted the events, or none where they are no port history
 abbrev pub CountsOf : Static → ℕ → List Event → Option Counted → Type 0

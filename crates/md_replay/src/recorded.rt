@@ -13,6 +13,7 @@ pub fn replay<S: PortSink>(alloc: Global, events: &[Event], sink: &mut S) -> Res
     requires { CanReplay (S.stands_for sink.old) events.now }
     ensures whole { OnOk result (Replays (S.stands_for sink.old) (S.stands_for sink.new) events.now (length events.now)) }
     ensures part { OnErr result ((n : ℕ) × (n ≤ length events.now) × Replays (S.stands_for sink.old) (S.stands_for sink.new) events.now n) }
+    ensures alike { S.alike sink.old sink.new }
 {
     let mut marks = Vec::new(alloc);
     for event in events {
@@ -26,6 +27,7 @@ fn hand<S: PortSink>(event: Event, sink: &mut S, marks: &mut Vec<S::Mark>) -> Re
     requires { CanFollow (StandsWith (S.stands_for sink.old) S.belongs marks.old.items) event }
     ensures ok { OnOk result (Follows (StandsWith (S.stands_for sink.old) S.belongs marks.old.items) (StandsWith (S.stands_for sink.new) S.belongs marks.new.items) event) }
     ensures err { OnErr result (StandsAsBefore (S.stands_for sink.old) (S.stands_for sink.new)) }
+    ensures alike { S.alike sink.old sink.new }
 {
     match event {
         Event::Call { site, callee, .. } => {

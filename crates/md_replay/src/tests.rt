@@ -1,3 +1,3 @@
-// Profiles of recorded runs, against counts taken by hand and against a slow program that reads the definitions off.
+// Profiles of recorded runs, against counts taken by hand.
 mod programs;
 mod worked;

@@ -101,6 +101,8 @@ impl PortSink for Counter {
 
     ghost belongs = { λ m t h a. procedure_of (activations h) a ≡ Some m };
 
+    ghost alike = { λ s u. Unit {0} };
+
     fn call(&mut self, _site: Option<SiteId>, callee: ProcId) -> Result<ProcId, NoMemory> {
         self.enter(callee)?;
         self.count(callee, Measure::Calls, 1);
@@ -130,6 +132,10 @@ impl PortSink for Counter {
     }
 
     ghost is_history = { λ s t h p. p.history };
+
+    ghost alike_self = { λ s. tt };
+
+    ghost alike_on = { λ s t u p q. tt };
 
     ghost stays = { λ m t h e a is was. procedure-stays m t h e a is was };
 }

@@ -1,4 +1,4 @@
-use Rattle.std.proofs.Common.{List, [], ◌≡◌, length, reverse, take, refl, sym, ap, ◌∙◌, subst, arith}
+use Rattle.std.proofs.Common.{List, length, reverse, sym, ap, subst}
 use Rattle.md_static.specs.Tables.{site_table}
 use Rattle.md_trace.specs.Counted.{CountsFor}
 use Rattle.md_trace.specs.declared.event.Event.{Event}

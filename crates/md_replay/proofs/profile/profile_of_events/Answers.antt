@@ -1,4 +1,4 @@
-use Rattle.std.proofs.Common.{List, ◌≡◌, length, reverse, take, refl, ap, subst}
+use Rattle.std.proofs.Common.{List, reverse, ◌∙◌, subst}
 use Rattle.md_static.specs.Tables.{site_table}
 use Rattle.md_trace.specs.declared.event.Event.{Event}
 use Rattle.md_record.specs.Kept.{Stands}
@@ -14,6 +14,6 @@ returns c =
     let stands = subst S (all-events events) (c.in_ok-replay.ensures.whole t c.in_ok-recorder.ensures.stands history) in
     let exact = c.into_profile.ensures.exact t (reverse events) stands in (
       history,
-      record { tables = refl; contexts_are = exact.contexts_are; links_are = exact.links_are; finished_is = exact.finished_is },
+      record { tables = exact.tables ∙ c.replay.ensures.alike ∙ c.in_ok-recorder.ensures.statics; contexts_are = exact.contexts_are; links_are = exact.links_are; finished_is = exact.finished_is },
       c.into_profile.ensures.valid t (reverse events) stands,
     )

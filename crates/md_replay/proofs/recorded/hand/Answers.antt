@@ -79,7 +79,7 @@ returns-in-Exit-clause-ok g c = λ t h st may.
     let below : c.in-Exit.act < length c.args.marks.now.items = (let called = running t h c.in-Exit.act is follows in omega (arith, called, st.marked.each)) in
     let R : Event → Type 0 = λ e. StandsWith (g.S.PortSink.stands_for c.exit.new.self) B c.args.marks.now.items t (e ∷ h) in
     subst R (sym c.in-Exit.is) (record {
-      sink = c.exit.ensures t h c.in-Exit.act st.sink (st.marked.right c.in-Exit.act c.index.result.now (read-at c.args.marks.now.items c.in-Exit.act c.index.result.now below c.index.ensures)) follows;
+      sink = c.exit.ensures.taken t h c.in-Exit.act st.sink (st.marked.right c.in-Exit.act c.index.result.now (read-at c.args.marks.now.items c.in-Exit.act c.index.result.now below c.index.ensures)) follows;
       marked = marks-stay B t h event (λ m a b. g.met.S.PortSink.stays m t h event a (is, follows) b) c.args.marks.now.items refl st.marked;
     })
 
@@ -92,7 +92,7 @@ returns-in-Redo-clause-ok g c = λ t h st may.
     let below : c.in-Redo.act < length c.args.marks.now.items = (let called = returned t h c.in-Redo.act is follows.0 in omega (arith, called, st.marked.each)) in
     let R : Event → Type 0 = λ e. StandsWith (g.S.PortSink.stands_for c.redo.new.self) B c.args.marks.now.items t (e ∷ h) in
     subst R (sym c.in-Redo.is) (record {
-      sink = c.redo.ensures t h c.in-Redo.act st.sink (st.marked.right c.in-Redo.act c.index-in-Redo.result.now (read-at c.args.marks.now.items c.in-Redo.act c.index-in-Redo.result.now below c.index-in-Redo.ensures)) follows;
+      sink = c.redo.ensures.taken t h c.in-Redo.act st.sink (st.marked.right c.in-Redo.act c.index-in-Redo.result.now (read-at c.args.marks.now.items c.in-Redo.act c.index-in-Redo.result.now below c.index-in-Redo.ensures)) follows;
       marked = marks-stay B t h event (λ m a b. g.met.S.PortSink.stays m t h event a (is, follows) b) c.args.marks.now.items refl st.marked;
     })
 
@@ -105,7 +105,7 @@ returns-in-Fail-clause-ok g c = λ t h st may.
     let below : c.in-Fail.act < length c.args.marks.now.items = (let called = running t h c.in-Fail.act is follows in omega (arith, called, st.marked.each)) in
     let R : Event → Type 0 = λ e. StandsWith (g.S.PortSink.stands_for c.fail.new.self) B c.args.marks.now.items t (e ∷ h) in
     subst R (sym c.in-Fail.is) (record {
-      sink = c.fail.ensures t h c.in-Fail.act st.sink (st.marked.right c.in-Fail.act c.index-in-Fail.result.now (read-at c.args.marks.now.items c.in-Fail.act c.index-in-Fail.result.now below c.index-in-Fail.ensures)) follows;
+      sink = c.fail.ensures.taken t h c.in-Fail.act st.sink (st.marked.right c.in-Fail.act c.index-in-Fail.result.now (read-at c.args.marks.now.items c.in-Fail.act c.index-in-Fail.result.now below c.index-in-Fail.ensures)) follows;
       marked = marks-stay B t h event (λ m a b. g.met.S.PortSink.stays m t h event a (is, follows) b) c.args.marks.now.items refl st.marked;
     })
 

@@ -2,7 +2,7 @@ use Rattle.std.proofs.Common.{List, reverse, take, sym, subst, arith}
 use Rattle.md_record.proofs.Room.{on-err}
 use Rattle.md_trace.specs.declared.event.Event.{Event}
 use Rattle.md_replay.specs.Replays.{StandsWith, Replays}
-use Rattle.md_replay.proofs.Handing.{next-follows, turned-more}
+use Rattle.md_replay.proofs.Handing.{next-follows, no-marks, turned-more}
 use Rattle.md_replay.proofs.recorded.replay.Goals as goal
 
 pub hand-requires : goal.hand-requires
@@ -32,4 +32,14 @@ loop-event-preserved g c = record {
       let next = c.in_ok-hand.ensures.ok t (reverse (take n events)) (c.loop-event.invariant.stands t stood history) (next-follows t events n e c.loop-event-test.true c.event-item.is history) in
       let P : List Event → Type 0 = λ h. StandsWith (g.S.PortSink.stands_for c.hand.new.sink) g.S.PortSink.belongs c.hand.new.marks.items t h in
       subst P (sym (turned-more events n e c.loop-event-test.true c.event-item.is)) next;
+  alike = g.met.S.PortSink.alike_on c.args.sink.now c.loop-event.sink c.hand.new.sink c.loop-event.invariant.alike c.hand.ensures.alike;
 }
+
+pub loop-event-init : goal.loop-event-init
+loop-event-init g c = record {
+  stands = λ t stood history. record { sink = stood; marked = no-marks g.S.PortSink.belongs t c.new-marks.result.items c.new-marks.ensures.items };
+  alike = g.met.S.PortSink.alike_self c.args.sink.now;
+}
+
+pub returns-in_err-hand-clause-alike : goal.returns-in_err-hand-clause-alike
+returns-in_err-hand-clause-alike g c = g.met.S.PortSink.alike_on c.args.sink.now c.loop-event.sink c.hand.new.sink c.loop-event.invariant.alike c.hand.ensures.alike
