@@ -1,7 +1,16 @@
+pub mod Complete
+pub mod CompleteGoals
+pub mod CompletePrograms
+pub mod CompleteTexts
 pub mod Goals
 pub mod Lists
 pub mod Sound
 pub mod SoundGoals
 pub mod SoundPrograms
+pub mod Steady
+pub mod SteadyGoals
+pub mod SteadyPrograms
+pub mod SteadyRules
 pub mod Steps
+pub mod Taking
 pub mod Turns

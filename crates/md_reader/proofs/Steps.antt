@@ -88,7 +88,7 @@ variable_new seen x i j h =
 pub nothing : {A : Type 0} (R : A → Input → Type 0) (x y : A) (i j : Input) → pure x i ≡ Ok (y, j) → R x i → R y j
 nothing {A} R x y i j h r = subst (λ (z : A). R z j) (ok_value x y i j h) (subst (λ (m : Input). R x m) (ok_input x y i j h) r)
 
-same_itself : (k : Kind) → same_kind k k ≡ true
+pub same_itself : (k : Kind) → same_kind k k ≡ true
 unfolding same_kind
 same_itself kind.Name = refl
 same_itself _ = refl
