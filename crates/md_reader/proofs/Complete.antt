@@ -1,25 +1,20 @@
 -- What the grammar spells, the rules read: lists, types, terms and calls.
-use Rattle.std.proofs.Common.{◌≡◌, ℕ, zero, suc, ◌+◌, ◌≤◌, ◌<◌, List, [], ◌∷◌, ◌++◌, length, refl, Bool, true, false, cond, ◌⊎◌, inl, inr, Option, Some, None, Result, Ok, Err, sym, ap, ◌∙◌, arith, append_assoc, subst, ◌==◌}
-use Rattle.std.specs.List.{list_any}
-use Rattle.std.specs.Prelude.{codes}
-use Rattle.md_hlds.specs.declared.types.Mode.{Mode}
-use Rattle.md_hlds.specs.declared.types.Det.{Det}
-use Rattle.md_hlds.specs.declared.goal.PredName.{PredName}
+use Rattle.std.proofs.Common.{◌≡◌, ℕ, zero, suc, ◌+◌, ◌≤◌, ◌<◌, List, [], ◌∷◌, ◌++◌, length, refl, Bool, true, false, cond, ◌⊎◌, inl, inr, Option, Some, None, Ok, ap, ◌∙◌, arith, append_assoc}
 use Rattle.md_hlds.specs.declared.goal.Op.{Op}
 use Rattle.md_hlds.specs.declared.goal.Cmp.{Cmp}
-use Rattle.md_hlds.specs.Part.{Part, At, Task, Plain, Computes, Compares}
-use Rattle.md_hlds.specs.Listing.{Sort, Construct, Family, Listing}
+use Rattle.md_hlds.specs.Part.{Task, Plain, Computes, Compares}
+use Rattle.md_hlds.specs.Listing.{Sort, Construct, Family}
 use Rattle.md_token.specs.declared.kind.Kind.{Kind}
 use Rattle.md_token.specs.declared.kind.Kind.TheVariants as kind
 use Rattle.md_token.specs.Kinds.{same_kind}
-use Rattle.md_reader.specs.Input.{Input, Parser, Outcome, ◌>>=◌, ◌>>◌, and_then, pure, refuse, limit, sees, next, after, eat, token, kind_at, expect, variable, name, word, most, turns, site}
+use Rattle.md_reader.specs.Input.{Input, Parser, ◌>>=◌, ◌>>◌, pure, sees, eat, token, kind_at, expect, variable, most, turns, site}
 use Rattle.md_reader.specs.Rules as rule
 use Rattle.md_reader.specs.Grammar as g
 use Rattle.md_reader.specs.Grammar.{Is, Sign, sign, Listed, last, also, Enclosed, enclosed, AreNew}
 use Rattle.md_reader.proofs.Steps.{same_itself, ok_input}
 use Rattle.md_reader.proofs.Steady.{reach, Steady, fewer}
 use Rattle.md_reader.proofs.SteadyRules.{functor_steady}
-use Rattle.md_reader.proofs.Taking.{Taken, signed, expected, shut, stepped, eats, passes, unlike, variable_kind, sort_kind, word_kind, pred_kinds, variable_among}
+use Rattle.md_reader.proofs.Taking.{signed, shut, stepped, eats, passes, unlike, variable_kind, pred_kinds, variable_among}
 
 -- ---- how many tokens there are
 

@@ -1,18 +1,17 @@
 -- What the grammar spells, the rules read: goals.
-use Rattle.std.proofs.Common.{◌≡◌, ℕ, zero, suc, ◌+◌, ◌≤◌, ◌<◌, List, [], ◌∷◌, ◌++◌, length, refl, Bool, true, false, cond, ◌⊎◌, inl, inr, Option, Some, None, Result, Ok, Err, sym, ap, ◌∙◌, arith, append_assoc, subst}
-use Rattle.md_hlds.specs.declared.goal.PredName.{PredName}
+use Rattle.std.proofs.Common.{◌≡◌, ℕ, zero, suc, ◌≤◌, ◌<◌, List, [], ◌∷◌, ◌++◌, length, refl, true, false, ◌⊎◌, inl, inr, Ok, ap, ◌∙◌, arith, append_assoc}
 use Rattle.md_hlds.specs.Part.{Part, At, Task, Plain, Succeeds, Fails, Either, Choose, Unless, Once, gathered}
 use Rattle.md_token.specs.declared.kind.Kind.{Kind}
 use Rattle.md_token.specs.declared.kind.Kind.TheVariants as kind
 use Rattle.md_token.specs.Kinds.{same_kind}
 use Rattle.md_token.specs.Token.{Lexeme}
-use Rattle.md_reader.specs.Input.{Input, Parser, Outcome, ◌>>=◌, ◌>>◌, and_then, pure, refuse, limit, sees, next, after, eat, first, token, kind_at, expect, turns}
+use Rattle.md_reader.specs.Input.{Input, Parser, ◌>>◌, pure, first, token, kind_at, expect, turns}
 use Rattle.md_reader.specs.Rules as rule
 use Rattle.md_reader.specs.Grammar as g
 use Rattle.md_reader.specs.Grammar.{Is, Sign, sign}
 use Rattle.md_reader.proofs.Goals.{conjunction_is}
 use Rattle.md_reader.proofs.SteadyGoals.{unit_steady, within_steady, conjunction_steady}
-use Rattle.md_reader.proofs.Taking.{Taken, signed, expected, expected_line, shut, stepped, eats, passes, unlike, variable_kind, pred_kinds}
+use Rattle.md_reader.proofs.Taking.{signed, expected, expected_line, shut, eats, passes, unlike, variable_kind, pred_kinds}
 use Rattle.md_reader.proofs.Complete.{stays, sign_fewer, ends_goal, ends_conjunction, quantified_complete, relation_complete, call_complete, closure_call_complete}
 
 -- ---- goals of one token and of one line

@@ -1,22 +1,20 @@
 -- What the grammar spells, the rules read: predicates and programs.
-use Rattle.std.proofs.Common.{◌≡◌, ◌≢◌, ℕ, zero, suc, ◌+◌, ◌-◌, ◌≤◌, ◌<◌, List, [], ◌∷◌, ◌++◌, length, drop, refl, Bool, true, false, cond, not, ◌&&◌, ◌⊎◌, inl, inr, Option, Some, None, Result, Ok, Err, sym, ap, ◌∙◌, arith, append_assoc, subst}
-use Rattle.std.specs.Str.{bytes_eq}
+use Rattle.std.proofs.Common.{◌≡◌, ℕ, zero, suc, ◌+◌, ◌-◌, ◌<◌, List, [], ◌∷◌, ◌++◌, length, refl, true, false, Ok, sym, ap, ◌∙◌, arith, append_assoc, subst}
 use Rattle.std.specs.Prelude.{codes}
 use Rattle.md_hlds.specs.declared.types.Mode.{Mode}
 use Rattle.md_hlds.specs.declared.types.Det.{Det}
 use Rattle.md_hlds.specs.declared.goal.PredName.{PredName}
 use Rattle.md_hlds.specs.Part.{Part}
-use Rattle.md_hlds.specs.Listing.{Sort, closure, gathered_sorts, Family, Procedure, Listing}
-use Rattle.md_token.specs.declared.kind.Kind.{Kind}
+use Rattle.md_hlds.specs.Listing.{Sort, Family, Listing}
 use Rattle.md_token.specs.declared.kind.Kind.TheVariants as kind
 use Rattle.md_token.specs.Kinds.{same_kind}
-use Rattle.md_reader.specs.Input.{Input, Parser, Outcome, ◌>>=◌, ◌>>◌, and_then, pure, refuse, limit, sees, next, after, eat, token, kind_at, expect, variable, name, word, take_name, most, turns, end_clause}
+use Rattle.md_reader.specs.Input.{Input, pure, sees, after, kind_at, variable, word, most}
 use Rattle.md_reader.specs.Rules as rule
 use Rattle.md_reader.specs.Grammar as g
 use Rattle.md_reader.specs.Grammar.{Is, Sign, sign, Listed, last, also, Enclosed, enclosed, AreNew}
 use Rattle.md_reader.proofs.SteadyRules.{word_steady, type_name_steady, functors_steady, declared_name_steady}
 use Rattle.md_reader.proofs.SteadyPrograms.{declared_arguments_steady, determinism_steady, clause_steady}
-use Rattle.md_reader.proofs.Taking.{Taken, signed, expected, shut, stepped, eats, passes, unlike, sort_kind, word_kind, variable_among}
+use Rattle.md_reader.proofs.Taking.{signed, expected, shut, stepped, eats, passes, unlike, sort_kind, word_kind, variable_among}
 use Rattle.md_reader.proofs.Complete.{stays, sign_fewer, seen_sign, listed_complete, sorts_complete, functors_complete, family_complete}
 use Rattle.md_reader.proofs.CompleteGoals.{conjunction_complete}
 

@@ -1,24 +1,22 @@
 -- A text that spells a program is read as that program, and so it spells no other.
-use Rattle.std.proofs.Common.{◌≡◌, ◌≢◌, ℕ, zero, suc, ◌+◌, ◌-◌, ◌≤◌, ◌<◌, List, [], ◌∷◌, ◌++◌, length, drop, take, refl, Bool, true, false, cond, not, ◌&&◌, ◌⊎◌, inl, inr, Option, Some, None, Result, Ok, Err, sym, ap, ◌∙◌, arith, subst}
+use Rattle.std.proofs.Common.{◌≡◌, ℕ, ◌<◌, List, [], ◌∷◌, length, drop, refl, Bool, true, false, cond, not, ◌&&◌, inl, inr, Result, Ok, Err, sym, ap, arith}
 use Rattle.std.specs.Str.{bytes_eq}
 use Rattle.std.specs.Prelude.{codes}
 use Rattle.md_hlds.specs.declared.program.Program.{Program}
-use Rattle.md_hlds.specs.Listing.{Listing, listing_of}
+use Rattle.md_hlds.specs.Listing.{Listing}
 use Rattle.md_token.specs.declared.kind.Kind.{Kind}
 use Rattle.md_token.specs.declared.kind.Kind.TheVariants as kind
-use Rattle.md_token.specs.Kinds.{same_kind}
 use Rattle.md_token.specs.Token.{Lexeme, tokens_of}
 use Rattle.md_token.proofs.Ends.{is_final, HasEnd, tokens_end}
 use Rattle.md_reader.specs.declared.refused.Refused.{Refused}
 use Rattle.md_reader.specs.declared.refused.Refused.TheVariants as refused
-use Rattle.md_reader.specs.Input.{Input, Parser, Outcome, ◌>>=◌, ◌>>◌, and_then, pure, refuse, limit, sees, next, after, eat, first, token, kind_at, expect, word, take_name, most, turns}
+use Rattle.md_reader.specs.Input.{Input, ◌>>◌, and_then, pure, limit, sees, next, first, token, kind_at, take_name, turns}
 use Rattle.md_reader.specs.Rules as rule
 use Rattle.md_reader.specs.Grammar as g
 use Rattle.md_reader.specs.Grammar.{Is, Sign, sign, Spells, Repeats}
-use Rattle.md_reader.specs.Duplicates.{duplicate}
-use Rattle.md_reader.specs.Reading.{reading, outcome_of, without_duplicate, IsAnswer, IsRead, IsRefusedAs}
+use Rattle.md_reader.specs.Reading.{reading, IsAnswer, IsRead, IsRefusedAs}
 use Rattle.md_reader.proofs.Steps.{chosen, ok_input}
-use Rattle.md_reader.proofs.Taking.{Taken, signed, expected, shut, word_kind, word_behind}
+use Rattle.md_reader.proofs.Taking.{Taken, signed, expected, shut, word_behind}
 use Rattle.md_reader.proofs.CompletePrograms.{declarations_complete}
 
 -- ---- the end of a text

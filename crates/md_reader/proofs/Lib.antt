@@ -4,6 +4,7 @@ pub mod CompletePrograms
 pub mod CompleteTexts
 pub mod Goals
 pub mod Lists
+pub mod Seconds
 pub mod Sound
 pub mod SoundGoals
 pub mod SoundPrograms
@@ -14,3 +15,4 @@ pub mod SteadyRules
 pub mod Steps
 pub mod Taking
 pub mod Turns
+pub mod Words

@@ -1,13 +1,13 @@
 -- A rule looks no further than where it stops. What it leaves is no longer than what it was given, and where other
 -- tokens stand behind its stop it does the same.
-use Rattle.std.proofs.Common.{◌≡◌, ℕ, zero, suc, ◌+◌, ◌-◌, ◌≤◌, ◌<◌, List, [], ◌∷◌, ◌++◌, length, take, drop, refl, Bool, true, false, cond, not, Option, Some, None, Result, Ok, Err, sym, ap, ◌∙◌, arith, subst, length-drop, length-append, length-take}
+use Rattle.std.proofs.Common.{◌≡◌, ℕ, zero, suc, ◌+◌, ◌-◌, ◌≤◌, ◌<◌, List, [], ◌∷◌, ◌++◌, length, take, drop, refl, Bool, true, false, cond, Ok, Err, sym, ap, arith, subst, length-drop, length-append, length-take}
 use Rattle.md_token.specs.declared.kind.Kind.{Kind}
 use Rattle.md_token.specs.declared.kind.Kind.TheVariants as kind
 use Rattle.md_token.specs.Kinds.{same_kind}
 use Rattle.md_token.specs.Token.{Lexeme}
 use Rattle.md_reader.specs.declared.refused.Refusal.{Refusal}
 use Rattle.md_reader.specs.declared.refused.Refusal.TheVariants as refusal
-use Rattle.md_reader.specs.Input.{Input, Parser, Outcome, ◌>>=◌, ◌>>◌, and_then, pure, refuse, limit, peek, advance, eat, sees, next, after, first, token, place, expect}
+use Rattle.md_reader.specs.Input.{Input, Parser, Outcome, ◌>>=◌, and_then, pure, refuse, limit, peek, advance, eat, sees, next, after, first, token, place, expect}
 
 -- how many tokens there are from where an outcome stands
 abbrev pub reach : {A : Type 0} → Outcome A → ℕ

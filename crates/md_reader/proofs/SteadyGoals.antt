@@ -1,13 +1,13 @@
 -- Each rule looks no further than where it stops: goals.
-use Rattle.std.proofs.Common.{◌≡◌, ℕ, zero, suc, ◌+◌, ◌-◌, ◌≤◌, ◌<◌, List, [], ◌∷◌, ◌++◌, length, refl, Bool, true, false, cond, Option, Some, None, Result, Ok, Err, sym, ap, ◌∙◌, arith, subst}
+use Rattle.std.proofs.Common.{ℕ, zero, suc, List, [], ◌∷◌, ◌++◌, length, refl, cond}
 use Rattle.md_hlds.specs.Part.{Part, At, Task, Plain, Succeeds, Fails, Either, Choose, Unless, Once, gathered}
 use Rattle.md_token.specs.declared.kind.Kind.{Kind}
 use Rattle.md_token.specs.declared.kind.Kind.TheVariants as kind
 use Rattle.md_token.specs.Kinds.{same_kind}
 use Rattle.md_token.specs.Token.{Lexeme}
-use Rattle.md_reader.specs.Input.{Input, Parser, Outcome, ◌>>=◌, ◌>>◌, and_then, pure, refuse, limit, peek, advance, eat, sees, next, after, token, kind_at, place, expect, turns}
+use Rattle.md_reader.specs.Input.{Parser, ◌>>◌, pure, refuse, limit, peek, advance, sees, expect}
 use Rattle.md_reader.specs.Rules as rule
-use Rattle.md_reader.proofs.Steady.{Same, Steady, cut, bound, given, faulty, limited, either, tested, by_token, moved, looked, eaten, expected, turns_on, turned}
+use Rattle.md_reader.proofs.Steady.{Steady, bound, given, faulty, limited, tested, by_token, moved, looked, expected, turns_on, turned}
 use Rattle.md_reader.proofs.SteadyRules.{ending, quantified_steady, relation_steady, call_steady, closure_call_steady}
 
 module _ (d : ℕ) (more : List Lexeme) where

@@ -1,20 +1,15 @@
 -- Each rule looks no further than where it stops: predicates and programs.
-use Rattle.std.proofs.Common.{◌≡◌, ℕ, zero, suc, ◌+◌, ◌-◌, ◌≤◌, ◌<◌, List, [], ◌∷◌, ◌++◌, length, refl, Bool, true, false, cond, not, ◌&&◌, Option, Some, None, Result, Ok, Err, sym, ap, ◌∙◌, arith, subst}
-use Rattle.std.specs.Str.{bytes_eq}
-use Rattle.std.specs.Prelude.{codes}
+use Rattle.std.proofs.Common.{ℕ, zero, suc, List, [], ◌∷◌, ◌++◌, length, cond, Option, Some, None}
 use Rattle.md_hlds.specs.declared.types.Mode.{Mode}
-use Rattle.md_hlds.specs.declared.types.Det.{Det}
 use Rattle.md_hlds.specs.declared.goal.PredName.{PredName}
-use Rattle.md_hlds.specs.Part.{Part}
-use Rattle.md_hlds.specs.Listing.{Sort, closure, gathered_sorts, Family, Procedure, Listing}
-use Rattle.md_token.specs.declared.kind.Kind.{Kind}
+use Rattle.md_hlds.specs.Listing.{Sort, closure, gathered_sorts, Listing}
 use Rattle.md_token.specs.declared.kind.Kind.TheVariants as kind
 use Rattle.md_token.specs.Kinds.{same_kind}
 use Rattle.md_token.specs.Token.{Lexeme}
-use Rattle.md_reader.specs.Input.{Input, Parser, Outcome, ◌>>=◌, ◌>>◌, and_then, pure, refuse, limit, peek, advance, eat, sees, next, after, token, kind_at, place, expect, word, take_name, variable, turns, end_clause, most}
+use Rattle.md_reader.specs.Input.{Parser, and_then, pure, limit, peek, advance, sees, expect, variable, end_clause, most}
 use Rattle.md_reader.specs.Rules as rule
-use Rattle.md_reader.proofs.Steady.{Same, Steady, cut, bound, given, faulty, limited, either, tested, by_token, moved, looked, eaten, expected, excess, turned, fewer, same_bind_at}
-use Rattle.md_reader.proofs.SteadyRules.{ending, going, perhaps, take_name_steady, word_steady, variable_steady, end_clause_steady, declared_name_steady, this_name_steady, sort_steady, sorts_steady, family_steady}
+use Rattle.md_reader.proofs.Steady.{Steady, bound, given, faulty, limited, tested, by_token, moved, looked, expected, excess}
+use Rattle.md_reader.proofs.SteadyRules.{ending, going, perhaps, variable_steady, end_clause_steady, declared_name_steady, this_name_steady, sort_steady, sorts_steady, family_steady}
 use Rattle.md_reader.proofs.SteadyGoals.{conjunction_steady}
 
 module _ (d : ℕ) (more : List Lexeme) where

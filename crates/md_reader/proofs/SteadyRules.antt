@@ -1,24 +1,22 @@
 -- Each rule looks no further than where it stops: names, variables, terms and calls.
-use Rattle.std.proofs.Common.{◌≡◌, ℕ, zero, suc, ◌+◌, ◌-◌, ◌≤◌, ◌<◌, List, [], ◌∷◌, ◌++◌, length, refl, Bool, true, false, cond, not, ◌&&◌, ◌||◌, Option, Some, None, Result, Ok, Err, sym, ap, ◌∙◌, arith, subst, nat_lt, ◌==◌}
+use Rattle.std.proofs.Common.{ℕ, zero, suc, List, [], ◌∷◌, ◌++◌, length, refl, cond, not, ◌&&◌, Option, Some, None, Ok, arith, nat_lt, ◌==◌}
 use Rattle.std.specs.List.{list_any}
 use Rattle.std.specs.Str.{bytes_eq}
 use Rattle.std.specs.Prelude.{codes, pos}
-use Rattle.md_hlds.specs.declared.types.Mode.{Mode}
-use Rattle.md_hlds.specs.declared.types.Det.{Det}
 use Rattle.md_hlds.specs.declared.goal.PredName.{PredName}
 use Rattle.md_hlds.specs.declared.goal.Op.{Op}
 use Rattle.md_hlds.specs.declared.goal.Cmp.{Cmp}
 use Rattle.md_hlds.specs.declared.goal.Term.TheVariants as term
-use Rattle.md_hlds.specs.Part.{Part, Task, Plain, Unifies, Computes, Compares}
-use Rattle.md_hlds.specs.Listing.{Sort, number as int_sort, text as string_sort, world as io_sort, named, Construct, Family, Listing}
+use Rattle.md_hlds.specs.Part.{Task, Plain, Unifies, Computes, Compares}
+use Rattle.md_hlds.specs.Listing.{Sort, number as int_sort, text as string_sort, world as io_sort, named}
 use Rattle.md_token.specs.declared.kind.Kind.{Kind}
 use Rattle.md_token.specs.declared.kind.Kind.TheVariants as kind
 use Rattle.md_token.specs.Kinds.{same_kind}
 use Rattle.md_token.specs.Token.{Lexeme}
 use Rattle.md_token.specs.Literal.{number_of, string_value}
-use Rattle.md_reader.specs.Input.{Input, Parser, Outcome, ◌>>=◌, ◌>>◌, and_then, pure, refuse, limit, peek, advance, eat, sees, next, after, token, kind_at, place, expect, word, name, take_name, variable, with_variable, place_of, site, turns, end_clause, most}
+use Rattle.md_reader.specs.Input.{Parser, ◌>>=◌, ◌>>◌, pure, refuse, limit, peek, advance, eat, sees, next, token, expect, word, name, take_name, variable, with_variable, place_of, site, end_clause, most}
 use Rattle.md_reader.specs.Rules as rule
-use Rattle.md_reader.proofs.Steady.{Same, Steady, cut, bound, given, faulty, limited, either, tested, by_token, taking, naming, moved, looked, eaten, expected, excess, turns_on, turned}
+use Rattle.md_reader.proofs.Steady.{Steady, bound, given, faulty, limited, either, tested, by_token, taking, naming, moved, looked, eaten, expected, excess, turns_on, turned}
 
 module _ (d : ℕ) (more : List Lexeme) where
   abbrev Stable : {A : Type 0} → Parser A → Type 0

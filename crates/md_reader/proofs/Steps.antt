@@ -1,11 +1,11 @@
 -- What follows where a rule of several steps reads something.
-use Rattle.std.proofs.Common.{◌≡◌, ℕ, zero, suc, ◌+◌, ◌≤◌, List, [], ◌∷◌, ◌++◌, length, refl, Bool, true, false, cond, not, ◌⊎◌, inl, inr, Option, Some, None, Result, Ok, Err, sym, ap, ◌∙◌, arith, subst, append_assoc, nat_lt, ◌==◌}
+use Rattle.std.proofs.Common.{◌≡◌, ℕ, suc, ◌≤◌, List, [], ◌∷◌, ◌++◌, length, refl, Bool, true, false, cond, not, ◌⊎◌, inl, inr, Result, Ok, Err, sym, ap, ◌∙◌, arith, subst, append_assoc, nat_lt, ◌==◌}
 use Rattle.std.specs.List.{list_any}
 use Rattle.md_token.specs.declared.kind.Kind.{Kind}
 use Rattle.md_token.specs.declared.kind.Kind.TheVariants as kind
 use Rattle.md_token.specs.Kinds.{same_kind}
-use Rattle.md_reader.specs.Input.{Input, Parser, Outcome, and_then, pure, refuse, limit, sees, next, after, token, expect, variable, with_variable, place_of, most}
-use Rattle.md_reader.specs.Grammar.{Is, Sign, sign, Listed, last, also, Enclosed, enclosed, AreNew}
+use Rattle.md_reader.specs.Input.{Input, Parser, Outcome, and_then, pure, sees, next, after, token, expect, variable, place_of, most}
+use Rattle.md_reader.specs.Grammar.{Is, Sign, sign, Listed, last, also, Enclosed, enclosed}
 
 pub bind_ok : {A B : Type 0} (r : Outcome A) (f : A → Parser B) (y : B × Input) → and_then r f ≡ Ok y → (p : A × Input) × (r ≡ Ok p) × (f p.0 p.1 ≡ Ok y)
 bind_ok (Ok p) f y h = (p, refl, h)

@@ -1,5 +1,5 @@
 -- What a token that was taken says: its kind, and where the next one is.
-use Rattle.std.proofs.Common.{rules, ◌≡◌, ℕ, zero, suc, ◌+◌, ◌≤◌, List, [], ◌∷◌, ◌++◌, length, drop, refl, Bool, true, false, cond, not, ◌&&◌, ◌⊎◌, inl, inr, Option, Some, None, Result, Ok, Err, sym, ap, ◌∙◌, arith, subst, nat_lt, ◌==◌}
+use Rattle.std.proofs.Common.{rules, ◌≡◌, ℕ, List, [], length, refl, Bool, true, false, cond, not, ◌&&◌, ◌⊎◌, inl, inr, Option, Some, None, Ok, sym, nat_lt, ◌==◌}
 use Rattle.std.specs.List.{list_any}
 use Rattle.std.specs.Str.{bytes_eq}
 use denote.Enum.Bare.{same_true}
@@ -9,11 +9,10 @@ use Rattle.md_token.specs.contracts.kind.Kind.{the_type}
 use Rattle.md_token.specs.declared.kind.Kind.{Kind}
 use Rattle.md_token.specs.declared.kind.Kind.TheVariants as kind
 use Rattle.md_token.specs.Kinds.{same_kind}
-use Rattle.md_token.specs.Token.{Lexeme}
 use Rattle.md_reader.specs.declared.refused.Refusal.TheVariants as refusal
-use Rattle.md_reader.specs.Input.{Input, Parser, Outcome, and_then, pure, refuse, limit, sees, next, after, token, kind_at, first, expect, word, name, variable, place_of, place, most}
+use Rattle.md_reader.specs.Input.{Input, Parser, and_then, pure, refuse, sees, next, after, token, kind_at, expect, word, variable, place_of, place, most}
 use Rattle.md_reader.specs.Rules as rule
-use Rattle.md_reader.specs.Grammar.{Is, Sign, sign}
+use Rattle.md_reader.specs.Grammar.{Sign, sign}
 use Rattle.md_reader.proofs.Steps.{chosen, ok_input, ok_value, past_three}
 
 pub kind_seen : (k : Kind) (i : Input) → sees k i ≡ true → kind_at i ≡ k

@@ -7,7 +7,7 @@ use Rattle.md_reader.specs.declared.refused.Refusal.{Refusal}
 use Rattle.md_reader.specs.declared.refused.Refusal.TheVariants as refusal
 use Rattle.md_reader.specs.declared.refused.Refused.{Refused}
 use Rattle.md_reader.specs.declared.refused.Refused.TheVariants as refused
-use Rattle.md_reader.specs.Input.{Input, Outcome}
+use Rattle.md_reader.specs.Input.{Outcome}
 use Rattle.md_reader.specs.Rules.{program, start}
 use Rattle.md_reader.specs.Duplicates.{duplicate}
 use Rattle.md_reader.specs.Grammar.{Repeats}

@@ -1,13 +1,12 @@
-use Rattle.std.proofs.Common.{rules, arith, ◌≡◌, ◌≢◌, Ok, Err, ap, sym, ◌∙◌, refl, None, Some}
-use Rattle.std.proofs.lemmas.Grind.{common_steps}
+use Rattle.std.proofs.Common.{◌≡◌, ◌≢◌, Ok, Err, ap, sym, ◌∙◌, refl, None, Some}
 use Rattle.md_hlds.specs.Listing.{listing_of}
 use Rattle.md_token.specs.Token.{tokens_of, lexemes_of}
 use Rattle.md_reader.specs.declared.refused.Refusal.TheVariants as refusal
 use Rattle.md_reader.specs.declared.refused.Refused.TheVariants as refused
 use Rattle.md_reader.specs.Input.{input_of}
-use Rattle.md_reader.specs.Rules.{program, start}
+use Rattle.md_reader.specs.Rules.{start}
 use Rattle.md_reader.specs.Duplicates.{duplicate}
-use Rattle.md_reader.specs.Reading.{reading, outcome_of, refused_of, IsAnswer}
+use Rattle.md_reader.specs.Reading.{reading, refused_of, IsAnswer}
 use Rattle.md_reader.proofs.CompleteTexts.{answer_read, answer_repeated}
 use Rattle.md_reader.proofs.SoundPrograms.{reading_sound, reading_repeats, fault_cause}
 use Rattle.md_reader.proofs.reading.read.Goals as goal
