@@ -6,9 +6,7 @@ ghost use Rattle.md_printer.specs.Printed as spec;
 
 use crate::layout::sign;
 use crate::names::variables;
-use crate::simple::{
-    applied, arithmetic, closure_call, comparison, end_line, unification, write,
-};
+use crate::simple::{applied, arithmetic, closure_call, comparison, end_line, unification, write};
 use md_base::{Name, NoMemory};
 use md_hlds::{Goal, GoalKind, Variables};
 
@@ -48,9 +46,7 @@ pub(crate) fn goal(
             sign(text, ")")
         }
         GoalKind::Not(negated) => negation(text, names, negated),
-        GoalKind::Some(places, quantified) => {
-            quantification(text, names, places, quantified)
-        }
+        GoalKind::Some(places, quantified) => { quantification(text, names, places, quantified) }
     }
 }
 

@@ -1,6 +1,8 @@
 //! A program as data to its printed text, which can be read again.
 #![tactic(auto)]
 
+#[cfg(test)]
+mod examples;
 mod goal;
 mod layout;
 mod literal;
@@ -8,7 +10,8 @@ mod names;
 mod predicate;
 mod printing;
 mod simple;
-
+#[cfg(test)]
+mod tests;
 mod types;
 
 pub use printing::print;

@@ -22,11 +22,7 @@ pub(crate) fn written(
 }
 
 /// Adds a variable of a clause, by its place among the names of the clause's variables.
-pub(crate) fn variable(
-    text: &mut Vec<u8>,
-    names: &[Name],
-    place: u32,
-) -> Result<(), NoMemory>
+pub(crate) fn variable(text: &mut Vec<u8>, names: &[Name], place: u32) -> Result<(), NoMemory>
     ensures { OnOk result (text.new.items ≡ text.old.items ++ spaced (spec.variable names.now place)) }
 {
     match names.get(place as usize) {
@@ -37,11 +33,7 @@ pub(crate) fn variable(
 
 /// Adds variables with commas between them.
 #[tactic(auto, unfolding(crate::specs::Layout::laid))]
-pub(crate) fn variables(
-    text: &mut Vec<u8>,
-    names: &[Name],
-    places: &[u32],
-) -> Result<(), NoMemory>
+pub(crate) fn variables(text: &mut Vec<u8>, names: &[Name], places: &[u32]) -> Result<(), NoMemory>
     ensures { OnOk result (text.new.items ≡ text.old.items ++ laid (spec.variables names.now places.now)) }
 {
     if let [first, rest @ ..] = places {
