@@ -131,6 +131,16 @@ fn prints_types_before_predicates(rt: HostRuntime) -> Result<(), Fail> {
 }
 
 #[test]
+fn prints_the_example_of_the_definitions(rt: HostRuntime) -> Result<(), Fail> {
+    prints(
+        &rt,
+        rt.alloc(),
+        ":- module t.\n:- pred p(int::out) is multi.\np(X) :- ( ((X = -5)), (true, t.q(X)) ; X = 007 ).\n:- type a ---> b ; c(int).\n",
+        ":- module t .\n:- type a ---> b ; c ( int ) .\n:- pred p ( int :: out ) is multi .\np ( X ) :- ( X = - 5 , ( true , q ( X ) ) ; X = 7 ) .\n",
+    )
+}
+
+#[test]
 fn prints_unequal_lists_of_a_higher_order_argument(rt: HostRuntime) -> Result<(), Fail> {
     prints(
         &rt,
