@@ -1,0 +1,11 @@
+pub mod Verdict
+pub mod Sorts
+pub mod Known
+pub mod Named
+pub mod Declarations
+pub mod Arguments
+pub mod Simple
+pub mod Branches
+pub mod Goals
+pub mod Modes
+pub mod Notes

@@ -1,0 +1,7 @@
+//! The mode checks: which variables are bound, with which types, before and after each goal of a program, or the first
+//! fault (Mercury Language Reference Manual, "Types", "Modes" and "Unique modes", in this project's profile).
+#![tactic(auto)]
+
+mod fault;
+
+pub use fault::ModeFault;
