@@ -1,1 +1,5 @@
 pub mod Worked
+pub mod Lists
+pub mod Marks
+pub mod NameLemmas
+pub mod Closures

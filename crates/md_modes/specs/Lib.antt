@@ -9,3 +9,5 @@ pub mod Branches
 pub mod Goals
 pub mod Modes
 pub mod Notes
+pub mod Kinds
+pub mod Found

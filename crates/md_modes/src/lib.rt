@@ -2,6 +2,14 @@
 //! fault (Mercury Language Reference Manual, "Types", "Modes" and "Unique modes", in this project's profile).
 #![tactic(auto)]
 
+mod argument;
+mod call;
+mod closure;
 mod fault;
+mod kind;
+mod mark;
+mod names;
+mod simple;
+mod unify;
 
 pub use fault::ModeFault;
