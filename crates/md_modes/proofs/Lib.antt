@@ -3,3 +3,8 @@ pub mod Lists
 pub mod Marks
 pub mod NameLemmas
 pub mod Closures
+pub mod Counts
+pub mod Below
+pub mod Common
+pub mod Noted
+pub mod JoinLemmas

@@ -11,3 +11,5 @@ pub mod Modes
 pub mod Notes
 pub mod Kinds
 pub mod Found
+pub mod Tally
+pub mod Joins

@@ -3,13 +3,17 @@
 #![tactic(auto)]
 
 mod argument;
+mod arms;
 mod call;
 mod closure;
 mod fault;
+mod joined;
 mod kind;
 mod mark;
 mod names;
+mod outside;
 mod simple;
+mod tally;
 mod unify;
 
 pub use fault::ModeFault;
