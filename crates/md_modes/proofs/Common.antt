@@ -1,7 +1,7 @@
 -- What two arms have in common, place by place.
-use Rattle.std.proofs.Common.{◌≡◌, refl, sym, ap, ◌∙◌, arith, ℕ, zero, suc, ◌+◌, ◌<◌, ◌≤◌, Bool, true, false, not, ◌||◌, List, [], ◌∷◌, ◌++◌, length, get_or, add-one}
+use Rattle.std.proofs.Common.{◌≡◌, refl, sym, ap, arith, ℕ, zero, suc, ◌+◌, ◌<◌, ◌≤◌, [], ◌∷◌, length, add-one}
 use Rattle.md_modes.specs.Known.{Known, free, has, Knowledge, known_at, put}
-use Rattle.md_modes.specs.Branches.{common, in_common, is_alike}
+use Rattle.md_modes.specs.Branches.{common, in_common}
 
 -- what is known where the places from this one on are still to be compared
 abbrev pub common_from : ℕ → Knowledge → Knowledge → Knowledge

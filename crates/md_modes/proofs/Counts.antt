@@ -1,5 +1,6 @@
 -- Counts of variables.
-use Rattle.std.proofs.Common.{◌≡◌, refl, sym, ap, ◌∙◌, subst, arith, ℕ, zero, suc, ◌+◌, ◌<◌, ◌≤◌, Bool, true, false, cond, nat_eq, List, [], ◌∷◌, ◌++◌, length, take, get_or, Vec, Box, slice_index, add-one, Result, Ok, Err, OnOk}
+use Rattle.std.proofs.Common.{◌≡◌, refl, sym, ap, ◌∙◌, subst, arith, ℕ, zero, suc, ◌+◌, ◌<◌, Bool, true, false, cond, nat_eq, List, [], ◌∷◌, ◌++◌, length, take, get_or, Vec, Box, slice_index, add-one, Result, Ok, Err, OnOk}
+use mathlib.Core.Path.{fun_ext}
 use Rattle.std.specs.declared.alloc.Global.{Global}
 use Rattle.md_hlds.specs.declared.goal.Goal.{Goal}
 use Rattle.md_hlds.specs.declared.goal.GoalKind.{GoalKind, Conj, Disj, If, Some}
@@ -7,7 +8,8 @@ use Rattle.md_hlds.specs.Part.{gathered, part_of, parts_of, task_of}
 use Rattle.md_hlds.proofs.Bridge.{task_of-Conj, task_of-Disj}
 use Rattle.md_modes.specs.Known.{times}
 use Rattle.md_modes.specs.Goals.{variables, task_variables, parts_variables}
-use Rattle.md_modes.specs.Tally.{Adds}
+use Rattle.md_modes.specs.Branches.{outside}
+use Rattle.md_modes.specs.Tally.{Adds, AreCounts, exceeds}
 
 times_cond : (b : Bool) (m n : ℕ) → cond b (suc (m + n)) (m + n) ≡ cond b (suc m) m + n
 times_cond true m n = omega arith
@@ -80,3 +82,13 @@ adds_along r a b ys zs e h = subst (λ (vs : List ℕ). OnOk r (Adds a b vs)) (s
 pub adds_after : {E : Type 0} (r : Result (Unit {0}) E) (a b c ys zs : List ℕ) → Adds a b ys → OnOk r (Adds b c zs) → OnOk r (Adds a c (ys ++ zs))
 adds_after (Ok u) a b c ys zs f g = adds_more a b c ys zs f g
 adds_after (Err e) a b c ys zs f g = tt
+
+-- what was counted from nothing on
+pub from_nothing : (a b vars : List ℕ) → a ≡ [] → Adds a b vars → AreCounts b vars
+from_nothing a b vars e f x =
+    let none : slice_index a x ≡ 0 = rw e refl in
+    omega (arith, f x, none)
+
+-- what occurs outside, by counts
+pub exceeds_is : (all inner vars goal_vars : List ℕ) → AreCounts all vars → AreCounts inner goal_vars → exceeds all inner ≡ outside vars goal_vars
+exceeds_is all inner vars goal_vars f g = fun_ext (λ x. rw (f x, g x) refl)

@@ -6,7 +6,7 @@ use Rattle.md_modes.specs.Known.{Known, Knowledge, known_at, is_bound, some_belo
 use Rattle.md_modes.specs.Kinds.{knowledge_of}
 use Rattle.md_modes.specs.Joins.{Joins}
 use Rattle.md_modes.proofs.Below.{some_below-same}
-use Rattle.md_modes.specs.Branches.{After, after, in_common, all_have, is_alike, some_unlike, differ, some_differ, reachable, clash}
+use Rattle.md_modes.specs.Branches.{After, in_common, all_have, is_alike, some_unlike, differ, some_differ, reachable, clash}
 
 or_again : (a b c : Bool) → (a || (b || c)) ≡ ((a || b) || c)
 or_again true b c = refl

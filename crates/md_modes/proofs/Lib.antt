@@ -8,3 +8,6 @@ pub mod Below
 pub mod Common
 pub mod Noted
 pub mod JoinLemmas
+pub mod ArmLemmas
+pub mod GoalLemmas
+pub mod Choices

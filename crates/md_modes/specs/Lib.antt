@@ -13,3 +13,5 @@ pub mod Kinds
 pub mod Found
 pub mod Tally
 pub mod Joins
+pub mod Clauses
+pub mod Answers

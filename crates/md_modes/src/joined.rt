@@ -39,7 +39,7 @@ impl<'a> Joined<'a> {
     }
 
     /// One arm more; all began with what was known before.
-    pub fn add(&mut self, outside: Outside<'_>, before: &[Mark<'a>], marks: &[Mark<'a>])
+    pub fn add(&mut self, outside: Outside<'_, '_>, before: &[Mark<'a>], marks: &[Mark<'a>])
         ensures { (r : Knowledge) → (qs : List Knowledge)
             → Joins (exceeds outside.entry.all.now outside.entry.inner.now) (knowledge_of before.now) self.old r qs
             → Joins (exceeds outside.entry.all.now outside.entry.inner.now) (knowledge_of before.now) self.new r (qs ++ knowledge_of marks.now ∷ []) }

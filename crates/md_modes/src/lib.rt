@@ -5,15 +5,24 @@
 mod argument;
 mod arms;
 mod call;
+mod check;
+mod clause;
 mod closure;
+mod declarations;
+mod ends;
 mod fault;
+mod goals;
 mod joined;
 mod kind;
+mod main_predicate;
 mod mark;
+mod moded;
 mod names;
 mod outside;
 mod simple;
 mod tally;
 mod unify;
 
+pub use check::check_modes;
 pub use fault::ModeFault;
+pub use moded::Moded;

@@ -9,12 +9,12 @@ use crate::tally::count_at;
 
 /// How often each variable occurs in a clause, and in one of its goals.
 #[derive(Clone, Copy)]
-pub struct Outside<'b> {
+pub struct Outside<'b, 'c> {
     pub all: &'b [u64],
-    pub inner: &'b [u64],
+    pub inner: &'c [u64],
 }
 
-impl<'b> Outside<'b> {
+impl<'b, 'c> Outside<'b, 'c> {
     /// Whether a variable occurs outside the goal.
     pub fn has(self, place: usize) -> bool
         ensures { result ≡ exceeds self.entry.all.now self.entry.inner.now place }
@@ -24,7 +24,7 @@ impl<'b> Outside<'b> {
 }
 
 /// Whether a variable that occurs outside is free before and bound after.
-pub fn binds_some(outside: Outside<'_>, before: &[Mark<'_>], after: &[Mark<'_>]) -> bool
+pub fn binds_some(outside: Outside<'_, '_>, before: &[Mark<'_>], after: &[Mark<'_>]) -> bool
     ensures { result ≡ binds_some (exceeds outside.entry.all.now outside.entry.inner.now) (knowledge_of before.now) (knowledge_of after.now) }
 {
     for place in 0..before.len() {
@@ -39,7 +39,7 @@ pub fn binds_some(outside: Outside<'_>, before: &[Mark<'_>], after: &[Mark<'_>])
 
 /// Whether a variable that occurs outside is free before, and bound by one of two arms and not by the other.
 pub fn differ(
-    outside: Outside<'_>,
+    outside: Outside<'_, '_>,
     before: &[Mark<'_>],
     first: &[Mark<'_>],
     other: &[Mark<'_>],
@@ -58,7 +58,7 @@ pub fn differ(
 }
 
 /// Whether one of these variables occurs outside.
-pub fn some_outside(outside: Outside<'_>, places: &[u32]) -> bool
+pub fn some_outside(outside: Outside<'_, '_>, places: &[u32]) -> bool
     ensures { result ≡ some_of (exceeds outside.entry.all.now outside.entry.inner.now) places.now }
 {
     for place in places {

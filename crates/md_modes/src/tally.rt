@@ -1,11 +1,12 @@
 // How often each variable occurs in a goal or a clause.
-ghost use Rattle.std.specs.Prelude.{◌≡◌, ◌<◌, ℕ, [], ◌∷◌, ◌++◌, length, OnOk, slice_index};
+ghost use Rattle.std.specs.Prelude.{◌≡◌, ◌<◌, ℕ, [], ◌∷◌, ◌++◌, length, IfOk, OnOk, slice_index};
 ghost use Rattle.md_hlds.specs.Part.{part_of, parts_of, task_of, gathered};
 ghost use Rattle.md_modes.specs.Goals.{variables, parts_variables, term_variables};
-ghost use Rattle.md_modes.specs.Tally.{Adds, leaf_variables};
+ghost use Rattle.md_modes.specs.Tally.{Adds, AreCounts, leaf_variables};
 
 use md_base::NoMemory;
 use md_hlds::{Goal, GoalKind, Term};
+use std::alloc::Global;
 
 /// The count of a variable; where there is none, it is 0.
 pub fn count_at(counts: &[u64], place: usize) -> u64
@@ -16,6 +17,41 @@ pub fn count_at(counts: &[u64], place: usize) -> u64
     } else {
         0
     }
+}
+
+/// How often each variable occurs in this goal and in the list before it.
+pub fn counts_of(alloc: Global, places: &[u32], goal: &Goal) -> Result<Vec<u64>, NoMemory>
+    ensures { IfOk result (λ counts. AreCounts counts.items (places.now ++ variables (part_of goal.now))) }
+{
+    let mut counts = Vec::new(alloc);
+    add_variables(&mut counts, places)?;
+    add_goal(&mut counts, goal)?;
+    Ok(counts)
+}
+
+/// The same of these goals.
+pub fn counts_of_all(alloc: Global, goals: &[Goal]) -> Result<Vec<u64>, NoMemory>
+    ensures { IfOk result (λ counts. AreCounts counts.items (parts_variables (gathered (parts_of goals.now)))) }
+{
+    let mut counts = Vec::new(alloc);
+    add_goals(&mut counts, goals)?;
+    Ok(counts)
+}
+
+/// The same of three goals.
+pub fn counts_of_three(
+    alloc: Global,
+    first: &Goal,
+    second: &Goal,
+    third: &Goal,
+) -> Result<Vec<u64>, NoMemory>
+    ensures { IfOk result (λ counts. AreCounts counts.items (variables (part_of first.now) ++ (variables (part_of second.now) ++ variables (part_of third.now)))) }
+{
+    let mut counts = Vec::new(alloc);
+    add_goal(&mut counts, first)?;
+    add_goal(&mut counts, second)?;
+    add_goal(&mut counts, third)?;
+    Ok(counts)
 }
 
 /// Counts the variables of a goal besides.

@@ -1,4 +1,4 @@
-use Rattle.std.proofs.Common.{◌≡◌, ◌∙◌, sym, refl, arith, ℕ, Bool, true, false, not, ◌&&◌, length, get_or}
+use Rattle.std.proofs.Common.{◌≡◌, ◌∙◌, sym, arith, true, false, ◌&&◌, length, get_or}
 use Rattle.md_modes.specs.Known.{known_at, is_bound}
 use Rattle.md_modes.specs.Kinds.{knowledge_of}
 use Rattle.md_modes.proofs.Marks.{length-knowledge_of}

@@ -1,4 +1,4 @@
-use Rattle.std.proofs.Common.{◌≡◌, ℕ, false, ◌&&◌, get_or}
+use Rattle.std.proofs.Common.{◌≡◌, false, ◌&&◌, get_or}
 use Rattle.md_modes.specs.Known.{known_at, is_bound, some_below}
 use Rattle.md_modes.specs.Kinds.{knowledge_of}
 use Rattle.md_modes.proofs.joined.clashes.Given as goal

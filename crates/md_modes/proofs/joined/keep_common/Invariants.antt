@@ -1,4 +1,4 @@
-use Rattle.std.proofs.Common.{◌≡◌, ◌≤◌, length}
+use Rattle.std.proofs.Common.{◌≡◌, length}
 use Rattle.md_modes.specs.Branches.{in_common}
 use Rattle.md_modes.specs.Kinds.{knowledge_of}
 use Rattle.md_modes.proofs.Common.{common_from}

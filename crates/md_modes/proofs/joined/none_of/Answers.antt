@@ -1,4 +1,4 @@
-use Rattle.std.proofs.Common.{◌≡◌, arith, length, length-append, false, [], ◌∷◌}
+use Rattle.std.proofs.Common.{arith, length-append, false, [], ◌∷◌}
 use Rattle.md_modes.proofs.Noted.{none-more}
 use Rattle.md_modes.proofs.joined.none_of.Goals as goal
 

@@ -1,9 +1,8 @@
-use Rattle.std.proofs.Common.{◌≡◌, ◌∙◌, ◌<◌, sym, ap, refl, arith, ℕ, Bool, true, false, not, length}
+use Rattle.std.proofs.Common.{◌≡◌, ◌<◌, sym, refl, arith, ℕ, true, false, not, length}
 use Rattle.std.proofs.lemmas.List.{length-set}
 use Rattle.md_modes.specs.Known.{known_at}
 use Rattle.md_modes.specs.Branches.{is_alike}
 use Rattle.md_modes.specs.Kinds.{knowledge_of}
-use Rattle.md_modes.proofs.Marks.{length-knowledge_of}
 use Rattle.md_modes.proofs.Noted.{noted-below, noted-above, passed-below, passed-above, noted-all}
 use Rattle.md_modes.proofs.joined.note_unlike.Goals.{then-not-is_alike, else-not-is_alike}
 use Rattle.md_modes.proofs.joined.note_unlike.Goals as goal

@@ -1,4 +1,4 @@
-use Rattle.std.proofs.Common.{◌≡◌, ◌∙◌, sym, refl, arith, ℕ, Bool, true, false, not, ◌&&◌, length}
+use Rattle.std.proofs.Common.{◌≡◌, ◌∙◌, sym, arith, true, ◌&&◌, length}
 use Rattle.md_modes.specs.Known.{known_at, is_newly_bound}
 use Rattle.md_modes.specs.Tally.{exceeds}
 use Rattle.md_modes.specs.Kinds.{knowledge_of}

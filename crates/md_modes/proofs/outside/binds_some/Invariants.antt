@@ -1,6 +1,5 @@
-use Rattle.std.proofs.Common.{◌≡◌, ℕ, false, not, ◌&&◌}
-use Rattle.md_modes.specs.Known.{known_at, is_bound, is_newly_bound, some_below}
-use Rattle.md_modes.specs.Branches.{disagree}
+use Rattle.std.proofs.Common.{◌≡◌, false, ◌&&◌}
+use Rattle.md_modes.specs.Known.{known_at, is_newly_bound, some_below}
 use Rattle.md_modes.specs.Tally.{exceeds}
 use Rattle.md_modes.specs.Kinds.{knowledge_of}
 use Rattle.md_modes.proofs.outside.binds_some.Given as goal

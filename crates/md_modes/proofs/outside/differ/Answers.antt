@@ -1,4 +1,4 @@
-use Rattle.std.proofs.Common.{◌≡◌, ◌∙◌, sym, refl, arith, ℕ, Bool, true, false, not, ◌&&◌, length}
+use Rattle.std.proofs.Common.{◌≡◌, ◌∙◌, sym, refl, arith, true, not, ◌&&◌, length}
 use Rattle.md_modes.specs.Known.{known_at, is_bound}
 use Rattle.md_modes.specs.Branches.{disagree}
 use Rattle.md_modes.specs.Tally.{exceeds}

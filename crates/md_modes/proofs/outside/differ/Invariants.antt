@@ -1,5 +1,5 @@
-use Rattle.std.proofs.Common.{◌≡◌, ℕ, false, not, ◌&&◌}
-use Rattle.md_modes.specs.Known.{known_at, is_bound, is_newly_bound, some_below}
+use Rattle.std.proofs.Common.{◌≡◌, false, not, ◌&&◌}
+use Rattle.md_modes.specs.Known.{known_at, is_bound, some_below}
 use Rattle.md_modes.specs.Branches.{disagree}
 use Rattle.md_modes.specs.Tally.{exceeds}
 use Rattle.md_modes.specs.Kinds.{knowledge_of}

@@ -1,8 +1,7 @@
-use Rattle.std.proofs.Common.{arith, sym, ap, ◌≡◌, ◌∙◌, ◌<◌, false, take, drop, length}
+use Rattle.std.proofs.Common.{arith, sym, ap, ◌≡◌, ◌∙◌, ◌<◌, false, length}
 use Rattle.md_hlds.specs.Listing.{args_of, procedure_of}
 use Rattle.md_modes.specs.Known.{known_at, is_bound}
-use Rattle.md_modes.specs.Kinds.{knowledge_of, Leads}
-use Rattle.md_modes.specs.Simple.{capture}
+use Rattle.md_modes.specs.Kinds.{knowledge_of}
 use Rattle.md_modes.proofs.NameLemmas.{length_args_of, args_of_take, args_of_drop}
 use Rattle.md_modes.proofs.Closures.{closed}
 use Rattle.md_modes.proofs.unify.close.Goals as goal

@@ -1,6 +1,5 @@
-use Rattle.std.proofs.Common.{◌≡◌, ◌∙◌, sym, ap, refl, ℕ, Bool, false, not, ◌||◌, get_or}
-use Rattle.md_modes.specs.Known.{known_at}
-use Rattle.md_modes.specs.Branches.{is_alike, differ}
+use Rattle.std.proofs.Common.{◌≡◌, refl, ◌||◌}
+use Rattle.md_modes.specs.Branches.{differ}
 use Rattle.md_modes.specs.Tally.{exceeds}
 use Rattle.md_modes.specs.Kinds.{knowledge_of}
 use Rattle.md_modes.proofs.JoinLemmas.{joins_more}
