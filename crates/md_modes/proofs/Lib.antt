@@ -11,3 +11,5 @@ pub mod JoinLemmas
 pub mod ArmLemmas
 pub mod GoalLemmas
 pub mod Choices
+pub mod NoteLemmas
+pub mod Notings

@@ -14,4 +14,6 @@ pub mod Found
 pub mod Tally
 pub mod Joins
 pub mod Clauses
-pub mod Answers
+pub mod Classes
+pub mod States
+pub mod Noting
