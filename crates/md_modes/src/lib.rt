@@ -21,6 +21,8 @@ mod names;
 mod outside;
 mod simple;
 mod tally;
+#[cfg(test)]
+mod tests;
 mod unify;
 
 pub use check::check_modes;
