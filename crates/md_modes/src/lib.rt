@@ -26,6 +26,8 @@ mod outside;
 mod simple;
 mod states;
 mod tally;
+#[cfg(test)]
+mod tests;
 mod unify;
 
 pub use check::check_modes;
