@@ -1,0 +1,6 @@
+pub mod Bounds
+pub mod Pairs
+pub mod Switches
+pub mod Determinism
+pub mod Faults
+pub mod Findings

@@ -1,0 +1,9 @@
+//! The determinism checks: how often each goal of a program may succeed, which disjunctions are switches, or the first
+//! fault (Mercury Language Reference Manual, "Determinism", in this project's profile).
+#![tactic(auto)]
+
+mod fault;
+mod pair;
+
+pub use fault::DetFault;
+pub use pair::{Bound, Pair};
