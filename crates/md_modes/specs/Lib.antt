@@ -9,3 +9,4 @@ pub mod Branches
 pub mod Goals
 pub mod Modes
 pub mod Notes
+pub mod Classes

@@ -2,6 +2,10 @@
 //! fault (Mercury Language Reference Manual, "Types", "Modes" and "Unique modes", in this project's profile).
 #![tactic(auto)]
 
+mod class;
 mod fault;
+mod moded;
 
+pub use class::{Class, Note};
 pub use fault::ModeFault;
+pub use moded::Moded;
