@@ -62,6 +62,13 @@ within c = record { program = c.program; all = c.all; strict = true }
 abbrev pub reached : Bool → Verdict Knowledge → Verdict After
 reached reach v = v >>= (λ s. Ok (after s reach))
 
+-- a goal that is no conjunction and no branch
+abbrev pub leaf : Listing → Bool → ℕ → Task → Knowledge → Verdict Knowledge
+leaf p strict l (Plain g) s = simple p strict l g s
+leaf p strict l (Invoke site q ys) s = call p strict l q ys s
+leaf p strict l (Apply site f ys) s = apply strict l f ys s
+leaf p strict l t s = Ok s
+
 -- a goal that may bind only what occurs nowhere outside
 abbrev pub binds_inside : ℕ → (ℕ → Bool) → Knowledge → After → Verdict (Unit {0})
 binds_inside l p s a = fault_unless (not (binds_some p s a.known)) (BranchBinds l)
@@ -71,9 +78,9 @@ abbrev mutual
   goal c (At l t) s = task c l t s
 
   pub task : Scope → ℕ → Task → Knowledge → Verdict After
-  task c l (Plain g) s = reached (goes_on g) (simple c.program c.strict l g s)
-  task c l (Invoke site q ys) s = reached true (call c.program c.strict l q ys s)
-  task c l (Apply site f ys) s = reached true (apply c.strict l f ys s)
+  task c l (Plain g) s = reached (goes_on g) (leaf c.program c.strict l (Plain g) s)
+  task c l (Invoke site q ys) s = reached true (leaf c.program c.strict l (Invoke site q ys) s)
+  task c l (Apply site f ys) s = reached true (leaf c.program c.strict l (Apply site f ys) s)
   task c l (Each ps) s = each c ps s
   task c l (Either ps) s = do
     ends ← arms c ps s

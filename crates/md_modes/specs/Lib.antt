@@ -10,3 +10,5 @@ pub mod Goals
 pub mod Modes
 pub mod Notes
 pub mod Classes
+pub mod Kinds
+pub mod Found

@@ -1,8 +1,8 @@
--- What a name stands for: types and functors. (Predicates: `procedure_called` of md_hlds.)
+-- What a name stands for: types, functors and predicates.
 use Rattle.std.specs.Prelude.{ℕ, Bool, false, ◌&&◌, ◌||◌, List, [], ◌∷◌, length, Option, Some, None, cond, nat_eq}
 use Rattle.std.specs.Str.{bytes_eq}
 use Rattle.md_hlds.specs.declared.goal.PredName.{PredName}
-use Rattle.md_hlds.specs.Listing.{Sort, named, Construct, Family, Listing}
+use Rattle.md_hlds.specs.Listing.{Sort, named, Construct, Family, Procedure, Listing, procedure_called}
 
 -- a type of that name is declared
 abbrev pub is_type : List ℕ → List Family → Bool
@@ -14,11 +14,14 @@ pub record Functor : Type 0 where
   pub makes : Sort
   pub args : List Sort
 
+abbrev pub is_functor : List ℕ → ℕ → Construct → Bool
+is_functor name arity f = bytes_eq name f.name && nat_eq arity (length f.args)
+
 -- the functor of that name and arity among those of a type
 abbrev pub functor_among : List ℕ → ℕ → Sort → List Construct → Option Functor
 functor_among name arity t [] = None
 functor_among name arity t (f ∷ fs) =
-    cond (bytes_eq name f.name && nat_eq arity (length f.args)) (Some (record { makes = t; args = f.args })) (functor_among name arity t fs)
+    cond (is_functor name arity f) (Some (record { makes = t; args = f.args })) (functor_among name arity t fs)
 
 abbrev pub or_else : Option Functor → Option Functor → Option Functor
 or_else (Some f) other = Some f
@@ -51,3 +54,12 @@ is_unqualified_among (Some m) name ts = false
 
 abbrev pub is_name_of_functor : Listing → PredName → Bool
 is_name_of_functor s q = is_unqualified_among q.qualifier q.name s.types
+
+-- a procedure without its number
+abbrev pub without_number : Option (ℕ × Procedure) → Option Procedure
+without_number None = None
+without_number (Some p) = Some p.1
+
+-- the predicate of that name
+abbrev pub predicate_called : Listing → PredName → Option Procedure
+predicate_called s q = without_number (procedure_called s q)

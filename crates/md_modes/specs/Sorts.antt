@@ -27,19 +27,23 @@ same_det det.Nondet det.Nondet = true
 same_det det.Failure det.Failure = true
 same_det d e = false
 
-abbrev mutual
-  pub same_sort : Sort → Sort → Bool
-  same_sort number number = true
-  same_sort text text = true
-  same_sort world world = true
-  same_sort (named m) (named n) = bytes_eq m n
-  same_sort (closure ts ms d) (closure us ns e) = same_sorts ts us && (same_modes ms ns && same_det d e)
-  same_sort t u = false
+-- types of no higher order
+abbrev pub same_plain : Sort → Sort → Bool
+same_plain number number = true
+same_plain text text = true
+same_plain world world = true
+same_plain (named m) (named n) = bytes_eq m n
+same_plain t u = false
 
-  pub same_sorts : Sorts → Sorts → Bool
-  same_sorts no_sorts no_sorts = true
-  same_sorts (also_sort t ts) (also_sort u us) = same_sort t u && same_sorts ts us
-  same_sorts ts us = false
+abbrev pub same_sorts : Sorts → Sorts → Bool
+same_sorts no_sorts no_sorts = true
+same_sorts (also_sort t ts) (also_sort u us) = same_plain t u && same_sorts ts us
+same_sorts ts us = false
+
+-- below a higher-order type there is none: the checks of declarations refuse it
+abbrev pub same_sort : Sort → Sort → Bool
+same_sort (closure ts ms d) (closure us ns e) = same_sorts ts us && (same_modes ms ns && same_det d e)
+same_sort t u = same_plain t u
 
 -- the type of the io state
 abbrev pub is_world : Sort → Bool

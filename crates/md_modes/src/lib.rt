@@ -5,6 +5,14 @@
 mod class;
 mod fault;
 mod moded;
+mod argument;
+mod call;
+mod closure;
+mod kind;
+mod mark;
+mod names;
+mod simple;
+mod unify;
 
 pub use class::{Class, Note};
 pub use fault::ModeFault;
