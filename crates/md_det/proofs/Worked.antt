@@ -15,12 +15,12 @@ use Rattle.md_modes.proofs.Worked.{conj, disj, is_int, same, made, call, apply, 
 use Rattle.md_det.specs.declared.pair.Bound.TheVariants as bound
 use Rattle.md_det.specs.declared.pair.Pair.{Pair}
 use Rattle.md_det.specs.declared.fault.DetFault.{DetFault}
+use Rattle.md_det.specs.declared.finding.Finding.{Finding}
 use Rattle.md_det.specs.declared.fault.DetFault.TheVariants.{Declared, ManyInCondition, IoInBacktracking}
 use Rattle.md_det.specs.Pairs.{pair}
-use Rattle.md_det.specs.Switches.{Switched}
 use Rattle.md_det.specs.Determinism.{sure, unsure}
 use Rattle.md_det.specs.Faults.{det_fault}
-use Rattle.md_det.specs.Findings.{Finding, program_findings}
+use Rattle.md_det.specs.Findings.{program_findings}
 
 -- ---- accepted programs
 

@@ -9,8 +9,9 @@ use Rattle.md_modes.specs.Goals.{Scope, within, goal}
 use Rattle.md_modes.specs.Notes.{Role, constructs, closes, takes_apart, assigns, tests, applies, role_of_unification, known_after}
 use Rattle.md_det.specs.declared.pair.Bound.TheVariants.{Zero, One}
 use Rattle.md_det.specs.declared.pair.Pair.{Pair}
+use Rattle.md_det.specs.declared.finding.Switch.{Switch}
 use Rattle.md_det.specs.Pairs.{pair, pair_of, in_turn, one_of_two, cut, all_alternatives, one_of_all, with_missing}
-use Rattle.md_det.specs.Switches.{Switched, is_only_functor, switch_of, variable_of}
+use Rattle.md_det.specs.Switches.{is_only_functor, switch_of, variable_of}
 
 -- it succeeds once
 abbrev pub sure : Pair
@@ -72,7 +73,7 @@ abbrev pub apply_pair : Known → Pair
 apply_pair free = unsure
 apply_pair (has t used) = sort_pair t
 
-abbrev pub disjunction_pair : Option Switched → List Pair → Pair
+abbrev pub disjunction_pair : Option Switch → List Pair → Pair
 disjunction_pair None arms = all_alternatives arms
 disjunction_pair (Some w) arms = with_missing w.whole (one_of_all arms)
 

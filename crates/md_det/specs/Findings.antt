@@ -6,16 +6,13 @@ use Rattle.md_modes.specs.Known.{Knowledge}
 use Rattle.md_modes.specs.Goals.{Scope, within, goal}
 use Rattle.md_modes.specs.Modes.{entry, scope_of}
 use Rattle.md_modes.specs.Notes.{known_after}
-use Rattle.md_det.specs.declared.pair.Pair.{Pair}
-use Rattle.md_det.specs.Switches.{Switched, switch_of, variable_of}
+use Rattle.md_det.specs.declared.finding.Finding.{Finding}
+use Rattle.md_det.specs.declared.finding.Switch.{Switch}
+use Rattle.md_det.specs.Switches.{switch_of, variable_of}
 use Rattle.md_det.specs.Determinism.{task_pair}
 
-pub record Finding : Type 0 where
-  pub switch : Option Switched
-  pub pair : Pair
-
 -- only a disjunction is a switch
-abbrev pub task_switch : Listing → Task → Knowledge → Option Switched
+abbrev pub task_switch : Listing → Task → Knowledge → Option Switch
 task_switch p (Either ps) s = switch_of p ps s
 task_switch p t s = None
 

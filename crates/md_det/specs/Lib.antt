@@ -4,3 +4,4 @@ pub mod Switches
 pub mod Determinism
 pub mod Faults
 pub mod Findings
+pub mod Judge

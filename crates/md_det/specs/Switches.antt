@@ -5,6 +5,7 @@ use Rattle.md_hlds.specs.Part.{Parts}
 use Rattle.md_hlds.specs.Listing.{Construct, Family, Listing, has_construct}
 use Rattle.md_hlds.specs.Switch.{Key, IntKey, TextKey, FunctorKey, has_key, switch_shape}
 use Rattle.md_modes.specs.Known.{Known, free, has, Knowledge, known_at}
+use Rattle.md_det.specs.declared.finding.Switch.{Switch}
 
 -- the type that has a functor of this name and arity
 abbrev pub family_with : List ℕ → ℕ → List Family → Option Family
@@ -37,24 +38,19 @@ is_alone (Some t) = nat_eq (length t.functors) 1
 abbrev pub is_only_functor : Listing → PredName → ℕ → Bool
 is_only_functor p q arity = is_alone (family_with q.name arity p.types)
 
--- a switch: its variable, and whether no functor is missing
-pub record Switched : Type 0 where
-  pub var : ℕ
-  pub whole : Bool
-
-abbrev pub switch_on_known : Listing → ℕ → List Key → Known → Option Switched
+abbrev pub switch_on_known : Listing → ℕ → List Key → Known → Option Switch
 switch_on_known p x ks free = None
 switch_on_known p x ks (has t used) = Some (record { var = x; whole = is_whole p ks })
 
-abbrev pub switch_with : Listing → Option (ℕ × List Key) → Knowledge → Option Switched
+abbrev pub switch_with : Listing → Option (ℕ × List Key) → Knowledge → Option Switch
 switch_with p None s = None
 switch_with p (Some shape) s = switch_on_known p shape.0 shape.1 (known_at s shape.0)
 
 -- the switch that a disjunction of these arms is where this is known
-abbrev pub switch_of : Listing → Parts → Knowledge → Option Switched
+abbrev pub switch_of : Listing → Parts → Knowledge → Option Switch
 switch_of p ps s = switch_with p (switch_shape p ps) s
 
 -- the variable of a switch
-abbrev pub variable_of : Option Switched → Option ℕ
+abbrev pub variable_of : Option Switch → Option ℕ
 variable_of None = None
 variable_of (Some w) = Some w.var

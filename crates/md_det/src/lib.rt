@@ -3,7 +3,9 @@
 #![tactic(auto)]
 
 mod fault;
+mod finding;
 mod pair;
 
 pub use fault::DetFault;
+pub use finding::{Finding, Switch};
 pub use pair::{Bound, Pair};
