@@ -1,24 +1,27 @@
 -- The determinism of a clause as it is read off the notes that the mode checks leave at the goals: goals are met in text
 -- order, with their numbers, and nothing is asked of what is known of the variables.
-use Rattle.std.specs.Prelude.{ℕ, suc, ◌+◌, Bool, true, false, ◌&&◌, ◌||◌, List, [], ◌∷◌, ◌++◌, length, Option, Some, None, cond, is_none}
+use Rattle.std.specs.Prelude.{ℕ, suc, ◌+◌, Bool, true, false, not, ◌&&◌, ◌||◌, List, [], ◌∷◌, ◌++◌, length, Option, Some, None, cond, is_none}
+use Rattle.md_hlds.specs.declared.types.Det.TheVariants as det
 use Rattle.md_hlds.specs.declared.goal.Term.{Term}
 use Rattle.md_hlds.specs.Part.{Simple, Succeeds, Fails, Unifies, Computes, Compares, WritesInt, WritesText, EndsLine, Part, At, Task, Plain, Invoke, Apply, Each, Either, Choose, Unless, Once, Parts, nothing, also}
 use Rattle.md_hlds.specs.Listing.{Procedure, Listing, procedure_called}
 use Rattle.md_hlds.specs.Switch.{Key, switch_shape}
+use Rattle.md_modes.specs.Sorts.{same_det}
 use Rattle.md_modes.specs.Branches.{outside, some_of}
 use Rattle.md_modes.specs.Goals.{variables}
 use Rattle.md_modes.specs.Notes.{Role, takes_apart, applies, Note}
 use Rattle.md_modes.specs.Classes.{role_at, binds_at, state_at}
 use Rattle.md_det.specs.declared.fault.DetFault.{DetFault}
-use Rattle.md_det.specs.declared.fault.DetFault.TheVariants.{ManyInCondition, IoInBacktracking}
+use Rattle.md_det.specs.declared.fault.DetFault.TheVariants.{Declared, ManyInCondition, IoInBacktracking}
 use Rattle.md_det.specs.declared.finding.Finding.{Finding}
 use Rattle.md_det.specs.declared.finding.Switch.{Switch}
 use Rattle.md_det.specs.declared.pair.Bound.TheVariants.{Zero}
 use Rattle.md_det.specs.declared.pair.Pair.{Pair}
 use Rattle.md_det.specs.Bounds.{is_many}
-use Rattle.md_det.specs.Pairs.{pair, in_turn, alternatives, one_of_two, cut, with_missing}
+use Rattle.md_det.specs.Pairs.{pair, pair_of, det_of, allows, in_turn, alternatives, one_of_two, cut, with_missing}
 use Rattle.md_det.specs.Switches.{is_whole, variable_of}
 use Rattle.md_det.specs.Determinism.{sure, unsure, unification_pair, call_pair, sort_pair}
+use Rattle.md_det.specs.Faults.{has_world}
 
 -- what a clause is judged by: the program, the clause's variables as often as they occur, and the notes of all goals
 pub record Reading : Type 0 where
@@ -121,8 +124,8 @@ abbrev pub judge_leaf : Reading → ℕ → Option ℕ → Bool → ℕ → Task
 judge_leaf r n at again l t = with_own None (read_leaf r.program at (role_at r.notes n) t) (io_fault r n again l) []
 
 -- two goals in turn, and two arms
-abbrev pub then : Judgement → Judgement → Judgement
-then j k = judgement (in_turn j.pair k.pair) (or_else j.fault k.fault) (j.findings ++ k.findings)
+abbrev pub and_then : Judgement → Judgement → Judgement
+and_then j k = judgement (in_turn j.pair k.pair) (or_else j.fault k.fault) (j.findings ++ k.findings)
 
 abbrev pub or_arm : Option ℕ → Judgement → Judgement → Judgement
 or_arm at j k = judgement (beside at j.pair k.pair) (or_else j.fault k.fault) (j.findings ++ k.findings)
@@ -164,10 +167,49 @@ abbrev mutual
   judge_each r n at again nothing = judgement sure None []
   judge_each r n at again (also p ps) =
       let j = judge_part r n at again p in
-      then j (judge_each r (n + length j.findings) None (again || is_many j.pair.bound) ps)
+      and_then j (judge_each r (n + length j.findings) None (again || is_many j.pair.bound) ps)
 
   pub judge_arms : Reading → ℕ → Option ℕ → Bool → Parts → Judgement
   judge_arms r n at again nothing = judgement (no_arm at) None []
   judge_arms r n at again (also p ps) =
       let j = judge_part r n at again p in
       or_arm at j (judge_arms r (n + length j.findings) at again ps)
+
+-- ---- predicates
+
+abbrev pub clause_variables : Procedure → List ℕ
+clause_variables q = q.head ++ variables q.body
+
+-- the reading of a predicate's clause
+abbrev pub reading_of : Listing → List Note → Procedure → Reading
+reading_of p ns q = record { program = p; all = clause_variables q; notes = ns }
+
+-- an io state in a predicate that isn't det
+abbrev pub state_fault : Procedure → Option DetFault
+state_fault q = fault_where (has_world q.args && not (same_det q.det det.Det)) (IoInBacktracking q.line)
+
+-- a body with this pair that does more than its declaration says
+abbrev pub declared_fault : Procedure → Pair → Option DetFault
+declared_fault q body = fault_where (not (allows (pair_of q.det) body)) (Declared q.line q.det (det_of body.may_fail body.bound))
+
+-- a predicate whose body is judged so
+abbrev pub declared : Procedure → Judgement → Judgement
+declared q j = judgement j.pair (or_else (state_fault q) (or_else j.fault (declared_fault q j.pair))) j.findings
+
+-- the predicate whose body has the number n
+abbrev pub judge_procedure : Listing → List Note → ℕ → Procedure → Judgement
+judge_procedure p ns n q = declared q (judge_part (reading_of p ns q) n None false q.body)
+
+-- findings, and then what is found at other goals
+abbrev pub onto : List Finding → Judgement → Judgement
+onto fs j = judgement j.pair j.fault (fs ++ j.findings)
+
+-- one predicate and then others; no pair is asked of them
+abbrev pub and_others : Judgement → Judgement → Judgement
+and_others j k = judgement sure (or_else j.fault k.fault) (j.findings ++ k.findings)
+
+abbrev pub judge_procedures : Listing → List Note → ℕ → List Procedure → Judgement
+judge_procedures p ns n [] = judgement sure None []
+judge_procedures p ns n (q ∷ qs) =
+    let j = judge_procedure p ns n q in
+    and_others j (judge_procedures p ns (n + length j.findings) qs)
