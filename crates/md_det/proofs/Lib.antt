@@ -1,2 +1,5 @@
 pub mod Worked
 pub mod Noted
+pub mod Functors
+pub mod Arms
+pub mod KeyLemmas

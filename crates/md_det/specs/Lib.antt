@@ -5,3 +5,4 @@ pub mod Determinism
 pub mod Faults
 pub mod Findings
 pub mod Judge
+pub mod Keys

@@ -4,7 +4,9 @@
 
 mod fault;
 mod finding;
+mod key;
 mod pair;
+mod switch;
 
 pub use fault::DetFault;
 pub use finding::{Finding, Switch};
