@@ -4,3 +4,4 @@ pub mod Lists
 pub mod Marks
 pub mod NameLemmas
 pub mod Closures
+pub mod Counts

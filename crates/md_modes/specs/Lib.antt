@@ -12,3 +12,4 @@ pub mod Notes
 pub mod Classes
 pub mod Kinds
 pub mod Found
+pub mod Tally

@@ -12,8 +12,10 @@ mod kind;
 mod mark;
 mod names;
 mod simple;
+mod tally;
 mod unify;
 
 pub use class::{Class, Note};
 pub use fault::ModeFault;
 pub use moded::Moded;
+pub use tally::{count_at, counts_of};

@@ -1,0 +1,7 @@
+use Rattle.md_modes.proofs.Counts.{adds_place}
+use Rattle.md_modes.proofs.tally.add_variables.Goals as goal
+
+pub loop-place-preserved : goal.loop-place-preserved
+loop-place-preserved c =
+    adds_place c.args.counts.now.items c.loop-place.counts.items c.add_variable.new.counts.items c.args.places.now c.loop-place.place-index
+    c.loop-place-test.true c.loop-place.invariant c.in_ok-add_variable.ensures
