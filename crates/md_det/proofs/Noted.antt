@@ -29,7 +29,7 @@ use Rattle.md_det.specs.Switches.{switch_with, switch_on_known, switch_of, varia
 use Rattle.md_det.specs.Determinism.{sure, unsure, apart_pair, unification_pair, simple_pair, call_pair, apply_pair, sort_pair, disjunction_pair, goal_pair, task_pair, each_pair, arm_pairs}
 use Rattle.md_det.specs.Faults.{fault_if, binds_many, own_faults, goal_faults, inner_faults, each_faults, arm_faults, first_of, state_faults, declared_faults, body_pair, procedure_faults, faults_of, det_fault}
 use Rattle.md_det.specs.Findings.{task_switch, findings, inner_findings, each_findings, arm_findings, findings_from, program_findings}
-use Rattle.md_det.specs.Judge.{Reading, Judgement, judgement, or_else, fault_where, read_simple, read_apply, first_goal, is_apart, shaped, read_switch, beside, no_arm, if_missing, with_own, io_fault, condition_fault, judge_leaf, and_then, or_arm, chosen, judge_part, judge_task, judge_each, judge_arms, reading_of, state_fault, declared_fault, declared, judge_procedure, and_others, judge_procedures}
+use Rattle.md_det.specs.Judge.{Reading, Judgement, judgement, or_else, fault_where, read_simple, read_apply, first_goal, is_apart, shaped, read_switch, beside, no_arm, if_missing, found, whole, io_fault, condition_fault, judge_leaf, and_then, or_arm, chosen, judge_part, judge_task, judge_each, judge_arms, reading_of, state_fault, declared_fault, declared, judge_procedure, and_others, judge_procedures}
 
 abbrev pub reading : Scope → List Note → Reading
 reading c ns = record { program = c.program; all = c.all; notes = ns }
@@ -174,7 +174,7 @@ read_closure (has t used) = refl
 
 -- a judgement, part by part
 own_is : (w w' : Option Switch) (p p' : Pair) (f f' : Option DetFault) (fs fs' : List Finding) → w ≡ w' → p ≡ p' → f ≡ f' → fs ≡ fs'
-    → with_own w p f fs ≡ judgement p' f' (record { switch = w'; pair = p' } ∷ fs')
+    → whole (found w p f fs) ≡ judgement p' f' (record { switch = w'; pair = p' } ∷ fs')
 own_is w w' p p' f f' fs fs' a b c d = rw (a, b, c, d) refl
 
 -- the fault of a goal that names an io state
@@ -331,8 +331,8 @@ mutual
       let w = switch_of c.program ps s in
       let j = judged_arms c ns (suc n) (variable_of w) (again || is_none w) ps s rest later in
       let r = reading c ns in
-      ap (λ (v : Option Switch). with_own v (if_missing v (judge_arms r (suc n) (variable_of v) (again || is_none v) ps).pair)
-        (judge_arms r (suc n) (variable_of v) (again || is_none v) ps).fault (judge_arms r (suc n) (variable_of v) (again || is_none v) ps).findings)
+      ap (λ (v : Option Switch). whole (found v (if_missing v (judge_arms r (suc n) (variable_of v) (again || is_none v) ps).pair)
+        (judge_arms r (suc n) (variable_of v) (again || is_none v) ps).fault (judge_arms r (suc n) (variable_of v) (again || is_none v) ps).findings))
         (switch_is c ns (suc n) ps s rest later)
       ∙ own_is w w _ _ _ _ _ _ refl (ap (λ (x : Judgement). if_missing w x.pair) j ∙ disjunction_is w (arm_pairs c (variable_of w) ps s))
         (ap (λ (x : Judgement). x.fault) j) (ap (λ (x : Judgement). x.findings) j)
@@ -349,10 +349,10 @@ mutual
       let k = judged_part c ns (suc n + length fs) None again t r (d ++ rest) second in
       let m = judged_part c ns (suc n + length fs + length gs) None again e s rest third in
       let x = reading c ns in
-      ap (λ (j : Judgement). chosen x n l p j (judge_part x (suc n + length j.findings) None again t)
-        (judge_part x (suc n + length j.findings + length (judge_part x (suc n + length j.findings) None again t).findings) None again e)) j
-      ∙ (ap (λ (k : Judgement). chosen x n l p (goal_judgement (within c) None again p s) k (judge_part x (suc n + length fs + length k.findings) None again e)) k
-      ∙ (ap (λ (m : Judgement). chosen x n l p (goal_judgement (within c) None again p s) (goal_judgement c None again t r) m) m
+      ap (λ (j : Judgement). whole (chosen x n l p j (judge_part x (suc n + length j.findings) None again t)
+        (judge_part x (suc n + length j.findings + length (judge_part x (suc n + length j.findings) None again t).findings) None again e))) j
+      ∙ (ap (λ (k : Judgement). whole (chosen x n l p (goal_judgement (within c) None again p s) k (judge_part x (suc n + length fs + length k.findings) None again e))) k
+      ∙ (ap (λ (m : Judgement). whole (chosen x n l p (goal_judgement (within c) None again p s) (goal_judgement c None again t r) m)) m
       ∙ own_is None None _ _ _ _ _ _ refl refl
         (ap (λ (vs : List ℕ). or_else (fault_where (is_many (goal_pair (within c) None p s).bound && some_of (outside c.all (variables p)) vs) (ManyInCondition l))
           (or_else (first_of (goal_faults (within c) again p s)) (or_else (first_of (goal_faults c again t r)) (first_of (goal_faults c again e s)))))

@@ -109,9 +109,19 @@ if_missing (Some w) p = with_missing w.whole p
 
 -- ---- goals with parts
 
--- the goal and those within it
-abbrev pub with_own : Option Switch → Pair → Option DetFault → List Finding → Judgement
-with_own switch p fault below = judgement p fault (record { switch = switch; pair = p } ∷ below)
+-- of a goal: the switch that it is, its pair, the first fault, and what is found at the goals within it
+pub record Found : Type 0 where
+  pub switch : Option Switch
+  pub pair : Pair
+  pub fault : Option DetFault
+  pub below : List Finding
+
+abbrev pub found : Option Switch → Pair → Option DetFault → List Finding → Found
+found switch p fault below = record { switch = switch; pair = p; fault = fault; below = below }
+
+-- a goal's judgement: its own finding goes before those within it
+abbrev pub whole : Found → Judgement
+whole f = judgement f.pair f.fault (record { switch = f.switch; pair = f.pair } ∷ f.below)
 
 abbrev pub io_fault : Reading → ℕ → Bool → ℕ → Option DetFault
 io_fault r n again l = fault_where (again && state_at r.notes n) (IoInBacktracking l)
@@ -120,8 +130,8 @@ io_fault r n again l = fault_where (again && state_at r.notes n) (IoInBacktracki
 abbrev pub condition_fault : Reading → ℕ → ℕ → Part → Pair → Option DetFault
 condition_fault r l n c p = fault_where (is_many p.bound && some_of (outside r.all (variables c)) (binds_at r.notes n)) (ManyInCondition l)
 
-abbrev pub judge_leaf : Reading → ℕ → Option ℕ → Bool → ℕ → Task → Judgement
-judge_leaf r n at again l t = with_own None (read_leaf r.program at (role_at r.notes n) t) (io_fault r n again l) []
+abbrev pub judge_leaf : Reading → ℕ → Option ℕ → Bool → ℕ → Task → Found
+judge_leaf r n at again l t = found None (read_leaf r.program at (role_at r.notes n) t) (io_fault r n again l) []
 
 -- two goals in turn, and two arms
 abbrev pub and_then : Judgement → Judgement → Judgement
@@ -130,27 +140,27 @@ and_then j k = judgement (in_turn j.pair k.pair) (or_else j.fault k.fault) (j.fi
 abbrev pub or_arm : Option ℕ → Judgement → Judgement → Judgement
 or_arm at j k = judgement (beside at j.pair k.pair) (or_else j.fault k.fault) (j.findings ++ k.findings)
 
-abbrev pub chosen : Reading → ℕ → ℕ → Part → (j k m : Judgement) → Judgement
+abbrev pub chosen : Reading → ℕ → ℕ → Part → (j k m : Judgement) → Found
 chosen r n l c j k m =
-    with_own None (one_of_two k.pair m.pair) (or_else (condition_fault r l (suc n) c j.pair) (or_else j.fault (or_else k.fault m.fault)))
+    found None (one_of_two k.pair m.pair) (or_else (condition_fault r l (suc n) c j.pair) (or_else j.fault (or_else k.fault m.fault)))
     (j.findings ++ (k.findings ++ m.findings))
 
 -- The goal of the number n. `at` is the variable of the switch whose arm it begins; `again` holds where a run may come back.
 abbrev mutual
   pub judge_part : Reading → ℕ → Option ℕ → Bool → Part → Judgement
-  judge_part r n at again (At l t) = judge_task r n at again l t
+  judge_part r n at again (At l t) = whole (judge_task r n at again l t)
 
-  pub judge_task : Reading → ℕ → Option ℕ → Bool → ℕ → Task → Judgement
+  pub judge_task : Reading → ℕ → Option ℕ → Bool → ℕ → Task → Found
   judge_task r n at again l (Plain g) = judge_leaf r n at again l (Plain g)
   judge_task r n at again l (Invoke site q ys) = judge_leaf r n at again l (Invoke site q ys)
   judge_task r n at again l (Apply site f ys) = judge_leaf r n at again l (Apply site f ys)
   judge_task r n at again l (Each ps) =
       let j = judge_each r (suc n) at again ps in
-      with_own None j.pair j.fault j.findings
+      found None j.pair j.fault j.findings
   judge_task r n at again l (Either ps) =
       let w = read_switch r (suc n) ps in
       let j = judge_arms r (suc n) (variable_of w) (again || is_none w) ps in
-      with_own w (if_missing w j.pair) j.fault j.findings
+      found w (if_missing w j.pair) j.fault j.findings
   judge_task r n at again l (Choose c t e) =
       let j = judge_part r (suc n) None again c in
       let k = judge_part r (suc n + length j.findings) None again t in
@@ -158,10 +168,10 @@ abbrev mutual
       chosen r n l c j k m
   judge_task r n at again l (Unless c) =
       let j = judge_part r (suc n) None again c in
-      with_own None unsure (or_else (io_fault r n again l) j.fault) j.findings
+      found None unsure (or_else (io_fault r n again l) j.fault) j.findings
   judge_task r n at again l (Once vs c) =
       let j = judge_part r (suc n) None again c in
-      with_own None (cut j.pair) (or_else (io_fault r n again l) j.fault) j.findings
+      found None (cut j.pair) (or_else (io_fault r n again l) j.fault) j.findings
 
   pub judge_each : Reading → ℕ → Option ℕ → Bool → Parts → Judgement
   judge_each r n at again nothing = judgement sure None []
