@@ -1,10 +1,12 @@
 -- Functors by their names, as the definitions of switches and those of look-ups have them.
-use Rattle.std.proofs.Common.{◌≡◌, refl, sym, ap, ◌∙◌, ℕ, Bool, true, false, cond, ◌&&◌, List, [], ◌∷◌, length, Option, Some, None, nat_eq}
+use Rattle.std.proofs.Common.{◌≡◌, refl, sym, ap, ◌∙◌, ℕ, suc, Bool, true, false, cond, ◌&&◌, List, [], ◌∷◌, length, Option, Some, None, nat_eq}
 use Rattle.std.specs.Prelude.{is_some}
 use Rattle.std.specs.Str.{bytes_eq}
-use Rattle.md_hlds.specs.Listing.{Construct, Family, has_construct, has_functor}
+use Rattle.md_hlds.specs.declared.program.Functor.{Functor}
+use Rattle.md_hlds.specs.declared.program.TypeDef.{TypeDef}
+use Rattle.md_hlds.specs.Listing.{Construct, Family, construct_of, constructs_of, family_of, has_construct, has_functor}
 use Rattle.md_names.specs.Named.{construct_among, found_in, functor_found}
-use Rattle.md_det.specs.Switches.{family_with}
+use Rattle.md_det.specs.Switches.{family_with, is_alone}
 
 abbrev pub family_found : Option (Family × Construct) → Option Family
 family_found None = None
@@ -41,3 +43,16 @@ pub family_there : (name : List ℕ) (arity : ℕ) (ts : List Family) → family
 family_there name arity [] = refl
 family_there name arity (t ∷ ts) =
     family_cond t (construct_among name arity t.functors) (functor_found name arity ts) _ _ (has_construct-among name arity t.functors) (family_there name arity ts)
+
+length-constructs : (fs : List Functor) → length (constructs_of fs) ≡ length fs
+length-constructs [] = refl
+length-constructs (f ∷ fs) = ap suc (length-constructs fs)
+
+-- whether the functor that was found is the only one of its type
+pub alone_none : (name : List ℕ) (arity : ℕ) (ts : List Family) → functor_found name arity ts ≡ None → false ≡ is_alone (family_with name arity ts)
+alone_none name arity ts e = sym (ap is_alone (family_there name arity ts ∙ ap family_found e))
+
+pub alone_some : (name : List ℕ) (arity : ℕ) (ts : List Family) (t : TypeDef) (f : Construct) → functor_found name arity ts ≡ Some (family_of t, f)
+    → nat_eq (length t.functors.items) 1 ≡ is_alone (family_with name arity ts)
+alone_some name arity ts t f e =
+    ap (λ n. nat_eq n 1) (sym (length-constructs t.functors.items)) ∙ sym (ap is_alone (family_there name arity ts ∙ ap family_found e))

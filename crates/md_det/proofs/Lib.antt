@@ -3,3 +3,4 @@ pub mod Noted
 pub mod Functors
 pub mod Arms
 pub mod KeyLemmas
+pub mod Judging

@@ -6,3 +6,4 @@ pub mod Faults
 pub mod Findings
 pub mod Judge
 pub mod Keys
+pub mod Told

@@ -2,9 +2,14 @@
 //! fault (Mercury Language Reference Manual, "Determinism", in this project's profile).
 #![tactic(auto)]
 
+mod condition;
+mod context;
+mod disjunction;
 mod fault;
 mod finding;
+mod judge;
 mod key;
+mod leaf;
 mod pair;
 mod switch;
 

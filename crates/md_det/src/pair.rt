@@ -1,6 +1,6 @@
 // How often a goal may succeed.
 ghost use Rattle.std.specs.Prelude.{◌≡◌};
-ghost use Rattle.md_det.specs.Bounds.{product, sum, greatest, at_most_one, exceeds};
+ghost use Rattle.md_det.specs.Bounds.{product, sum, greatest, at_most_one, exceeds, is_many};
 ghost use Rattle.md_det.specs.Pairs;
 ghost use Rattle.md_det.specs.Pairs.{pair_of, det_of, in_turn, alternatives, one_of_two};
 
@@ -63,6 +63,12 @@ impl Bound {
         )
     }
 
+    pub fn is_many(self) -> bool
+        ensures { result ≡ is_many self }
+    {
+        matches!(self, Bound::Many)
+    }
+
     /// Of a goal that is cut at its first solution.
     pub fn cut(self) -> Bound
         ensures { result ≡ at_most_one self }
@@ -75,6 +81,24 @@ impl Bound {
 }
 
 impl Pair {
+    /// It succeeds once.
+    pub const SURE: Pair = Pair {
+        may_fail: false,
+        bound: Bound::One,
+    };
+
+    /// It succeeds once or fails.
+    pub const UNSURE: Pair = Pair {
+        may_fail: true,
+        bound: Bound::One,
+    };
+
+    /// It fails.
+    pub const FAILURE: Pair = Pair {
+        may_fail: true,
+        bound: Bound::Zero,
+    };
+
     /// What a declaration says.
     pub fn of(det: Det) -> Pair
         ensures { result ≡ pair_of det }
