@@ -4,3 +4,4 @@ pub mod Functors
 pub mod Arms
 pub mod KeyLemmas
 pub mod Judging
+pub mod Whole

@@ -1,5 +1,5 @@
 -- What the checks find at each goal: its pair, and the switch that it is.
-use Rattle.std.specs.Prelude.{ℕ, List, [], ◌∷◌, ◌++◌, Option, Some, None}
+use Rattle.std.specs.Prelude.{ℕ, Bool, List, [], ◌∷◌, ◌++◌, Option, Some, None, slice_get}
 use Rattle.md_hlds.specs.Part.{Part, At, Task, Plain, Invoke, Apply, Each, Either, Choose, Unless, Once, Parts, nothing, also}
 use Rattle.md_hlds.specs.Listing.{Procedure, Listing}
 use Rattle.md_modes.specs.Known.{Knowledge}
@@ -8,6 +8,8 @@ use Rattle.md_modes.specs.Modes.{entry, scope_of}
 use Rattle.md_modes.specs.Notes.{known_after}
 use Rattle.md_det.specs.declared.finding.Finding.{Finding}
 use Rattle.md_det.specs.declared.finding.Switch.{Switch}
+use Rattle.md_det.specs.declared.pair.Bound.{Bound}
+use Rattle.md_det.specs.declared.pair.Bound.TheVariants.{Zero, One, Many}
 use Rattle.md_det.specs.Switches.{switch_of, variable_of}
 use Rattle.md_det.specs.Determinism.{task_pair}
 
@@ -47,3 +49,27 @@ findings_from s (p ∷ ps) = findings (scope_of s p) None p.body (entry p) ++ fi
 -- the findings at all goals of a program, in text order
 unfoldable pub program_findings : Listing → List Finding
 program_findings s = findings_from s s.procedures
+
+-- ---- what is found at the goal of a number
+
+abbrev pub switch_of_finding : Option Finding → Option Switch
+switch_of_finding None = None
+switch_of_finding (Some f) = f.switch
+
+-- the switch that the goal of this number is; none, where it is none or there is no such goal
+abbrev pub switch_at : List Finding → ℕ → Option Switch
+switch_at fs n = switch_of_finding (slice_get fs n)
+
+-- 0, 1, and 2 for many
+abbrev pub number_of : Bound → ℕ
+number_of Zero = 0
+number_of One = 1
+number_of Many = 2
+
+abbrev pub pair_of_finding : Option Finding → Option (Bool × ℕ)
+pair_of_finding None = None
+pair_of_finding (Some f) = Some (f.pair.may_fail, number_of f.pair.bound)
+
+-- whether the goal of this number may fail, and its bound; none, where there is no such goal
+abbrev pub pair_at : List Finding → ℕ → Option (Bool × ℕ)
+pair_at fs n = pair_of_finding (slice_get fs n)

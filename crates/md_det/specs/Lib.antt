@@ -4,6 +4,7 @@ pub mod Switches
 pub mod Determinism
 pub mod Faults
 pub mod Findings
+pub mod Main
 pub mod Judge
 pub mod Keys
 pub mod Told

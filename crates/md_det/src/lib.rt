@@ -2,6 +2,8 @@
 //! fault (Mercury Language Reference Manual, "Determinism", in this project's profile).
 #![tactic(auto)]
 
+mod check;
+mod checked;
 mod condition;
 mod context;
 mod disjunction;
@@ -10,9 +12,13 @@ mod finding;
 mod judge;
 mod key;
 mod leaf;
+mod main_predicate;
 mod pair;
+mod predicate;
 mod switch;
 
+pub use check::check_det;
+pub use checked::Checked;
 pub use fault::DetFault;
 pub use finding::{Finding, Switch};
 pub use pair::{Bound, Pair};

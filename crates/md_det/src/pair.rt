@@ -1,6 +1,7 @@
 // How often a goal may succeed.
 ghost use Rattle.std.specs.Prelude.{◌≡◌};
 ghost use Rattle.md_det.specs.Bounds.{product, sum, greatest, at_most_one, exceeds, is_many};
+ghost use Rattle.md_det.specs.Findings.{number_of};
 ghost use Rattle.md_det.specs.Pairs;
 ghost use Rattle.md_det.specs.Pairs.{pair_of, det_of, in_turn, alternatives, one_of_two};
 
@@ -61,6 +62,17 @@ impl Bound {
             (self, other),
             (Bound::Many, Bound::Zero | Bound::One) | (Bound::One, Bound::Zero)
         )
+    }
+
+    /// 0, 1, and 2 for many.
+    pub fn number(self) -> u8
+        ensures { result ≡ number_of self }
+    {
+        match self {
+            Bound::Zero => 0,
+            Bound::One => 1,
+            Bound::Many => 2,
+        }
     }
 
     pub fn is_many(self) -> bool
