@@ -170,8 +170,8 @@ choice_found r n at again l k cb tb eb c t e olds first second news p q s f g h 
     let third_is : judgement s h news ≡ onto second m' = four ∙ ap (λ m. onto second (judge_part r m None again (part_of e))) count_more in
     let finds : news ≡ olds ++ (j.findings ++ (k'.findings ++ m'.findings))
     = ap (λ (x : Judgement). x.findings) third_is
-        ∙ (ap (λ fs. fs ++ m'.findings) (ap (λ (x : Judgement). x.findings) second_is ∙ ap (λ fs. fs ++ k'.findings) (ap (λ (x : Judgement). x.findings) first_is))
-        ∙ (append_assoc (olds ++ j.findings) k'.findings m'.findings ∙ append_assoc olds j.findings (k'.findings ++ m'.findings))) in
+    ∙ (ap (λ fs. fs ++ m'.findings) (ap (λ (x : Judgement). x.findings) second_is ∙ ap (λ fs. fs ++ k'.findings) (ap (λ (x : Judgement). x.findings) first_is))
+    ∙ (append_assoc (olds ++ j.findings) k'.findings m'.findings ∙ append_assoc olds j.findings (k'.findings ++ m'.findings))) in
     let pairs : p ≡ j.pair = ap (λ (x : Judgement). x.pair) first_is in
     let owns : own ≡ condition_fault r l (suc n) (part_of c) j.pair = two ∙ ap (condition_fault r l (suc n) (part_of c)) pairs in
     let fs : f ≡ j.fault = ap (λ (x : Judgement). x.fault) first_is in

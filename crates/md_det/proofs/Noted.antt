@@ -86,9 +86,15 @@ mutual
   length_inner c at (Either ps) s = length_arms c (variable_of (switch_of c.program ps s)) ps s
   length_inner c at (Choose p t e) s =
       let r = known_after s (goal (within c) p s) in
-      rw (length-append (findings (within c) None p s) (findings c None t r ++ findings c None e s), length-append (findings c None t r) (findings c None e s),
-        length-append (notes (within c) p s) (notes c t r ++ notes c e s), length-append (notes c t r) (notes c e s),
-        length_findings (within c) None p s, length_findings c None t r, length_findings c None e s) refl
+      rw (
+        length-append (findings (within c) None p s) (findings c None t r ++ findings c None e s),
+        length-append (findings c None t r) (findings c None e s),
+        length-append (notes (within c) p s) (notes c t r ++ notes c e s),
+        length-append (notes c t r) (notes c e s),
+        length_findings (within c) None p s,
+        length_findings c None t r,
+        length_findings c None e s,
+      ) refl
   length_inner c at (Unless p) s = length_findings (within c) None p s
   length_inner c at (Once vs p) s = length_findings (within c) None p s
 
@@ -96,14 +102,22 @@ mutual
   length_each c at nothing s = refl
   length_each c at (also p ps) s =
       let r = known_after s (goal c p s) in
-      rw (length-append (findings c at p s) (each_findings c None ps r), length-append (notes c p s) (each_notes c ps r),
-        length_findings c at p s, length_each c None ps r) refl
+      rw (
+        length-append (findings c at p s) (each_findings c None ps r),
+        length-append (notes c p s) (each_notes c ps r),
+        length_findings c at p s,
+        length_each c None ps r,
+      ) refl
 
   length_arms : (c : Scope) (at : Option ℕ) (ps : Parts) (s : Knowledge) → length (arm_findings c at ps s) ≡ length (arm_notes c ps s)
   length_arms c at nothing s = refl
   length_arms c at (also p ps) s =
-      rw (length-append (findings c at p s) (arm_findings c at ps s), length-append (notes c p s) (arm_notes c ps s),
-        length_findings c at p s, length_arms c at ps s) refl
+      rw (
+        length-append (findings c at p s) (arm_findings c at ps s),
+        length-append (notes c p s) (arm_notes c ps s),
+        length_findings c at p s,
+        length_arms c at ps s,
+      ) refl
 
 -- ---- the bound of a goal, whether or not it begins an arm of a switch
 
@@ -332,10 +346,10 @@ mutual
       let j = judged_arms c ns (suc n) (variable_of w) (again || is_none w) ps s rest later in
       let r = reading c ns in
       ap (λ (v : Option Switch). whole (found v (if_missing v (judge_arms r (suc n) (variable_of v) (again || is_none v) ps).pair)
-        (judge_arms r (suc n) (variable_of v) (again || is_none v) ps).fault (judge_arms r (suc n) (variable_of v) (again || is_none v) ps).findings))
-        (switch_is c ns (suc n) ps s rest later)
+      (judge_arms r (suc n) (variable_of v) (again || is_none v) ps).fault (judge_arms r (suc n) (variable_of v) (again || is_none v) ps).findings))
+      (switch_is c ns (suc n) ps s rest later)
       ∙ own_is w w _ _ _ _ _ _ refl (ap (λ (x : Judgement). if_missing w x.pair) j ∙ disjunction_is w (arm_pairs c (variable_of w) ps s))
-        (ap (λ (x : Judgement). x.fault) j) (ap (λ (x : Judgement). x.findings) j)
+      (ap (λ (x : Judgement). x.fault) j) (ap (λ (x : Judgement). x.findings) j)
   judged_part c ns n at again (At l (Choose p t e)) s rest start =
       let r = known_after s (goal (within c) p s) in
       let a = notes (within c) p s in let b = notes c t r in let d = notes c e s in
@@ -350,18 +364,18 @@ mutual
       let m = judged_part c ns (suc n + length fs + length gs) None again e s rest third in
       let x = reading c ns in
       ap (λ (j : Judgement). whole (chosen x n l p j (judge_part x (suc n + length j.findings) None again t)
-        (judge_part x (suc n + length j.findings + length (judge_part x (suc n + length j.findings) None again t).findings) None again e))) j
+      (judge_part x (suc n + length j.findings + length (judge_part x (suc n + length j.findings) None again t).findings) None again e))) j
       ∙ (ap (λ (k : Judgement). whole (chosen x n l p (goal_judgement (within c) None again p s) k (judge_part x (suc n + length fs + length k.findings) None again e))) k
       ∙ (ap (λ (m : Judgement). whole (chosen x n l p (goal_judgement (within c) None again p s) (goal_judgement c None again t r) m)) m
       ∙ own_is None None _ _ _ _ _ _ refl refl
-        (ap (λ (vs : List ℕ). or_else (fault_where (is_many (goal_pair (within c) None p s).bound && some_of (outside c.all (variables p)) vs) (ManyInCondition l))
-          (or_else (first_of (goal_faults (within c) again p s)) (or_else (first_of (goal_faults c again t r)) (first_of (goal_faults c again e s)))))
-          (binds_is (within c) ns (suc n) p s (b ++ (d ++ rest)) first)
-        ∙ (ap (λ o. or_else (fault_where (binds_many c p s) (ManyInCondition l)) (or_else (first_of (goal_faults (within c) again p s)) o))
-          (first_of-append (goal_faults c again t r) (goal_faults c again e s))
-        ∙ (ap (or_else (fault_where (binds_many c p s) (ManyInCondition l))) (first_of-append (goal_faults (within c) again p s) (goal_faults c again t r ++ goal_faults c again e s))
-        ∙ first_of-if (binds_many c p s) (ManyInCondition l) _)))
-        refl))
+      (ap (λ (vs : List ℕ). or_else (fault_where (is_many (goal_pair (within c) None p s).bound && some_of (outside c.all (variables p)) vs) (ManyInCondition l))
+      (or_else (first_of (goal_faults (within c) again p s)) (or_else (first_of (goal_faults c again t r)) (first_of (goal_faults c again e s)))))
+      (binds_is (within c) ns (suc n) p s (b ++ (d ++ rest)) first)
+      ∙ (ap (λ o. or_else (fault_where (binds_many c p s) (ManyInCondition l)) (or_else (first_of (goal_faults (within c) again p s)) o))
+      (first_of-append (goal_faults c again t r) (goal_faults c again e s))
+      ∙ (ap (or_else (fault_where (binds_many c p s) (ManyInCondition l))) (first_of-append (goal_faults (within c) again p s) (goal_faults c again t r ++ goal_faults c again e s))
+      ∙ first_of-if (binds_many c p s) (ManyInCondition l) _)))
+      refl))
   judged_part c ns n at again (At l (Unless p)) s rest e =
       let j = judged_part (within c) ns (suc n) None again p s rest (drop_one ns n _ _ e) in
       own_is None None _ _ _ _ _ _ refl refl
@@ -419,9 +433,9 @@ pub judged_procedure : (p : Listing) (ns : List Note) (n : ℕ) (q : Procedure) 
 judged_procedure p ns n q rest e =
     ap (declared q) (judged_part (scope_of p q) ns n None false q.body (entry q) rest e)
     ∙ (ap (λ o. judgement (body_pair p q) (or_else (state_fault q) (or_else (first_of (goal_faults (scope_of p q) false q.body (entry q))) o)) (findings (scope_of p q) None q.body (entry q)))
-      (alone _ _)
+    (alone _ _)
     ∙ (ap (λ o. judgement (body_pair p q) (or_else (state_fault q) o) (findings (scope_of p q) None q.body (entry q)))
-      (first_of-append (goal_faults (scope_of p q) false q.body (entry q)) (declared_faults q (body_pair p q)))
+    (first_of-append (goal_faults (scope_of p q) false q.body (entry q)) (declared_faults q (body_pair p q)))
     ∙ ap (λ o. judgement (body_pair p q) o (findings (scope_of p q) None q.body (entry q))) (first_of-if _ _ _)))
   where
     alone : (b : Bool) (f : DetFault) → fault_where b f ≡ first_of (fault_if b f)

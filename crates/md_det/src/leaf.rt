@@ -39,13 +39,7 @@ pub fn leaf_pair(context: &Context, kind: &GoalKind, number: u32, at: Option<u32
     }
 }
 
-fn unification_pair(
-    context: &Context,
-    x: u32,
-    term: &Term,
-    number: u32,
-    at: Option<u32>,
-) -> Pair
+fn unification_pair(context: &Context, x: u32, term: &Term, number: u32, at: Option<u32>) -> Pair
     ensures { result ≡ read_unification (listing_of context.now.moded.now) at x term.now
         (role_at (program_notes (listing_of context.now.moded.now)) number) }
 {

@@ -12,7 +12,7 @@ use crate::judge::judge;
 use crate::main_predicate::has_io;
 use crate::pair::Pair;
 use md_hlds::{Det, Pred};
-use md_modes::{counts_of, Moded};
+use md_modes::{Moded, counts_of};
 use md_names::Names;
 use std::alloc::Global;
 

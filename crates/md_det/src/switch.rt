@@ -8,7 +8,7 @@ ghost use Rattle.md_det.specs.Judge.{shaped};
 ghost use Rattle.md_det.specs.Keys.{keys_told, keys_found, with_variable};
 
 use crate::finding::Switch;
-use crate::key::{arm_key, Key};
+use crate::key::{Key, arm_key};
 use indexmap::IndexSet;
 use md_base::NoMemory;
 use md_hlds::{Functor, Goal};
@@ -16,11 +16,7 @@ use md_names::Names;
 use std::alloc::Global;
 
 /// The switch that a disjunction of these arms is where the variable that they test is bound, or `None` where it is none.
-pub fn switch_among(
-    alloc: Global,
-    names: &Names,
-    arms: &[Goal],
-) -> Result<Option<Switch>, NoMemory>
+pub fn switch_among(alloc: Global, names: &Names, arms: &[Goal]) -> Result<Option<Switch>, NoMemory>
     ensures { IfOk result (λ switch. switch ≡ shaped (listing_of names.now) (switch_shape (listing_of names.now) (gathered (parts_of arms.now)))) }
 {
     let Some(first) = arms.first() else {

@@ -36,8 +36,8 @@ functor_apart name arity a e differ one other =
     let arities : a.arity ≡ e.arity = sym (number_is arity a.arity p.1) ∙ number_is arity e.arity q.1 in
     let same : same_functor a e ≡ true
     = subst (λ (xs : List ℕ). (pointwise nat_eq a.name.now xs && nat_eq a.arity e.arity) ≡ true) names
-        (subst (λ (n : ℕ). (pointwise nat_eq a.name.now a.name.now && nat_eq a.arity n) ≡ true) arities
-        (rw (text_same a.name.now, number_same a.arity) refl)) in
+    (subst (λ (n : ℕ). (pointwise nat_eq a.name.now a.name.now && nat_eq a.arity n) ≡ true) arities
+    (rw (text_same a.name.now, number_same a.arity) refl)) in
     cc
 
 pub functor_fits : (name : List ℕ) (arity : ℕ) (a : FunctorKey) → Fits (is_functor_key name arity) same_functor a
@@ -73,8 +73,8 @@ pub functor_put : (name : List ℕ) (arity : ℕ) (es : List (FunctorKey × (Bor
 functor_put name arity es key t f fs others named counted had =
     let passes : is_functor_key name arity key ≡ (bytes_eq name f.now.name && nat_eq arity (length (sorts_of f.now.args.items)))
     = ap (λ (xs : List ℕ). pointwise nat_eq name xs && nat_eq arity key.arity) named
-        ∙ (ap (λ (b : Bool). b && nat_eq arity key.arity) (pointwise-bytes_eq name f.now.name)
-        ∙ ap (λ (n : ℕ). bytes_eq name f.now.name && nat_eq arity n) (counted ∙ sym (length-sorts_of f.now.args.items))) in
+    ∙ (ap (λ (b : Bool). b && nat_eq arity key.arity) (pointwise-bytes_eq name f.now.name)
+    ∙ ap (λ (n : ℕ). bytes_eq name f.now.name && nat_eq arity n) (counted ∙ sym (length-sorts_of f.now.args.items))) in
     ap functor_told (lookup-insert (is_functor_key name arity) same_functor key (t, f) es (functor_fits name arity key))
     ∙ (told_cond (is_functor_key name arity key) (t, f) (lookup (is_functor_key name arity) es)
     ∙ (ap (λ (r : Option (Family × Construct)). cond (is_functor_key name arity key) (Some (family_of t.now, construct_of f.now)) r) had
@@ -133,9 +133,9 @@ predicate_apart q a e differ one other =
     = sym (text_is q.name a.name.now (pointwise-bytes_eq q.name a.name.now ∙ p.1)) ∙ text_is q.name e.name.now (pointwise-bytes_eq q.name e.name.now ∙ r.1) in
     let same : same_predicate a e ≡ true
     = contents_same a e
-        ∙ subst (λ (xs : List ℕ). (same_qualifier (slice_now a.qualifier) (slice_now e.qualifier) && bytes_eq a.name.now xs) ≡ true) names
-        (subst (λ (m : Option (List ℕ)). (same_qualifier (slice_now a.qualifier) m && bytes_eq a.name.now a.name.now) ≡ true) modules
-        (rw (qualifier_same (slice_now a.qualifier), bytes_same a.name.now) refl)) in
+    ∙ subst (λ (xs : List ℕ). (same_qualifier (slice_now a.qualifier) (slice_now e.qualifier) && bytes_eq a.name.now xs) ≡ true) names
+    (subst (λ (m : Option (List ℕ)). (same_qualifier (slice_now a.qualifier) m && bytes_eq a.name.now a.name.now) ≡ true) modules
+    (rw (qualifier_same (slice_now a.qualifier), bytes_same a.name.now) refl)) in
     cc
 
 pub predicate_fits : (q : PredName) (a : PredicateKey) → Fits (is_predicate_key q) same_predicate a
@@ -155,7 +155,7 @@ predicate_put q es key ps i n p at lt is module' name had =
     let front : drop i ps ≡ p.now ∷ drop (suc i) ps = drop-cons ps i p.now lt ∙ ap (λ (x : Pred). x ∷ drop (suc i) ps) (sym is) in
     let passes : is_predicate_key q key ≡ is_called q (procedure_of p.now)
     = ap (λ (m : Option (List ℕ)). same_qualifier q.qualifier m && bytes_eq q.name key.name.now) module'
-        ∙ ap (λ (xs : List ℕ). same_qualifier q.qualifier p.now.qualifier && bytes_eq q.name xs) name in
+    ∙ ap (λ (xs : List ℕ). same_qualifier q.qualifier p.now.qualifier && bytes_eq q.name xs) name in
     ap predicate_told (lookup-insert (is_predicate_key q) same_predicate key (i, p) es (predicate_fits q key))
     ∙ (predicate_told_cond (is_predicate_key q key) (i, p) (lookup (is_predicate_key q) es)
     ∙ (ap (λ (r : Option (ℕ × Procedure)). cond (is_predicate_key q key) (Some (i, procedure_of p.now)) r) had

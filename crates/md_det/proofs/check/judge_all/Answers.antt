@@ -25,7 +25,7 @@ returns-in_err-judge_predicate-clause-refused c =
     let whole = sym (ap (λ (j : Judgement). j.fault) (judged_program s)) ∙ ap (λ (j : Judgement). j.fault) c.loop-pred.invariant in
     handed_on c.from_residual-in_err-judge_predicate.result c.in_err-judge_predicate.field-0.0 (det_fault s) c.from_residual-in_err-judge_predicate.ensures.1
     (λ known. whole ∙ others_refused s (program_notes s) c.args.moded.now.preds.items i c.pred-item.result c.loop-pred.findings.items _ lt is
-      (c.in_err-judge_predicate.ensures.refused known))
+    (c.in_err-judge_predicate.ensures.refused known))
 
 pub loop-pred-preserved : goal.loop-pred-preserved
 loop-pred-preserved c =
@@ -37,7 +37,7 @@ loop-pred-preserved c =
     = subst (λ (ps : List Pred). c.pred-item.result ≡ get_or ps i c.pred-item.result) items c.pred-item.is in
     c.loop-pred.invariant
     ∙ others_next s (program_notes s) c.args.moded.now.preds.items i c.pred-item.result c.loop-pred.findings.items c.judge_predicate.new.findings.items
-        lt is c.in_ok-judge_predicate.ensures.sound c.in_ok-judge_predicate.ensures.found
+    lt is c.in_ok-judge_predicate.ensures.sound c.in_ok-judge_predicate.ensures.found
 
 pub returns-clause-accepted : goal.returns-clause-accepted
 returns-clause-accepted c =

@@ -14,7 +14,7 @@ returns-then-not-contains c =
     let f = c.functor-item.result in
     let has : has_key (key_of (construct_of f)) ks ≡ false
     = ap (λ (k : Key). has_key k ks) (sym (key_is c.as_bytes.result.now c.len.result f c.as_bytes.ensures.bytes (omega (arith, c.len.ensures, f.args.ok))))
-        ∙ (sym (any_told (Functor c.as_bytes.result c.len.result) c.args.keys.now.keys) ∙ (sym c.contains.ensures ∙ c.if-not-contains.true)) in
+    ∙ (sym (any_told (Functor c.as_bytes.result c.len.result) c.args.keys.now.keys) ∙ (sym c.contains.ensures ∙ c.if-not-contains.true)) in
     sym (c.loop-functor.invariant
     ∙ (ap (λ (fs : List Construct). all_have_keys ks fs) (constructs-step c.args.functors.now i f (omega arith) c.functor-item.is)
     ∙ ap (λ b. b && all_have_keys ks (constructs_of (drop (i + 1) c.args.functors.now))) has))
@@ -26,7 +26,7 @@ loop-functor-preserved c =
     let f = c.functor-item.result in
     let has : has_key (key_of (construct_of f)) ks ≡ true
     = ap (λ (k : Key). has_key k ks) (sym (key_is c.as_bytes.result.now c.len.result f c.as_bytes.ensures.bytes (omega (arith, c.len.ensures, f.args.ok))))
-        ∙ (sym (any_told (Functor c.as_bytes.result c.len.result) c.args.keys.now.keys) ∙ (sym c.contains.ensures ∙ c.if-not-contains.false)) in
+    ∙ (sym (any_told (Functor c.as_bytes.result c.len.result) c.args.keys.now.keys) ∙ (sym c.contains.ensures ∙ c.if-not-contains.false)) in
     c.loop-functor.invariant
     ∙ (ap (λ (fs : List Construct). all_have_keys ks fs) (constructs-step c.args.functors.now i f (omega arith) c.functor-item.is)
     ∙ (ap (λ b. b && all_have_keys ks (constructs_of (drop (i + 1) c.args.functors.now))) has))

@@ -32,7 +32,7 @@ returns-in-None-functor_spelled c =
     let p = listing_of c.args.names.now in
     let ks = c.args.keys.now.keys in
     let first = sym (ap (λ (k : Key). whole_by p (keys_told ks) (key_of_code k)) c.in-Functor.is)
-        ∙ is_whole-first p ks c.in-Some.first.now (sym (ap option_copied c.in-Some.is) ∙ c.get_index.ensures.key) in
+    ∙ is_whole-first p ks c.in-Some.first.now (sym (ap option_copied c.in-Some.is) ∙ c.get_index.ensures.key) in
     let none : family_with c.in-Functor.name.now c.in-Functor.arity p.types ≡ None
     = family_there c.in-Functor.name.now c.in-Functor.arity p.types ∙ ap family_found c.in-None-functor_spelled.ensures in
     sym (ap (no_functor_missing (keys_told ks)) none) ∙ first
@@ -42,7 +42,7 @@ returns-in-Some-functor_spelled c =
     let p = listing_of c.args.names.now in
     let ks = c.args.keys.now.keys in
     let first = sym (ap (λ (k : Key). whole_by p (keys_told ks) (key_of_code k)) c.in-Functor.is)
-        ∙ is_whole-first p ks c.in-Some.first.now (sym (ap option_copied c.in-Some.is) ∙ c.get_index.ensures.key) in
+    ∙ is_whole-first p ks c.in-Some.first.now (sym (ap option_copied c.in-Some.is) ∙ c.get_index.ensures.key) in
     let some = family_there c.in-Functor.name.now c.in-Functor.arity p.types ∙ ap family_found c.in-Some-functor_spelled.ensures in
     c.all_have_keys.ensures
     ∙ (ap (λ fs. all_have_keys (keys_told ks) (constructs_of fs)) c.deref.ensures.value

@@ -35,9 +35,9 @@ loop-arm-preserved c =
     = ap keys_told c.in_ok-is_new.ensures.keys ∙ told_new c.loop-arm.keys.keys c.in-Some.key unknown in
     record {
       all = c.loop-arm.invariant.all
-        ∙ (ap (λ (r : Option (List Key)). if_different x (keys_onto had r)) (keys_of-step p x c.args.arms.now i c.arm-item.result (omega arith) c.arm-item.is)
-        ∙ (ap (λ (t : Option (ℕ × Key)). if_different x (keys_onto had (prepend_key x t rest))) (sym c.arm_key.ensures ∙ ap tested_told c.in-Some.is)
-        ∙ (ap (if_different x) (keys_more x c.in-Some.tested k had rest c.if-tested-var.false)
-        ∙ ap (λ (js : List Key). if_different x (keys_onto js rest)) (sym new))));
+          ∙ (ap (λ (r : Option (List Key)). if_different x (keys_onto had r)) (keys_of-step p x c.args.arms.now i c.arm-item.result (omega arith) c.arm-item.is)
+          ∙ (ap (λ (t : Option (ℕ × Key)). if_different x (keys_onto had (prepend_key x t rest))) (sym c.arm_key.ensures ∙ ap tested_told c.in-Some.is)
+          ∙ (ap (if_different x) (keys_more x c.in-Some.tested k had rest c.if-tested-var.false)
+          ∙ ap (λ (js : List Key). if_different x (keys_onto js rest)) (sym new))));
       different = ap all_different new ∙ different_more had k c.loop-arm.invariant.different (sym (any_told c.in-Some.key c.loop-arm.keys.keys) ∙ unknown);
     }

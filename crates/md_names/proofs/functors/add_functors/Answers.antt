@@ -11,7 +11,7 @@ loop-place-preserved c name arity =
     let at : c.loop-place.place ≡ suc (c.loop-place.place - 1) = omega arith in
     ap (λ es. functor_told (lookup (is_functor_key name arity) es)) c.in_ok-insert.ensures.entries
     ∙ (functor_put name arity c.loop-place.functors.entries _ c.args.family c.index-functor.result (drop c.loop-place.place c.args.family.now.functors.items)
-        (functor_in c.args.functors.now name arity) c.as_bytes.ensures.bytes (omega (arith, c.len.ensures, c.index-functor.result.now.args.ok)) (c.loop-place.invariant name arity)
+    (functor_in c.args.functors.now name arity) c.as_bytes.ensures.bytes (omega (arith, c.len.ensures, c.index-functor.result.now.args.ok)) (c.loop-place.invariant name arity)
     ∙ ap (λ (fs : List Construct). found_in (family_of c.args.family.now) (construct_among name arity fs) (functor_in c.args.functors.now name arity))
-        (sym (constructs-step c.args.family.now.functors.items (c.loop-place.place - 1) c.loop-place.place c.index-functor.result.now at
-        (omega (arith, c.loop-place.auto.place, c.len-place.ensures, c.args.family.now.functors.ok)) c.index-functor.ensures)))
+    (sym (constructs-step c.args.family.now.functors.items (c.loop-place.place - 1) c.loop-place.place c.index-functor.result.now at
+    (omega (arith, c.loop-place.auto.place, c.len-place.ensures, c.args.family.now.functors.ok)) c.index-functor.ensures)))

@@ -18,4 +18,4 @@ loop-place-preserved c name =
     ∙ (ap (λ (xs : List ℕ). pointwise nat_eq name xs || is_type name (families_of (drop c.loop-place.place c.args.program.now.types.items))) c.as_bytes.ensures.bytes
     ∙ (ap (λ (b : Bool). b || is_type name (families_of (drop c.loop-place.place c.args.program.now.types.items))) (pointwise-bytes_eq name c.index.result.now.name)
     ∙ ap (λ (ts : List Family). is_type name ts) (sym (families-step c.args.program.now.types.items (c.loop-place.place - 1) c.loop-place.place c.index.result.now at
-        (omega (arith, c.loop-place.auto.place, c.len-place.ensures, c.args.program.now.types.ok)) c.index.ensures))))))
+    (omega (arith, c.loop-place.auto.place, c.len-place.ensures, c.args.program.now.types.ok)) c.index.ensures))))))

@@ -11,5 +11,5 @@ returns c =
     let told : functor_in c.self.inside.functors c.args.name.now c.args.arity ≡ Some (family_of c.in_ok-family.field-0.now.0.now, construct_of c.in_ok-family.field-0.now.1.now)
     = sym (ap functor_told c.get.ensures.value) ∙ ap (λ r. functor_told (option_copied r)) c.in_ok-family.was in
     subst (λ (p : Program). functor_found c.args.name.now c.args.arity (listing_of p).types ≡ Some (family_of c.in_ok-family.field-0.now.0.now, construct_of c.in_ok-family.field-0.now.1.now))
-        c.self.view_is
-        (sym (c.self.invariant.1 c.args.name.now c.args.arity) ∙ told)
+    c.self.view_is
+    (sym (c.self.invariant.1 c.args.name.now c.args.arity) ∙ told)
