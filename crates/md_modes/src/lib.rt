@@ -34,3 +34,4 @@ pub use check::check_modes;
 pub use class::{Class, Note};
 pub use fault::ModeFault;
 pub use moded::Moded;
+pub use tally::{count_at, counts_of};

@@ -84,10 +84,16 @@ impl<'a> Names<'a> {
             (λ found. functor_found name.now arity (listing_of self.now).types
             ≡ Some (family_of found.0.now, construct_of found.1.now)) }
     {
-        let key = FunctorKey {
-            name: name.as_bytes(),
-            arity,
-        };
+        self.functor_spelled(name.as_bytes(), arity)
+    }
+
+    /// The same of a name that is given as its bytes.
+    pub fn functor_spelled(&self, name: &[u8], arity: usize) -> Option<(&'a TypeDef, &'a Functor)>
+        ensures { MatchOption result (functor_found name.now arity (listing_of self.now).types ≡ None)
+            (λ found. functor_found name.now arity (listing_of self.now).types
+            ≡ Some (family_of found.0.now, construct_of found.1.now)) }
+    {
+        let key = FunctorKey { name, arity };
         let (family, functor) = self.functors.get(&key)?;
         Some((*family, *functor))
     }

@@ -1,0 +1,7 @@
+pub mod Worked
+pub mod Noted
+pub mod Functors
+pub mod Arms
+pub mod KeyLemmas
+pub mod Judging
+pub mod Whole

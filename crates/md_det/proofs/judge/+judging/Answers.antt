@@ -1,0 +1,65 @@
+use Rattle.std.proofs.Common.{◌≡◌, ◌∙◌, ◌+◌, suc, refl, sym, ap, arith, add-one, ◌||◌, length, drop}
+use Rattle.md_hlds.specs.declared.goal.Goal.{Goal}
+use Rattle.md_hlds.specs.Part.{gathered, part_of, parts_of, task_of}
+use Rattle.md_det.specs.Judge.{condition_fault, judge_task}
+use Rattle.md_det.specs.Told.{reading_in, found_told, found_onto}
+use Rattle.md_det.proofs.Judging.{each_next, arms_next, own_set, conj_found, disj_found, choice_found}
+use Rattle.md_det.proofs.judge.+judging.Goals as goal
+use Rattle.md_det.proofs.judge.+judging.Goals.{judge_each-then-again, judge_each-else-again}
+
+pub judge-returns : goal.judge-returns
+judge-returns t c =
+    let olds = c.args.findings.now.items in
+    let n : c.len-place.result ≡ length olds = omega (arith, c.len-place.ensures, c.args.findings.now.ok) in
+    let told : found_told c.in_ok-found.found c.judge_kind.new.findings.items
+    ≡ found_onto c.push.new.self.items (judge_task (reading_in c.args.context.now) (length olds) c.args.at c.args.again c.args.goal.now.line (task_of c.args.goal.now.kind))
+    = rw n at c.in_ok-found.ensures in
+    rw n (own_set olds c.push.new.self.items c.judge_kind.new.findings.items _ c.in_ok-found.found.switch c.in_ok-found.found.pair c.in_ok-found.found.fault _
+    c.in_ok-push.ensures.items told)
+
+pub judge_kind-returns-in_ok-judged-in-Conj : goal.judge_kind-returns-in_ok-judged-in-Conj
+judge_kind-returns-in_ok-judged-in-Conj t c =
+    conj_found (reading_in c.args.context.now) c.args.number c.args.at c.args.again c.args.goal.now.line c.args.goal.now.kind c.in-Conj.goals c.as_slice.result.now
+    c.in_ok-judged-in-Conj.judged.pair c.in_ok-judged-in-Conj.judged.fault c.args.findings.now.items c.judge_each.new.findings.items
+    c.in-Conj.is c.as_slice.ensures.value c.requires.numbered c.in_ok-judged-in-Conj.ensures
+
+pub judge_kind-returns-in-Disj : goal.judge_kind-returns-in-Disj
+judge_kind-returns-in-Disj t c =
+    disj_found (reading_in c.args.context.now) c.args.number c.args.at c.args.again c.args.goal.now.line c.args.goal.now.kind c.in-Disj.arms c.as_slice-in-Disj.result.now
+    c.judge_disjunction.result c.args.findings.now.items c.judge_disjunction.new.findings.items
+    c.in-Disj.is c.as_slice-in-Disj.ensures.value c.judge_disjunction.ensures
+
+pub judge_kind-returns-in_ok-second-in-If : goal.judge_kind-returns-in_ok-second-in-If
+judge_kind-returns-in_ok-second-in-If t c =
+    let r = reading_in c.args.context.now in
+    let own : c.in_ok-fault-in-If.fault ≡ condition_fault r c.args.goal.now.line (suc c.args.number) (part_of c.deref.result.now) c.in_ok-tested-in-If.tested.pair
+    = c.in_ok-fault-in-If.ensures
+    ∙ rw add-one (ap (λ (g : Goal). condition_fault r c.args.goal.now.line (suc c.args.number) (part_of g) c.in_ok-tested-in-If.tested.pair)
+    (c.deref-in-If.ensures ∙ sym c.deref.ensures)) in
+    rw (c.or.ensures, c.or-in-If-3.ensures, c.or-in-If-2.ensures, c.or-in-If.ensures)
+    (choice_found (reading_in c.args.context.now) c.args.number c.args.at c.args.again c.args.goal.now.line c.args.goal.now.kind
+    c.in-If.condition c.in-If.then c.in-If.otherwise c.deref.result.now c.deref-in-If-2.result.now c.deref-in-If-3.result.now
+    c.args.findings.now.items c.judge.new.findings.items c.judge-in-If.new.findings.items c.judge-in-If-2.new.findings.items
+    c.in_ok-tested-in-If.tested.pair c.in_ok-first-in-If.first.pair c.in_ok-second-in-If.second.pair
+    c.in_ok-tested-in-If.tested.fault c.in_ok-first-in-If.first.fault c.in_ok-second-in-If.second.fault c.in_ok-fault-in-If.fault
+    c.in-If.is c.deref.ensures c.deref-in-If-2.ensures c.deref-in-If-3.ensures c.requires.numbered
+    c.in_ok-tested-in-If.ensures own c.in_ok-first-in-If.ensures c.in_ok-second-in-If.ensures)
+
+pub judge_each-loop-goal-preserved : goal.judge_each-loop-goal-preserved
+judge_each-loop-goal-preserved t c =
+    let r = reading_in c.args.context.now in
+    let news = c.judge.new.findings.items in
+    let rest = gathered (parts_of (drop (c.loop-goal.goal-index + 1) c.args.goals.now)) in
+    let again : c.if-again.again ≡ (c.loop-goal.again || c.is_many-comes_back.result)
+    = elim c.if-again.branch [ judge_each-then-again w ↦ rw (w.again-is, w.if-again.true) refl | judge_each-else-again w ↦ rw (w.again-is, w.if-again.false) refl ] in
+    c.loop-goal.invariant
+    ∙ (each_next r c.loop-goal.at c.loop-goal.again c.args.goals.now c.loop-goal.goal-index c.goal-item.result c.loop-goal.all.pair c.loop-goal.all.fault
+    c.loop-goal.findings.items c.in_ok-judged.judged.pair c.in_ok-judged.judged.fault news (omega arith) c.goal-item.is c.in_ok-judged.ensures
+    ∙ rw (again, c.is_many-comes_back.ensures, c.then.ensures, c.or.ensures) refl)
+
+pub judge_arms-loop-arm-preserved : goal.judge_arms-loop-arm-preserved
+judge_arms-loop-arm-preserved t c =
+    c.loop-arm.invariant
+    ∙ (arms_next (reading_in c.args.context.now) c.args.at c.args.again c.args.arms.now c.loop-arm.arm-index c.arm-item.result c.loop-arm.all.pair c.loop-arm.all.fault
+    c.loop-arm.findings.items c.in_ok-judged.judged.pair c.in_ok-judged.judged.fault c.judge.new.findings.items (omega arith) c.arm-item.is c.in_ok-judged.ensures
+    ∙ rw (c.beside.ensures, c.or.ensures) refl)

@@ -1,0 +1,10 @@
+pub mod Bounds
+pub mod Pairs
+pub mod Switches
+pub mod Determinism
+pub mod Faults
+pub mod Findings
+pub mod Main
+pub mod Judge
+pub mod Keys
+pub mod Told

@@ -1,0 +1,23 @@
+-- The judgements of the code as the definitions have them.
+use Rattle.std.specs.Prelude.{ℕ, List, ◌++◌, Option}
+use Rattle.md_hlds.specs.Listing.{listing_of, procedure_of}
+use Rattle.md_modes.specs.Notes.{program_notes}
+use Rattle.md_det.specs.declared.context.Context.{Context}
+use Rattle.md_det.specs.declared.judge.Judged.{Judged}
+use Rattle.md_det.specs.declared.judge.Found as code
+use Rattle.md_det.specs.declared.finding.Finding.{Finding}
+use Rattle.md_det.specs.Judge.{Reading, reading_of, Judgement, judgement, Found, found}
+
+abbrev pub reading_in : Context → Reading
+reading_in c = reading_of (listing_of c.moded.now) (program_notes (listing_of c.moded.now)) (procedure_of c.pred.now)
+
+-- a judgement, with all that has been found so far
+abbrev pub judged_told : Judged → List Finding → Judgement
+judged_told j findings = judgement j.pair j.fault findings
+
+abbrev pub found_told : code.Found → List Finding → Found
+found_told f findings = found f.switch f.pair f.fault findings
+
+-- findings, and then what is found within a goal
+abbrev pub found_onto : List Finding → Found → Found
+found_onto fs f = found f.switch f.pair f.fault (fs ++ f.below)

@@ -1,0 +1,208 @@
+// The judgement of a goal: how often it may succeed, its first fault, and what is found at it and at the goals within it.
+ghost use Rattle.std.specs.Prelude.{◌≡◌, ◌<◌, ◌+◌, ◌^◌, suc, ◌||◌, is_none, length, None, IfOk};
+ghost use Rattle.md_hlds.specs.Part.{Each, Either, Choose, part_of, parts_of, gathered, task_of};
+ghost use Rattle.md_det.specs.Judge.{judge_part, judge_task, judge_each, judge_arms, onto};
+ghost use Rattle.md_det.specs.Told.{reading_in, judged_told, found_told, found_onto};
+
+use crate::condition::condition_fault;
+use crate::context::Context;
+use crate::disjunction::{beside, find_switch, if_missing, no_arm, variable_of};
+use crate::fault::DetFault;
+use crate::finding::{Finding, Switch};
+use crate::leaf::{io_fault, leaf_pair};
+use crate::pair::Pair;
+use md_base::NoMemory;
+use md_hlds::{Goal, GoalKind};
+
+/// Of a goal, or of several: the pair and the first fault.
+#[derive(Clone, Copy)]
+pub struct Judged {
+    pub pair: Pair,
+    pub fault: Option<DetFault>,
+}
+
+/// Of a goal: the switch that it is, its pair and the first fault.
+#[derive(Clone, Copy)]
+pub struct Found {
+    pub switch: Option<Switch>,
+    pub pair: Pair,
+    pub fault: Option<DetFault>,
+}
+
+/// Judges a goal. Its number is the number of goals so far. `at` is the variable of the switch whose arm it begins; `again`
+/// says that a run may come back to it.
+#[cycle(judging)]
+pub fn judge(
+    context: &Context,
+    goal: &Goal,
+    at: Option<u32>,
+    again: bool,
+    findings: &mut Vec<Finding>,
+) -> Result<Judged, NoMemory>
+    ensures { IfOk result (λ judged. judged_told judged findings.new.items
+        ≡ onto findings.old.items (judge_part (reading_in context.now) (length findings.old.items) at again (part_of goal.now))) }
+{
+    let place = findings.len();
+    if place >= MOST_GOALS {
+        return Err(NoMemory);
+    }
+    findings.push(Finding {
+        switch: None,
+        pair: Pair::UNSURE,
+    })?;
+    let found = judge_kind(context, goal, place as u32, at, again, findings)?;
+    findings[place] = Finding {
+        switch: found.switch,
+        pair: found.pair,
+    };
+    Ok(Judged {
+        pair: found.pair,
+        fault: found.fault,
+    })
+}
+
+/// Goals have numbers of 32 bits.
+const MOST_GOALS: usize = 4_294_967_290;
+
+/// The same of a goal that has its number, and a place among the findings; only the goals within it add theirs.
+#[cycle(judging)]
+fn judge_kind(
+    context: &Context,
+    goal: &Goal,
+    number: u32,
+    at: Option<u32>,
+    again: bool,
+    findings: &mut Vec<Finding>,
+) -> Result<Found, NoMemory>
+    requires numbered { suc number ≡ length findings.old.items }
+    requires small { number < 4294967290 }
+    ensures { IfOk result (λ found. found_told found findings.new.items
+        ≡ found_onto findings.old.items (judge_task (reading_in context.now) number at again goal.now.line (task_of goal.now.kind))) }
+{
+    match &goal.kind {
+        GoalKind::Conj(goals) => {
+            let judged = judge_each(context, goals.as_slice(), at, again, findings)?;
+            Ok(Found {
+                switch: None,
+                pair: judged.pair,
+                fault: judged.fault,
+            })
+        }
+        GoalKind::Disj(arms) => {
+            judge_disjunction(context, arms.as_slice(), number, again, findings)
+        }
+        GoalKind::If(condition, then, otherwise) => {
+            let tested = judge(context, condition, None, again, findings)?;
+            let fault = condition_fault(context, goal.line, number + 1, condition, tested.pair)?;
+            let first = judge(context, then, None, again, findings)?;
+            let second = judge(context, otherwise, None, again, findings)?;
+            Ok(Found {
+                switch: None,
+                pair: first.pair.or(second.pair),
+                fault: fault.or(tested.fault.or(first.fault.or(second.fault))),
+            })
+        }
+        GoalKind::Not(inner) => {
+            let judged = judge(context, inner, None, again, findings)?;
+            Ok(Found {
+                switch: None,
+                pair: Pair::UNSURE,
+                fault: io_fault(context, number, again, goal.line).or(judged.fault),
+            })
+        }
+        GoalKind::Some(_, inner) => {
+            let judged = judge(context, inner, None, again, findings)?;
+            Ok(Found {
+                switch: None,
+                pair: judged.pair.cut(),
+                fault: io_fault(context, number, again, goal.line).or(judged.fault),
+            })
+        }
+        _ => Ok(Found {
+            switch: None,
+            pair: leaf_pair(context, &goal.kind, number, at),
+            fault: io_fault(context, number, again, goal.line),
+        }),
+    }
+}
+
+/// Judges goals in turn.
+#[cycle(judging)]
+fn judge_each(
+    context: &Context,
+    goals: &[Goal],
+    at: Option<u32>,
+    again: bool,
+    findings: &mut Vec<Finding>,
+) -> Result<Judged, NoMemory>
+    ensures { IfOk result (λ judged. judged_told judged findings.new.items
+        ≡ onto findings.old.items (judge_each (reading_in context.now) (length findings.old.items) at again (gathered (parts_of goals.now)))) }
+{
+    let mut all = Judged {
+        pair: Pair::SURE,
+        fault: None,
+    };
+    let mut at = at;
+    let mut again = again;
+    for goal in goals {
+        let judged = judge(context, goal, at, again, findings)?;
+        all = Judged {
+            pair: all.pair.then(judged.pair),
+            fault: all.fault.or(judged.fault),
+        };
+        at = None;
+        let comes_back = judged.pair.bound.is_many();
+        again = again || comes_back;
+    }
+    Ok(all)
+}
+
+/// Judges a disjunction of these arms. They are alternatives, where it is no switch.
+#[cycle(judging)]
+fn judge_disjunction(
+    context: &Context,
+    arms: &[Goal],
+    number: u32,
+    again: bool,
+    findings: &mut Vec<Finding>,
+) -> Result<Found, NoMemory>
+    requires numbered { suc number ≡ length findings.old.items }
+    requires small { number < 4294967290 }
+    ensures { IfOk result (λ found. found_told found findings.new.items
+        ≡ found_onto findings.old.items (judge_task (reading_in context.now) number None again 0 (Either (gathered (parts_of arms.now))))) }
+{
+    let switch = find_switch(context, arms, number + 1)?;
+    let again = again || switch.is_none();
+    let judged = judge_arms(context, arms, variable_of(switch), again, findings)?;
+    Ok(Found {
+        switch,
+        pair: if_missing(switch, judged.pair),
+        fault: judged.fault,
+    })
+}
+
+/// Judges arms, of a switch on the variable `at` or of no switch.
+#[cycle(judging)]
+fn judge_arms(
+    context: &Context,
+    arms: &[Goal],
+    at: Option<u32>,
+    again: bool,
+    findings: &mut Vec<Finding>,
+) -> Result<Judged, NoMemory>
+    ensures { IfOk result (λ judged. judged_told judged findings.new.items
+        ≡ onto findings.old.items (judge_arms (reading_in context.now) (length findings.old.items) at again (gathered (parts_of arms.now)))) }
+{
+    let mut all = Judged {
+        pair: no_arm(at),
+        fault: None,
+    };
+    for arm in arms {
+        let judged = judge(context, arm, at, again, findings)?;
+        all = Judged {
+            pair: beside(at, all.pair, judged.pair),
+            fault: all.fault.or(judged.fault),
+        };
+    }
+    Ok(all)
+}
