@@ -1,4 +1,6 @@
-pub mod FormLemmas
+pub mod WordLemmas
+pub mod AcceptLemmas
+pub mod EndLemmas
 pub mod RunLemmas
 pub mod TopLemmas
 pub mod StatusLemmas

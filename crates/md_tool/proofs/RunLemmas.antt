@@ -1,37 +1,28 @@
--- From a run of a program to a run of its text.
-use Rattle.std.proofs.Common.{◌≡◌, ◌≢◌, ◌∙◌, ap, sym, subst, inr, ℕ, List, Bool, Option}
-use Rattle.std.specs.Prelude.{Result, Ok, Err, MatchResult}
-use Rattle.md_hlds.specs.Listing.{Listing}
-use Rattle.md_reader.specs.declared.refused.Refused.{Refused}
-use Rattle.md_reader.specs.declared.refused.Refused.TheVariants as refused
-use Rattle.md_reader.specs.Grammar.{Spells}
-use Rattle.md_reader.specs.Reading.{reading, IsAnswer}
-use Rattle.md_hlds.specs.declared.program.Program.{Program}
-use Rattle.md_hlds.specs.Listing.{listing_of}
-use Rattle.md_machine.specs.declared.execute.Ran.{Ran}
-use Rattle.md_tool.specs.declared.fault.Fault.{Fault}
-use Rattle.md_tool.specs.declared.fault.Fault.TheVariants.{Usage, Read, TooLong, Syntax, Limit, Duplicate, NotBuilt, OutOfSteps, Write, NoMemory}
+-- From a run of a program to a run of its file.
+use Rattle.std.proofs.Common.{◌≡◌, ◌∙◌, refl, ap, sym, subst, inl, inr, ℕ, List, Bool, true, false, IsTrue, Option}
+use Rattle.std.specs.Prelude.{Result, Ok, Err}
+use Rattle.std.specs.Result.{IsErrAnd}
 use Rattle.md_base.specs.Outside.{added, PartAdded}
 use Rattle.md_base.specs.Files.{Files}
-use Rattle.md_machine.specs.Ran.{says_finished}
-use Rattle.std.proofs.Common.{true, false}
-use Rattle.md_tool.specs.Due.{ProgramRuns, ProgramFault, TextRuns, TextFault, refusal_of, IsText, HasRun, HasRunInPart, ShowEnds, RunEnds}
+use Rattle.md_hlds.specs.Listing.{Listing}
+use Rattle.md_machine.specs.FirstForm.{is_first_form}
+use Rattle.md_machine.specs.Ran.{IsRunOf, says_finished}
+use Rattle.md_machine.specs.declared.execute.Ran.{Ran}
+use Rattle.md_tool.specs.declared.fault.Fault.{Fault}
+use Rattle.md_tool.specs.declared.fault.Fault.TheVariants.{Usage, Read, TooLong, Refused, NotBuilt, OutOfSteps, Write, NoMemory}
+use Rattle.md_tool.specs.Accepted.{Accepted, Accepts, TextFault}
+use Rattle.md_tool.specs.Due.{budget, ProgramRuns, ProgramFault, IsText, IsRefused, Runs, IsOther, HasRun, HasRunInPart, ShowEnds, RunEnds}
 
-fault_of_text : (text : List ℕ) (p : Listing) (f : Fault) → Spells text p → reading text ≡ Ok p → ProgramFault p f → TextFault text f
-fault_of_text text p NotBuilt spelled is_read other = record { program = p; spelled = spelled; is_read = is_read; form = other }
-fault_of_text text p NoMemory spelled is_read h = tt
-fault_of_text text p Usage spelled is_read h = absurd h
-fault_of_text text p Read spelled is_read h = absurd h
-fault_of_text text p TooLong spelled is_read h = absurd h
-fault_of_text text p (Syntax line) spelled is_read h = absurd h
-fault_of_text text p (Limit line) spelled is_read h = absurd h
-fault_of_text text p (Duplicate line) spelled is_read h = absurd h
-fault_of_text text p OutOfSteps spelled is_read h = absurd h
-fault_of_text text p Write spelled is_read h = absurd h
+-- an accepted text whose program was run
+pub record TextRuns (text : List ℕ) (ran : Ran) : Type 0 where
+  pub runs : Runs text
+  pub is_run : IsRunOf runs.accepted.program budget ran
 
-pub text_runs : (text : List ℕ) (p : Listing) (r : Result Ran Fault) → Spells text p → reading text ≡ Ok p → MatchResult r (ProgramRuns p) (ProgramFault p) → MatchResult r (TextRuns text) (TextFault text)
-text_runs text p (Ok ran) spelled is_read h = record { runs = record { program = p; spelled = spelled; is_read = is_read; form = h.form }; is_run = h.is_run }
-text_runs text p (Err f) spelled is_read h = fault_of_text text p f spelled is_read h
+pub text_runs : (text : List ℕ) (program : Listing) (ran : Ran) → Accepts text program → ProgramRuns program ran → TextRuns text ran
+text_runs text program ran a h = record {
+  runs = record { accepted = a.accepted; form = subst (λ (p : Listing). IsTrue (is_first_form p)) (sym a.is_program) h.form };
+  is_run = subst (λ (p : Listing). IsRunOf p budget ran) (sym a.is_program) h.is_run;
+}
 
 -- a run whose output was written whole
 ran_whole : (held : Option Files) (file text : List ℕ) (before now : Option (List ℕ)) (ran : Ran) (end : Bool)
@@ -64,14 +55,30 @@ shown held file text before now reads writes ran (Err NoMemory) is_text t h = in
 shown held file text before now reads writes ran (Err Usage) is_text t h = absurd h
 shown held file text before now reads writes ran (Err Read) is_text t h = absurd h
 shown held file text before now reads writes ran (Err TooLong) is_text t h = absurd h
-shown held file text before now reads writes ran (Err (Syntax line)) is_text t h = absurd h
-shown held file text before now reads writes ran (Err (Limit line)) is_text t h = absurd h
-shown held file text before now reads writes ran (Err (Duplicate line)) is_text t h = absurd h
+shown held file text before now reads writes ran (Err (Refused line w)) is_text t h = absurd h
 shown held file text before now reads writes ran (Err NotBuilt) is_text t h = absurd h
 
--- a refused text
-pub text_refused : (text : List ℕ) (e : Refused) → (e ≢ refused.NoMemory → reading text ≡ Err e) → TextFault text (refusal_of e)
-text_refused text (refused.Syntax line) answer = answer (λ same. cc)
-text_refused text (refused.Limit line) answer = answer (λ same. cc)
-text_refused text (refused.Duplicate line) answer = answer (λ same. cc)
-text_refused text refused.NoMemory answer = tt
+-- a program that isn't run
+pub not_run : (held : Option Files) (file text : List ℕ) (before : Option (List ℕ)) (reads writes : Type 0) (program : Listing) (fault : Fault)
+    → IsText held file text → Accepts text program → ProgramFault program fault → RunEnds held file before before reads writes (Err fault)
+not_run held file text before reads writes program NotBuilt is_text a h = record {
+  text = text;
+  is_text = is_text;
+  accepted = a.accepted;
+  form = ap is_first_form a.is_program ∙ h;
+  untouched = refl;
+}
+not_run held file text before reads writes program NoMemory is_text a h = inl refl
+not_run held file text before reads writes program Usage is_text a h = absurd h
+not_run held file text before reads writes program Read is_text a h = absurd h
+not_run held file text before reads writes program TooLong is_text a h = absurd h
+not_run held file text before reads writes program (Refused line w) is_text a h = absurd h
+not_run held file text before reads writes program OutOfSteps is_text a h = absurd h
+not_run held file text before reads writes program Write is_text a h = absurd h
+
+-- the end that hands on why a program isn't run
+pub not_run_end : (held : Option Files) (file text : List ℕ) (before : Option (List ℕ)) (reads writes : Type 0) (program : Listing) (fault : Fault) (r : Result (Unit {0}) Fault)
+    → IsText held file text → Accepts text program → ProgramFault program fault → IsErrAnd r (λ e. e ≡ fault) → RunEnds held file before before reads writes r
+not_run_end held file text before reads writes program fault (Ok done) is_text a h is = absurd is
+not_run_end held file text before reads writes program fault (Err e) is_text a h is =
+    subst (λ (f : Fault). RunEnds held file before before reads writes (Err f)) (sym is) (not_run held file text before reads writes program fault is_text a h)

@@ -1,13 +1,10 @@
--- What a run owes, and what there is of it after the call.
-use Rattle.std.specs.Prelude.{ℕ, ◌≡◌, ◌⊎◌, ◌≤◌, Bool, true, false, IsTrue, List, length, Option, Result, Ok, Err}
+-- What a command owes, and what there is of it after the call.
+use Rattle.std.specs.Prelude.{ℕ, ◌≡◌, ◌⊎◌, ◌≤◌, Bool, true, false, IsTrue, List, length, Option, Result, Ok, Err, codes}
 use Rattle.md_base.specs.Outside.{added, PartAdded}
 use Rattle.md_base.specs.Files.{Files, FileIs, FileIsLonger}
 use Rattle.md_hlds.specs.Listing.{Listing}
 use Rattle.md_hlds.specs.Run.{run, output, is_finished}
-use Rattle.md_reader.specs.declared.refused.Refused.{Refused}
-use Rattle.md_reader.specs.declared.refused.Refused.TheVariants as refused
-use Rattle.md_reader.specs.Grammar.{Spells}
-use Rattle.md_reader.specs.Reading.{reading}
+use Rattle.md_printer.specs.Printed.{printed}
 use Rattle.md_machine.specs.FirstForm.{is_first_form}
 use Rattle.md_machine.specs.Ran.{IsRunOf, says_finished}
 use Rattle.md_machine.specs.declared.execute.End.{End}
@@ -15,7 +12,8 @@ use Rattle.md_machine.specs.declared.execute.End.TheVariants.{Finished}
 use Rattle.md_machine.specs.declared.execute.End.TheVariants.{OutOfSteps as RanOut}
 use Rattle.md_machine.specs.declared.execute.Ran.{Ran}
 use Rattle.md_tool.specs.declared.fault.Fault.{Fault}
-use Rattle.md_tool.specs.declared.fault.Fault.TheVariants.{Usage, Read, TooLong, Syntax, Limit, Duplicate, NotBuilt, OutOfSteps, Write, NoMemory}
+use Rattle.md_tool.specs.declared.fault.Fault.TheVariants.{Usage, Read, TooLong, Refused, NotBuilt, OutOfSteps, Write, NoMemory}
+use Rattle.md_tool.specs.Accepted.{Accepted, NotAccepted, TextFault}
 
 -- the budget of a run
 abbrev pub budget : ℕ
@@ -25,31 +23,48 @@ budget = 1000000
 abbrev pub longest : ℕ
 longest = 1048576
 
--- a text that spells a program which can be run; the program is also what the rules read, so it is the only one
+-- ---- the file
+
+-- the text of a file, which is short enough for a program
+pub record IsText (held : Option Files) (file text : List ℕ) : Type 0 where
+  pub is_file : FileIs held file text
+  pub short : length text ≤ longest
+
+-- why a file's text isn't read: `read_faults_rose` is what the store's count says
+abbrev pub ReadFails : Option Files → List ℕ → Type 0 → Fault → Type 0
+ReadFails held file read_faults_rose Read = read_faults_rose
+ReadFails held file read_faults_rose TooLong = FileIsLonger held file longest
+ReadFails held file read_faults_rose NoMemory = Unit {0}
+ReadFails held file read_faults_rose fault = ⊥
+
+-- the file's text isn't accepted, for this reason, and nothing was written
+pub record IsRefused (held : Option Files) (file : List ℕ) (before now : Option (List ℕ)) (fault : Fault) : Type 0 where
+  pub text : List ℕ
+  pub is_text : IsText held file text
+  pub cause : NotAccepted text fault
+  pub untouched : now ≡ before
+
+-- ---- `run`
+
+-- an accepted text whose program can be run
 pub record Runs (text : List ℕ) : Type 0 where
-  pub program : Listing
-  pub spelled : Spells text program
-  pub is_read : reading text ≡ Ok program
-  pub form : IsTrue (is_first_form program)
+  pub accepted : Accepted text
+  pub form : IsTrue (is_first_form accepted.program)
 
 -- the bytes that the run of the program writes, and whether it is finished
 abbrev pub output_of : {text : List ℕ} → Runs text → List ℕ
-output_of r = output (run r.program budget)
+output_of r = output (run r.accepted.program budget)
 
 abbrev pub finished : {text : List ℕ} → Runs text → Bool
-finished r = is_finished (run r.program budget)
+finished r = is_finished (run r.accepted.program budget)
 
--- a text that spells a program of another form
-pub record IsOther (text : List ℕ) : Type 0 where
-  pub program : Listing
-  pub spelled : Spells text program
-  pub is_read : reading text ≡ Ok program
-  pub form : is_first_form program ≡ false
-
--- what a run of a text came to
-pub record TextRuns (text : List ℕ) (ran : Ran) : Type 0 where
-  pub runs : Runs text
-  pub is_run : IsRunOf runs.program budget ran
+-- the file's text is accepted, and its program is of another form; nothing was written
+pub record IsOther (held : Option Files) (file : List ℕ) (before now : Option (List ℕ)) : Type 0 where
+  pub text : List ℕ
+  pub is_text : IsText held file text
+  pub accepted : Accepted text
+  pub form : is_first_form accepted.program ≡ false
+  pub untouched : now ≡ before
 
 -- what a run of a program came to, and why it isn't run
 pub record ProgramRuns (program : Listing) (ran : Ran) : Type 0 where
@@ -60,34 +75,6 @@ abbrev pub ProgramFault : Listing → Fault → Type 0
 ProgramFault program NotBuilt = is_first_form program ≡ false
 ProgramFault program NoMemory = Unit {0}
 ProgramFault program fault = ⊥
-
--- why a text isn't run
-abbrev pub TextFault : List ℕ → Fault → Type 0
-TextFault text NotBuilt = IsOther text
-TextFault text (Syntax line) = reading text ≡ Err (refused.Syntax line)
-TextFault text (Limit line) = reading text ≡ Err (refused.Limit line)
-TextFault text (Duplicate line) = reading text ≡ Err (refused.Duplicate line)
-TextFault text NoMemory = Unit {0}
-TextFault text fault = ⊥
-
--- the fault that a refused text is
-abbrev pub refusal_of : Refused → Fault
-refusal_of (refused.Syntax line) = Syntax line
-refusal_of (refused.Limit line) = Limit line
-refusal_of (refused.Duplicate line) = Duplicate line
-refusal_of refused.NoMemory = NoMemory
-
--- why a file's text isn't read: `read_faults_rose` is what the store's count says
-abbrev pub ReadFails : Option Files → List ℕ → Type 0 → Fault → Type 0
-ReadFails held file read_faults_rose Read = read_faults_rose
-ReadFails held file read_faults_rose TooLong = FileIsLonger held file longest
-ReadFails held file read_faults_rose NoMemory = Unit {0}
-ReadFails held file read_faults_rose fault = ⊥
-
--- the text of a file, which is short enough for a program
-pub record IsText (held : Option Files) (file text : List ℕ) : Type 0 where
-  pub is_file : FileIs held file text
-  pub short : length text ≤ longest
 
 -- what the end of a run tells
 abbrev pub told_of : End → Result (Unit {0}) Fault
@@ -117,23 +104,52 @@ pub record HasRunInPart (held : Option Files) (file : List ℕ) (before now : Op
   pub runs : Runs text
   pub written : PartAdded (output_of runs) before now
 
--- the file's text isn't run, and nothing was written
-pub record IsRefused (held : Option Files) (file : List ℕ) (before now : Option (List ℕ)) (fault : Fault) : Type 0 where
-  pub text : List ℕ
-  pub is_text : IsText held file text
-  pub cause : TextFault text fault
-  pub untouched : now ≡ before
-
 -- what a run of a file came to
 abbrev pub RunEnds : Option Files → List ℕ → Option (List ℕ) → Option (List ℕ) → Type 0 → Type 0 → Result (Unit {0}) Fault → Type 0
 RunEnds held file before now reads writes (Ok done) = HasRun held file before now true
 RunEnds held file before now reads writes (Err OutOfSteps) = HasRun held file before now false
 RunEnds held file before now reads writes (Err Read) = reads × (now ≡ before)
 RunEnds held file before now reads writes (Err TooLong) = FileIsLonger held file longest × (now ≡ before)
-RunEnds held file before now reads writes (Err (Syntax line)) = IsRefused held file before now (Syntax line)
-RunEnds held file before now reads writes (Err (Limit line)) = IsRefused held file before now (Limit line)
-RunEnds held file before now reads writes (Err (Duplicate line)) = IsRefused held file before now (Duplicate line)
-RunEnds held file before now reads writes (Err NotBuilt) = IsRefused held file before now NotBuilt
+RunEnds held file before now reads writes (Err (Refused line why)) = IsRefused held file before now (Refused line why)
+RunEnds held file before now reads writes (Err NotBuilt) = IsOther held file before now
 RunEnds held file before now reads writes (Err Write) = writes × HasRunInPart held file before now
 RunEnds held file before now reads writes (Err NoMemory) = (now ≡ before) ⊎ HasRunInPart held file before now
 RunEnds held file before now reads writes (Err Usage) = ⊥
+
+-- ---- `check`
+
+-- what `check` writes of an accepted program: that it is, or its printed text
+abbrev pub check_output : Bool → Listing → List ℕ
+check_output true program = printed program
+check_output false program = codes "accepted\n"
+
+-- the bytes were written, or a front of them
+abbrev pub WriteEnds : List ℕ → Option (List ℕ) → Option (List ℕ) → Type 0 → Result (Unit {0}) Fault → Type 0
+WriteEnds bytes before now writes (Ok done) = now ≡ added bytes before
+WriteEnds bytes before now writes (Err Write) = writes × PartAdded bytes before now
+WriteEnds bytes before now writes (Err NoMemory) = PartAdded bytes before now
+WriteEnds bytes before now writes (Err fault) = ⊥
+
+-- the file's text is accepted, and that was written
+pub record HasChecked (held : Option Files) (file : List ℕ) (print : Bool) (before now : Option (List ℕ)) : Type 0 where
+  pub text : List ℕ
+  pub is_text : IsText held file text
+  pub accepted : Accepted text
+  pub written : now ≡ added (check_output print accepted.program) before
+
+-- the file's text is accepted, and a front of what says so was written
+pub record HasCheckedInPart (held : Option Files) (file : List ℕ) (print : Bool) (before now : Option (List ℕ)) : Type 0 where
+  pub text : List ℕ
+  pub is_text : IsText held file text
+  pub accepted : Accepted text
+  pub written : PartAdded (check_output print accepted.program) before now
+
+-- what a check of a file came to
+abbrev pub CheckEnds : Option Files → List ℕ → Bool → Option (List ℕ) → Option (List ℕ) → Type 0 → Type 0 → Result (Unit {0}) Fault → Type 0
+CheckEnds held file print before now reads writes (Ok done) = HasChecked held file print before now
+CheckEnds held file print before now reads writes (Err Read) = reads × (now ≡ before)
+CheckEnds held file print before now reads writes (Err TooLong) = FileIsLonger held file longest × (now ≡ before)
+CheckEnds held file print before now reads writes (Err (Refused line why)) = IsRefused held file before now (Refused line why)
+CheckEnds held file print before now reads writes (Err Write) = writes × HasCheckedInPart held file print before now
+CheckEnds held file print before now reads writes (Err NoMemory) = (now ≡ before) ⊎ HasCheckedInPart held file print before now
+CheckEnds held file print before now reads writes (Err fault) = ⊥

@@ -1,16 +1,18 @@
 -- Faults, with their exit statuses and the lines that tell of them.
 use Rattle.std.specs.Prelude.{ℕ, List, [], ◌∷◌, ◌++◌, codes}
 use Rattle.std.specs.Fmt.{decimal}
+use Rattle.md_hlds.specs.declared.types.Det.{Det}
+use Rattle.md_hlds.specs.declared.types.Det.TheVariants as det
 use Rattle.md_tool.specs.declared.fault.Fault.{Fault}
-use Rattle.md_tool.specs.declared.fault.Fault.TheVariants.{Usage, Read, TooLong, Syntax, Limit, Duplicate, NotBuilt, OutOfSteps, Write, NoMemory}
+use Rattle.md_tool.specs.declared.fault.Fault.TheVariants.{Usage, Read, TooLong, Refused, NotBuilt, OutOfSteps, Write, NoMemory}
+use Rattle.md_tool.specs.declared.fault.Why.{Why}
+use Rattle.md_tool.specs.declared.fault.Why.TheVariants as why
 
 abbrev pub status_of : Fault → ℕ
 status_of Usage = 1
 status_of Read = 2
 status_of TooLong = 3
-status_of (Syntax line) = 3
-status_of (Limit line) = 3
-status_of (Duplicate line) = 3
+status_of (Refused line w) = 3
 status_of NotBuilt = 3
 status_of OutOfSteps = 4
 status_of Write = 7
@@ -26,14 +28,41 @@ file_line file text = codes "mdprof: " ++ (file ++ (codes ": " ++ (text ++ 10 �
 abbrev pub place_line : List ℕ → ℕ → List ℕ → List ℕ
 place_line file line text = codes "mdprof: " ++ (file ++ (codes ":" ++ (decimal line ++ (codes ": " ++ (text ++ 10 ∷ [])))))
 
+abbrev pub word_of : Det → List ℕ
+word_of det.Det = codes "det"
+word_of det.Semidet = codes "semidet"
+word_of det.Multi = codes "multi"
+word_of det.Nondet = codes "nondet"
+word_of det.Failure = codes "failure"
+
+-- a body does more than its declaration says
+abbrev pub declared_text : List ℕ → List ℕ → List ℕ
+declared_text declared inferred = codes "declared " ++ (declared ++ (codes ", inferred " ++ inferred))
+
+-- why a text isn't accepted, in words
+abbrev pub text_of : Why → List ℕ
+text_of why.Syntax = codes "syntax"
+text_of why.Limit = codes "limit"
+text_of why.Duplicate = codes "duplicate"
+text_of why.UnknownName = codes "unknown name"
+text_of why.Arity = codes "wrong number of arguments"
+text_of why.TypeClash = codes "type clash"
+text_of why.Unbound = codes "unbound variable"
+text_of why.BoundTwice = codes "variable bound twice"
+text_of why.BranchBinds = codes "branches bind differently"
+text_of why.IoUsed = codes "io used"
+text_of why.ClosureTest = codes "closure compared"
+text_of why.NoMain = codes "no main"
+text_of (why.Declared declared inferred) = declared_text (word_of declared) (word_of inferred)
+text_of why.ManyInCondition = codes "condition with many solutions binds"
+text_of why.IoInBacktracking = codes "io in backtracking"
+
 -- the line that tells of a fault in a command on this file
 abbrev pub fault_line : Fault → List ℕ → List ℕ
 fault_line Usage file = plain_line (codes "usage: check, run, report, page, serve or gen")
 fault_line Read file = file_line file (codes "read fault")
 fault_line TooLong file = file_line file (codes "longer than 1048576 bytes")
-fault_line (Syntax line) file = place_line file line (codes "syntax")
-fault_line (Limit line) file = place_line file line (codes "limit")
-fault_line (Duplicate line) file = place_line file line (codes "duplicate")
+fault_line (Refused line w) file = place_line file line (text_of w)
 fault_line NotBuilt file = file_line file (codes "not built")
 fault_line OutOfSteps file = plain_line (codes "out of steps")
 fault_line Write file = plain_line (codes "write fault")

@@ -1,11 +1,12 @@
 -- What a command came to, and what is told of it.
 use Rattle.std.specs.Prelude.{ℕ, ◌≡◌, ◌⊎◌, Bool, true, false, List, [], Option, None, Some, Result, Ok, Err}
 use Rattle.md_base.specs.Outside.{Rose, added, PartAdded}
-use Rattle.md_base.specs.Files.{Files, FileIs, FileIsLonger}
+use Rattle.md_base.specs.Files.{Files}
 use Rattle.md_tool.specs.declared.fault.Fault.{Fault}
-use Rattle.md_tool.specs.declared.fault.Fault.TheVariants.{Usage, Read, TooLong, Syntax, Limit, Duplicate, NotBuilt, OutOfSteps, Write, NoMemory}
+use Rattle.md_tool.specs.declared.fault.Fault.TheVariants.{Usage, NoMemory}
+use Rattle.md_tool.specs.Form.{Asked, Run, Check, file_of}
 use Rattle.md_tool.specs.Fault.{status_of, fault_line}
-use Rattle.md_tool.specs.Due.{RunEnds}
+use Rattle.md_tool.specs.Due.{RunEnds, CheckEnds}
 
 -- A fault was told: its line was written, or a front of it where the stream's count of faults rose or memory was
 -- refused. The status is the fault's, or that of a want of memory.
@@ -14,24 +15,25 @@ pub record Tells (fault : Fault) (file : List ℕ) (before now : Option (List �
   pub part : PartAdded (fault_line fault file) before now
   pub whole : (now ≡ added (fault_line fault file) before) ⊎ (faults_rose ⊎ (status ≡ 8))
 
--- what the words ask for: nothing, or the run of a file
-abbrev pub CommandEnds : Option (List ℕ) → Option Files → Option (List ℕ) → Option (List ℕ) → Type 0 → Type 0 → Result (Unit {0}) Fault → Type 0
-CommandEnds None held before now reads writes r = (r ≡ Err Usage) × (now ≡ before)
-CommandEnds (Some file) held before now reads writes r = RunEnds held file before now reads writes r
+-- what the words ask for: nothing, or a command
+abbrev pub CommandEnds : Option Asked → Option Files → Option (List ℕ) → Option (List ℕ) → Type 0 → Type 0 → Result (Unit {0}) Fault → Type 0
+CommandEnds None held before now reads writes r = ((r ≡ Err Usage) ⊎ (r ≡ Err NoMemory)) × (now ≡ before)
+CommandEnds (Some (Run file)) held before now reads writes r = RunEnds held file before now reads writes r
+CommandEnds (Some (Check file print)) held before now reads writes r = CheckEnds held file print before now reads writes r
 
 -- the name in a line that tells of a fault
-abbrev pub named : Option (List ℕ) → List ℕ
+abbrev pub named : Option Asked → List ℕ
 named None = []
-named (Some file) = file
+named (Some asked) = file_of asked
 
--- what is told of a command's end
-abbrev pub EndTold : Option (List ℕ) → Option (List ℕ) → Option (List ℕ) → Type 0 → ℕ → Result (Unit {0}) Fault → Type 0
-EndTold asked before now faults_rose status (Ok done) = (status ≡ 0) × (now ≡ before)
-EndTold asked before now faults_rose status (Err fault) = Tells fault (named asked) before now faults_rose status
+-- what is told of the end of a command on this file
+abbrev pub EndIsTold : Result (Unit {0}) Fault → (file : List ℕ) → Option (List ℕ) → Option (List ℕ) → Type 0 → ℕ → Type 0
+EndIsTold (Ok done) file before now faults_rose status = (status ≡ 0) × (now ≡ before)
+EndIsTold (Err fault) file before now faults_rose status = Tells fault file before now faults_rose status
 
 -- A whole call: what the command came to, and what was told of it. The three facts say that the store's count of faults
 -- in a read rose, and those of `out` and `err`.
-pub record TopEnds (asked : Option (List ℕ)) (held : Option Files) (out out' err err' : Option (List ℕ)) (reads outs errs : Type 0) (status : ℕ) : Type 0 where
+pub record TopEnds (asked : Option Asked) (held : Option Files) (out out' err err' : Option (List ℕ)) (reads outs errs : Type 0) (status : ℕ) : Type 0 where
   pub end : Result (Unit {0}) Fault
   pub command : CommandEnds asked held out out' reads outs end
-  pub told : EndTold asked err err' errs status end
+  pub told : EndIsTold end (named asked) err err' errs status

@@ -2,11 +2,12 @@
 ghost use Rattle.std.specs.Prelude.{◌≡◌, ◌⊎◌, None, Some, MatchOption};
 ghost use Rattle.md_base.specs.Outside.{Rose};
 ghost use Rattle.md_tool.specs.Form.{words_of, form};
-ghost use Rattle.md_tool.specs.Told.{Tells, CommandEnds, TopEnds};
+ghost use Rattle.md_tool.specs.Told.{Tells, EndIsTold, TopEnds};
 ghost use Rattle.md_tool.specs.Meaning.{Means};
 
+use crate::check::check_file;
 use crate::fault::Fault;
-use crate::form::file_of;
+use crate::form::{Command, command_of};
 use crate::run::run_file;
 use md_base::{Net, Sink, Store, WriteFault, write_whole};
 use std::alloc::Global;
@@ -17,10 +18,11 @@ pub struct Status(pub u8);
 
 /// Does what the words of a command line ask for.
 ///
-/// `run FILE` reads the program of the file, runs it within 1,000,000 steps and writes what it writes to `out`. A fault
-/// is told by a line on `err` and by the status: 1 where the words are no command, 2 where the file can't be read, 3
-/// where its text is no program that can be run, 4 where the run isn't finished, 7 where something can't be written, and
-/// 8 where memory was refused.
+/// `run FILE` reads the program of the file, runs it within 1,000,000 steps and writes what it writes to `out`. `check
+/// FILE` writes that the file's program is accepted, and `check FILE --print` its printed text. A fault is told by a line
+/// on `err` and by the status: 1 where the words are no command, 2 where the file can't be read, 3 where its text isn't
+/// accepted as a program or can't be run yet, 4 where the run isn't finished, 7 where something can't be written, and 8
+/// where memory was refused.
 pub fn top<S: Store, O: Sink, E: Sink, N: Net>(
     alloc: Global,
     words: &[String],
@@ -54,12 +56,27 @@ fn run_command<S: Store, O: Sink, E: Sink>(
         (Rose (E.write_faults err.old) (E.write_faults err.new)) result }
     ensures store { S.held store.new ≡ S.held store.old }
 {
-    match file_of(words) {
-        None => tell(alloc, Fault::Usage, "", err),
-        Some(file) => match run_file(alloc, file, store, out) {
-            Ok(()) => 0,
-            Err(fault) => tell(alloc, fault, file, err),
-        },
+    match command_of(alloc, words) {
+        Err(_) => tell(alloc, Fault::NoMemory, "", err),
+        Ok(None) => tell(alloc, Fault::Usage, "", err),
+        Ok(Some(Command::Run { file })) => {
+            let end = run_file(alloc, file, store, out);
+            tell_end(alloc, end, file, err)
+        }
+        Ok(Some(Command::Check { file, print })) => {
+            let end = check_file(alloc, file, print, store, out);
+            tell_end(alloc, end, file, err)
+        }
+    }
+}
+
+/// Tells how a command ended, and gives the status.
+fn tell_end<E: Sink>(alloc: Global, end: Result<(), Fault>, file: &str, err: &mut E) -> u8
+    ensures { EndIsTold end file.now (E.held err.old) (E.held err.new) (Rose (E.write_faults err.old) (E.write_faults err.new)) result }
+{
+    match end {
+        Ok(()) => 0,
+        Err(fault) => tell(alloc, fault, file, err),
     }
 }
 

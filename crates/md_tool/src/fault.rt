@@ -1,7 +1,9 @@
 // Why a command ended without all that it was asked for, and the line that says so.
 ghost use Rattle.std.specs.Prelude.{◌≡◌, IfOk, string_bytes};
-ghost use Rattle.md_tool.specs.Fault.{status_of, fault_line, plain_line, file_line, place_line};
+ghost use Rattle.md_tool.specs.Fault.{status_of, fault_line, plain_line, file_line, place_line, text_of, word_of, declared_text};
+ghost use Rattle.md_tool.specs.declared.fault.Why.TheVariants as why;
 
+use md_hlds::Det;
 use std::alloc::{AllocError, Global};
 
 /// Why a command ended without all that it was asked for.
@@ -13,12 +15,8 @@ pub enum Fault {
     Read,
     /// The file is longer than a program may be.
     TooLong,
-    /// The text is no program, at this line.
-    Syntax(u32),
-    /// The text passes a limit, at this line.
-    Limit(u32),
-    /// Something is declared a second time, at this line.
-    Duplicate(u32),
+    /// The text isn't accepted as a program.
+    Refused { line: u32, why: Why },
     /// The program is of a form that can't be run yet.
     NotBuilt,
     /// The run isn't finished within its budget.
@@ -27,6 +25,30 @@ pub enum Fault {
     Write,
     /// Memory was refused.
     NoMemory,
+}
+
+/// Why a text isn't accepted as a program.
+#[derive(Clone, Copy, Debug, PartialEq, Eq)]
+pub enum Why {
+    /// It can't go on so.
+    Syntax,
+    /// It passes a limit.
+    Limit,
+    /// Something is declared a second time.
+    Duplicate,
+    UnknownName,
+    Arity,
+    TypeClash,
+    Unbound,
+    BoundTwice,
+    BranchBinds,
+    IoUsed,
+    ClosureTest,
+    NoMain,
+    /// A body does more than its declaration says.
+    Declared { declared: Det, inferred: Det },
+    ManyInCondition,
+    IoInBacktracking,
 }
 
 impl Fault {
@@ -38,9 +60,7 @@ impl Fault {
             Fault::Usage => 1,
             Fault::Read => 2,
             Fault::TooLong => 3,
-            Fault::Syntax(_) => 3,
-            Fault::Limit(_) => 3,
-            Fault::Duplicate(_) => 3,
+            Fault::Refused { .. } => 3,
             Fault::NotBuilt => 3,
             Fault::OutOfSteps => 4,
             Fault::Write => 7,
@@ -48,7 +68,7 @@ impl Fault {
         }
     }
 
-    /// The line that tells of it, with the name of the program's file.
+    /// The line that tells of it, with the name of the command's file.
     pub fn line(self, alloc: Global, file: &str) -> Result<String, AllocError>
         ensures { IfOk result (λ line. string_bytes line ≡ fault_line self file.now) }
     {
@@ -56,14 +76,68 @@ impl Fault {
             Fault::Usage => plain(alloc, "usage: check, run, report, page, serve or gen"),
             Fault::Read => of_file(alloc, file, "read fault"),
             Fault::TooLong => of_file(alloc, file, "longer than 1048576 bytes"),
-            Fault::Syntax(line) => of_line(alloc, file, line, "syntax"),
-            Fault::Limit(line) => of_line(alloc, file, line, "limit"),
-            Fault::Duplicate(line) => of_line(alloc, file, line, "duplicate"),
+            Fault::Refused { line, why } => refused(alloc, file, line, why),
             Fault::NotBuilt => of_file(alloc, file, "not built"),
             Fault::OutOfSteps => plain(alloc, "out of steps"),
             Fault::Write => plain(alloc, "write fault"),
             Fault::NoMemory => plain(alloc, "want of memory"),
         }
+    }
+}
+
+/// The line that tells why a text isn't accepted.
+fn refused(alloc: Global, file: &str, line: u32, why: Why) -> Result<String, AllocError>
+    ensures { IfOk result (λ told. string_bytes told ≡ place_line file.now line (text_of why)) }
+{
+    match why {
+        Why::Syntax => of_line(alloc, file, line, "syntax"),
+        Why::Limit => of_line(alloc, file, line, "limit"),
+        Why::Duplicate => of_line(alloc, file, line, "duplicate"),
+        Why::UnknownName => of_line(alloc, file, line, "unknown name"),
+        Why::Arity => of_line(alloc, file, line, "wrong number of arguments"),
+        Why::TypeClash => of_line(alloc, file, line, "type clash"),
+        Why::Unbound => of_line(alloc, file, line, "unbound variable"),
+        Why::BoundTwice => of_line(alloc, file, line, "variable bound twice"),
+        Why::BranchBinds => of_line(alloc, file, line, "branches bind differently"),
+        Why::IoUsed => of_line(alloc, file, line, "io used"),
+        Why::ClosureTest => of_line(alloc, file, line, "closure compared"),
+        Why::NoMain => of_line(alloc, file, line, "no main"),
+        Why::Declared { declared, inferred } => otherwise(alloc, file, line, declared, inferred),
+        Why::ManyInCondition => of_line(alloc, file, line, "condition with many solutions binds"),
+        Why::IoInBacktracking => of_line(alloc, file, line, "io in backtracking"),
+    }
+}
+
+/// The line that tells of a body that does more than its declaration says.
+fn otherwise(
+    alloc: Global,
+    file: &str,
+    line: u32,
+    declared: Det,
+    inferred: Det,
+) -> Result<String, AllocError>
+    ensures { IfOk result (λ told. string_bytes told ≡ place_line file.now line (text_of (why.Declared declared inferred))) }
+{
+    let text = declared_text(alloc, word_of(declared), word_of(inferred))?;
+    of_line(alloc, file, line, text.as_str())
+}
+
+fn declared_text(alloc: Global, declared: &str, inferred: &str) -> Result<String, AllocError>
+    ensures { IfOk result (λ text. string_bytes text ≡ declared_text declared.now inferred.now) }
+{
+    format!(in alloc; "declared {declared}, inferred {inferred}")
+}
+
+/// The word for a determinism.
+fn word_of(det: Det) -> &'static str
+    ensures { result.now ≡ word_of det }
+{
+    match det {
+        Det::Det => "det",
+        Det::Semidet => "semidet",
+        Det::Multi => "multi",
+        Det::Nondet => "nondet",
+        Det::Failure => "failure",
     }
 }
 

@@ -2,6 +2,8 @@
 //! tells of a fault.
 #![tactic(auto)]
 
+mod accept;
+mod check;
 mod command;
 mod fault;
 mod form;

@@ -1,6 +1,8 @@
 // Commands over files and streams in memory, with faults at each call in turn.
 ghost use Rattle.std.specs.Prelude.{◌≤◌, ◌≡◌};
 
+mod checks;
+
 use crate::{Status, top};
 use md_base::{MemSink, MemStore, SureNet};
 use std::alloc::Global;

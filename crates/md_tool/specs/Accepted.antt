@@ -1,0 +1,121 @@
+-- Which texts are accepted as programs, and why others aren't.
+use Rattle.std.specs.Prelude.{ℕ, ◌≡◌, ◌≢◌, ◌⊎◌, List, Option, None, Some, Result, Ok, Err}
+use Rattle.md_hlds.specs.declared.program.Program.{Program}
+use Rattle.md_hlds.specs.Listing.{Listing, listing_of}
+use Rattle.md_reader.specs.declared.refused.Refused.{Refused}
+use Rattle.md_reader.specs.declared.refused.Refused.TheVariants as refused
+use Rattle.md_reader.specs.Grammar.{Spells}
+use Rattle.md_reader.specs.Reading.{reading}
+use Rattle.md_modes.specs.declared.fault.ModeFault.{ModeFault}
+use Rattle.md_modes.specs.declared.fault.ModeFault.TheVariants as modes
+use Rattle.md_modes.specs.Modes.{mode_fault}
+use Rattle.md_det.specs.declared.fault.DetFault.{DetFault}
+use Rattle.md_det.specs.declared.fault.DetFault.TheVariants as determinism
+use Rattle.md_det.specs.Faults.{det_fault}
+use Rattle.md_tool.specs.declared.fault.Fault.{Fault}
+use Rattle.md_tool.specs.declared.fault.Fault.TheVariants.{Usage, Read, TooLong, NotBuilt, OutOfSteps, Write, NoMemory}
+use Rattle.md_tool.specs.declared.fault.Fault.TheVariants.{Refused as RefusedAt}
+use Rattle.md_tool.specs.declared.fault.Why.TheVariants as why
+
+-- A text that is accepted: it spells a program without a fault of modes or determinism. The program is also what the rules
+-- of the language read, so it is the only one.
+pub record Accepted (text : List ℕ) : Type 0 where
+  pub program : Listing
+  pub spelled : Spells text program
+  pub is_read : reading text ≡ Ok program
+  pub modes : mode_fault program ≡ None
+  pub determinism : det_fault program ≡ None
+
+-- ---- the faults of a text, of modes and of determinism, as a command tells them
+
+abbrev pub refusal_of : Refused → Fault
+refusal_of (refused.Syntax line) = RefusedAt line why.Syntax
+refusal_of (refused.Limit line) = RefusedAt line why.Limit
+refusal_of (refused.Duplicate line) = RefusedAt line why.Duplicate
+refusal_of refused.NoMemory = NoMemory
+
+abbrev pub modes_refusal : ModeFault → Fault
+modes_refusal (modes.UnknownName line) = RefusedAt line why.UnknownName
+modes_refusal (modes.Arity line) = RefusedAt line why.Arity
+modes_refusal (modes.TypeClash line) = RefusedAt line why.TypeClash
+modes_refusal (modes.Unbound line) = RefusedAt line why.Unbound
+modes_refusal (modes.BoundTwice line) = RefusedAt line why.BoundTwice
+modes_refusal (modes.BranchBinds line) = RefusedAt line why.BranchBinds
+modes_refusal (modes.IoUsed line) = RefusedAt line why.IoUsed
+modes_refusal (modes.ClosureTest line) = RefusedAt line why.ClosureTest
+modes_refusal (modes.NoMain line) = RefusedAt line why.NoMain
+modes_refusal modes.NoMemory = NoMemory
+
+abbrev pub determinism_refusal : DetFault → Fault
+determinism_refusal (determinism.Declared line declared inferred) = RefusedAt line (why.Declared declared inferred)
+determinism_refusal (determinism.ManyInCondition line) = RefusedAt line why.ManyInCondition
+determinism_refusal (determinism.IoInBacktracking line) = RefusedAt line why.IoInBacktracking
+determinism_refusal determinism.NoMemory = NoMemory
+
+-- ---- why a text isn't accepted: the first of its faults
+
+-- it spells no program, passes a limit, or declares something twice
+pub record IsUnread (text : List ℕ) (fault : Fault) : Type 0 where
+  pub refusal : Refused
+  pub is_refused : reading text ≡ Err refusal
+  pub told : fault ≡ refusal_of refusal
+
+-- it spells a program with a fault of modes
+pub record HasModeFault (text : List ℕ) (fault : Fault) : Type 0 where
+  pub program : Listing
+  pub spelled : Spells text program
+  pub is_read : reading text ≡ Ok program
+  pub found : ModeFault
+  pub is_found : mode_fault program ≡ Some found
+  pub told : fault ≡ modes_refusal found
+
+-- it spells a program without a fault of modes, and with one of determinism
+pub record HasDetFault (text : List ℕ) (fault : Fault) : Type 0 where
+  pub program : Listing
+  pub spelled : Spells text program
+  pub is_read : reading text ≡ Ok program
+  pub modes : mode_fault program ≡ None
+  pub found : DetFault
+  pub is_found : det_fault program ≡ Some found
+  pub told : fault ≡ determinism_refusal found
+
+abbrev pub NotAccepted : List ℕ → Fault → Type 0
+NotAccepted text fault = IsUnread text fault ⊎ (HasModeFault text fault ⊎ HasDetFault text fault)
+
+-- why a text isn't taken as a program: unless memory is refused, it isn't accepted
+abbrev pub TextFault : List ℕ → Fault → Type 0
+TextFault text (RefusedAt line w) = NotAccepted text (RefusedAt line w)
+TextFault text NoMemory = Unit {0}
+TextFault text Usage = ⊥
+TextFault text Read = ⊥
+TextFault text TooLong = ⊥
+TextFault text NotBuilt = ⊥
+TextFault text OutOfSteps = ⊥
+TextFault text Write = ⊥
+
+-- the text is accepted as this program
+pub record Accepts (text : List ℕ) (program : Listing) : Type 0 where
+  pub accepted : Accepted text
+  pub is_program : accepted.program ≡ program
+
+-- a program was checked, and has no fault
+pub record IsAccepted (program checked : Program) : Type 0 where
+  pub is_program : checked ≡ program
+  pub modes : mode_fault (listing_of program) ≡ None
+  pub determinism : det_fault (listing_of program) ≡ None
+
+-- a program has a fault of modes, or else one of determinism
+pub record HasFaultOfModes (program : Listing) (fault : Fault) : Type 0 where
+  pub found : ModeFault
+  pub is_found : mode_fault program ≡ Some found
+  pub told : fault ≡ modes_refusal found
+
+pub record HasFaultOfDeterminism (program : Listing) (fault : Fault) : Type 0 where
+  pub modes : mode_fault program ≡ None
+  pub found : DetFault
+  pub is_found : det_fault program ≡ Some found
+  pub told : fault ≡ determinism_refusal found
+
+-- the first fault of a program, unless memory is refused
+abbrev pub ProgramHas : Listing → Fault → Type 0
+ProgramHas program fault = (fault ≡ NoMemory) ⊎ (HasFaultOfModes program fault ⊎ HasFaultOfDeterminism program fault)

@@ -1,0 +1,64 @@
+// The command `check`.
+ghost use Rattle.std.specs.Prelude.{◌≡◌, true, codes};
+ghost use Rattle.md_base.specs.Outside.{Rose};
+ghost use Rattle.md_hlds.specs.Listing.{listing_of};
+ghost use Rattle.md_printer.specs.Printed.{printed};
+ghost use Rattle.md_tool.specs.Due.{CheckEnds, WriteEnds, check_output};
+
+use crate::accept::{accept, read_text};
+use crate::fault::Fault;
+use md_base::{Sink, Store, WriteFault, write_whole};
+use md_hlds::Program;
+use md_printer::print;
+use std::alloc::Global;
+
+/// Checks the program of a file, and writes that it is accepted, or its printed text.
+pub fn check_file<S: Store, O: Sink>(
+    alloc: Global,
+    file: &str,
+    printing: bool,
+    store: &mut S,
+    out: &mut O,
+) -> Result<(), Fault>
+    ensures ends { CheckEnds (S.held store.old) file.now printing (O.held out.old) (O.held out.new)
+        (Rose (S.read_faults store.old) (S.read_faults store.new)) (Rose (O.write_faults out.old) (O.write_faults out.new)) result }
+    ensures kept { S.held store.new ≡ S.held store.old }
+{
+    let text = read_text(alloc, file, store)?;
+    let checked = accept(alloc, &text)?;
+    show(alloc, checked.program(), printing, out)
+}
+
+/// Writes what there is to say of an accepted program.
+fn show<O: Sink>(alloc: Global, program: &Program, printing: bool, out: &mut O) -> Result<(), Fault>
+    ensures { WriteEnds (check_output printing (listing_of program.now)) (O.held out.old) (O.held out.new)
+        (Rose (O.write_faults out.old) (O.write_faults out.new)) result }
+{
+    if printing {
+        show_program(alloc, program, out)
+    } else {
+        write(out, b"accepted\n")
+    }
+}
+
+/// Writes the printed text of a program.
+fn show_program<O: Sink>(alloc: Global, program: &Program, out: &mut O) -> Result<(), Fault>
+    ensures { WriteEnds (printed (listing_of program.now)) (O.held out.old) (O.held out.new)
+        (Rose (O.write_faults out.old) (O.write_faults out.new)) result }
+{
+    match print(alloc, program) {
+        Ok(text) => write(out, &text),
+        Err(_) => Err(Fault::NoMemory),
+    }
+}
+
+/// Writes bytes.
+fn write<O: Sink>(out: &mut O, bytes: &[u8]) -> Result<(), Fault>
+    ensures { WriteEnds bytes.now (O.held out.old) (O.held out.new) (Rose (O.write_faults out.old) (O.write_faults out.new)) result }
+{
+    match write_whole(out, bytes) {
+        Ok(()) => Ok(()),
+        Err(WriteFault::Write) => Err(Fault::Write),
+        Err(WriteFault::NoMemory) => Err(Fault::NoMemory),
+    }
+}
