@@ -25,7 +25,7 @@ pub fn read(alloc: Global, text: &[u8]) -> Result<Program, Refused>
     requires { length text.now < 4294967295 }
     ensures spelled { IfOk result (λ program. Spells text.now (listing_of program)) }
     ensures complete { (program : Listing) → Spells text.now program → IsRead result program }
-    ensures duplicate { IfErr result (λ refused. HasCause refused text.now) }
+    ensures cause { IfErr result (λ refused. HasCause refused text.now) }
     ensures repeated { (line : ℕ) → Repeats text.now line → IsRefusedAs result (refusals.Duplicate line) }
     ensures answer { IsAnswer result text.now }
 {
