@@ -46,6 +46,12 @@ abbrev pub IsRefusedAs : Result Program Refused → Refused → Type 0
 IsRefusedAs (Ok p) why = ⊥
 IsRefusedAs (Err e) why = e ≢ refused.NoMemory → e ≡ why
 
+-- the answer is that a token is at fault, unless memory is refused
+abbrev pub IsFault : Result Program Refused → Type 0
+IsFault (Ok p) = ⊥
+IsFault (Err (refused.Duplicate line)) = ⊥
+IsFault (Err e) = ⊤
+
 -- why a refusal is answered
 abbrev pub HasCause : Refused → List ℕ → Type 0
 HasCause (refused.Duplicate line) text = Repeats text line

@@ -9,7 +9,7 @@ use Rattle.md_reader.specs.Duplicates.{duplicate}
 use Rattle.md_reader.specs.Reading.{reading, refused_of, IsAnswer}
 use Rattle.md_reader.proofs.CompleteTexts.{answer_read, answer_repeated}
 use Rattle.md_reader.proofs.SoundPrograms.{reading_sound, reading_repeats}
-use Rattle.md_reader.proofs.FaultTexts.{fault_cause}
+use Rattle.md_reader.proofs.FaultTexts.{fault_cause, answer_fault}
 use Rattle.md_reader.proofs.reading.read.Goals as goal
 
 -- the other clauses follow from what is answered
@@ -25,6 +25,7 @@ returns-in-Err c =
       complete = λ l s. answer_read (Err c.refused.result) c.args.text.now l answer s;
       cause = rw c.refused.ensures (fault_cause c.in-Err.refusal c.args.text.now (λ m. rw e at (c.in-Err.ensures m)));
       repeated = λ line s. answer_repeated (Err c.refused.result) c.args.text.now line answer s;
+      fault = λ line f. answer_fault (Err c.refused.result) c.args.text.now line answer f;
       answer = answer;
     }
 
@@ -39,6 +40,7 @@ returns-in-None c =
       complete = λ l s. answer_read (Ok c.in-Ok.program) c.args.text.now l read s;
       cause = tt;
       repeated = λ line s. answer_repeated (Ok c.in-Ok.program) c.args.text.now line read s;
+      fault = λ line f. answer_fault (Ok c.in-Ok.program) c.args.text.now line read f;
       answer = read;
     }
 
@@ -53,5 +55,6 @@ returns c =
       complete = λ l s. answer_read (Err (refused.Duplicate c.in-Some.line)) c.args.text.now l (λ _. read) s;
       cause = reading_repeats c.args.text.now c.in-Some.line read;
       repeated = λ line s. answer_repeated (Err (refused.Duplicate c.in-Some.line)) c.args.text.now line (λ _. read) s;
+      fault = λ line f. answer_fault (Err (refused.Duplicate c.in-Some.line)) c.args.text.now line (λ _. read) f;
       answer = λ _. read;
     }
