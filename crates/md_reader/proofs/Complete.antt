@@ -1,5 +1,5 @@
 -- What the grammar spells, the rules read: lists, types, terms and calls.
-use Rattle.std.proofs.Common.{◌≡◌, ℕ, zero, suc, ◌+◌, ◌≤◌, ◌<◌, List, [], ◌∷◌, ◌++◌, length, refl, Bool, true, false, cond, ◌⊎◌, inl, inr, Option, Some, None, Ok, ap, ◌∙◌, arith, append_assoc}
+use Rattle.std.proofs.Common.{◌≡◌, ℕ, zero, suc, ◌+◌, ◌≤◌, ◌<◌, List, [], ◌∷◌, ◌++◌, length, refl, Bool, true, false, cond, ◌⊎◌, inl, inr, Option, Some, None, Ok, ap, ◌∙◌, arith, append_assoc, subst}
 use Rattle.md_hlds.specs.declared.goal.Op.{Op}
 use Rattle.md_hlds.specs.declared.goal.Cmp.{Cmp}
 use Rattle.md_hlds.specs.Part.{Task, Plain, Computes, Compares}
@@ -12,7 +12,7 @@ use Rattle.md_reader.specs.Rules as rule
 use Rattle.md_reader.specs.Grammar as g
 use Rattle.md_reader.specs.Grammar.{Is, Sign, sign, Listed, last, also, Enclosed, enclosed, AreNew}
 use Rattle.md_reader.proofs.Steps.{same_itself, ok_input}
-use Rattle.md_reader.proofs.Steady.{reach, Steady, fewer}
+use Rattle.md_reader.proofs.Steady.{Stands, Steady, fewer, shorter}
 use Rattle.md_reader.proofs.SteadyRules.{functor_steady}
 use Rattle.md_reader.proofs.Taking.{signed, shut, stepped, eats, passes, unlike, variable_kind, pred_kinds, variable_among}
 
@@ -20,7 +20,11 @@ use Rattle.md_reader.proofs.Taking.{signed, shut, stepped, eats, passes, unlike,
 
 -- what a rule leaves is no longer than what it was given
 pub stays : {A : Type 0} (p : Parser A) → Steady 0 [] p → (x : A) (i j : Input) → p i ≡ Ok (x, j) → length j.rest ≤ length i.rest
-stays p P x i j h = let w : reach (p i) ≤ length i.rest = (P i).within in rw h at w
+stays p P x i j h =
+    let w = P i in
+    let here : j.rest ≡ w.stop = subst (Stands w.stop) h w.stands in
+    let l = shorter i.rest w.stop w.behind in
+    rw here l
 
 pub seen_sign : (k : Kind) (i j : Input) → Sign k i j → sees k i ≡ true
 unfolding sees

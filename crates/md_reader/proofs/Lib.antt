@@ -2,6 +2,7 @@ pub mod Complete
 pub mod CompleteGoals
 pub mod CompletePrograms
 pub mod CompleteTexts
+pub mod FaultTexts
 pub mod Goals
 pub mod Lists
 pub mod Seconds

@@ -18,10 +18,9 @@ use Rattle.md_reader.specs.Input.{variable}
 use Rattle.md_reader.specs.Grammar.{Spells, Repeats}
 use Rattle.md_token.specs.Token.{tokens_of}
 use Rattle.md_reader.specs.declared.refused.Refused.TheVariants as refused
-use Rattle.md_reader.specs.declared.refused.Refusal.{Refusal}
 use Rattle.md_reader.specs.declared.refused.Refusal.TheVariants as refusal
 use Rattle.md_reader.specs.Duplicates.{duplicate}
-use Rattle.md_reader.specs.Reading.{reading, outcome_of, without_duplicate, refused_of, HasCause}
+use Rattle.md_reader.specs.Reading.{reading, outcome_of, without_duplicate}
 
 -- ---- predicates
 
@@ -240,9 +239,3 @@ read_repeats text (Ok p) line e h =
 pub reading_repeats : (text : List ℕ) (line : ℕ) → reading text ≡ Err (refused.Duplicate line) → Repeats text line
 unfolding reading
 reading_repeats text line h = read_repeats text (rule.program (rule.start (tokens_of text))) line refl h
-
--- a fault of a token is no second declaration
-pub fault_cause : (r : Refusal) (text : List ℕ) → HasCause (refused_of r) text
-fault_cause (refusal.Syntax place) text = tt
-fault_cause (refusal.Limit place) text = tt
-fault_cause refusal.NoMemory text = tt

@@ -10,6 +10,7 @@ use Rattle.md_reader.specs.declared.refused.Refused.TheVariants as refused
 use Rattle.md_reader.specs.Input.{Outcome}
 use Rattle.md_reader.specs.Rules.{program, start}
 use Rattle.md_reader.specs.Duplicates.{duplicate}
+use Rattle.md_reader.specs.Faults.{IsAtFault}
 use Rattle.md_reader.specs.Grammar.{Repeats}
 
 abbrev pub refused_of : Refusal → Refused
@@ -45,9 +46,15 @@ abbrev pub IsRefusedAs : Result Program Refused → Refused → Type 0
 IsRefusedAs (Ok p) why = ⊥
 IsRefusedAs (Err e) why = e ≢ refused.NoMemory → e ≡ why
 
--- why a second declaration is answered
+-- the answer is that a token is at fault, unless memory is refused
+abbrev pub IsFault : Result Program Refused → Type 0
+IsFault (Ok p) = ⊥
+IsFault (Err (refused.Duplicate line)) = ⊥
+IsFault (Err e) = ⊤
+
+-- why a refusal is answered
 abbrev pub HasCause : Refused → List ℕ → Type 0
 HasCause (refused.Duplicate line) text = Repeats text line
-HasCause (refused.Syntax line) text = ⊤
-HasCause (refused.Limit line) text = ⊤
+HasCause (refused.Syntax line) text = IsAtFault text line
+HasCause (refused.Limit line) text = IsAtFault text line
 HasCause refused.NoMemory text = ⊤

@@ -1,5 +1,5 @@
 -- Behind the last token of a text stands the end, or bytes that make no token.
-use Rattle.std.proofs.Common.{◌≡◌, ℕ, zero, suc, List, [], ◌∷◌, refl, Bool, true, false, ◌⊎◌, inl, inr}
+use Rattle.std.proofs.Common.{◌≡◌, ℕ, zero, suc, List, [], ◌∷◌, refl, Bool, true, false, ◌&&◌, ◌⊎◌, inl, inr}
 use Rattle.md_token.specs.declared.kind.Kind.{Kind}
 use Rattle.md_token.specs.declared.kind.Kind.TheVariants as kind
 use Rattle.md_token.specs.declared.scan.Front.{Front}
@@ -11,9 +11,17 @@ is_final kind.Stop = true
 is_final kind.Bad = true
 is_final _ = false
 
+abbrev pub is_empty : List ℕ → Bool
+is_empty [] = true
+is_empty (b ∷ bytes) = false
+
+-- the token behind which a text ends
+abbrev pub is_end : Lexeme → Bool
+is_end t = is_final t.kind && is_empty t.text
+
 abbrev pub HasEnd : List Lexeme → Type 0
 HasEnd [] = ⊥
-HasEnd (t ∷ ts) = (is_final t.kind ≡ true) ⊎ HasEnd ts
+HasEnd (t ∷ ts) = (is_end t ≡ true) ⊎ HasEnd ts
 
 put_end : (line b : ℕ) (bytes : List ℕ) (f : Front) (later : List Lexeme) → HasEnd later → HasEnd (put line b bytes f later)
 put_end line b bytes (front.Gap more) later h = h

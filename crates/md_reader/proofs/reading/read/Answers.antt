@@ -8,7 +8,8 @@ use Rattle.md_reader.specs.Rules.{start}
 use Rattle.md_reader.specs.Duplicates.{duplicate}
 use Rattle.md_reader.specs.Reading.{reading, refused_of, IsAnswer}
 use Rattle.md_reader.proofs.CompleteTexts.{answer_read, answer_repeated}
-use Rattle.md_reader.proofs.SoundPrograms.{reading_sound, reading_repeats, fault_cause}
+use Rattle.md_reader.proofs.SoundPrograms.{reading_sound, reading_repeats}
+use Rattle.md_reader.proofs.FaultTexts.{fault_cause, answer_fault}
 use Rattle.md_reader.proofs.reading.read.Goals as goal
 
 -- the other clauses follow from what is answered
@@ -22,8 +23,9 @@ returns-in-Err c =
     record {
       spelled = tt;
       complete = λ l s. answer_read (Err c.refused.result) c.args.text.now l answer s;
-      duplicate = rw c.refused.ensures (fault_cause c.in-Err.refusal c.args.text.now);
+      cause = rw c.refused.ensures (fault_cause c.in-Err.refusal c.args.text.now (λ m. rw e at (c.in-Err.ensures m)));
       repeated = λ line s. answer_repeated (Err c.refused.result) c.args.text.now line answer s;
+      fault = λ line f. answer_fault (Err c.refused.result) c.args.text.now line answer f;
       answer = answer;
     }
 
@@ -36,8 +38,9 @@ returns-in-None c =
     record {
       spelled = reading_sound c.args.text.now (listing_of c.in-Ok.program) read;
       complete = λ l s. answer_read (Ok c.in-Ok.program) c.args.text.now l read s;
-      duplicate = tt;
+      cause = tt;
       repeated = λ line s. answer_repeated (Ok c.in-Ok.program) c.args.text.now line read s;
+      fault = λ line f. answer_fault (Ok c.in-Ok.program) c.args.text.now line read f;
       answer = read;
     }
 
@@ -50,7 +53,8 @@ returns c =
     record {
       spelled = tt;
       complete = λ l s. answer_read (Err (refused.Duplicate c.in-Some.line)) c.args.text.now l (λ _. read) s;
-      duplicate = reading_repeats c.args.text.now c.in-Some.line read;
+      cause = reading_repeats c.args.text.now c.in-Some.line read;
       repeated = λ line s. answer_repeated (Err (refused.Duplicate c.in-Some.line)) c.args.text.now line (λ _. read) s;
+      fault = λ line f. answer_fault (Err (refused.Duplicate c.in-Some.line)) c.args.text.now line (λ _. read) f;
       answer = λ _. read;
     }
