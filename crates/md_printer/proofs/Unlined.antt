@@ -1,13 +1,13 @@
 -- What line numbers play no part in: the printed text, and whether something is declared a second time.
 use Rattle.std.specs.Prelude.{codes}
-use Rattle.std.proofs.Common.{◌≡◌, ℕ, Bool, true, false, cond, ◌&&◌, Option, Some, None, List, [], ◌∷◌, ◌++◌, map, refl, ap, sym, ◌∙◌, subst}
+use Rattle.std.proofs.Common.{◌≡◌, ℕ, Bool, true, false, cond, Option, Some, None, List, [], ◌∷◌, ◌++◌, map, refl, ap, sym, ◌∙◌}
 use Rattle.std.proofs.lemmas.List.{map-append}
 use Rattle.std.specs.List.{flat_map}
 use Rattle.md_hlds.specs.Part.{Part, At, Parts, nothing, also, Task, Plain, Invoke, Apply, Each, Either, Choose, Unless, Once}
 use Rattle.md_hlds.specs.Listing.{Construct, Family, Procedure, Listing}
 use Rattle.md_reader.specs.Duplicates.{Declared, is_among, first_second, declared_family, declared_construct, declared_constructs, declared_procedure, earlier, second_family, second_construct, second_procedure, duplicate}
 use Rattle.md_printer.specs.Layout.{Tokens, sentence, in_parentheses}
-use Rattle.md_printer.specs.Printed.{goal_tokens, task_tokens, parts_tokens, further_parts, enclosed, choice_tokens, quantified_tokens, variables, type_tokens, procedure_sentences, declaration_tokens, written, variables_in_parentheses, module_tokens, sentences, printed}
+use Rattle.md_printer.specs.Printed.{goal_tokens, task_tokens, parts_tokens, further_parts, enclosed, choice_tokens, quantified_tokens, variables, type_tokens, procedure_sentences, declaration_tokens, written, variables_in_parentheses, module_tokens, printed}
 use Rattle.md_printer.specs.Lines.{on_line, task_on_line, parts_on_line, family_on_line, procedure_on_lines, unlined}
 
 -- ---- lines of lines
