@@ -29,7 +29,7 @@ use Rattle.md_printer.proofs.Takes.{same_itself, token_fine, expect_takes, end_t
 use Rattle.md_printer.proofs.AgainTypes.{type_again, type_rest, declaration_again, declaration_rest, declared_printable, same_home}
 use Rattle.md_printer.proofs.AgainGoals.{sign_again, expect_again, listed_variables, closed_variables}
 use Rattle.md_printer.proofs.AgainParts.{body_again}
-use Rattle.md_printer.proofs.Unlined.{procedure_again, printed_same, once_same}
+use Rattle.md_printer.proofs.Unlined.{procedure_again, printed_alike, once_same}
 
 -- ---- clauses
 
@@ -385,7 +385,7 @@ pub round_trip : (l : Listing) → IsSpelled l → SpellsUpToLines (printed l) l
 round_trip l q =
     let k = q.spelled.listing in
     let r = spelled_again q.text k q.spelled.spelled in
-    let e : printed k ≡ printed l = sym (printed_same k) ∙ ap printed q.spelled.same ∙ printed_same l in
+    let e : printed k ≡ printed l = printed_alike k l q.spelled.same in
     record {
       listing = r.listing;
       spelled = subst (λ (t : List ℕ). Spells t r.listing) e r.spelled;

@@ -78,11 +78,15 @@ procedures_same (p ∷ ps) =
     ap (λ (xs : List Tokens). xs ++ flat_map procedure_sentences (map (procedure_on_lines 0 0) ps)) (sentences_same p)
     ∙ ap (λ (xs : List Tokens). procedure_sentences p ++ xs) (procedures_same ps)
 
-pub printed_same : (l : Listing) → printed (unlined l) ≡ printed l
+printed_same : (l : Listing) → printed (unlined l) ≡ printed l
 unfolding printed
 printed_same l =
     ap (λ (xs : List Tokens). flat_map sentence (module_tokens l.module_name ∷ (xs ++ flat_map procedure_sentences (map (procedure_on_lines 0 0) l.procedures)))) (types_same l.types)
     ∙ ap (λ (xs : List Tokens). flat_map sentence (module_tokens l.module_name ∷ (map type_tokens l.types ++ xs))) (procedures_same l.procedures)
+
+-- programs that differ in lines alone are printed alike
+pub printed_alike : (k l : Listing) → unlined k ≡ unlined l → printed k ≡ printed l
+printed_alike k l e = sym (printed_same k) ∙ ap printed e ∙ printed_same l
 
 -- ---- second declarations
 
