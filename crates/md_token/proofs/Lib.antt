@@ -1,3 +1,4 @@
+pub mod Ends
 pub mod Literals
 pub mod Scans
 pub mod Spelled

@@ -1,0 +1,108 @@
+// The names of a program.
+ghost use Rattle.std.specs.Prelude.{◌≡◌, None, Some, IfOk, MatchOption};
+ghost use Rattle.md_hlds.specs.Listing.{listing_of, procedure_of, family_of, construct_of, procedure_called};
+ghost use Rattle.md_names.specs.Named.{is_type, some_has_name, functor_found};
+
+use crate::functors::functors_of;
+use crate::key::{FunctorKey, PredicateKey};
+use crate::predicates::{key_of, predicates_of};
+use crate::types::{functor_names, type_names};
+use indexmap::{IndexMap, IndexSet};
+use md_base::{Name, NoMemory, ProcId};
+use md_hlds::{Functor, Pred, PredName, Program, TypeDef};
+use std::alloc::Global;
+use std::marker::Model;
+
+/// What the names of a program stand for. Of several things of one name it is the first. Contracts see the program.
+#[derive(Drop)]
+pub struct Names<'a> {
+    program: &'a Program,
+    predicates: IndexMap<PredicateKey<'a>, (u32, &'a Pred)>,
+    functors: IndexMap<FunctorKey<'a>, (&'a TypeDef, &'a Functor)>,
+    type_names: IndexSet<&'a [u8]>,
+    functor_names: IndexSet<&'a [u8]>,
+}
+
+impl<'a> Model for Names<'a> {
+    ghost use Rattle.std.specs.Coded.{codes};
+    ghost use Rattle.md_hlds.specs.declared.program.Program.{Program};
+    ghost use Rattle.md_hlds.specs.contracts.goal.Goal as goal;
+    ghost use Rattle.md_hlds.specs.contracts.types.Ty as ty;
+    ghost use Rattle.md_hlds.specs.Listing.{listing_of};
+    ghost use Rattle.md_names.specs.Maps.{ArePredicates, AreFunctors, AreTypeNames, AreFunctorNames};
+
+    ghost Value = { Program };
+
+    ghost coded = { Prim.hlevel (codes, goal.the_row.coded, ty.the_row.coded) };
+
+    ghost view = { λ names. names.program.now };
+
+    ghost invariant = { λ names. ArePredicates names.predicates (listing_of names.program.now).procedures
+        × AreFunctors names.functors (listing_of names.program.now).types
+        × AreTypeNames names.type_names (listing_of names.program.now).types
+        × AreFunctorNames names.functor_names (listing_of names.program.now).types };
+}
+
+impl<'a> Names<'a> {
+    /// The names of this program. Takes time and memory near linear in it.
+    pub fn new(alloc: Global, program: &'a Program) -> Result<Names<'a>, NoMemory>
+        ensures { IfOk result (λ names. names ≡ program.now) }
+    {
+        let predicates = predicates_of(alloc, program)?;
+        let functors = functors_of(alloc, program)?;
+        let type_names = type_names(alloc, program)?;
+        let functor_names = functor_names(alloc, program)?;
+        Ok(Names {
+            program,
+            predicates,
+            functors,
+            type_names,
+            functor_names,
+        })
+    }
+
+    /// The program.
+    pub fn program(&self) -> &'a Program
+        ensures { result.now ≡ self.now }
+    {
+        self.program
+    }
+
+    /// The predicate of this name with its number, or `None` exactly where the program has none.
+    pub fn predicate(&self, name: &PredName) -> Option<(ProcId, &'a Pred)>
+        ensures { MatchOption result (procedure_called (listing_of self.now) name.now ≡ None)
+            (λ found. procedure_called (listing_of self.now) name.now ≡ Some (found.0, procedure_of found.1.now)) }
+    {
+        let key = key_of(&name.qualifier, &name.name);
+        let (number, pred) = self.predicates.get(&key)?;
+        Some((ProcId::new(*number), *pred))
+    }
+
+    /// The functor of this name and arity with its type, or `None` exactly where the program has none.
+    pub fn functor(&self, name: &Name, arity: usize) -> Option<(&'a TypeDef, &'a Functor)>
+        ensures { MatchOption result (functor_found name.now arity (listing_of self.now).types ≡ None)
+            (λ found. functor_found name.now arity (listing_of self.now).types
+            ≡ Some (family_of found.0.now, construct_of found.1.now)) }
+    {
+        let key = FunctorKey {
+            name: name.as_bytes(),
+            arity,
+        };
+        let (family, functor) = self.functors.get(&key)?;
+        Some((*family, *functor))
+    }
+
+    /// Whether a type of this name is declared.
+    pub fn has_type(&self, name: &Name) -> bool
+        ensures { result ≡ is_type name.now (listing_of self.now).types }
+    {
+        self.type_names.contains(name.as_bytes())
+    }
+
+    /// Whether a functor has this name, whatever its arity.
+    pub fn has_functor_name(&self, name: &Name) -> bool
+        ensures { result ≡ some_has_name name.now (listing_of self.now).types }
+    {
+        self.functor_names.contains(name.as_bytes())
+    }
+}
