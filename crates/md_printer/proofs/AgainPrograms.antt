@@ -18,6 +18,7 @@ use Rattle.md_reader.specs.Rules as rule
 use Rattle.md_reader.specs.Duplicates.{duplicate}
 use Rattle.md_reader.specs.Grammar as g
 use Rattle.md_reader.specs.Grammar.{Is, Sign, Listed, Spells}
+use Rattle.md_reader.proofs.CompleteTexts.{one_program}
 use Rattle.md_reader.proofs.Steps.{bind_ok}
 use Rattle.md_printer.specs.Layout.{Tokens, sentence}
 use Rattle.md_printer.specs.Printed as print
@@ -391,3 +392,9 @@ round_trip l q =
       spelled = subst (λ (t : List ℕ). Spells t r.listing) e r.spelled;
       same = r.same ∙ q.spelled.same;
     }
+
+-- the printed text spells no other program
+pub no_other : (l : Listing) → IsSpelled l → (k : Listing) → Spells (printed l) k → unlined k ≡ unlined l
+no_other l q k h =
+    let r = round_trip l q in
+    ap unlined (one_program (printed l) k r.listing h r.spelled) ∙ r.same
