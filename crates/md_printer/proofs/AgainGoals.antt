@@ -1,6 +1,6 @@
 -- Printed goals are spelled by the grammar as they were.
 use Rattle.std.specs.Prelude.{codes, nat_lt, decimal, ℤ, pos, negsuc}
-use Rattle.std.proofs.Common.{◌≡◌, ℕ, zero, suc, ◌+◌, ◌-◌, ◌≤◌, Bool, true, false, cond, ◌&&◌, ◌⊎◌, inl, inr, Option, Some, None, List, [], ◌∷◌, ◌++◌, length, map, refl, ap, sym, ◌∙◌, subst, arith}
+use Rattle.std.proofs.Common.{◌≡◌, ℕ, zero, suc, ◌-◌, Bool, true, false, cond, ◌&&◌, ◌⊎◌, inl, inr, Option, Some, None, List, [], ◌∷◌, ◌++◌, length, refl, ap, sym, ◌∙◌, subst, arith}
 use Rattle.std.proofs.lemmas.Slice.Eq.{bytes_eq-Decides}
 use Rattle.std.specs.Str.{bytes_eq}
 use Rattle.md_hlds.specs.declared.goal.PredName.{PredName}
@@ -9,7 +9,7 @@ use Rattle.md_hlds.specs.declared.goal.Op.{Op}
 use Rattle.md_hlds.specs.declared.goal.Op.TheVariants as op
 use Rattle.md_hlds.specs.declared.goal.Cmp.{Cmp}
 use Rattle.md_hlds.specs.declared.goal.Cmp.TheVariants as cmp
-use Rattle.md_hlds.specs.Part.{Part, At, Parts, nothing, also, Task, Plain, Invoke, Apply, Each, Either, Choose, Unless, Once, gathered, Succeeds, Fails, Unifies, Computes, Compares, WritesInt, WritesText, EndsLine}
+use Rattle.md_hlds.specs.Part.{Task, Plain, Unifies, WritesInt, WritesText, EndsLine}
 use Rattle.md_token.specs.declared.kind.Kind.{Kind}
 use Rattle.md_token.specs.declared.kind.Kind.TheVariants as kind
 use Rattle.md_token.specs.Literal.{string_value, number_of, inside}
@@ -17,18 +17,18 @@ use Rattle.md_token.proofs.Spelled as spelled
 use Rattle.md_token.proofs.Spelled.{Reads}
 use Rattle.md_token.proofs.SpelledTexts.{Writes, value_written}
 use Rattle.md_token.proofs.SpelledTokens.{Fine}
-use Rattle.md_reader.specs.Input.{Input, expect, variable, site, most, token, kind_at, place_of, with_variable, next}
+use Rattle.md_reader.specs.Input.{Input, expect, variable, token, kind_at, place_of, with_variable, next}
 use Rattle.md_reader.specs.Rules as rule
 use Rattle.md_reader.specs.Grammar as g
 use Rattle.md_reader.specs.Grammar.{Is, Sign, Listed, Enclosed}
-use Rattle.md_printer.specs.Layout.{Tokens, separated, further, arguments, in_parentheses}
+use Rattle.md_printer.specs.Layout.{Tokens}
 use Rattle.md_printer.specs.Printed as print
 use Rattle.md_printer.specs.Printed.{single}
-use Rattle.md_printer.specs.Lines.{on_line, task_on_line, parts_on_line}
+use Rattle.md_printer.specs.Lines.{task_on_line}
 use Rattle.md_printer.proofs.Onto.{onto, onto-append, at, Good}
-use Rattle.md_printer.proofs.Moves.{ok_parts, holds, fails, Still, still_to, still_on, sign_still, expect_still, Onward, onward, Within, variable_facts, variable_onward, variables_listed, enclosed_onward, variables_onward, arguments_onward, quantified_onward, site_onward, operator_still, comparison_still, term_onward, relation_onward, pred_name_facts, pred_name_still, goal_onward, units_onward, conjunction_onward, arms_onward}
-use Rattle.md_printer.proofs.Takes.{token_fine, sign_takes, expect_takes, token_line, variable_read, variable_name, variable_again, IsPrintable, printable, pred_name_takes, site_again, positive_takes, negated_takes, literal_takes}
-use Rattle.md_printer.proofs.AgainTypes.{further_is, arguments_are, closed}
+use Rattle.md_printer.proofs.Moves.{ok_parts, holds, fails, Still, still_to, still_on, sign_still, expect_still, onward, Within, variable_facts, variable_onward, variables_listed, site_onward, operator_still, comparison_still, term_onward, pred_name_facts, pred_name_still}
+use Rattle.md_printer.proofs.Takes.{token_fine, sign_takes, expect_takes, token_line, variable_read, variable_name, variable_again, printable, pred_name_takes, site_again, positive_takes, negated_takes, literal_takes}
+use Rattle.md_printer.proofs.AgainTypes.{further_is, arguments_are}
 
 -- ---- signs
 

@@ -1,8 +1,7 @@
 -- Printed goals with parts are spelled by the grammar as they were.
 use Rattle.std.specs.Prelude.{codes}
-use Rattle.std.proofs.Common.{◌≡◌, ℕ, zero, suc, ◌+◌, ◌≤◌, Bool, true, false, List, [], ◌∷◌, ◌++◌, map, refl, ap, sym, ◌∙◌, subst, arith}
-use Rattle.md_hlds.specs.Part.{Part, At, Parts, nothing, also, Task, Plain, Each, Either, Choose, Unless, Once, gathered, Succeeds, Fails}
-use Rattle.md_token.specs.declared.kind.Kind.{Kind}
+use Rattle.std.proofs.Common.{◌≡◌, ℕ, zero, suc, ◌≤◌, Bool, true, false, List, [], ◌∷◌, ◌++◌, map, refl, ap, sym, ◌∙◌, subst, arith}
+use Rattle.md_hlds.specs.Part.{Part, At, Parts, also, Task, Plain, Each, Either, Choose, Unless, Once, gathered, Succeeds, Fails}
 use Rattle.md_token.specs.declared.kind.Kind.TheVariants as kind
 use Rattle.md_token.proofs.Spelled as spelled
 use Rattle.md_reader.specs.Input.{Input, token, expect}
@@ -10,9 +9,9 @@ use Rattle.md_reader.specs.Rules as rule
 use Rattle.md_reader.specs.Grammar as g
 use Rattle.md_printer.specs.Layout.{Tokens, in_parentheses}
 use Rattle.md_printer.specs.Printed as print
-use Rattle.md_printer.specs.Lines.{on_line, task_on_line, parts_on_line}
+use Rattle.md_printer.specs.Lines.{on_line, parts_on_line}
 use Rattle.md_printer.proofs.Onto.{onto, onto-append, at, Good}
-use Rattle.md_printer.proofs.Moves.{Still, sign_still, expect_still, Onward, onward, Within, quantified_onward, goal_onward, units_onward, conjunction_onward, arms_onward}
+use Rattle.md_printer.proofs.Moves.{Still, sign_still, expect_still, onward, Within, quantified_onward, goal_onward, units_onward, conjunction_onward, arms_onward}
 use Rattle.md_printer.proofs.AgainGoals.{sign_again, expect_again, quantified_again, TaskAgain, relation_again, call_again, closure_call_again}
 
 -- ---- lists of parts on one line

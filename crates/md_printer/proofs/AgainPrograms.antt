@@ -1,36 +1,36 @@
 -- The printed text of a program is spelled by the grammar as that program, but for line numbers.
 use Rattle.std.specs.Prelude.{codes, nat_lt}
-use Rattle.std.proofs.Common.{◌≡◌, ℕ, zero, suc, ◌+◌, ◌≤◌, Bool, true, false, cond, not, ◌&&◌, Option, Some, None, List, [], ◌∷◌, ◌++◌, length, map, refl, ap, sym, ◌∙◌, subst, arith, append_assoc}
+use Rattle.std.proofs.Common.{◌≡◌, ℕ, ◌+◌, Bool, true, false, not, ◌&&◌, None, List, [], ◌∷◌, ◌++◌, length, map, refl, ap, sym, ◌∙◌, subst, arith, append_assoc}
 use Rattle.std.proofs.lemmas.List.{map-append}
 use Rattle.std.proofs.lemmas.Grind.{flat_map-append}
 use Rattle.std.specs.List.{flat_map}
 use Rattle.std.specs.Str.{bytes_eq}
 use Rattle.md_hlds.specs.declared.goal.PredName.{PredName}
-use Rattle.md_hlds.specs.Part.{Part}
 use Rattle.md_hlds.specs.Listing.{Family, Procedure, Listing}
 use Rattle.md_token.specs.declared.kind.Kind.{Kind}
 use Rattle.md_token.specs.declared.kind.Kind.TheVariants as kind
-use Rattle.md_token.specs.Token.{lexemes, tokens_of}
+use Rattle.md_token.specs.Token.{tokens_of}
 use Rattle.md_token.proofs.Spelled as spelled
 use Rattle.md_token.proofs.Spelled.{Reads, lexeme}
 use Rattle.md_token.proofs.SpelledTokens.{Fine, tokens_fine}
-use Rattle.md_reader.specs.Input.{Input, expect, word, variable, token, sees, next, end_clause, take_name, most, and_then}
+use Rattle.md_reader.specs.Input.{Input, expect, word, variable, token, sees, next, end_clause, take_name, most}
 use Rattle.md_reader.specs.Rules as rule
 use Rattle.md_reader.specs.Duplicates.{duplicate}
 use Rattle.md_reader.specs.Grammar as g
 use Rattle.md_reader.specs.Grammar.{Is, Sign, Listed, Spells}
+use Rattle.md_reader.proofs.CompleteTexts.{one_program}
 use Rattle.md_reader.proofs.Steps.{bind_ok}
-use Rattle.md_printer.specs.Layout.{Tokens, sentence, arguments}
+use Rattle.md_printer.specs.Layout.{Tokens, sentence}
 use Rattle.md_printer.specs.Printed as print
 use Rattle.md_printer.specs.Printed.{type_tokens, procedure_sentences, module_tokens, printed}
 use Rattle.md_printer.specs.Lines.{on_line, family_on_line, procedure_on_lines, unlined, SpellsUpToLines, IsSpelled}
-use Rattle.md_printer.proofs.Onto.{onto, onto-append, sentence_onto, at, upon, Good, next_good, at_token}
-use Rattle.md_printer.proofs.Moves.{ok_parts, holds, fails, Still, still_to, still_on, sign_still, expect_still, word_still, this_name_still, Onward, onward, on_to, from_still, Within, variables_listed, variable_onward, conjunction_onward, type_declaration_still, pred_declaration_still, take_facts}
-use Rattle.md_printer.proofs.Takes.{same_itself, token_fine, expect_takes, sign_takes, end_takes, word_takes, token_line, IsPrintable, this_name_takes, end_clause_again}
+use Rattle.md_printer.proofs.Onto.{onto, onto-append, sentence_onto, at, Good, next_good, at_token}
+use Rattle.md_printer.proofs.Moves.{ok_parts, holds, Still, still_on, sign_still, expect_still, word_still, this_name_still, Onward, onward, on_to, from_still, Within, variables_listed, conjunction_onward, type_declaration_still, pred_declaration_still, take_facts}
+use Rattle.md_printer.proofs.Takes.{same_itself, token_fine, expect_takes, end_takes, word_takes, token_line, IsPrintable, this_name_takes, end_clause_again}
 use Rattle.md_printer.proofs.AgainTypes.{type_again, type_rest, declaration_again, declaration_rest, declared_printable, same_home}
-use Rattle.md_printer.proofs.AgainGoals.{sign_again, expect_again, listed_variables, closed_variables, named}
+use Rattle.md_printer.proofs.AgainGoals.{sign_again, expect_again, listed_variables, closed_variables}
 use Rattle.md_printer.proofs.AgainParts.{body_again}
-use Rattle.md_printer.proofs.Unlined.{procedure_again, printed_same, once_same}
+use Rattle.md_printer.proofs.Unlined.{procedure_again, printed_alike, once_same}
 
 -- ---- clauses
 
@@ -386,9 +386,15 @@ pub round_trip : (l : Listing) → IsSpelled l → SpellsUpToLines (printed l) l
 round_trip l q =
     let k = q.spelled.listing in
     let r = spelled_again q.text k q.spelled.spelled in
-    let e : printed k ≡ printed l = sym (printed_same k) ∙ ap printed q.spelled.same ∙ printed_same l in
+    let e : printed k ≡ printed l = printed_alike k l q.spelled.same in
     record {
       listing = r.listing;
       spelled = subst (λ (t : List ℕ). Spells t r.listing) e r.spelled;
       same = r.same ∙ q.spelled.same;
     }
+
+-- the printed text spells no other program
+pub no_other : (l : Listing) → IsSpelled l → (k : Listing) → Spells (printed l) k → unlined k ≡ unlined l
+no_other l q k h =
+    let r = round_trip l q in
+    ap unlined (one_program (printed l) k r.listing h r.spelled) ∙ r.same

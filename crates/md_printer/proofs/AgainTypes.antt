@@ -5,13 +5,13 @@ use Rattle.std.specs.Str.{bytes_eq}
 use Rattle.md_hlds.specs.declared.types.Mode.{Mode}
 use Rattle.md_hlds.specs.declared.types.Det.{Det}
 use Rattle.md_hlds.specs.declared.goal.PredName.{PredName}
-use Rattle.md_hlds.specs.Listing.{Sort, closure, gathered_sorts, listed_sorts, Construct, Family}
+use Rattle.md_hlds.specs.Listing.{Sort, closure, gathered_sorts, Construct, Family}
 use Rattle.md_hlds.proofs.Bridge.{listed_sorts-gathered}
 use Rattle.md_token.specs.declared.kind.Kind.{Kind}
 use Rattle.md_token.specs.declared.kind.Kind.TheVariants as kind
 use Rattle.md_token.proofs.Spelled as spelled
 use Rattle.md_token.proofs.Spelled.{Reads}
-use Rattle.md_reader.specs.Input.{Input, name, word, most, token}
+use Rattle.md_reader.specs.Input.{Input, name, most, token}
 use Rattle.md_reader.specs.Rules as rule
 use Rattle.md_reader.specs.Grammar as g
 use Rattle.md_reader.specs.Grammar.{Is, Sign, Listed, Enclosed}
@@ -20,7 +20,7 @@ use Rattle.md_printer.specs.Printed as print
 use Rattle.md_printer.specs.Printed.{single}
 use Rattle.md_printer.specs.Lines.{family_on_line}
 use Rattle.md_printer.proofs.Onto.{onto, onto-append, at, Good}
-use Rattle.md_printer.proofs.Moves.{Still, still_on, sign_still, word_still, name_still, name_facts, sort_still, sort_facts, IsSort, mode_still, ho_mode_still, word_facts, determinism_still, type_name_name, functor_still, argument_still, declared_arguments_still, declared_name_facts, declared_name_still, enclosed_still, listed_still, IsName}
+use Rattle.md_printer.proofs.Moves.{Still, sign_still, word_still, name_still, name_facts, sort_still, sort_facts, IsSort, mode_still, ho_mode_still, word_facts, type_name_name, functor_still, argument_still, declared_name_facts, declared_name_still, enclosed_still}
 use Rattle.md_printer.proofs.Takes.{IsHoMode, name_read, sign_takes, end_takes, name_takes, word_takes, sort_again, mode_takes, ho_mode_takes, ho_mode_facts, determinism_takes, type_name_takes, IsPrintable, printable, declared_name_takes}
 
 -- in whatever state, the tokens of x are spelled as x

@@ -1,5 +1,5 @@
 -- How far a symbol of the grammar takes the input, and what it leaves of the clause's names.
-use Rattle.std.specs.Prelude.{⊤, codes, nat_lt}
+use Rattle.std.specs.Prelude.{codes, nat_lt}
 use Rattle.std.proofs.Common.{◌≡◌, ℕ, ◌+◌, Bool, true, false, cond, not, ◌&&◌, ◌⊎◌, inl, inr, Option, Some, None, Result, Ok, Err, List, [], ◌∷◌, ◌++◌, length, refl, ◌==◌, ap, sym, ◌∙◌, subst, append_assoc}
 use Rattle.std.specs.List.{list_any}
 use Rattle.std.specs.Str.{bytes_eq}
@@ -12,12 +12,12 @@ use Rattle.md_hlds.specs.Part.{Part, Task}
 use Rattle.md_hlds.specs.Listing.{Sort, number, text, world, named, Construct, Family}
 use Rattle.md_token.specs.declared.kind.Kind.{Kind}
 use Rattle.md_token.specs.declared.kind.Kind.TheVariants as kind
-use Rattle.md_reader.specs.Input.{Input, Parser, Outcome, and_then, expect, name, word, variable, site, token, sees, next, end_clause, take_name, with_variable, place_of, most}
+use Rattle.md_reader.specs.Input.{Input, Parser, Outcome, and_then, expect, name, word, variable, site, token, sees, next, take_name, with_variable, place_of, most}
 use Rattle.md_reader.specs.Rules as rule
 use Rattle.md_reader.specs.Grammar as g
 use Rattle.md_reader.specs.Grammar.{Is, Sign, Listed, Enclosed}
 use Rattle.md_reader.proofs.Steps.{bind_ok}
-use Rattle.md_printer.proofs.Onto.{at, upon, Good, next_good}
+use Rattle.md_printer.proofs.Onto.{at, Good, next_good}
 
 -- ---- what a test lets through
 

@@ -1,11 +1,10 @@
 -- A printed token is taken by the grammar's rule as what it was printed for.
-use Rattle.std.specs.Prelude.{⊤, codes, nat_lt, nat_le, decimal, slice_get, unwrap_or, ℤ, pos, negsuc}
-use Rattle.std.proofs.Common.{◌≡◌, ℕ, zero, suc, ◌+◌, ◌-◌, ◌<◌, ◌≤◌, ◌^◌, Bool, true, false, cond, not, ◌&&◌, ◌||◌, ◌==◌, ◌⊎◌, inl, inr, Option, Some, None, Result, Ok, Err, List, [], ◌∷◌, ◌++◌, length, take, drop, get_or, refl, ap, sym, ◌∙◌, subst, append_assoc, arith}
+use Rattle.std.specs.Prelude.{codes, nat_lt, decimal, pos}
+use Rattle.std.proofs.Common.{◌≡◌, ℕ, suc, ◌+◌, ◌<◌, ◌≤◌, ◌^◌, Bool, true, false, cond, not, ◌||◌, ◌==◌, ◌⊎◌, inl, inr, Option, Some, None, List, [], ◌∷◌, ◌++◌, length, get_or, refl, ap, sym, ◌∙◌, subst, append_assoc, arith}
 use Rattle.std.proofs.Math.Seq.{take-append_seam, get_or-append_seam}
 use Rattle.std.proofs.Math.ListN.{get_or-append}
 use Rattle.std.proofs.lemmas.Option.{unwrap_or-slice_get}
 use Rattle.std.proofs.lemmas.Slice.Eq.{bytes_eq-Decides}
-use Rattle.std.proofs.lemmas.List.{length-append}
 use Rattle.std.proofs.lemmas.List.Sums.{passes_at_first, prefix_len-le-length}
 use Rattle.std.specs.List.{list_any, flat_map, prefix_len}
 use Rattle.std.specs.Str.{bytes_eq}
@@ -15,21 +14,17 @@ use Rattle.md_hlds.specs.declared.types.Det.{Det}
 use Rattle.md_hlds.specs.declared.types.Det.TheVariants as det
 use Rattle.md_hlds.specs.declared.goal.PredName.{PredName}
 use Rattle.md_hlds.specs.declared.goal.Term.TheVariants as term
-use Rattle.md_hlds.specs.declared.goal.Op.{Op}
-use Rattle.md_hlds.specs.declared.goal.Op.TheVariants as op
-use Rattle.md_hlds.specs.declared.goal.Cmp.{Cmp}
-use Rattle.md_hlds.specs.declared.goal.Cmp.TheVariants as cmp
-use Rattle.md_hlds.specs.Part.{Task, Plain, Unifies}
+use Rattle.md_hlds.specs.Part.{Plain, Unifies}
 use Rattle.md_hlds.specs.Listing.{Sort, number, text, world, named, same_qualifier}
 use Rattle.md_token.specs.declared.kind.Kind.{Kind}
 use Rattle.md_token.specs.declared.kind.Kind.TheVariants as kind
 use Rattle.md_token.specs.Kinds.{same_kind}
-use Rattle.md_token.specs.Literal.{number_of, string_value, meaning, inside}
+use Rattle.md_token.specs.Literal.{number_of, string_value, meaning}
 use Rattle.md_token.specs.Token.{Lexeme, lexemes, is_word_byte, is_escape, is_plain, word_kind}
 use Rattle.md_token.proofs.Spelled as spelled
 use Rattle.md_token.proofs.Spelled.{Reads, lexeme}
-use Rattle.md_token.proofs.SpelledWords.{AllPass, prefix_of, drop_one_more, decimal_digits, reads_digits, number_of-decimal}
-use Rattle.md_token.proofs.SpelledTexts.{Writes, value_written, reads_text, value_of_text}
+use Rattle.md_token.proofs.SpelledWords.{prefix_of, drop_one_more, decimal_digits, reads_digits, number_of-decimal}
+use Rattle.md_token.proofs.SpelledTexts.{Writes, reads_text, value_of_text}
 use Rattle.md_token.proofs.SpelledTokens.{Fine, AllFine, IsQualified}
 use Rattle.md_reader.specs.Input.{Input, expect, name, word, variable, site, token, kind_at, sees, next, end_clause, take_name, with_variable, place_of, most, first}
 use Rattle.md_reader.specs.Rules as rule
@@ -37,7 +32,7 @@ use Rattle.md_reader.specs.Grammar as g
 use Rattle.md_reader.specs.Grammar.{Is, Sign}
 use Rattle.md_printer.specs.Printed as print
 use Rattle.md_printer.proofs.Onto.{at, upon, at_token, at_stop, Good}
-use Rattle.md_printer.proofs.Moves.{ok_parts, holds, fails, IsSort, sort_facts, IsName, IsVariable, variable_facts, Within}
+use Rattle.md_printer.proofs.Moves.{ok_parts, IsSort, sort_facts, IsName, variable_facts, Within}
 
 -- ---- kinds
 

@@ -1,13 +1,13 @@
 -- What line numbers play no part in: the printed text, and whether something is declared a second time.
 use Rattle.std.specs.Prelude.{codes}
-use Rattle.std.proofs.Common.{◌≡◌, ℕ, Bool, true, false, cond, ◌&&◌, Option, Some, None, List, [], ◌∷◌, ◌++◌, map, refl, ap, sym, ◌∙◌, subst}
+use Rattle.std.proofs.Common.{◌≡◌, ℕ, Bool, true, false, cond, Option, Some, None, List, [], ◌∷◌, ◌++◌, map, refl, ap, sym, ◌∙◌}
 use Rattle.std.proofs.lemmas.List.{map-append}
 use Rattle.std.specs.List.{flat_map}
 use Rattle.md_hlds.specs.Part.{Part, At, Parts, nothing, also, Task, Plain, Invoke, Apply, Each, Either, Choose, Unless, Once}
 use Rattle.md_hlds.specs.Listing.{Construct, Family, Procedure, Listing}
 use Rattle.md_reader.specs.Duplicates.{Declared, is_among, first_second, declared_family, declared_construct, declared_constructs, declared_procedure, earlier, second_family, second_construct, second_procedure, duplicate}
 use Rattle.md_printer.specs.Layout.{Tokens, sentence, in_parentheses}
-use Rattle.md_printer.specs.Printed.{goal_tokens, task_tokens, parts_tokens, further_parts, enclosed, choice_tokens, quantified_tokens, variables, type_tokens, procedure_sentences, declaration_tokens, written, variables_in_parentheses, module_tokens, sentences, printed}
+use Rattle.md_printer.specs.Printed.{goal_tokens, task_tokens, parts_tokens, further_parts, enclosed, choice_tokens, quantified_tokens, variables, type_tokens, procedure_sentences, declaration_tokens, written, variables_in_parentheses, module_tokens, printed}
 use Rattle.md_printer.specs.Lines.{on_line, task_on_line, parts_on_line, family_on_line, procedure_on_lines, unlined}
 
 -- ---- lines of lines
@@ -78,11 +78,15 @@ procedures_same (p ∷ ps) =
     ap (λ (xs : List Tokens). xs ++ flat_map procedure_sentences (map (procedure_on_lines 0 0) ps)) (sentences_same p)
     ∙ ap (λ (xs : List Tokens). procedure_sentences p ++ xs) (procedures_same ps)
 
-pub printed_same : (l : Listing) → printed (unlined l) ≡ printed l
+printed_same : (l : Listing) → printed (unlined l) ≡ printed l
 unfolding printed
 printed_same l =
     ap (λ (xs : List Tokens). flat_map sentence (module_tokens l.module_name ∷ (xs ++ flat_map procedure_sentences (map (procedure_on_lines 0 0) l.procedures)))) (types_same l.types)
     ∙ ap (λ (xs : List Tokens). flat_map sentence (module_tokens l.module_name ∷ (map type_tokens l.types ++ xs))) (procedures_same l.procedures)
+
+-- programs that differ in lines alone are printed alike
+pub printed_alike : (k l : Listing) → unlined k ≡ unlined l → printed k ≡ printed l
+printed_alike k l e = sym (printed_same k) ∙ ap printed e ∙ printed_same l
 
 -- ---- second declarations
 

@@ -1,5 +1,5 @@
 -- What is printed of a vector inside a goal or a type.
-use Rattle.std.proofs.Common.{◌≡◌, ℕ, Bool, true, false, List, ◌∷◌, ◌∙◌, ap, sym, Vec, codes}
+use Rattle.std.proofs.Common.{◌≡◌, ℕ, Bool, true, false, List, ◌∙◌, ap, sym, Vec, codes}
 use Rattle.std.specs.declared.alloc.Global.{Global}
 use Rattle.md_hlds.specs.declared.goal.Goal.{Goal}
 use Rattle.md_hlds.specs.declared.goal.GoalKind.{GoalKind, Conj, Disj}
@@ -8,7 +8,7 @@ use Rattle.md_hlds.specs.declared.types.HoTy.{HoTy}
 use Rattle.md_hlds.specs.Part.{gathered, parts_of, task_of}
 use Rattle.md_hlds.specs.Listing.{Sort, sort_of, sorts_of}
 use Rattle.md_hlds.proofs.Bridge.{task_of-Conj, task_of-Disj, sort_of-Ho, listed_sorts-gathered}
-use Rattle.md_printer.specs.Layout.{Tokens, in_parentheses, separated}
+use Rattle.md_printer.specs.Layout.{in_parentheses, separated}
 use Rattle.md_printer.specs.Printed.{task_tokens, parts_tokens, enclosed, inner_types, single, type_word}
 
 pub tokens_of-Conj : (names : List (List ℕ)) (inner : Bool) (k : GoalKind) (v : Vec Goal Global) (gs : List Goal) → k ≡ Conj v → gs ≡ v.items

@@ -1,6 +1,6 @@
 -- The printed text, computed on worked programs: each text was written by hand from the rules of printing, and `refl` says
 -- that the definition gives it.
-use Rattle.std.proofs.Common.{◌≡◌, refl, ℕ, pos, negsuc, true, false, List, [], ◌∷◌, ◌++◌, Some, None, Option}
+use Rattle.std.proofs.Common.{◌≡◌, refl, ℕ, pos, negsuc, true, false, List, [], ◌∷◌, ◌++◌, Some, None}
 use Rattle.std.specs.Prelude.{codes}
 use Rattle.std.specs.Fmt.{digits}
 use Rattle.md_hlds.specs.declared.types.Det.{Det}
@@ -10,7 +10,7 @@ use Rattle.md_hlds.specs.declared.types.Mode.{Mode}
 use Rattle.md_hlds.specs.declared.types.Mode.TheVariants as mode
 use Rattle.md_hlds.specs.declared.goal.PredName.{PredName}
 use Rattle.md_hlds.specs.declared.goal.Term.TheVariants.{Var, Int, Str, Name}
-use Rattle.md_hlds.specs.declared.goal.Op.TheVariants.{Add, Sub, Mul}
+use Rattle.md_hlds.specs.declared.goal.Op.TheVariants.{Sub}
 use Rattle.md_hlds.specs.declared.goal.Cmp.TheVariants.{Le}
 use Rattle.md_hlds.specs.Part.{Part, At, Task, Plain, Invoke, Apply, Each, Either, Choose, Unless, Once, gathered, Succeeds, Fails, Unifies, Computes, Compares, WritesText}
 use Rattle.md_hlds.specs.Listing.{Listing, Procedure, Family, Sort, number, world, named, closure, gathered_sorts}

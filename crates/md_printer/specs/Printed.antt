@@ -14,7 +14,7 @@ use Rattle.md_hlds.specs.declared.goal.Cmp.{Cmp}
 use Rattle.md_hlds.specs.declared.goal.Cmp.TheVariants as cmp
 use Rattle.md_hlds.specs.Part.{Part, At, Parts, nothing, also, Task, Plain, Invoke, Apply, Each, Either, Choose, Unless, Once, Simple, Succeeds, Fails, Unifies, Computes, Compares, WritesInt, WritesText, EndsLine}
 use Rattle.md_hlds.specs.Listing.{Sort, number, text, world, named, closure, listed_sorts, Construct, Family, Procedure, Listing}
-use Rattle.md_printer.specs.Layout.{Tokens, laid, sentence, in_parentheses, separated, further, arguments}
+use Rattle.md_printer.specs.Layout.{Tokens, sentence, in_parentheses, separated, arguments}
 
 -- ---- names, integers and strings
 

@@ -4,6 +4,7 @@
 #[cfg(test)]
 mod examples;
 mod goal;
+mod laws;
 mod layout;
 mod literal;
 mod names;
@@ -14,4 +15,5 @@ mod simple;
 mod tests;
 mod types;
 
+pub use laws::{lines_are_not_printed, printed_texts_are_printed_again};
 pub use printing::print;

@@ -1,9 +1,10 @@
 // A program to its printed text.
 ghost use Rattle.std.specs.Prelude.{◌≡◌, ◌++◌, IfOk, OnOk, map};
 ghost use Rattle.std.specs.List.{flat_map};
-ghost use Rattle.md_hlds.specs.Listing.{families_of, family_of, listing_of, procedure_of, procedures_of};
+ghost use Rattle.md_hlds.specs.Listing.{Listing, families_of, family_of, listing_of, procedure_of, procedures_of};
+ghost use Rattle.md_reader.specs.Grammar.{Spells};
 ghost use Rattle.md_printer.specs.Layout.{laid, sentence};
-ghost use Rattle.md_printer.specs.Lines.{IsSpelled, SpellsUpToLines};
+ghost use Rattle.md_printer.specs.Lines.{IsSpelled, SpellsUpToLines, unlined};
 ghost use Rattle.md_printer.specs.Printed as spec;
 
 use crate::layout::{end, sign, token};
@@ -14,12 +15,15 @@ use md_hlds::{Pred, Program, TypeDef};
 use std::alloc::Global;
 
 /// The printed text of a program: the declaration of the module, then all types, then all predicates, each token followed by
-/// one space and each end sign by a line feed. The text of a program that some text spells, as `md_reader::read` gives it,
-/// spells that program again, but for its line numbers.
+/// one space and each end sign by a line feed.
+///
+/// Where some text spells the program but for line numbers, as is so of what `md_reader::read` gives, the printed text
+/// spells it but for line numbers, and spells no other program.
 #[tactic(auto, unfolding(crate::specs::Printed::printed))]
 pub fn print(alloc: Global, program: &Program) -> Result<Vec<u8>, NoMemory>
     ensures printed { IfOk result (λ text. text.items ≡ spec.printed (listing_of program.now)) }
     ensures spelled { IfOk result (λ text. IsSpelled (listing_of program.now) → SpellsUpToLines text.items (listing_of program.now)) }
+    ensures no_other { IfOk result (λ text. IsSpelled (listing_of program.now) → (l : Listing) → Spells text.items l → unlined l ≡ unlined (listing_of program.now)) }
 {
     let mut text = Vec::new(alloc);
     heading(&mut text, &program.module)?;

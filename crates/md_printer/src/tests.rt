@@ -22,6 +22,36 @@ fn prints(rt: &impl Abort, alloc: Global, text: &str, wanted: &str) -> Result<()
     Ok(())
 }
 
+/// A text without the line feeds inside its clauses, so that each sentence has a line of its own, as in a printed text.
+fn line_by_line(alloc: Global, text: &[u8]) -> Result<Vec<u8>, Fail> {
+    let mut lines = Vec::new(alloc);
+    for (place, byte) in text.iter().enumerate() {
+        if *byte == b'\n' && text.get(place + 1) == Some(&b' ') {
+            lines.push(b' ')?;
+        } else {
+            lines.push(*byte)?;
+        }
+    }
+    Ok(lines)
+}
+
+fn shown(alloc: Global, text: &[u8]) -> Result<String, Fail> {
+    if text.len() >= 4_294_967_295 {
+        return Err(Fail::from("too long"));
+    }
+    let program = read(alloc, text).ok().ok_or("a program")?;
+    Ok(format!(in alloc; "{program:?}")?)
+}
+
+/// The program that is read from a printed text is the one that was printed, here with its lines.
+fn stays_the_same(rt: &impl Abort, alloc: Global, text: &str) -> Result<(), Fail> {
+    let lines = line_by_line(alloc, text.as_bytes())?;
+    let before = shown(alloc, lines.as_slice())?;
+    let after = shown(alloc, printed(alloc, lines.as_slice())?.as_slice())?;
+    assert_eq!(rt; before.as_str(), after.as_str(), "{text}");
+    Ok(())
+}
+
 /// The same of a clause's body, in a program of one predicate without arguments.
 fn prints_body(rt: &impl Abort, alloc: Global, body: &str, wanted: &str) -> Result<(), Fail> {
     let text = format!(in alloc; ":- module t. :- pred p is det. p :- {body}.")?;
@@ -67,6 +97,46 @@ fn prints_programs_with_closures_and_reads_them_again(rt: HostRuntime) -> Result
 #[test]
 fn prints_the_queens_and_reads_them_again(rt: HostRuntime) -> Result<(), Fail> {
     prints(&rt, rt.alloc(), of::QUEENS, of::QUEENS_PRINTED)?;
+    Ok(())
+}
+
+#[test]
+fn programs_of_plain_goals_stay_the_same(rt: HostRuntime) -> Result<(), Fail> {
+    stays_the_same(&rt, rt.alloc(), of::A)?;
+    stays_the_same(&rt, rt.alloc(), of::HELLO)?;
+    stays_the_same(&rt, rt.alloc(), of::WRAP)?;
+    stays_the_same(&rt, rt.alloc(), of::MODS)?;
+    stays_the_same(&rt, rt.alloc(), of::SPIN)?;
+    Ok(())
+}
+
+#[test]
+fn programs_with_branches_stay_the_same(rt: HostRuntime) -> Result<(), Fail> {
+    stays_the_same(&rt, rt.alloc(), of::COUNT)?;
+    stays_the_same(&rt, rt.alloc(), of::EVEN)?;
+    stays_the_same(&rt, rt.alloc(), of::ORDER1)?;
+    stays_the_same(&rt, rt.alloc(), of::ORDER2)?;
+    stays_the_same(&rt, rt.alloc(), of::Q)?;
+    Ok(())
+}
+
+#[test]
+fn programs_of_lists_stay_the_same(rt: HostRuntime) -> Result<(), Fail> {
+    stays_the_same(&rt, rt.alloc(), of::SOME)?;
+    stays_the_same(&rt, rt.alloc(), of::NONE)?;
+    Ok(())
+}
+
+#[test]
+fn programs_with_closures_stay_the_same(rt: HostRuntime) -> Result<(), Fail> {
+    stays_the_same(&rt, rt.alloc(), of::HO)?;
+    stays_the_same(&rt, rt.alloc(), of::LOOP)?;
+    Ok(())
+}
+
+#[test]
+fn the_queens_stay_the_same(rt: HostRuntime) -> Result<(), Fail> {
+    stays_the_same(&rt, rt.alloc(), of::QUEENS)?;
     Ok(())
 }
 

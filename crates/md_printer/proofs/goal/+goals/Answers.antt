@@ -1,4 +1,3 @@
-use Rattle.std.proofs.Common.{rules, arith}
 use Rattle.md_printer.proofs.Views.{tokens_of-Conj, tokens_of-Disj}
 use Rattle.md_printer.proofs.goal.+goals.Goals as goal
 

@@ -1,4 +1,4 @@
-use Rattle.std.proofs.Common.{rules, arith}
+use Rattle.std.proofs.Common.{arith}
 use Rattle.std.proofs.lemmas.Grind.{common_steps}
 use Rattle.md_printer.specs.Layout.{laid}
 use Rattle.md_printer.proofs.Views.{inner_types-Ho}
