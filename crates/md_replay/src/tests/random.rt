@@ -1,6 +1,6 @@
 // Runs with interleaved exits, redos and cuts, made by a small generator with a fixed seed: the recorder, the slow
 // program and the counter agree on them.
-use super::programs::{alloc_words, begin, call, exit, fail, redo, tables};
+use super::programs::{Step, tables};
 use super::slow::{activations, links};
 use crate::{counter_of_events, profile_of_events};
 use md_base::{Counts, Measure, ProcId};
@@ -41,30 +41,6 @@ impl Dice {
             .wrapping_mul(1_664_525)
             .wrapping_add(1_013_904_223);
         (self.state >> 16).checked_rem(many).unwrap_or(0)
-    }
-}
-
-/// One event of a run.
-#[derive(Clone, Copy)]
-enum Step {
-    Begin,
-    Call(u32, u32, u32, u32),
-    Exit(u32),
-    Redo(u32),
-    Fail(u32),
-    Alloc(u32, u32),
-}
-
-impl Step {
-    fn event(self) -> Event {
-        match self {
-            Step::Begin => begin(),
-            Step::Call(act, parent, site, callee) => call(act, parent, site, callee),
-            Step::Exit(act) => exit(act),
-            Step::Redo(act) => redo(act),
-            Step::Fail(act) => fail(act),
-            Step::Alloc(act, words) => alloc_words(act, words),
-        }
     }
 }
 
