@@ -75,3 +75,28 @@ pub fn fail(act: u32) -> Event {
 pub fn alloc_words(act: u32, words: u32) -> Event {
     Event::Alloc { act, words }
 }
+
+/// One event of a run, by plain numbers: its activation first, and of a call then the caller, the site and the procedure.
+#[derive(Clone, Copy)]
+pub enum Step {
+    Begin,
+    Call(u32, u32, u32, u32),
+    Exit(u32),
+    Redo(u32),
+    Fail(u32),
+    Alloc(u32, u32),
+}
+
+impl Step {
+    /// The event itself.
+    pub fn event(self) -> Event {
+        match self {
+            Step::Begin => begin(),
+            Step::Call(act, parent, site, callee) => call(act, parent, site, callee),
+            Step::Exit(act) => exit(act),
+            Step::Redo(act) => redo(act),
+            Step::Fail(act) => fail(act),
+            Step::Alloc(act, words) => alloc_words(act, words),
+        }
+    }
+}
