@@ -11,3 +11,6 @@ pub mod JoinLemmas
 pub mod ArmLemmas
 pub mod GoalLemmas
 pub mod Choices
+pub mod Gathered
+pub mod NoteLemmas
+pub mod Copies

@@ -15,3 +15,5 @@ pub mod Tally
 pub mod Joins
 pub mod Clauses
 pub mod Answers
+pub mod Reached
+pub mod Classes

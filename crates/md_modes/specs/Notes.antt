@@ -1,9 +1,10 @@
 -- What the checks find at each goal: what a unification does, the type of the closure that is called, and what a goal binds.
-use Rattle.std.specs.Prelude.{ℕ, suc, Bool, false, ◌||◌, List, [], ◌∷◌, ◌++◌, length, Option, Some, None, Ok, Err, cond}
+use Rattle.std.specs.Prelude.{ℕ, zero, suc, Bool, false, ◌||◌, List, [], ◌∷◌, ◌++◌, length, Option, Some, None, Ok, Err, cond}
 use Rattle.md_hlds.specs.declared.goal.Term.{Term}
 use Rattle.md_hlds.specs.declared.goal.Term.TheVariants.{Var, Int, Str, Name}
+use Rattle.md_hlds.specs.declared.goal.PredName.{PredName}
 use Rattle.md_hlds.specs.Part.{Unifies, Part, At, Task, Plain, Invoke, Apply, Each, Either, Choose, Unless, Once, Parts, nothing, also}
-use Rattle.md_hlds.specs.Listing.{Sort, Procedure, Listing}
+use Rattle.md_hlds.specs.Listing.{Sort, closure, Procedure, Listing}
 use Rattle.md_modes.specs.Verdict.{Verdict}
 use Rattle.md_modes.specs.Known.{Known, free, has, Knowledge, known_at, is_bound, is_newly_bound}
 use Rattle.md_modes.specs.Named.{Functor, functor_called}
@@ -41,15 +42,22 @@ abbrev pub role_of_name : List ℕ → Known → Knowledge → Option Functor �
 role_of_name ys k s (Some f) = role_of_term ys k s
 role_of_name ys k s None = closes
 
+abbrev pub role_named : Listing → PredName → List ℕ → Known → Knowledge → Role
+role_named p q ys k s = role_of_name ys k s (functor_called p q (length ys))
+
 abbrev pub role_of_unification : Listing → ℕ → Term → Knowledge → Role
 role_of_unification p x (Var y) s = role_of_variables x y (known_at s x) (known_at s y)
 role_of_unification p x (Int n) s = role_of_term [] (known_at s x) s
 role_of_unification p x (Str bytes) s = role_of_term [] (known_at s x) s
-role_of_unification p x (Name q ys) s = role_of_name ys (known_at s x) s (functor_called p q (length ys))
+role_of_unification p x (Name q ys) s = role_named p q ys (known_at s x) s
+
+abbrev pub role_of_sort : Sort → Option Role
+role_of_sort (closure ts ms d) = Some (applies (closure ts ms d))
+role_of_sort t = None
 
 abbrev pub role_of_closure : Known → Option Role
 role_of_closure free = None
-role_of_closure (has t used) = Some (applies t)
+role_of_closure (has t used) = role_of_sort t
 
 -- unifications and calls of closures have a role
 abbrev pub role_of : Listing → Task → Knowledge → Option Role
@@ -57,14 +65,18 @@ role_of p (Plain (Unifies x t)) s = Some (role_of_unification p x t s)
 role_of p (Apply site f ys) s = role_of_closure (known_at s f)
 role_of p t s = None
 
--- the variables that are free before and bound after, in rising order from n on
-abbrev pub newly_bound : ℕ → Knowledge → Knowledge → List ℕ
-newly_bound n (k ∷ s) (j ∷ r) = cond (is_newly_bound k j) (n ∷ newly_bound (suc n) s r) (newly_bound (suc n) s r)
-newly_bound n s r = []
+-- the numbers below n with the property, in rising order
+abbrev pub numbers_below : ℕ → (ℕ → Bool) → List ℕ
+numbers_below zero p = []
+numbers_below (suc n) p = cond (p n) (numbers_below n p ++ n ∷ []) (numbers_below n p)
+
+-- the variables that are free before and bound after, in rising order
+abbrev pub newly_bound : Knowledge → Knowledge → List ℕ
+newly_bound s r = numbers_below (length s) (λ x. is_newly_bound (known_at s x) (known_at r x))
 
 -- what a goal binds; nothing, where the place after it isn't reachable
 abbrev pub binds : Knowledge → Verdict After → List ℕ
-binds s (Ok a) = cond a.reach (newly_bound 0 s a.known) []
+binds s (Ok a) = cond a.reach (newly_bound s a.known) []
 binds s (Err e) = []
 
 -- the variable is bound to an io state
@@ -72,13 +84,17 @@ abbrev pub is_state : Known → Bool
 is_state free = false
 is_state (has t used) = is_world t
 
+-- it is, before a goal or after it
+abbrev pub is_state_at : Knowledge → Knowledge → ℕ → Bool
+is_state_at s r x = is_state (known_at s x) || is_state (known_at r x)
+
 -- A variable of the goal is an io state before or after it. (The determinism checks ask that of goals that are no
 -- conjunction, no disjunction and no if-then-else.)
 abbrev pub names_state : Task → Knowledge → Knowledge → Bool
 names_state (Each ps) s r = false
 names_state (Either ps) s r = false
 names_state (Choose p t e) s r = false
-names_state t s r = some_of (λ x. is_state (known_at s x) || is_state (known_at r x)) (task_variables t)
+names_state t s r = some_of (is_state_at s r) (task_variables t)
 
 pub record Note : Type 0 where
   pub role : Option Role
@@ -91,14 +107,22 @@ abbrev pub known_after : Knowledge → Verdict After → Knowledge
 known_after s (Ok a) = a.known
 known_after s (Err e) = s
 
+-- the kind of goal, without its line
+abbrev pub task_in : Part → Task
+task_in (At l t) = t
+
+-- the note of one goal
+abbrev pub note : Scope → Part → Knowledge → Note
+note c p s = record {
+  role = role_of c.program (task_in p) s;
+  binds = binds s (goal c p s);
+  state = names_state (task_in p) s (known_after s (goal c p s));
+}
+
 -- the notes of a goal and of those within it, outer before inner, in text order
 abbrev mutual
   pub notes : Scope → Part → Knowledge → List Note
-  notes c (At l t) s = record {
-    role = role_of c.program t s;
-    binds = binds s (goal c (At l t) s);
-    state = names_state t s (known_after s (goal c (At l t) s));
-  } ∷ inner_notes c t s
+  notes c (At l t) s = note c (At l t) s ∷ inner_notes c t s
 
   pub inner_notes : Scope → Task → Knowledge → List Note
   inner_notes c (Plain g) s = []

@@ -11,19 +11,21 @@ use crate::declarations::{check_predicates, check_types};
 use crate::ends::{check_exits, entry};
 use crate::main_predicate::has_main;
 use crate::moded::Moded;
+use crate::notes::notes_of_program;
 use crate::tally::counts_of;
 use md_hlds::{Pred, Program};
 use std::alloc::Global;
 
 /// Checks the modes of a program, and gives it back as a program without such a fault. A refusal names the program's first
 /// fault with its line, and gives the program up.
-#[tactic(auto, unfolding(crate::specs::Modes::mode_fault))]
+#[tactic(auto, unfolding(crate::specs::Modes::mode_fault, crate::specs::Notes::program_notes))]
 pub fn check_modes(alloc: Global, program: Program) -> Result<Moded, ModeFault>
     ensures accepted { Accepts program result }
     ensures refused { Refuses program result }
 {
     check_program(alloc, &program)?;
-    Ok(Moded { program })
+    let notes = notes_of_program(alloc, &program)?;
+    Ok(Moded::new(program, notes))
 }
 
 fn check_program(alloc: Global, program: &Program) -> Result<(), ModeFault>

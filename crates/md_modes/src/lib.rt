@@ -6,6 +6,8 @@ mod argument;
 mod arms;
 mod call;
 mod check;
+mod class;
+mod classes;
 mod clause;
 mod closure;
 mod declarations;
@@ -18,13 +20,16 @@ mod main_predicate;
 mod mark;
 mod moded;
 mod names;
+mod notes;
 mod outside;
 mod simple;
+mod states;
 mod tally;
 #[cfg(test)]
 mod tests;
 mod unify;
 
 pub use check::check_modes;
+pub use class::{Class, Note};
 pub use fault::ModeFault;
 pub use moded::Moded;

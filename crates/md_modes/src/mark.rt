@@ -2,6 +2,7 @@
 ghost use Rattle.std.specs.Prelude.{◌≡◌};
 ghost use Rattle.md_modes.specs.Known.{known_at, put, hand_on, handed_on, is_bound, is_newly_bound};
 ghost use Rattle.md_modes.specs.Branches.{disagree, common, is_alike};
+ghost use Rattle.md_modes.specs.Notes.{is_state};
 ghost use Rattle.md_modes.specs.Kinds.{known_of, knowledge_of};
 
 use crate::kind::Kind;
@@ -20,6 +21,16 @@ impl<'a> Mark<'a> {
         match self {
             Mark::Free => false,
             Mark::Bound(..) => true,
+        }
+    }
+
+    /// Whether the variable is bound to an io state.
+    pub fn is_state(self) -> bool
+        ensures { result ≡ is_state (known_of self.entry) }
+    {
+        match self {
+            Mark::Free => false,
+            Mark::Bound(kind, _) => kind.is_world(),
         }
     }
 

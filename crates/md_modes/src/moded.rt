@@ -1,22 +1,101 @@
-// A program without a fault of its modes.
-ghost use Rattle.std.specs.Prelude.{◌≡◌, None};
+// A program that the mode checks accept.
+ghost use Rattle.std.specs.Prelude.{◌≡◌, None, Some, slice_get, MatchOption};
 ghost use Rattle.md_hlds.specs.Listing.{listing_of};
 ghost use Rattle.md_modes.specs.Modes.{mode_fault};
+ghost use Rattle.md_modes.specs.Notes.{program_notes};
+ghost use Rattle.md_modes.specs.Classes.{notes_told, note_told, role_told, role_at, binds_at, state_at};
 
+use crate::class::{Class, Note};
 use md_hlds::Program;
+use std::marker::Model;
 
-/// A program that has no fault of its modes.
-#[derive(Debug, Drop)]
+/// A program without a fault of the mode checks, with what they found at each goal. Contracts see the program. Goals are
+/// numbered from 0 in text order over the file, outer before inner; the parts of an if-then-else are condition, then,
+/// else. None of its calls takes memory.
+#[derive(Drop)]
 pub struct Moded {
-    pub(crate) program: Program,
-    pub ghost faultless: { mode_fault (listing_of program) ≡ None },
+    program: Program,
+    notes: Vec<Note>,
+}
+
+impl Model for Moded {
+    ghost use Rattle.std.specs.Prelude.{◌≡◌, None};
+    ghost use Rattle.std.specs.Coded.{codes};
+    ghost use Rattle.md_hlds.specs.declared.program.Program.{Program};
+    ghost use Rattle.md_hlds.specs.contracts.goal.Goal as goal;
+    ghost use Rattle.md_hlds.specs.contracts.types.Ty as ty;
+    ghost use Rattle.md_hlds.specs.Listing.{listing_of};
+    ghost use Rattle.md_modes.specs.Modes.{mode_fault};
+    ghost use Rattle.md_modes.specs.Notes.{program_notes};
+    ghost use Rattle.md_modes.specs.Classes.{notes_told};
+
+    ghost Value = { Program };
+
+    ghost coded = { Prim.hlevel (codes, goal.the_row.coded, ty.the_row.coded) };
+
+    ghost view = { λ moded. moded.program };
+
+    ghost invariant = { λ moded. (mode_fault (listing_of moded.program) ≡ None)
+        × (notes_told moded.notes.items ≡ program_notes (listing_of moded.program)) };
 }
 
 impl Moded {
-    /// The program. Takes no memory.
+    /// A program with what was found at its goals.
+    pub(crate) fn new(program: Program, notes: Vec<Note>) -> Moded
+        requires accepted { mode_fault (listing_of program) ≡ None }
+        requires notes { notes_told notes.items ≡ program_notes (listing_of program) }
+        ensures { result ≡ program }
+    {
+        Moded { program, notes }
+    }
+
+    /// The program, which has no fault of the mode checks.
     pub fn program(&self) -> &Program
-        ensures { result.now ≡ self.now.program }
+        ensures program { result.now ≡ self.now }
+        ensures accepted { mode_fault (listing_of self.now) ≡ None }
     {
         &self.program
+    }
+
+    /// What the unification or the higher-order call of this number does, or `None` exactly where there is no such goal
+    /// or it is of another kind.
+    pub fn class(&self, goal: u32) -> Option<&Class>
+        ensures { MatchOption result (role_at (program_notes (listing_of self.now)) goal ≡ None)
+            (λ class. role_at (program_notes (listing_of self.now)) goal ≡ Some (role_told class.now)) }
+    {
+        match self.note(goal) {
+            None => None,
+            Some(note) => note.class.as_ref(),
+        }
+    }
+
+    /// The variables that are bound after the goal of this number and not before it, in rising order; none where the
+    /// place after it isn't reachable, or there is no such goal.
+    pub fn binds(&self, goal: u32) -> &[u32]
+        ensures { result.now ≡ binds_at (program_notes (listing_of self.now)) goal }
+    {
+        match self.note(goal) {
+            None => &[],
+            Some(note) => note.binds.as_slice(),
+        }
+    }
+
+    /// Whether the goal of this number names an io state: a variable of it is one before or after it, and it is no
+    /// conjunction, disjunction or if-then-else.
+    pub fn names_io(&self, goal: u32) -> bool
+        ensures { result ≡ state_at (program_notes (listing_of self.now)) goal }
+    {
+        match self.note(goal) {
+            None => false,
+            Some(note) => note.names_io,
+        }
+    }
+
+    /// What was found at the goal of this number.
+    fn note(&self, goal: u32) -> Option<&Note>
+        ensures { MatchOption result (slice_get (program_notes (listing_of self.now)) goal ≡ None)
+            (λ note. slice_get (program_notes (listing_of self.now)) goal ≡ Some (note_told note.now)) }
+    {
+        self.notes.get(goal as usize)
     }
 }
