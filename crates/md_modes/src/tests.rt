@@ -1,5 +1,5 @@
 // Programs built by hand: an accepted one, and faults with their lines.
-use crate::{ModeFault, check_modes};
+use crate::{Class, ModeFault, check_modes};
 use md_base::{Name, SiteId, Text};
 use md_hlds::{
     Det, Functor, Goal, GoalKind, Mode, Pred, PredName, Program, Term, Ty, TypeDef, Variables,
@@ -90,6 +90,26 @@ fn an_accepted_program_is_given_back(rt: HostRuntime) -> Result<(), Fail> {
         .ok()
         .ok_or("accepted")?;
     assert_eq!(rt; moded.program().preds.len(), 1);
+    Ok(())
+}
+
+/// `( true -> X = 1 ; fail ), io.write_int(X, IO0, IO)`: 0 is the conjunction, 1 the if-then-else, 2 to 4 its parts.
+#[test]
+fn what_is_found_is_kept_by_goal(rt: HostRuntime) -> Result<(), Fail> {
+    let alloc = rt.alloc();
+    let write = goal(4, GoalKind::WriteInt(2, 0, 1));
+    let body = both(alloc, choice(alloc, 2, goal(3, GoalKind::Fail))?, write)?;
+    let moded = check_modes(alloc, program(alloc, body)?)
+        .ok()
+        .ok_or("accepted")?;
+    assert_eq!(rt; matches!(moded.class(3), Some(Class::Construct)), true);
+    assert_eq!(rt; moded.class(5).is_none(), true);
+    assert_eq!(rt; moded.class(6).is_none(), true);
+    assert_eq!(rt; moded.binds(0), [1, 2].as_slice());
+    assert_eq!(rt; moded.binds(3), [2].as_slice());
+    assert_eq!(rt; moded.binds(4).len(), 0);
+    assert_eq!(rt; moded.names_io(5), true);
+    assert_eq!(rt; moded.names_io(0), false);
     Ok(())
 }
 
