@@ -16,6 +16,8 @@ mod main_predicate;
 mod pair;
 mod predicate;
 mod switch;
+#[cfg(test)]
+mod tests;
 
 pub use check::check_det;
 pub use checked::Checked;
