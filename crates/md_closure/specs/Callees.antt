@@ -1,5 +1,5 @@
 -- The link of a procedure among those of a higher-order call site in one context.
-use Rattle.std.specs.Prelude.{ℕ, ◌≡◌, ◌≢◌, ◌+◌, ◌≤◌, ◌⊎◌, List, length, All, Option, Some, None, IfSome, MatchOption, slice_get, if◌then◌else◌, is_none}
+use Rattle.std.specs.Prelude.{ℕ, ◌≡◌, ◌≢◌, ◌+◌, ◌⊎◌, List, length, All, Option, Some, None, IfSome, slice_get}
 use Rattle.md_static.specs.Sites.{sites_of}
 use Rattle.md_dynamic.specs.Rows.{Rows, list_in, Adds, add_cost}
 

@@ -1,5 +1,5 @@
 // Finding the link of a callee, and adding one.
-ghost use Rattle.std.specs.Prelude.{ℕ, ◌≡◌, ◌<◌, ◌≤◌, ◌+◌, ◌-◌, length, slice_get, IfOk, IfSome, OnErr, OnOk, Some, None, IsSomeAnd};
+ghost use Rattle.std.specs.Prelude.{ℕ, ◌≡◌, ◌≢◌, ◌<◌, ◌≤◌, ◌+◌, ◌-◌, length, All, slice_get, IfOk, IfSome, OnErr, OnOk, Some, None, IsSomeAnd};
 ghost use Rattle.md_static.specs.Tables.{callee_of};
 ghost use Rattle.md_dynamic.specs.Rows.{Owns, list_in, add_cost};
 ghost use Rattle.md_closure.specs.Callees.{Found, FindsOrAdds, find_or_add_cost};
@@ -9,7 +9,7 @@ use md_dynamic::Tables;
 use std::sync::ledger::Ledger;
 
 /// The link of a callee at a higher-order site in a context. Where there is none yet it is added last, with counts of 0,
-/// and leads to the callee's active context, or to a new one where there is none.
+/// and leads to the callee's active context, or to a new one where there is none. A link that is there takes no memory.
 pub fn find_or_add<L: Ledger>(
     tables: &mut Tables,
     node: PdId,
@@ -23,6 +23,8 @@ pub fn find_or_add<L: Ledger>(
     requires room { length tables.old.links < 4294967295 }
     ensures ok { IfOk result (λ link. FindsOrAdds tables.old tables.new node site callee link (steps.new - steps.old)) }
     ensures err { OnErr result (tables.new ≡ tables.old) }
+    ensures statics { tables.new.statics ≡ tables.old.statics }
+    ensures fresh { OnErr result (All (λ e. e.0 ≢ callee) (list_in tables.old node site)) }
     ensures forward { steps.old ≤ steps.new }
     ensures cost_refused { OnErr result (steps.new ≤ steps.old + find_or_add_cost tables.old node site callee) }
 {

@@ -1,5 +1,5 @@
 -- A site's slot is where its context's procedure has the site.
-use Rattle.std.proofs.Common.{ℕ, ◌-◌, ◌+◌, ◌≡◌, ◌<◌, ◌≤◌, List, length, get_or, Option, Some, None, IsSomeAnd, slice_get, refl, sym, ap, ◌∙◌, subst, arith}
+use Rattle.std.proofs.Common.{ℕ, ◌-◌, ◌≡◌, ◌<◌, ◌≤◌, List, length, get_or, Option, Some, None, IsSomeAnd, slice_get, refl, sym, ap, ◌∙◌, subst, arith}
 use Rattle.std.proofs.lemmas.Option.{get_or_from_slice_get}
 use Rattle.md_static.specs.declared.entry.Site.{Site}
 use Rattle.md_static.specs.Sites.{first_site, sites_of}

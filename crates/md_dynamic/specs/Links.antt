@@ -1,5 +1,5 @@
 -- Rows of links.
-use Rattle.std.specs.Prelude.{ℕ, Option, Some, None}
+use Rattle.std.specs.Prelude.{ℕ, Some, None}
 use Rattle.md_base.specs.declared.measure.Counts.{Counts}
 use Rattle.md_dynamic.specs.declared.link.LinkRow.{LinkRow}
 

@@ -1,8 +1,5 @@
 -- What the tables hold, as lists by number: contexts with their procedures and slots, links, and active contexts.
-use Rattle.std.specs.Prelude.{ℕ, ◌≡◌, ◌+◌, ◌<◌, ◌≤◌, ◌^◌, List, [], ◌∷◌, ◌++◌, length, map, replicate, Option, Some, None, IfSome, IsSomeAnd, MatchOption, All, ◌≢◌, is_none, if◌then◌else◌, option_and_then, unwrap_or, slice_get, slice_set}
-use Rattle.md_base.specs.declared.measure.Counts.{Counts}
-use Rattle.md_base.specs.declared.measure.Measure.{Measure}
-use Rattle.md_trace.specs.Count.{with_more}
+use Rattle.std.specs.Prelude.{ℕ, ◌≡◌, ◌+◌, ◌<◌, ◌≤◌, ◌^◌, List, [], ◌∷◌, ◌++◌, length, map, replicate, Option, Some, None, IsSomeAnd, MatchOption, All, ◌≢◌, option_and_then, slice_get}
 use Rattle.md_static.specs.declared.entry.Site.{Site}
 use Rattle.md_static.specs.Tables.{Static, callee_of}
 use Rattle.md_static.specs.Sites.{sites_of, place_of}
@@ -13,7 +10,7 @@ use Rattle.md_dynamic.specs.declared.slot.Slot.TheVariants.{Plain, Many}
 use Rattle.md_dynamic.specs.declared.span.Span.{Span}
 use Rattle.md_dynamic.specs.Fills.{FillsSlot}
 use Rattle.md_dynamic.specs.Links.{link_row, root_row}
-use Rattle.md_dynamic.specs.Slots.{empty_slot, filled}
+use Rattle.md_dynamic.specs.Slots.{empty_slot}
 use Rattle.md_dynamic.specs.Spans.{AreSpans}
 
 -- the program's tables; each context's procedure and slots; the links; and each procedure's active context

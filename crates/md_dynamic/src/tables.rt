@@ -14,7 +14,6 @@ use crate::slot::{Slot, Slots};
 use crate::span::{Span, spans_of};
 use md_base::{Counts, CsdId, Measure, NoMemory, PdId, ProcId, SiteId, Steps};
 use md_static::{Site, Statics};
-use md_trace::count_up;
 use std::alloc::Global;
 use std::marker::{Brand, Model};
 use std::sync::ledger::{Blank, Ledger};
@@ -123,6 +122,7 @@ impl Tables {
         requires there { callee < length self.old.statics.procs }
         requires of_callee { IfSome to (λ v. slice_get self.old.nodes v ≡ Some callee) }
         ensures value { self.new ≡ record self.old { active = slice_set self.old.active callee to } }
+        ensures statics { self.new.statics ≡ self.old.statics }
         ensures cost { steps.new ≡ steps.old + 1 }
     {
         steps.tick();
@@ -168,11 +168,12 @@ impl Tables {
     pub fn count<L: Ledger>(&mut self, link: CsdId, measure: Measure, by: u32, steps: &mut Steps<L>)
         requires { link < length self.old.links }
         ensures value { IfSome (slice_get self.old.links link) (λ row. self.new ≡ record self.old { links = slice_set self.old.links link (record row { own = with_more row.own measure by }) }) }
+        ensures statics { self.new.statics ≡ self.old.statics }
         ensures cost { steps.new ≡ steps.old + 2 }
     {
         steps.tick();
         steps.tick();
-        count_up(&mut self.links[link.number() as usize].own, measure, by);
+        self.links[link.number() as usize].own.add(measure, by);
     }
 
     /// Adds a link of a site in a context, with that many calls and other counts of 0, and puts it into the site's slot
@@ -194,6 +195,7 @@ impl Tables {
         requires room { length self.old.links < 4294967295 }
         ensures ok { IfOk result (λ link. Adds self.old self.new node site callee to calls link) }
         ensures err { OnErr result (self.new ≡ self.old) }
+        ensures statics { self.new.statics ≡ self.old.statics }
         ensures cost { OnOk result (steps.new ≡ steps.old + add_cost self.old callee to) }
         ensures cost_refused { OnErr result (steps.new ≤ steps.old + add_cost self.old callee to) }
         ensures forward { steps.old ≤ steps.new }
@@ -220,6 +222,7 @@ impl Tables {
         requires room { length self.old.links < 4294967295 }
         ensures ok { IfOk result (λ link. AddsLink self.old self.new node site callee to calls link) }
         ensures err { OnErr result (self.new ≡ self.old) }
+        ensures statics { self.new.statics ≡ self.old.statics }
         ensures cost { OnOk result (steps.new ≡ steps.old + 3) }
         ensures cost_refused { OnErr result (steps.new ≤ steps.old + 3) }
         ensures forward { steps.old ≤ steps.new }
@@ -249,6 +252,7 @@ impl Tables {
         requires room { length self.old.links < 4294967295 }
         ensures ok { IfOk result (λ link. AddsContext self.old self.new node site callee calls link) }
         ensures err { OnErr result (self.new ≡ self.old) }
+        ensures statics { self.new.statics ≡ self.old.statics }
         ensures cost { OnOk result (steps.new ≡ steps.old + (4 + length (sites_of callee self.old.statics.sites))) }
         ensures cost_refused { OnErr result (steps.new ≤ steps.old + (4 + length (sites_of callee self.old.statics.sites))) }
         ensures forward { steps.old ≤ steps.new }
@@ -273,6 +277,7 @@ impl Tables {
         requires room { length self.old.links < 4294967295 }
         ensures ok { IfOk result (λ link. AddsContext self.old self.new node site callee calls link) }
         ensures err { OnErr result (self.new ≡ self.old) }
+        ensures statics { self.new.statics ≡ self.old.statics }
         ensures cost { OnOk result (steps.new ≡ steps.old + 4) }
         ensures cost_refused { OnErr result (steps.new ≤ steps.old + 4) }
         ensures forward { steps.old ≤ steps.new }

@@ -1,9 +1,9 @@
 -- Closures: types and modes apart and in one list, and the arguments that a closure holds.
-use Rattle.std.proofs.Common.{◌≡◌, refl, sym, ap, ◌∙◌, subst, arith, ℕ, zero, suc, ◌<◌, Bool, true, false, cond, nat_lt, List, [], ◌∷◌, length, take, drop, Result, Ok, Err}
+use Rattle.std.proofs.Common.{◌≡◌, refl, ap, ℕ, suc, ◌<◌, Bool, false, List, [], ◌∷◌, length, take, drop, Result}
 use Rattle.std.proofs.lemmas.Bool.{lt-ltb}
 use Rattle.md_hlds.specs.declared.types.Mode.{Mode}
 use Rattle.md_hlds.specs.declared.types.Det.{Det}
-use Rattle.md_hlds.specs.Listing.{Sort, closure, gathered_sorts, listed_sorts, Procedure}
+use Rattle.md_hlds.specs.Listing.{Sort, closure, gathered_sorts, Procedure}
 use Rattle.md_hlds.proofs.Bridge.{listed_sorts-gathered}
 use Rattle.md_modes.specs.declared.fault.ModeFault.{ModeFault}
 use Rattle.md_modes.specs.Known.{Known, free, has, Knowledge, known_at, is_bound}

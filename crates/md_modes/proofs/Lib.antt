@@ -1,7 +1,15 @@
 pub mod Worked
-mod NoteLemmas
 pub mod Lists
 pub mod Marks
 pub mod NameLemmas
 pub mod Closures
 pub mod Counts
+pub mod Below
+pub mod Common
+pub mod Noted
+pub mod JoinLemmas
+pub mod ArmLemmas
+pub mod GoalLemmas
+pub mod Choices
+pub mod NoteLemmas
+pub mod Notings

@@ -1,7 +1,7 @@
 -- What the code knows of the variables, place by place.
-use Rattle.std.proofs.Common.{◌≡◌, refl, ap, ◌∙◌, sym, arith, ℕ, zero, suc, ◌+◌, ◌<◌, ◌≤◌, List, [], ◌∷◌, ◌++◌, length, get_or, slice_set}
+use Rattle.std.proofs.Common.{◌≡◌, refl, ap, arith, ℕ, zero, suc, ◌<◌, ◌≤◌, List, [], ◌∷◌, ◌++◌, length, get_or, slice_set}
 use Rattle.md_modes.specs.declared.mark.Mark.{Mark}
-use Rattle.md_modes.specs.Known.{Known, free, Knowledge, known_at, put}
+use Rattle.md_modes.specs.Known.{Known, free, Knowledge, known_at, put, nothing_known}
 use Rattle.md_modes.specs.Kinds.{known_of, knowledge_of}
 
 -- a write past the end does nothing
@@ -31,3 +31,11 @@ pub known_at-past : (ms : List Mark) (x : ℕ) → length ms ≤ x → free ≡ 
 known_at-past [] x le = refl
 known_at-past (m ∷ ms) zero le = absurd (omega (arith, le))
 known_at-past (m ∷ ms) (suc x) le = known_at-past ms x (omega (arith, le))
+
+pub knowledge_of-append : (ms ns : List Mark) → knowledge_of (ms ++ ns) ≡ knowledge_of ms ++ knowledge_of ns
+knowledge_of-append [] ns = refl
+knowledge_of-append (m ∷ ms) ns = ap (λ s. known_of m ∷ s) (knowledge_of-append ms ns)
+
+pub nothing_known-more : (n : ℕ) → nothing_known n ++ free ∷ [] ≡ nothing_known (suc n)
+nothing_known-more zero = refl
+nothing_known-more (suc n) = ap (λ s. free ∷ s) (nothing_known-more n)

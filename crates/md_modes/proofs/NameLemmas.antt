@@ -1,9 +1,9 @@
 -- Look-ups by name.
-use Rattle.std.proofs.Common.{◌≡◌, refl, sym, ◌∙◌, ap, ℕ, zero, suc, Bool, true, false, cond, List, [], ◌∷◌, ◌++◌, Option, Some, None, length, take, drop}
+use Rattle.std.proofs.Common.{◌≡◌, refl, ap, ℕ, zero, suc, Bool, true, false, cond, List, [], ◌∷◌, ◌++◌, Option, Some, length, take, drop}
 use Rattle.md_hlds.specs.declared.goal.PredName.{PredName}
 use Rattle.md_hlds.specs.declared.types.Ty.{Ty}
 use Rattle.md_hlds.specs.declared.types.Mode.{Mode}
-use Rattle.md_hlds.specs.Listing.{Sort, sorts_of, args_of, Procedure, find_procedure, is_called}
+use Rattle.md_hlds.specs.Listing.{sorts_of, args_of, Procedure, find_procedure, is_called}
 use Rattle.md_modes.specs.Named.{without_number}
 use Rattle.md_modes.specs.Found.{predicate_among}
 

@@ -51,8 +51,9 @@ common (has t used) (has u spent) = has t (used || spent)
 common k j = free
 
 abbrev pub in_common : Knowledge → Knowledge → Knowledge
+in_common [] q = []
+in_common (k ∷ r) [] = free ∷ in_common r []
 in_common (k ∷ r) (j ∷ q) = common k j ∷ in_common r q
-in_common r q = []
 
 abbrev pub all_have : Knowledge → List Knowledge → Knowledge
 all_have r [] = r

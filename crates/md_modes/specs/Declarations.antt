@@ -7,16 +7,19 @@ use Rattle.md_modes.specs.declared.fault.ModeFault.TheVariants.{UnknownName, Typ
 use Rattle.md_modes.specs.Verdict.{Verdict, ◌>>◌, fine, fault_unless}
 use Rattle.md_modes.specs.Named.{is_type}
 
--- the types that these names stand for are declared; below a higher-order type are its arguments' types
-abbrev mutual
-  pub is_known : List Family → Sort → Bool
-  is_known ts (named name) = is_type name ts
-  is_known ts (closure us ms d) = are_known ts us
-  is_known ts t = true
+-- a type that is named is declared
+abbrev pub is_declared : List Family → Sort → Bool
+is_declared ts (named name) = is_type name ts
+is_declared ts t = true
 
-  pub are_known : List Family → Sorts → Bool
-  are_known ts no_sorts = true
-  are_known ts (also_sort u us) = is_known ts u && are_known ts us
+abbrev pub are_declared : List Family → Sorts → Bool
+are_declared ts no_sorts = true
+are_declared ts (also_sort u us) = is_declared ts u && are_declared ts us
+
+-- so are those below a higher-order type
+abbrev pub is_known : List Family → Sort → Bool
+is_known ts (closure us ms d) = are_declared ts us
+is_known ts t = is_declared ts t
 
 -- the modes of the io state are `di` and `uo`, those of any other type `in` and `out`
 abbrev pub is_of_world : Mode → Bool

@@ -1,5 +1,5 @@
 -- What the code finds by a name, as the definitions see it.
-use Rattle.std.specs.Prelude.{ℕ, List, [], ◌∷◌, Option, Some, None, cond}
+use Rattle.std.specs.Prelude.{List, [], ◌∷◌, Option, Some, None, cond}
 use denote.Ref.{Bor}
 use Rattle.md_hlds.specs.declared.goal.PredName.{PredName}
 use Rattle.md_hlds.specs.declared.program.Pred.{Pred}

@@ -3,7 +3,7 @@ use Rattle.std.specs.Prelude.{ℕ, Bool, true, not, ◌&&◌, List, [], ◌∷�
 use Rattle.md_hlds.specs.declared.goal.Term.{Term}
 use Rattle.md_hlds.specs.declared.goal.Term.TheVariants.{Var, Int, Str, Name}
 use Rattle.md_hlds.specs.Part.{Simple, Succeeds, Fails, Unifies, Computes, Compares, WritesInt, WritesText, EndsLine, Part, At, Task, Plain, Invoke, Apply, Each, Either, Choose, Unless, Once, Parts, nothing, also}
-use Rattle.md_hlds.specs.Listing.{Listing}
+use Rattle.md_hlds.specs.Listing.{Procedure, Listing}
 use Rattle.md_modes.specs.declared.fault.ModeFault.TheVariants.{BranchBinds}
 use Rattle.md_modes.specs.Verdict.{Verdict, ◌>>=◌, ◌>>◌, fault_unless}
 use Rattle.md_modes.specs.Known.{Knowledge}
@@ -46,6 +46,10 @@ abbrev mutual
   parts_variables nothing = []
   parts_variables (also p ps) = variables p ++ parts_variables ps
 
+-- the variables of a clause
+abbrev pub clause_variables : Procedure → List ℕ
+clause_variables p = p.head ++ variables p.body
+
 -- ---- what is known after a goal
 
 -- where a goal stands: the program, the variables of its clause as often as they occur, and whether it is within a
@@ -69,6 +73,14 @@ leaf p strict l (Invoke site q ys) s = call p strict l q ys s
 leaf p strict l (Apply site f ys) s = apply strict l f ys s
 leaf p strict l t s = Ok s
 
+-- the place after a goal that is no conjunction and no branch
+abbrev pub goes_on_after : Task → Bool
+goes_on_after (Plain g) = goes_on g
+goes_on_after t = true
+
+abbrev pub leaf_task : Scope → ℕ → Task → Knowledge → Verdict After
+leaf_task c l t s = reached (goes_on_after t) (leaf c.program c.strict l t s)
+
 -- a goal that may bind only what occurs nowhere outside
 abbrev pub binds_inside : ℕ → (ℕ → Bool) → Knowledge → After → Verdict (Unit {0})
 binds_inside l p s a = fault_unless (not (binds_some p s a.known)) (BranchBinds l)
@@ -78,9 +90,9 @@ abbrev mutual
   goal c (At l t) s = task c l t s
 
   pub task : Scope → ℕ → Task → Knowledge → Verdict After
-  task c l (Plain g) s = reached (goes_on g) (leaf c.program c.strict l (Plain g) s)
-  task c l (Invoke site q ys) s = reached true (leaf c.program c.strict l (Invoke site q ys) s)
-  task c l (Apply site f ys) s = reached true (leaf c.program c.strict l (Apply site f ys) s)
+  task c l (Plain g) s = leaf_task c l (Plain g) s
+  task c l (Invoke site q ys) s = leaf_task c l (Invoke site q ys) s
+  task c l (Apply site f ys) s = leaf_task c l (Apply site f ys) s
   task c l (Each ps) s = each c ps s
   task c l (Either ps) s = do
     ends ← arms c ps s

@@ -1,5 +1,5 @@
 -- The code's types and marks as the definitions see them.
-use Rattle.std.specs.Prelude.{◌≡◌, ◌≢◌, Bool, List, [], ◌∷◌, Result, Ok, Err}
+use Rattle.std.specs.Prelude.{◌≡◌, ◌≢◌, List, [], ◌∷◌, Result, Ok, Err}
 use Rattle.md_hlds.specs.Listing.{Sort, number, text, world, named, closure, gathered_sorts, sorts_of, args_of}
 use Rattle.md_modes.specs.declared.kind.Kind.{Kind}
 use Rattle.md_modes.specs.declared.kind.Kind.TheVariants.{Number, Text, World, Named, Closure, Open}

@@ -9,7 +9,11 @@ pub mod Branches
 pub mod Goals
 pub mod Modes
 pub mod Notes
-pub mod Classes
 pub mod Kinds
 pub mod Found
 pub mod Tally
+pub mod Joins
+pub mod Clauses
+pub mod Classes
+pub mod States
+pub mod Noting

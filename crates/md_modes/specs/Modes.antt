@@ -1,5 +1,5 @@
 -- Clauses, and the whole program: its first fault, if it has one.
-use Rattle.std.specs.Prelude.{ℕ, Bool, true, false, ◌&&◌, ◌||◌, List, [], ◌∷◌, ◌++◌, length, Option, Some, None, Ok, Err, cond, codes, is_none}
+use Rattle.std.specs.Prelude.{ℕ, Bool, true, false, ◌&&◌, ◌||◌, List, [], ◌∷◌, length, Option, Some, None, Ok, Err, cond, codes, is_none}
 use Rattle.std.specs.Str.{bytes_eq}
 use Rattle.md_hlds.specs.declared.types.Mode.{Mode}
 use Rattle.md_hlds.specs.declared.types.Mode.TheVariants.{In, Out, Di, Uo}
@@ -12,7 +12,7 @@ use Rattle.md_modes.specs.Sorts.{same_sort, is_world, same_det}
 use Rattle.md_modes.specs.Known.{Known, free, has, Knowledge, known_at, put, nothing_known}
 use Rattle.md_modes.specs.Declarations as declarations
 use Rattle.md_modes.specs.Branches.{After}
-use Rattle.md_modes.specs.Goals.{Scope, variables, goal}
+use Rattle.md_modes.specs.Goals.{Scope, clause_variables, goal}
 
 -- ---- a clause
 
@@ -52,7 +52,7 @@ abbrev pub end : Procedure → After → Verdict (Unit {0})
 end p a = cond a.reach (exits p.clause_line p.args p.head a.known) fine
 
 abbrev pub scope_of : Listing → Procedure → Scope
-scope_of s p = record { program = s; all = p.head ++ variables p.body; strict = false }
+scope_of s p = record { program = s; all = clause_variables p; strict = false }
 
 abbrev pub clause : Listing → Procedure → Verdict (Unit {0})
 clause s p = goal (scope_of s p) p.body (entry p) >>= (λ a. end p a)

@@ -3,7 +3,7 @@ use Rattle.std.specs.Prelude.{ℕ, suc, Bool, false, ◌||◌, List, [], ◌∷�
 use Rattle.md_hlds.specs.declared.goal.Term.{Term}
 use Rattle.md_hlds.specs.declared.goal.Term.TheVariants.{Var, Int, Str, Name}
 use Rattle.md_hlds.specs.Part.{Unifies, Part, At, Task, Plain, Invoke, Apply, Each, Either, Choose, Unless, Once, Parts, nothing, also}
-use Rattle.md_hlds.specs.Listing.{Sort, Procedure, Listing}
+use Rattle.md_hlds.specs.Listing.{Sort, closure, Procedure, Listing}
 use Rattle.md_modes.specs.Verdict.{Verdict}
 use Rattle.md_modes.specs.Known.{Known, free, has, Knowledge, known_at, is_bound, is_newly_bound}
 use Rattle.md_modes.specs.Named.{Functor, functor_called}
@@ -47,9 +47,13 @@ role_of_unification p x (Int n) s = role_of_term [] (known_at s x) s
 role_of_unification p x (Str bytes) s = role_of_term [] (known_at s x) s
 role_of_unification p x (Name q ys) s = role_of_name ys (known_at s x) s (functor_called p q (length ys))
 
+abbrev pub role_of_sort : Sort → Option Role
+role_of_sort (closure ts ms d) = Some (applies (closure ts ms d))
+role_of_sort t = None
+
 abbrev pub role_of_closure : Known → Option Role
 role_of_closure free = None
-role_of_closure (has t used) = Some (applies t)
+role_of_closure (has t used) = role_of_sort t
 
 -- unifications and calls of closures have a role
 abbrev pub role_of : Listing → Task → Knowledge → Option Role

@@ -6,7 +6,9 @@ ghost use Rattle.md_modes.specs.Arguments.{arguments as Arguments};
 ghost use Rattle.md_modes.specs.Kinds.{kind_sort, knowledge_of, Leads};
 
 use crate::ModeFault;
-use crate::argument::{Spot, argument, arguments, arity, input, output, paired_arguments, type_count};
+use crate::argument::{
+    Spot, argument, arguments, arity, input, output, paired_arguments, type_count,
+};
 use crate::kind::Kind;
 use crate::mark::{Mark, mark_at};
 use crate::names::predicate_called;
@@ -137,7 +139,12 @@ pub fn write<'a>(
 }
 
 /// The end of a line.
-pub fn end_line(marks: &mut Vec<Mark<'_>>, at: Spot, before: u32, after: u32) -> Result<(), ModeFault>
+pub fn end_line(
+    marks: &mut Vec<Mark<'_>>,
+    at: Spot,
+    before: u32,
+    after: u32,
+) -> Result<(), ModeFault>
     ensures { Leads result (knowledge_of marks.new.items) (Arguments at.strict at.line spec.line_end (before ∷ after ∷ []) (knowledge_of marks.old.items)) }
 {
     argument(marks, at, Kind::World, Mode::Di, before)?;

@@ -5,7 +5,10 @@ ghost use Rattle.md_modes.specs.Sorts.{same_sort, same_plain, is_world, is_closu
 ghost use Rattle.md_modes.specs.Simple.{left_open};
 ghost use Rattle.md_modes.specs.Kinds.{kind_sort};
 
-use crate::closure::{are_modes, are_types, have_same_modes, have_same_types, modes_are, same_det, same_modes, same_types, types_are};
+use crate::closure::{
+    are_modes, are_types, have_same_modes, have_same_types, modes_are, same_det, same_modes,
+    same_types, types_are,
+};
 use md_base::Name;
 use md_hlds::{Det, HoTy, Mode, Ty};
 
@@ -119,9 +122,7 @@ impl<'a> Kind<'a> {
                     && same_det(ho.det, other.det)
             }
             Kind::Open(args, det) => {
-                types_are(&ho.types, args)
-                    && modes_are(&ho.modes, args)
-                    && same_det(ho.det, det)
+                types_are(&ho.types, args) && modes_are(&ho.modes, args) && same_det(ho.det, det)
             }
             _ => false,
         }
@@ -137,7 +138,9 @@ impl<'a> Kind<'a> {
                     && same_det(det, other.det)
             }
             Kind::Open(others, other) => {
-                have_same_types(args, others) && have_same_modes(args, others) && same_det(det, other)
+                have_same_types(args, others)
+                    && have_same_modes(args, others)
+                    && same_det(det, other)
             }
             _ => false,
         }

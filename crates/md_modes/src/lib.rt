@@ -2,19 +2,35 @@
 //! fault (Mercury Language Reference Manual, "Types", "Modes" and "Unique modes", in this project's profile).
 #![tactic(auto)]
 
-mod class;
-mod fault;
-mod moded;
 mod argument;
+mod arms;
 mod call;
+mod check;
+mod class;
+mod clause;
 mod closure;
+mod copies;
+mod declarations;
+mod ends;
+mod fault;
+mod finding;
+mod goals;
+mod joined;
 mod kind;
+mod main_predicate;
 mod mark;
+mod moded;
 mod names;
+mod noting;
+mod outside;
 mod simple;
+mod states;
 mod tally;
+#[cfg(test)]
+mod tests;
 mod unify;
 
+pub use check::check_modes;
 pub use class::{Class, Note};
 pub use fault::ModeFault;
 pub use moded::Moded;

@@ -1,6 +1,7 @@
 // What is known of the variables of a clause.
 ghost use Rattle.std.specs.Prelude.{◌≡◌};
-ghost use Rattle.md_modes.specs.Known.{known_at, put, hand_on, handed_on, is_bound};
+ghost use Rattle.md_modes.specs.Known.{known_at, put, hand_on, handed_on, is_bound, is_newly_bound};
+ghost use Rattle.md_modes.specs.Branches.{disagree, common, is_alike};
 ghost use Rattle.md_modes.specs.Kinds.{known_of, knowledge_of};
 
 use crate::kind::Kind;
@@ -22,6 +23,49 @@ impl<'a> Mark<'a> {
         }
     }
 
+    /// Whether the variable isn't bound before and is bound after.
+    pub fn is_newly_bound(before: Mark<'a>, after: Mark<'a>) -> bool
+        ensures { result ≡ is_newly_bound (known_of before.entry) (known_of after.entry) }
+    {
+        !before.is_bound() && after.is_bound()
+    }
+
+    /// Whether one arm binds the variable and another doesn't.
+    pub fn disagree(self, other: Mark<'a>) -> bool
+        ensures { result ≡ disagree (known_of self.entry) (known_of other.entry) }
+    {
+        match self {
+            Mark::Free => other.is_bound(),
+            Mark::Bound(..) => !other.is_bound(),
+        }
+    }
+
+    /// What two arms have in common at a variable: an io state is used where either uses it.
+    pub fn common(self, other: Mark<'a>) -> Mark<'a>
+        ensures { known_of result ≡ common (known_of self.entry) (known_of other.entry) }
+    {
+        match self {
+            Mark::Free => Mark::Free,
+            Mark::Bound(kind, used) => match other {
+                Mark::Free => Mark::Free,
+                Mark::Bound(_, spent) => Mark::Bound(kind, used || spent),
+            },
+        }
+    }
+
+    /// Whether two arms that both bind the variable bind it with one type.
+    pub fn is_alike(self, other: Mark<'a>) -> bool
+        ensures { result ≡ is_alike (known_of self.entry) (known_of other.entry) }
+    {
+        match self {
+            Mark::Free => true,
+            Mark::Bound(kind, _) => match other {
+                Mark::Free => true,
+                Mark::Bound(other, _) => kind.is_same(other),
+            },
+        }
+    }
+
     /// The mark of a variable that is handed on.
     fn handed_on(self) -> Mark<'a>
         ensures { known_of result ≡ handed_on (known_of self.entry) }
@@ -37,7 +81,13 @@ impl<'a> Mark<'a> {
 pub fn mark_at<'a>(marks: &[Mark<'a>], place: u32) -> Mark<'a>
     ensures { known_of result ≡ known_at (knowledge_of marks.now) place }
 {
-    let place = place as usize;
+    mark_in(marks, place as usize)
+}
+
+/// The same for a place that may be any number.
+pub fn mark_in<'a>(marks: &[Mark<'a>], place: usize) -> Mark<'a>
+    ensures { known_of result ≡ known_at (knowledge_of marks.now) place }
+{
     if place < marks.len() {
         marks[place]
     } else {

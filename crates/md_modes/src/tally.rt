@@ -39,7 +39,12 @@ pub fn counts_of_all(alloc: Global, goals: &[Goal]) -> Result<Vec<u64>, NoMemory
 }
 
 /// The same of three goals.
-pub fn counts_of_three(alloc: Global, first: &Goal, second: &Goal, third: &Goal) -> Result<Vec<u64>, NoMemory>
+pub fn counts_of_three(
+    alloc: Global,
+    first: &Goal,
+    second: &Goal,
+    third: &Goal,
+) -> Result<Vec<u64>, NoMemory>
     ensures { IfOk result (λ counts. AreCounts counts.items (variables (part_of first.now) ++ (variables (part_of second.now) ++ variables (part_of third.now)))) }
 {
     let mut counts = Vec::new(alloc);

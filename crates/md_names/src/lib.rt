@@ -10,3 +10,6 @@ mod types;
 
 pub use key::{FunctorKey, PredicateKey};
 pub use names::Names;
+
+#[cfg(test)]
+mod tests;

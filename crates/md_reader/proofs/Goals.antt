@@ -1,7 +1,7 @@
 -- Conjunctions of one goal and of more, and the depth of goals.
 use Rattle.std.proofs.Common.{◌≡◌, ◌≢◌, ℕ, zero, suc, ◌<◌, ◌-◌, List, [], ◌∷◌, length, get_or, refl, arith}
 use Rattle.md_hlds.specs.declared.goal.Goal.{Goal}
-use Rattle.md_hlds.specs.Part.{Part, At, Each, gathered, part_of, parts_of}
+use Rattle.md_hlds.specs.Part.{At, Each, gathered, part_of, parts_of}
 use Rattle.md_reader.specs.Input.{Input}
 use Rattle.md_reader.specs.Rules.{joined, first_line, conjunction, conjunction_with, within}
 

@@ -5,7 +5,7 @@ use Rattle.md_hlds.specs.declared.types.Mode.{Mode}
 use Rattle.md_hlds.specs.declared.program.Functor.{Functor}
 use Rattle.md_hlds.specs.declared.program.TypeDef.{TypeDef}
 use Rattle.md_hlds.specs.declared.program.Pred.{Pred}
-use Rattle.md_hlds.specs.Listing.{sort_of, sorts_of, construct_of, constructs_of, args_of, family_of, families_of, procedure_of, procedures_of, listing_of}
+use Rattle.md_hlds.specs.Listing.{sort_of, sorts_of, construct_of, constructs_of, args_of, family_of, families_of, procedure_of, procedures_of}
 use Rattle.md_reader.specs.declared.program.Draft.{Draft}
 use Rattle.md_reader.specs.Views.{draft_of}
 use Rattle.md_reader.specs.Rules.{with_procedure, with_family}

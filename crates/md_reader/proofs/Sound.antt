@@ -1,21 +1,19 @@
 -- What the rules of one line read is spelled by the grammar: lists, types, terms and calls.
-use Rattle.std.proofs.Common.{◌≡◌, ℕ, zero, suc, ◌+◌, ◌≤◌, List, [], ◌∷◌, ◌++◌, length, refl, Bool, true, false, cond, ◌⊎◌, inl, inr, Option, Some, None, Result, Ok, Err, sym, ap, ◌∙◌, arith, append_assoc, subst}
-use Rattle.std.specs.List.{list_any}
-use Rattle.std.specs.Prelude.{◌==◌, codes}
+use Rattle.std.proofs.Common.{◌≡◌, ℕ, zero, suc, List, [], ◌∷◌, ◌++◌, refl, inl, inr, Option, Some, None, Ok, sym, ap, subst}
+use Rattle.std.specs.Prelude.{codes}
 use Rattle.md_hlds.specs.declared.types.Mode.{Mode}
-use Rattle.md_hlds.specs.declared.types.Det.{Det}
 use Rattle.md_hlds.specs.declared.goal.PredName.{PredName}
 use Rattle.md_hlds.specs.declared.goal.Op.{Op}
 use Rattle.md_hlds.specs.declared.goal.Cmp.{Cmp}
-use Rattle.md_hlds.specs.Part.{Part, At, Task}
-use Rattle.md_hlds.specs.Listing.{Sort, Construct, Family, Listing}
+use Rattle.md_hlds.specs.Part.{Task}
+use Rattle.md_hlds.specs.Listing.{Sort, Construct, Family}
 use Rattle.md_token.specs.declared.kind.Kind.{Kind}
 use Rattle.md_token.specs.declared.kind.Kind.TheVariants as kind
-use Rattle.md_reader.specs.Input.{Input, Parser, Outcome, and_then, pure, refuse, limit, sees, next, after, eat, token, kind_at, expect, variable, name, word, most, turns, site}
+use Rattle.md_reader.specs.Input.{Input, next, token, kind_at, expect, variable, name, word, most, turns, site}
 use Rattle.md_reader.specs.Rules as rule
 use Rattle.md_reader.specs.Grammar as g
 use Rattle.md_reader.specs.Grammar.{Is, Sign, sign, Listed, last, also, Enclosed, enclosed, AreNew}
-use Rattle.md_reader.proofs.Steps.{bind_ok, closed, made, chosen, ok_value, ok_input, sign_of, eaten, Found, found_last, found_also, variable_new, nothing, taken, sign_at, enclosed_found}
+use Rattle.md_reader.proofs.Steps.{bind_ok, closed, made, sign_of, eaten, Found, found_last, found_also, variable_new, nothing, sign_at, enclosed_found}
 
 -- ---- lists
 

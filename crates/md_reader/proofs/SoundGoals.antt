@@ -1,19 +1,14 @@
 -- What the rules of goals, predicates and programs read is spelled by the grammar.
-use Rattle.std.proofs.Common.{◌≡◌, ℕ, zero, suc, ◌+◌, ◌≤◌, List, [], ◌∷◌, ◌++◌, length, refl, Bool, true, false, cond, ◌⊎◌, inl, inr, Option, Some, None, Result, Ok, Err, sym, ap, ◌∙◌, arith, append_assoc, subst}
-use Rattle.std.specs.Prelude.{codes}
-use Rattle.md_hlds.specs.declared.types.Mode.{Mode}
-use Rattle.md_hlds.specs.declared.types.Det.{Det}
-use Rattle.md_hlds.specs.declared.goal.PredName.{PredName}
-use Rattle.md_hlds.specs.Part.{Part, At, Task, Plain, Succeeds, Fails, Either, Choose, Unless, Once, gathered}
-use Rattle.md_hlds.specs.Listing.{Sort, closure, gathered_sorts, Family, Procedure, Listing}
+use Rattle.std.proofs.Common.{◌≡◌, ℕ, zero, suc, List, [], ◌∷◌, ◌++◌, refl, inl, inr, Ok, sym, ◌∙◌, append_assoc, subst}
+use Rattle.md_hlds.specs.Part.{Part, At, Either, Choose, Unless, Once, gathered}
 use Rattle.md_token.specs.declared.kind.Kind.{Kind}
 use Rattle.md_token.specs.declared.kind.Kind.TheVariants as kind
-use Rattle.md_reader.specs.Input.{Input, Parser, Outcome, and_then, pure, refuse, limit, sees, next, after, eat, token, kind_at, expect, variable, name, word, most, turns, end_clause}
+use Rattle.md_reader.specs.Input.{Input, Parser, refuse, limit, sees, next, token, kind_at, expect, turns}
 use Rattle.md_reader.specs.Rules as rule
 use Rattle.md_reader.specs.Grammar as g
 use Rattle.md_reader.specs.Grammar.{Is, Sign, sign, Listed, last, also, Enclosed, enclosed, AreNew}
-use Rattle.md_reader.proofs.Steps.{bind_ok, closed, made, chosen, ok_value, ok_input, sign_of, eaten, Found, found_last, found_also, variable_new, nothing, taken, sign_at, enclosed_found}
-use Rattle.md_reader.proofs.Sound.{sorts_found, modes_found, family_sound, arguments_sound, quantified_sound, relation_sound, call_sound, closure_call_sound}
+use Rattle.md_reader.proofs.Steps.{bind_ok, closed, made, chosen, ok_value, ok_input, sign_of, eaten, nothing, taken, sign_at}
+use Rattle.md_reader.proofs.Sound.{quantified_sound, relation_sound, call_sound, closure_call_sound}
 
 -- ---- goals
 

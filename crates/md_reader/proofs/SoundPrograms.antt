@@ -1,24 +1,22 @@
 -- What the rules of predicates and programs read is spelled by the grammar.
-use Rattle.std.proofs.Common.{◌≡◌, ℕ, zero, suc, ◌+◌, ◌≤◌, List, [], ◌∷◌, ◌++◌, length, refl, Bool, true, false, cond, ◌⊎◌, inl, inr, Option, Some, None, Result, Ok, Err, sym, ap, ◌∙◌, arith, append_assoc, subst}
+use Rattle.std.proofs.Common.{◌≡◌, ℕ, zero, suc, List, [], ◌∷◌, ◌++◌, length, refl, true, inl, inr, Option, Some, None, Ok, Err, sym, ap, ◌∙◌, append_assoc, subst}
 use Rattle.std.specs.Prelude.{codes}
 use Rattle.md_hlds.specs.declared.types.Mode.{Mode}
 use Rattle.md_hlds.specs.declared.types.Det.{Det}
 use Rattle.md_hlds.specs.declared.goal.PredName.{PredName}
-use Rattle.md_hlds.specs.Part.{Part, At, Task, Plain, Succeeds, Fails, Either, Choose, Unless, Once, gathered}
-use Rattle.md_hlds.specs.Listing.{Sort, closure, gathered_sorts, Family, Procedure, Listing}
-use Rattle.md_token.specs.declared.kind.Kind.{Kind}
+use Rattle.md_hlds.specs.Part.{Part}
+use Rattle.md_hlds.specs.Listing.{Sort, closure, gathered_sorts, Procedure, Listing}
 use Rattle.md_token.specs.declared.kind.Kind.TheVariants as kind
-use Rattle.md_reader.specs.Input.{Input, Parser, Outcome, and_then, pure, refuse, limit, sees, next, after, eat, token, kind_at, expect, variable, name, word, most, turns, end_clause}
+use Rattle.md_reader.specs.Input.{Input, Outcome, and_then, pure, limit, sees, next, after, token, expect, variable, word, most, turns, end_clause}
 use Rattle.md_reader.specs.Rules as rule
 use Rattle.md_reader.specs.Grammar as g
 use Rattle.md_reader.specs.Grammar.{Is, Sign, sign, Listed, last, also, Enclosed, enclosed, AreNew}
-use Rattle.md_reader.proofs.Steps.{bind_ok, closed, made, chosen, ok_value, ok_input, sign_of, eaten, Found, found_last, found_also, variable_new, nothing, taken, sign_at, enclosed_found}
-use Rattle.md_reader.proofs.Sound.{sorts_found, modes_found, family_sound, arguments_sound, quantified_sound, relation_sound, call_sound, closure_call_sound}
+use Rattle.md_reader.proofs.Steps.{bind_ok, closed, made, chosen, sign_of, eaten, Found, found_last, found_also, variable_new, nothing, enclosed_found}
+use Rattle.md_reader.proofs.Sound.{sorts_found, modes_found, family_sound}
 use Rattle.md_reader.proofs.SoundGoals.{conjunction_sound}
-use Rattle.md_reader.specs.Input.{variable, with_variable}
+use Rattle.md_reader.specs.Input.{variable}
 use Rattle.md_reader.specs.Grammar.{Spells, Repeats}
-use Rattle.md_token.specs.Token.{Lexeme, tokens_of}
-use Rattle.md_reader.specs.declared.refused.Refused.{Refused}
+use Rattle.md_token.specs.Token.{tokens_of}
 use Rattle.md_reader.specs.declared.refused.Refused.TheVariants as refused
 use Rattle.md_reader.specs.declared.refused.Refusal.{Refusal}
 use Rattle.md_reader.specs.declared.refused.Refusal.TheVariants as refusal

@@ -1,11 +1,11 @@
 -- What follows where a rule of several steps reads something.
-use Rattle.std.proofs.Common.{◌≡◌, ℕ, zero, suc, ◌+◌, ◌≤◌, List, [], ◌∷◌, ◌++◌, length, refl, Bool, true, false, cond, not, ◌⊎◌, inl, inr, Option, Some, None, Result, Ok, Err, sym, ap, ◌∙◌, arith, subst, append_assoc, nat_lt, ◌==◌}
+use Rattle.std.proofs.Common.{◌≡◌, ℕ, suc, ◌≤◌, List, [], ◌∷◌, ◌++◌, length, refl, Bool, true, false, cond, not, ◌⊎◌, inl, inr, Result, Ok, Err, sym, ap, ◌∙◌, arith, subst, append_assoc, nat_lt, ◌==◌}
 use Rattle.std.specs.List.{list_any}
 use Rattle.md_token.specs.declared.kind.Kind.{Kind}
 use Rattle.md_token.specs.declared.kind.Kind.TheVariants as kind
 use Rattle.md_token.specs.Kinds.{same_kind}
-use Rattle.md_reader.specs.Input.{Input, Parser, Outcome, and_then, pure, refuse, limit, sees, next, after, token, expect, variable, with_variable, place_of, most}
-use Rattle.md_reader.specs.Grammar.{Is, Sign, sign, Listed, last, also, Enclosed, enclosed, AreNew}
+use Rattle.md_reader.specs.Input.{Input, Parser, Outcome, and_then, pure, sees, next, after, token, expect, variable, place_of, most}
+use Rattle.md_reader.specs.Grammar.{Is, Sign, sign, Listed, last, also, Enclosed, enclosed}
 
 pub bind_ok : {A B : Type 0} (r : Outcome A) (f : A → Parser B) (y : B × Input) → and_then r f ≡ Ok y → (p : A × Input) × (r ≡ Ok p) × (f p.0 p.1 ≡ Ok y)
 bind_ok (Ok p) f y h = (p, refl, h)
@@ -88,7 +88,7 @@ variable_new seen x i j h =
 pub nothing : {A : Type 0} (R : A → Input → Type 0) (x y : A) (i j : Input) → pure x i ≡ Ok (y, j) → R x i → R y j
 nothing {A} R x y i j h r = subst (λ (z : A). R z j) (ok_value x y i j h) (subst (λ (m : Input). R x m) (ok_input x y i j h) r)
 
-same_itself : (k : Kind) → same_kind k k ≡ true
+pub same_itself : (k : Kind) → same_kind k k ≡ true
 unfolding same_kind
 same_itself kind.Name = refl
 same_itself _ = refl

@@ -1,6 +1,6 @@
 -- The grammar, as a definite clause grammar: each symbol relates the place before its tokens to the place after them.
 -- What one token stands for is given by the words of `Input` and `Rules` that take one token.
-use Rattle.std.specs.Prelude.{⊤, ◌==◌, ◌≡◌, ℕ, zero, suc, ◌≤◌, Bool, true as yes, false, List, [], ◌∷◌, ◌++◌, length, Option, Some, None, Ok, codes}
+use Rattle.std.specs.Prelude.{⊤, ◌==◌, ◌≡◌, ℕ, suc, ◌≤◌, true as yes, false, List, [], ◌∷◌, ◌++◌, length, Some, None, Ok, codes}
 use Rattle.std.specs.List.{list_any}
 use Rattle.md_hlds.specs.declared.types.Mode.{Mode}
 use Rattle.md_hlds.specs.declared.types.Det.{Det}
@@ -8,8 +8,8 @@ use Rattle.md_hlds.specs.declared.goal.PredName.{PredName}
 use Rattle.md_hlds.specs.declared.goal.Term.TheVariants as term
 use Rattle.md_hlds.specs.declared.goal.Op.{Op}
 use Rattle.md_hlds.specs.declared.goal.Cmp.{Cmp}
-use Rattle.md_hlds.specs.Part.{Part, At, Task, Plain, Invoke, Apply, Each, Either, Choose, Unless, Once, gathered, Succeeds, Fails, Unifies, Computes, Compares}
-use Rattle.md_hlds.specs.Listing.{Sort, closure, gathered_sorts, Construct, Family, Procedure, Listing}
+use Rattle.md_hlds.specs.Part.{Part, At, Task, Plain, Invoke, Apply, Either, Choose, Unless, Once, gathered, Succeeds, Fails, Unifies, Computes, Compares}
+use Rattle.md_hlds.specs.Listing.{Sort, closure, gathered_sorts, Construct, Family, Listing}
 use Rattle.md_token.specs.declared.kind.Kind.{Kind}
 use Rattle.md_token.specs.declared.kind.Kind.TheVariants as kind
 use Rattle.md_token.specs.Token.{tokens_of}

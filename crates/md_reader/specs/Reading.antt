@@ -7,7 +7,7 @@ use Rattle.md_reader.specs.declared.refused.Refusal.{Refusal}
 use Rattle.md_reader.specs.declared.refused.Refusal.TheVariants as refusal
 use Rattle.md_reader.specs.declared.refused.Refused.{Refused}
 use Rattle.md_reader.specs.declared.refused.Refused.TheVariants as refused
-use Rattle.md_reader.specs.Input.{Input, Outcome}
+use Rattle.md_reader.specs.Input.{Outcome}
 use Rattle.md_reader.specs.Rules.{program, start}
 use Rattle.md_reader.specs.Duplicates.{duplicate}
 use Rattle.md_reader.specs.Grammar.{Repeats}
@@ -34,6 +34,16 @@ reading text = outcome_of (program (start (tokens_of text)))
 abbrev pub IsAnswer : Result Program Refused → List ℕ → Type 0
 IsAnswer (Ok p) text = reading text ≡ Ok (listing_of p)
 IsAnswer (Err e) text = e ≢ refused.NoMemory → reading text ≡ Err e
+
+-- the answer is this program, unless memory is refused
+abbrev pub IsRead : Result Program Refused → Listing → Type 0
+IsRead (Ok p) l = listing_of p ≡ l
+IsRead (Err e) l = e ≡ refused.NoMemory
+
+-- the answer is this refusal, unless memory is refused
+abbrev pub IsRefusedAs : Result Program Refused → Refused → Type 0
+IsRefusedAs (Ok p) why = ⊥
+IsRefusedAs (Err e) why = e ≢ refused.NoMemory → e ≡ why
 
 -- why a second declaration is answered
 abbrev pub HasCause : Refused → List ℕ → Type 0

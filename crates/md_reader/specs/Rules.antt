@@ -1,5 +1,5 @@
 -- The rules of the grammar, as a reader that takes one token after the other.
-use Rattle.std.specs.Prelude.{ℕ, zero, suc, ◌+◌, ◌-◌, Bool, true, false, not, ◌||◌, ◌&&◌, if◌then◌else◌, ◌==◌, nat_lt, nat_le, List, [], ◌∷◌, ◌++◌, length, take, drop, Option, Some, None, unwrap_or, Result, Ok, Err, pos, negsuc, ◌-ℤ◌, codes, ℤ}
+use Rattle.std.specs.Prelude.{ℕ, zero, suc, ◌+◌, Bool, true, false, not, ◌||◌, ◌&&◌, if◌then◌else◌, nat_lt, List, [], ◌∷◌, ◌++◌, length, take, drop, Option, Some, None, unwrap_or, Ok, pos, ◌-ℤ◌, codes, ℤ}
 use Rattle.std.specs.List.{prefix_len}
 use Rattle.std.specs.Str.{bytes_eq}
 use Rattle.md_hlds.specs.declared.types.Mode.{Mode}
@@ -7,7 +7,6 @@ use Rattle.md_hlds.specs.declared.types.Mode.TheVariants as mode
 use Rattle.md_hlds.specs.declared.types.Det.{Det}
 use Rattle.md_hlds.specs.declared.types.Det.TheVariants as det
 use Rattle.md_hlds.specs.declared.goal.PredName.{PredName}
-use Rattle.md_hlds.specs.declared.goal.Term.{Term}
 use Rattle.md_hlds.specs.declared.goal.Term.TheVariants as term
 use Rattle.md_hlds.specs.declared.goal.Op.{Op}
 use Rattle.md_hlds.specs.declared.goal.Op.TheVariants as op
@@ -20,7 +19,7 @@ use Rattle.md_token.specs.declared.kind.Kind.TheVariants as kind
 use Rattle.md_token.specs.Kinds.{same_kind}
 use Rattle.md_token.specs.Token.{Lexeme, is_word_byte, word_kind}
 use Rattle.md_token.specs.Literal.{number_of, string_value}
-use Rattle.md_reader.specs.Input.{Input, Parser, Outcome, ◌>>=◌, ◌>>◌, and_then, pure, refuse, limit, peek, advance, eat, expect, turns, most, take_name, name, word, variable, site, token, kind_at, sees, next, end_clause}
+use Rattle.md_reader.specs.Input.{Input, Parser, ◌>>=◌, ◌>>◌, and_then, pure, refuse, limit, peek, advance, eat, expect, turns, most, take_name, name, word, variable, site, token, kind_at, sees, next, end_clause}
 
 -- ---- names of predicates
 

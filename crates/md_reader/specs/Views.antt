@@ -20,7 +20,7 @@ abbrev pub clause_of : Shown → Clause
 clause_of c = record { line = c.line; head = c.head; body = part_of c.body; vars = c.vars.items }
 
 abbrev pub declared_of : Entry → Declared
-declared_of d = record { qualifier = option_map (λ q. q.now) d.qualifier; name = d.name.now; arity = d.arity; line = d.line }
+declared_of d = record { qualifier = option_map (λ q. q.now) d.key.qualifier; name = d.key.name.now; arity = d.key.arity; line = d.line }
 
 abbrev pub all_declared : List Entry → List Declared
 all_declared ds = map declared_of ds

@@ -2,20 +2,26 @@
 ghost use Rattle.std.specs.Prelude.{◌≡◌, [], ◌++◌, OnOk, IfOk, map, option_map, length};
 ghost use Rattle.std.specs.List.{flat_map};
 ghost use Rattle.md_hlds.specs.Listing.{listing_of, families_of, procedures_of, constructs_of, sorts_of};
-ghost use Rattle.md_hlds.specs.Listing as listing;
 ghost use Rattle.md_reader.specs.Duplicates as spec;
 ghost use Rattle.md_reader.specs.Views.{declared_of, all_declared};
 
+use indexmap::IndexSet;
 use md_base::{Name, NoMemory};
 use md_hlds::{Functor, Pred, Program, Ty, TypeDef};
 use std::alloc::Global;
 
-/// What is declared, and the line of the declaration's `:-`.
-#[derive(Clone, Copy)]
-pub(crate) struct Declared<'a> {
+/// The name under which something is declared, with the number of arguments of a functor.
+#[derive(Clone, Copy, PartialEq, Eq, Hash, Drop)]
+pub(crate) struct Key<'a> {
     pub qualifier: Option<&'a [u8]>,
     pub name: &'a [u8],
     pub arity: usize,
+}
+
+/// What is declared, and the line of the declaration's `:-`.
+#[derive(Clone, Copy)]
+pub(crate) struct Declared<'a> {
+    pub key: Key<'a>,
     pub line: u32,
 }
 
@@ -45,7 +51,7 @@ fn second_family(alloc: Global, program: &Program) -> Result<Option<u32>, NoMemo
     ensures { IfOk result (λ line. line ≡ spec.second_family (listing_of program.now)) }
 {
     let declared = families(alloc, &program.types)?;
-    Ok(first_second(&declared))
+    first_second(alloc, &declared)
 }
 
 #[tactic(auto, unfolding(crate::specs::Duplicates::second_construct))]
@@ -54,7 +60,7 @@ fn second_construct(alloc: Global, program: &Program) -> Result<Option<u32>, NoM
 {
     let mut declared = Vec::new(alloc);
     constructs(&mut declared, &program.types)?;
-    Ok(first_second(&declared))
+    first_second(alloc, &declared)
 }
 
 #[tactic(auto, unfolding(crate::specs::Duplicates::second_procedure))]
@@ -62,47 +68,20 @@ fn second_procedure(alloc: Global, program: &Program) -> Result<Option<u32>, NoM
     ensures { IfOk result (λ line. line ≡ spec.second_procedure (listing_of program.now)) }
 {
     let declared = procedures(alloc, &program.preds)?;
-    Ok(first_second(&declared))
+    first_second(alloc, &declared)
 }
 
 /// The line of the first one that was declared before.
-fn first_second(declared: &[Declared<'_>]) -> Option<u32>
-    ensures { result ≡ spec.first_second [] (all_declared declared.now) }
+fn first_second(alloc: Global, declared: &[Declared<'_>]) -> Result<Option<u32>, NoMemory>
+    ensures { IfOk result (λ line. line ≡ spec.first_second [] (all_declared declared.now)) }
 {
-    for (place, one) in declared.iter().enumerate() {
-        let (seen, _) = declared.split_at(place);
-        if is_among(one, seen) {
-            return Some(one.line);
+    let mut seen = IndexSet::new(alloc);
+    for one in declared {
+        if !seen.insert(one.key)? {
+            return Ok(Some(one.line));
         }
     }
-    None
-}
-
-fn is_among(one: &Declared<'_>, seen: &[Declared<'_>]) -> bool
-    ensures { result ≡ spec.is_among (declared_of one.now) (all_declared seen.now) }
-{
-    for other in seen {
-        if same_declared(one, other) {
-            return true;
-        }
-    }
-    false
-}
-
-fn same_declared(a: &Declared<'_>, b: &Declared<'_>) -> bool
-    ensures { result ≡ spec.same_declared (declared_of a.now) (declared_of b.now) }
-{
-    same_qualifier(a.qualifier, b.qualifier) && a.name == b.name && a.arity == b.arity
-}
-
-fn same_qualifier(a: Option<&[u8]>, b: Option<&[u8]>) -> bool
-    ensures { result ≡ listing.same_qualifier (option_map (λ q. q.now) a.entry) (option_map (λ q. q.now) b.entry) }
-{
-    match (a, b) {
-        (None, None) => true,
-        (Some(a), Some(b)) => a == b,
-        _ => false,
-    }
+    Ok(None)
 }
 
 fn families<'a>(alloc: Global, types: &'a [TypeDef]) -> Result<Vec<Declared<'a>>, NoMemory>
@@ -110,10 +89,13 @@ fn families<'a>(alloc: Global, types: &'a [TypeDef]) -> Result<Vec<Declared<'a>>
 {
     let mut declared = Vec::new(alloc);
     for family in types {
-        declared.push(Declared {
+        let key = Key {
             qualifier: None,
             name: family.name.as_bytes(),
             arity: 0,
+        };
+        declared.push(Declared {
+            key,
             line: family.line,
         })?;
     }
@@ -137,12 +119,12 @@ fn constructs_of_one<'a>(
     ensures { OnOk result (all_declared declared.new.items ≡ all_declared declared.old.items ++ map (spec.declared_construct line) (constructs_of functors.now)) }
 {
     for functor in functors {
-        declared.push(Declared {
+        let key = Key {
             qualifier: None,
             name: functor.name.as_bytes(),
             arity: arity(&functor.args),
-            line,
-        })?;
+        };
+        declared.push(Declared { key, line })?;
     }
     Ok(())
 }
@@ -159,10 +141,13 @@ fn procedures<'a>(alloc: Global, preds: &'a [Pred]) -> Result<Vec<Declared<'a>>,
 {
     let mut declared = Vec::new(alloc);
     for pred in preds {
-        declared.push(Declared {
+        let key = Key {
             qualifier: qualifier(&pred.qualifier),
             name: pred.name.as_bytes(),
             arity: 0,
+        };
+        declared.push(Declared {
+            key,
             line: pred.line,
         })?;
     }

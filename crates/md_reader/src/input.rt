@@ -203,11 +203,11 @@ impl<'a> Input<'a> {
 
     /// The names of the clause's variables, at its end.
     #[tactic(auto, unfolding(crate::specs::Input::input_of, crate::specs::Input::end_clause))]
-    pub fn end_clause(&mut self) -> Vec<Name>
-        ensures { spec.end_clause (input_of self.old) ≡ Ok (result.items, input_of self.new) }
+    pub fn end_clause(&mut self) -> Result<Vec<Name>, Refusal>
+        ensures { Reads (λ names. names.items) (spec.end_clause (input_of self.old)) result (input_of self.new) }
     {
         let scope = mem::replace(&mut self.scope, Scope::new(self.alloc));
-        scope.into_names()
+        Ok(scope.into_names(self.alloc)?)
     }
 
     /// The number of the next call site.

@@ -6,6 +6,7 @@ mod call;
 mod duplicates;
 mod goal;
 mod input;
+mod laws;
 mod names;
 mod procedure;
 mod program;
@@ -16,6 +17,7 @@ mod term;
 mod types;
 mod variables;
 
+pub use laws::a_text_spells_one_program;
 pub use reading::read;
 pub use refused::Refused;
 

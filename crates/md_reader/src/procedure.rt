@@ -102,7 +102,7 @@ fn take_clause(input: &mut Input<'_>, name: &PredName, arity: usize) -> Result<C
     this_name(input, name)?;
     let head = head(input, arity)?;
     let body = body(input)?;
-    let vars = input.end_clause();
+    let vars = input.end_clause()?;
     Ok(Clause {
         line,
         head,

@@ -1,11 +1,12 @@
 // The text of a program to the program.
-ghost use Rattle.std.specs.Prelude.{◌≡◌, ◌<◌, IfErr, IfOk, length};
+ghost use Rattle.std.specs.Prelude.{◌≡◌, ◌<◌, ℕ, IfErr, IfOk, length};
 ghost use Rattle.md_token.specs.Token.{lexemes_of};
-ghost use Rattle.md_hlds.specs.Listing.{listing_of};
-ghost use Rattle.md_reader.specs.Grammar.{Spells};
+ghost use Rattle.md_hlds.specs.Listing.{Listing, listing_of};
+ghost use Rattle.md_reader.specs.Grammar.{Repeats, Spells};
 ghost use Rattle.md_reader.specs.Input.{input_of};
 ghost use Rattle.md_reader.specs.Rules.{start};
-ghost use Rattle.md_reader.specs.Reading.{HasCause, IsAnswer, refused_of};
+ghost use Rattle.md_reader.specs.Reading.{HasCause, IsAnswer, IsRead, IsRefusedAs, refused_of};
+ghost use Rattle.md_reader.specs.declared.refused.Refused.TheVariants as refusals;
 
 use crate::duplicates::duplicate;
 use crate::input::Input;
@@ -23,7 +24,9 @@ use std::alloc::Global;
 pub fn read(alloc: Global, text: &[u8]) -> Result<Program, Refused>
     requires { length text.now < 4294967295 }
     ensures spelled { IfOk result (λ program. Spells text.now (listing_of program)) }
+    ensures complete { (program : Listing) → Spells text.now program → IsRead result program }
     ensures duplicate { IfErr result (λ refused. HasCause refused text.now) }
+    ensures repeated { (line : ℕ) → Repeats text.now line → IsRefusedAs result (refusals.Duplicate line) }
     ensures answer { IsAnswer result text.now }
 {
     let tokens = tokens(alloc, text)?;

@@ -1,7 +1,8 @@
 // The variables of a clause.
-ghost use Rattle.std.specs.Prelude.{◌≡◌, ◌≤◌, ◌<◌, ◌==◌, [], ◌∷◌, ◌++◌, length, IfOk, OnOk, OnErr, if◌then◌else◌};
+ghost use Rattle.std.specs.Prelude.{◌≡◌, [], OnOk, IfOk};
 ghost use Rattle.md_reader.specs.Input as spec;
 
+use indexmap::IndexSet;
 use md_base::{Name, NoMemory};
 use std::alloc::Global;
 use std::marker::Model;
@@ -9,17 +10,17 @@ use std::marker::Model;
 /// The names of a clause's variables, in order of first occurrence.
 #[derive(Drop)]
 pub(crate) struct Scope {
-    names: Vec<Name>,
+    names: IndexSet<Vec<u8>>,
 }
 
 impl Model for Scope {
-    ghost use Rattle.std.specs.Prelude.{ℕ, List, ◌<◌, length};
+    ghost use Rattle.std.specs.Prelude.{ℕ, List, map, ◌<◌, length};
 
     ghost Value = { List (List ℕ) };
 
-    ghost view = { λ scope. scope.names.items };
+    ghost view = { λ scope. map (λ name. name.items) scope.names.keys };
 
-    ghost invariant = { λ scope. length scope.names.items < 4294967296 };
+    ghost invariant = { λ scope. length scope.names.keys < 4294967296 };
 }
 
 impl Scope {
@@ -27,7 +28,7 @@ impl Scope {
         ensures { result ≡ [] }
     {
         Scope {
-            names: Vec::new(alloc),
+            names: IndexSet::new(alloc),
         }
     }
 
@@ -35,15 +36,25 @@ impl Scope {
     pub fn place_of(&self, name: &[u8]) -> u32
         ensures place { result ≡ spec.place_of name.now self.now }
     {
-        place_among(&self.names, name)
+        match self.names.get_index_of(name) {
+            Some(place) => place as u32,
+            None => self.names.len() as u32,
+        }
     }
 
     /// The names as a vector.
-    pub fn into_names(self) -> Vec<Name>
-        ensures { result.items ≡ self }
+    pub fn into_names(self, alloc: Global) -> Result<Vec<Name>, NoMemory>
+        ensures { IfOk result (λ names. names.items ≡ self) }
     {
-        let Scope { names } = self;
-        names
+        let mut names = Vec::new(alloc);
+        for name in self.names.as_slice() {
+            // No token is empty, and none that is kept is too long.
+            let Some(name) = Name::from_bytes(alloc, name)? else {
+                return Err(NoMemory);
+            };
+            names.push(name)?;
+        }
+        Ok(names)
     }
 
     /// Adds a name, if it is none of them.
@@ -51,35 +62,15 @@ impl Scope {
     pub fn add(&mut self, alloc: Global, name: &[u8]) -> Result<(), NoMemory>
         ensures ok { OnOk result (self.new ≡ spec.with_variable name.now self.old) }
     {
-        let place = place_among(&self.names, name);
-        if (place as usize) < self.names.len() {
+        if self.names.contains(name) {
             return Ok(());
         }
         // A text that can be read has fewer tokens than this.
-        if place == u32::MAX {
+        if self.names.len() >= u32::MAX as usize {
             return Err(NoMemory);
         }
-        match Name::from_bytes(alloc, name)? {
-            None => Err(NoMemory),
-            Some(name) => {
-                self.names.push(name)?;
-                Ok(())
-            }
-        }
+        let name = Vec::from_slice(alloc, name)?;
+        self.names.insert(name)?;
+        Ok(())
     }
-}
-
-fn place_among(names: &[Name], name: &[u8]) -> u32
-    requires { length names.now < 4294967296 }
-    ensures place { result ≡ spec.place_of name.now names.now }
-    ensures within { result ≤ length names.now }
-{
-    let mut place = 0;
-    for known in names {
-        if name == known.as_bytes() {
-            return place;
-        }
-        place += 1;
-    }
-    place
 }

@@ -1,33 +1,31 @@
 -- A call whose link is not there yet: rules 2 and 3. And how the slots tell whether it is.
-use Rattle.std.proofs.Common.{ℕ, suc, ◌+◌, ◌-◌, ◌≡◌, ◌≢◌, ◌<◌, ◌≤◌, ◌⊎◌, inl, inr, Bool, true, false, List, [], ◌∷◌, ◌++◌, length, map, find, All, Option, Some, None, IfSome, IsSomeAnd, MatchOption, unwrap_or, get_or, slice_get, set, refl, sym, ap, ◌∙◌, subst, arith}
-use Rattle.std.specs.Option.{option_map, option_and_then}
+use Rattle.std.proofs.Common.{ℕ, ◌+◌, ◌≡◌, ◌≢◌, ◌<◌, ◌≤◌, inl, inr, false, List, [], ◌∷◌, ◌++◌, length, map, find, Option, Some, None, IsSomeAnd, MatchOption, slice_get, set, refl, sym, ap, ◌∙◌, subst, arith}
+use Rattle.std.specs.Option.{option_map}
 use Rattle.std.proofs.lemmas.Bool.{cases_Bool, false≢true}
-use Rattle.std.proofs.lemmas.List.{length-append, length-map}
-use Rattle.std.proofs.lemmas.Option.{slice_get-map, get_or_from_slice_get}
+use Rattle.std.proofs.lemmas.List.{length-map}
+use Rattle.std.proofs.lemmas.Option.{slice_get-map}
 use Rattle.md_static.specs.declared.entry.Site.{Site}
-use Rattle.md_static.specs.declared.entry.SiteKind.{SiteKind}
-use Rattle.md_static.specs.Tables.{Static, site_table, call_site, callee_of}
+use Rattle.md_static.specs.Tables.{call_site, callee_of}
 use Rattle.md_static.specs.Sites.{sites_of, place_of}
 use Rattle.md_trace.specs.declared.event.Event.{Event}
-use Rattle.md_trace.specs.Activation.{activations, numbered, procedure_of}
+use Rattle.md_trace.specs.Activation.{activations, procedure_of}
 use Rattle.md_trace.specs.PortHistory.{SiteTable, CallSite, MayCallAt, MayCall, current, MayFollow, IsPortHistory}
-use Rattle.md_trace.specs.Context.{Link, Placed, chain, contexts, has_link, has_procedure, placed_of, current_chain}
+use Rattle.md_trace.specs.Context.{Link, Placed, contexts, has_procedure, placed_of, current_chain}
 use Rattle.md_trace.specs.Links.{Leading, is_among, links}
-use Rattle.md_trace.proofs.Finds.{chain-there, find-passes}
+use Rattle.md_trace.proofs.Finds.{chain-there}
 use Rattle.md_trace.proofs.LinkFacts.{AreRight, leading, among-there, there-among, links-few, sited-link}
-use Rattle.md_trace.proofs.Lists.{get-push-old, get-push-new, get-push-either, get-within, get-there}
+use Rattle.md_trace.proofs.Lists.{get-push-new, get-push-either, get-within, get-there}
 use Rattle.md_trace.proofs.Placing.{procedure_of-placed, length-placed}
-use Rattle.md_dynamic.specs.declared.link.LinkRow.{LinkRow}
 use Rattle.md_dynamic.specs.declared.slot.Slot.{Slot}
 use Rattle.md_dynamic.specs.Fills.{FillsSlot}
 use Rattle.md_dynamic.specs.Links.{link_row}
 use Rattle.md_dynamic.specs.Slots.{empty_slot}
 use Rattle.md_dynamic.specs.Rows.{Rows, place_at, place_in, AddsLink, AddsContext}
-use Rattle.md_dynamic.proofs.Growth.{WasFilled, was-filled}
+use Rattle.md_dynamic.proofs.Growth.{was-filled}
 use Rattle.md_record.specs.Kept.{Kept, Stands}
-use Rattle.md_record.specs.Parts.{RowsAre, SlotsAre, nearest, slot_at, slot_for, is_at, callees_of, first_link}
+use Rattle.md_record.specs.Parts.{SlotsAre, nearest, slot_for, is_at, callees_of}
 use Rattle.md_record.proofs.CalleeLists.{is-at-true, at-is-true, callees-none, callees-member, callees-has}
-use Rattle.md_record.proofs.Calls.{the_call, begun, Shows, SiteOf, ends-there, contexts-stay, contexts-grow, links-grow, first-with, new-context, rows-grown}
+use Rattle.md_record.proofs.Calls.{the_call, begun, Shows, SiteOf, contexts-stay, contexts-grow, links-grow, first-with, new-context, rows-grown}
 use Rattle.md_record.proofs.Events.{Points, RunsAt}
 use Rattle.md_record.proofs.Returns.{right-of}
 use Rattle.md_record.proofs.SlotSteps.{slot-inside, slots-filled, slots-new}

@@ -1,5 +1,5 @@
 -- The table steps of a call are those of finding its link, and three.
-use Rattle.std.proofs.Common.{ℕ, ◌+◌, ◌-◌, ◌≡◌, ◌≤◌, Option, Some, None, IsSomeAnd, MatchOption, length, slice_get, if◌then◌else◌, ◌==◌, refl, sym, ap, ◌∙◌, subst, arith}
+use Rattle.std.proofs.Common.{ℕ, ◌+◌, ◌-◌, ◌≡◌, ◌≤◌, Option, Some, None, IsSomeAnd, MatchOption, length, slice_get, if◌then◌else◌, ◌==◌, sym, ap, subst, arith}
 use Rattle.std.specs.Option.{option_map}
 use Rattle.md_static.specs.declared.entry.Site.{Site}
 use Rattle.md_static.specs.Sites.{sites_of}

@@ -1,10 +1,10 @@
 -- The links of a site in a context, and one link more.
-use Rattle.std.proofs.Common.{ℕ, zero, suc, ◌+◌, ◌≡◌, ◌≢◌, ◌<◌, ◌⊎◌, ◌&&◌, inl, inr, Bool, true, false, List, [], ◌∷◌, ◌++◌, length, Option, Some, None, slice_get, refl, sym, ap, ◌∙◌, subst, arith}
-use Rattle.std.proofs.lemmas.Bool.{cases_Bool, false≢true, and_parts, and_from, and_left, and_right}
+use Rattle.std.proofs.Common.{ℕ, zero, suc, ◌+◌, ◌≡◌, inl, inr, true, false, List, [], ◌∷◌, ◌++◌, length, Option, Some, None, slice_get, refl, sym, ap, ◌∙◌, subst, arith}
+use Rattle.std.proofs.lemmas.Bool.{cases_Bool, and_parts, and_from}
 use Rattle.md_trace.specs.Context.{Link, same_option}
 use Rattle.md_trace.specs.Links.{Leading}
 use Rattle.md_trace.proofs.Finds.{same-option-true, same-option-refl}
-use Rattle.md_record.specs.Parts.{is_at, callees_from, callees_of, first_link}
+use Rattle.md_record.specs.Parts.{is_at, callees_from, first_link}
 
 pub is-at-true : (v s : ℕ) (l : Link) → is_at v s l ≡ true → (l.caller ≡ Some v) × (l.site ≡ Some s)
 is-at-true v s l is =

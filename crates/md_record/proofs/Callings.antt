@@ -1,35 +1,31 @@
 -- What a call asks of the tables, and what it leaves.
-use Rattle.std.proofs.Common.{ℕ, ◌+◌, ◌-◌, ◌≡◌, ◌≢◌, ◌<◌, ◌≤◌, ◌⊎◌, inl, inr, false, All, List, [], ◌∷◌, ◌++◌, length, reverse, Option, Some, None, IfSome, IsSomeAnd, MatchOption, slice_get, set, refl, sym, ap, ◌∙◌, subst, arith}
+use Rattle.std.proofs.Common.{ℕ, ◌-◌, ◌≡◌, ◌≢◌, ◌<◌, ◌≤◌, inl, inr, false, All, List, [], ◌∷◌, ◌++◌, length, Option, Some, None, IfSome, IsSomeAnd, MatchOption, slice_get, set, refl, sym, ap, ◌∙◌, subst, arith}
 use Rattle.std.specs.Option.{option_map, option_and_then}
-use Rattle.std.proofs.lemmas.List.{length-set}
 use Rattle.md_base.specs.declared.measure.Measure.TheVariants.{Calls}
 use Rattle.md_static.specs.declared.entry.Site.{Site}
 use Rattle.md_static.specs.declared.entry.SiteKind.{SiteKind}
 use Rattle.md_static.specs.declared.entry.SiteKind.TheVariants.{Plain as OneCallee, HigherOrder}
-use Rattle.md_static.specs.Sites.{sites_of, place_of}
 use Rattle.md_static.specs.Tables.{Static, call_site, callee_of}
 use Rattle.md_trace.specs.declared.event.Event.{Event}
-use Rattle.md_trace.specs.Activation.{activations}
 use Rattle.md_trace.specs.PortHistory.{SiteTable, MayCall, current, MayFollow}
 use Rattle.md_trace.specs.Context.{Link, Placed, contexts, placed_of, current_chain}
 use Rattle.md_trace.specs.Links.{Leading, is_among, links}
 use Rattle.md_trace.specs.Count.{with_more}
 use Rattle.md_trace.proofs.Histories.{all-at, callee-below}
-use Rattle.md_trace.proofs.LinkFacts.{leading, sited-link, AreRight, contexts-more}
-use Rattle.md_trace.proofs.Lists.{get-within, get-there, get-set-same, get-push-new, get-push-old}
+use Rattle.md_trace.proofs.LinkFacts.{leading, sited-link, contexts-more}
+use Rattle.md_trace.proofs.Lists.{get-within, get-set-same, get-push-new}
 use Rattle.md_closure.specs.Callees.{HasLinkAt}
 use Rattle.md_dynamic.specs.declared.link.LinkRow.{LinkRow}
-use Rattle.md_dynamic.specs.declared.slot.Slot.{Slot}
 use Rattle.md_dynamic.specs.Links.{link_row}
-use Rattle.md_dynamic.specs.Rows.{Rows, Owns, MayLead, IsFresh, Adds, AddsLink, AddsContext, place_at, slot_in, plain_link, many_links, link_in, list_in}
+use Rattle.md_dynamic.specs.Rows.{Rows, Owns, MayLead, IsFresh, Adds, place_at, slot_in, plain_link, many_links, link_in, list_in}
 use Rattle.md_record.specs.Kept.{Kept, Stands}
 use Rattle.md_record.specs.Leads.{CountsOn, HasLink, LeadsBy, LinksThere}
-use Rattle.md_record.specs.Parts.{nearest, row_of, slot_at, slot_for, callees_of, first_link}
-use Rattle.md_record.proofs.Added.{site-of, member-link, no-member, links-fit, shows-link, shows-context}
+use Rattle.md_record.specs.Parts.{nearest, row_of, slot_for, callees_of}
+use Rattle.md_record.proofs.Added.{site-of, member-link, no-member, shows-link, shows-context}
 use Rattle.std.proofs.lemmas.Option.{slice_get-map}
 use Rattle.md_record.proofs.CalleeLists.{is-at-true, callees-member, first-none, first-some}
-use Rattle.md_record.proofs.Calls.{the_call, begun, Shows, SiteOf, caller-of, ends-there, shows-found}
-use Rattle.md_record.proofs.Events.{Points, RunsAt, runs-at}
+use Rattle.md_record.proofs.Calls.{the_call, begun, Shows, SiteOf, caller-of, shows-found}
+use Rattle.md_record.proofs.Events.{Points, runs-at}
 use Rattle.md_record.proofs.Returns.{right-of}
 use Rattle.md_record.proofs.Uses.{PointerUse, nearest-of, count-frame}
 
@@ -143,7 +139,7 @@ fresh-of r s q v HigherOrder es slot fresh i e is =
     let P : List (ℕ × ℕ) → Type 0 = λ zs. All (λ (z : ℕ × ℕ). z.0 ≢ q) zs in
     all-at (λ (z : ℕ × ℕ). z.0 ≢ q) es i e (subst P (ap many_links slot) fresh) is
 
-fresh-link : (t : SiteTable) (h : List Event) (k : Kept) (s q v : ℕ) → Calling t h k s q v → IsFresh k.rows v s q → is_among (begun t.main h (Some s) q).link (links t.main (placed_of t.main h)) ≡ false
+pub fresh-link : (t : SiteTable) (h : List Event) (k : Kept) (s q v : ℕ) → Calling t h k s q v → IsFresh k.rows v s q → is_among (begun t.main h (Some s) q).link (links t.main (placed_of t.main h)) ≡ false
 fresh-link t h k s q v c fresh =
     let P : Option Site → Type 0 = λ o. IsSomeAnd o (λ y. MatchOption (callee_of y.kind) (All (λ (e : ℕ × ℕ). e.0 ≢ q) (list_in k.rows v s)) (λ d. link_in k.rows v s ≡ None)) in
     no-member t h v s q c.caller (fresh-of k.rows s q v c.site.row.kind (callees_of (links t.main (placed_of t.main h)) v s) c.slot (subst P c.site.there fresh))
@@ -165,7 +161,7 @@ found-row t h k r1 j to l st at counts =
     (new, ap (λ (r : Rows). slice_get r.links j) is ∙ get-set-same k.rows.links j new (get-within k.rows.links j row there), refl)
 
 -- the procedure of the context to which a link leads is the link's
-end-procedure : (t : SiteTable) (h : List Event) (k : Kept) (j to : ℕ) (l : Link) → Stands k t h → slice_get (links t.main (placed_of t.main h)) j ≡ Some (leading l to) → slice_get k.rows.nodes to ≡ Some l.procedure
+pub end-procedure : (t : SiteTable) (h : List Event) (k : Kept) (j to : ℕ) (l : Link) → Stands k t h → slice_get (links t.main (placed_of t.main h)) j ≡ Some (leading l to) → slice_get k.rows.nodes to ≡ Some l.procedure
 end-procedure t h k j to l st at =
     let m = t.main in
     let xs = placed_of m h in

@@ -1,43 +1,40 @@
 -- A call keeps what a recorder stands for, by each of the three rules.
-use Rattle.std.proofs.Common.{ℕ, zero, suc, ◌+◌, ◌-◌, ◌≡◌, ◌≢◌, ◌<◌, ◌≤◌, ◌⊎◌, inl, inr, Bool, true, false, cond, eqb, List, [], ◌∷◌, ◌++◌, length, map, max, reverse, find, Option, Some, None, IfSome, IsSomeAnd, MatchOption, unwrap_or, slice_get, set, refl, sym, ap, ◌∙◌, subst, arith}
-use Rattle.std.specs.Option.{option_map, option_and_then}
-use Rattle.std.proofs.lemmas.Bool.{cases_eq, cases_Bool, eq-eqb, ne_eqb, false≢true}
+use Rattle.std.proofs.Common.{ℕ, suc, ◌≡◌, ◌≢◌, ◌<◌, ◌≤◌, inl, inr, Bool, true, false, eqb, List, [], ◌∷◌, ◌++◌, length, reverse, find, Option, Some, None, MatchOption, unwrap_or, slice_get, set, refl, sym, ap, ◌∙◌, subst, arith}
+use Rattle.std.specs.Option.{option_map}
+use Rattle.std.proofs.lemmas.Bool.{cases_Bool, eq-eqb, ne_eqb, false≢true}
 use Rattle.std.proofs.lemmas.List.{length-append, length-reverse}
 use Rattle.md_base.specs.declared.measure.Counts.{Counts}
 use Rattle.md_base.specs.declared.measure.Measure.{Measure}
 use Rattle.md_base.specs.declared.measure.Measure.TheVariants.{Calls, Exits, Fails, Redos, Allocs, Words}
 use Rattle.md_static.specs.declared.entry.Site.{Site}
-use Rattle.md_static.specs.Tables.{Static, site_table, call_site, callee_of}
-use Rattle.md_static.specs.Sites.{sites_of, place_of}
+use Rattle.md_static.specs.Tables.{Static, site_table, callee_of}
 use Rattle.md_static.specs.Sound.{IsSound}
 use Rattle.md_trace.specs.declared.event.Event.{Event}
-use Rattle.md_trace.specs.declared.event.Event.TheVariants.{Call, Exit, Redo, Fail, Alloc}
-use Rattle.md_trace.specs.Activation.{Activation, activations, numbered}
-use Rattle.md_trace.specs.PortHistory.{SiteTable, CallSite, current, MayCall, MayFollow, IsPortHistory}
-use Rattle.md_trace.specs.Context.{Link, Placed, chain, context_of, context_at, contexts, has_link, has_procedure, same_link, link_of, place, placed_of, current_chain}
+use Rattle.md_trace.specs.declared.event.Event.TheVariants.{Call}
+use Rattle.md_trace.specs.Activation.{activations, numbered}
+use Rattle.md_trace.specs.PortHistory.{SiteTable, current, MayFollow, IsPortHistory}
+use Rattle.md_trace.specs.Context.{Link, Placed, chain, context_of, context_at, contexts, has_link, placed_of, current_chain}
 use Rattle.md_trace.specs.Links.{Leading, is_among, links}
-use Rattle.md_trace.specs.Count.{passes, passing, with_more, sum_where, amount, activation_of, capped, counts_by, counts_where, set_counts}
-use Rattle.md_trace.specs.Counted.{longest}
+use Rattle.md_trace.specs.Count.{passes, passing, with_more, sum_where, activation_of, capped, counts_by, set_counts}
 use Rattle.md_trace.proofs.Chains.{IsBelow, chain-more}
-use Rattle.md_trace.proofs.Finds.{none-finds, find-none, find-there, find-passes, chain-there, same-link-refl, same-link-true, same-link-tells}
-use Rattle.md_trace.proofs.Histories.{IsOrderly, orderly, chain-call, callee-below}
-use Rattle.md_trace.proofs.LinkFacts.{AreRight, leading, among-there, there-among, not-among, links-distinct, links-few, links-more, contexts-more}
-use Rattle.md_trace.proofs.Lists.{get-push-old, get-push-new, get-push-either, get-within, get-there}
-use Rattle.md_trace.proofs.Longest.{current-longest}
-use Rattle.md_trace.proofs.Numbered.{numbered-new, numbered-more, numbered-below}
+use Rattle.md_trace.proofs.Finds.{none-finds, find-none, same-link-tells}
+use Rattle.md_trace.proofs.Histories.{orderly, chain-call, callee-below}
+use Rattle.md_trace.proofs.LinkFacts.{AreRight, leading, there-among, links-distinct, links-more}
+use Rattle.md_trace.proofs.Lists.{get-push-old, get-push-new, get-push-either, get-within}
+use Rattle.md_trace.proofs.Numbered.{numbered-new}
 use Rattle.md_trace.proofs.Placing.{length-placed}
 use Rattle.md_trace.proofs.Setwise.{newest, set-call, set-call-other}
 use Rattle.md_dynamic.specs.declared.link.LinkRow.{LinkRow}
 use Rattle.md_dynamic.specs.declared.slot.Slot.{Slot}
 use Rattle.md_dynamic.specs.Links.{link_row, only_calls}
-use Rattle.md_dynamic.specs.Rows.{Rows, AddsLink, AddsContext}
+use Rattle.md_dynamic.specs.Rows.{Rows}
 use Rattle.md_record.specs.Kept.{Kept, Stands}
 use Rattle.md_record.specs.Marks.{BelongsTo}
 use Rattle.md_record.specs.Parts.{RowsAre, SlotsAre, ActiveIs, AreSteps, nearest}
-use Rattle.md_record.proofs.Events.{Points, SameButActive, RunsAt}
+use Rattle.md_record.proofs.Events.{Points, RunsAt}
 use Rattle.md_record.proofs.PointerSteps.{nearest-same, nearest-other, active-set, steps-more, steps-length, chain-pushed}
 use Rattle.md_record.proofs.Returns.{right-of}
-use Rattle.md_record.proofs.RowSteps.{RowsBy, row_by, counts_in, rows-by, rows-are, CountsLink, SameButLinks, counted, has-same, has-other, links-differ}
+use Rattle.md_record.proofs.RowSteps.{row_by, counts_in, rows-by, rows-are, CountsLink, counted, has-same, has-other, links-differ}
 
 -- a call by the activation that runs
 abbrev pub the_call : List Event → Option ℕ → ℕ → Event

@@ -1,5 +1,5 @@
 -- The recorder before a run, and the profile after it.
-use Rattle.std.proofs.Common.{ℕ, zero, suc, ◌≡◌, ◌<◌, ◌≤◌, Bool, All, IfSome, List, [], ◌∷◌, ◌++◌, length, map, replicate, reverse, get_or, Option, Some, None, slice_get, refl, sym, ap, ◌∙◌, subst, arith}
+use Rattle.std.proofs.Common.{ℕ, zero, suc, ◌≡◌, ◌<◌, Bool, All, IfSome, List, [], ◌∷◌, length, map, replicate, Some, None, slice_get, refl, sym, ap, ◌∙◌, subst, arith}
 use Rattle.std.specs.Option.{option_map}
 use Rattle.std.proofs.lemmas.List.{length-map, length-replicate}
 use Rattle.std.proofs.lemmas.Option.{slice_get-map, get_or_from_slice_get}
@@ -8,18 +8,17 @@ use Rattle.md_static.specs.Tables.{Static, call_site, site_table}
 use Rattle.md_static.specs.Sites.{sites_of}
 use Rattle.md_static.specs.Sound.{IsSound}
 use Rattle.md_trace.specs.declared.event.Event.{Event}
-use Rattle.md_trace.specs.PortHistory.{SiteTable, CallSite, IsSiteTable}
+use Rattle.md_trace.specs.PortHistory.{SiteTable, CallSite}
 use Rattle.md_trace.specs.Links.{Leading, links}
 use Rattle.md_trace.specs.Context.{placed_of}
 use Rattle.md_trace.proofs.Lists.{get-within, get-there}
 use Rattle.md_dynamic.specs.declared.link.LinkRow.{LinkRow}
-use Rattle.md_dynamic.specs.declared.slot.Slot.{Slot}
 use Rattle.md_dynamic.specs.Links.{root_row}
 use Rattle.md_dynamic.specs.Profile.{ProfileRows}
 use Rattle.md_dynamic.specs.Rows.{Rows, first_rows}
 use Rattle.md_dynamic.specs.Slots.{empty_slot}
 use Rattle.md_record.specs.Kept.{Kept, Stands}
-use Rattle.md_record.specs.Parts.{RowsAre, SlotsAre, ActiveIs, row_of}
+use Rattle.md_record.specs.Parts.{SlotsAre, row_of}
 use Rattle.md_record.specs.Profiles.{IsProfileOf}
 use Rattle.md_record.proofs.SlotSteps.{slots-new}
 

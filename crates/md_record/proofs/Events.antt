@@ -1,18 +1,15 @@
 -- What each event but a call does to what a recorder keeps.
-use Rattle.std.proofs.Common.{ℕ, suc, ◌+◌, ◌-◌, ◌≡◌, ◌≢◌, ◌<◌, ◌≤◌, ◌⊎◌, inl, inr, List, [], ◌∷◌, ◌++◌, length, take, reverse, max, true, false, Option, Some, None, slice_get, set, cond, if◌then◌else◌, eqb, refl, sym, ap, ◌∙◌, subst, arith}
-use Rattle.std.proofs.lemmas.Bool.{eq-eqb, ne_eqb, cases_Bool}
+use Rattle.std.proofs.Common.{ℕ, ◌-◌, ◌≡◌, ◌≢◌, ◌<◌, List, [], ◌∷◌, ◌++◌, length, take, reverse, false, Option, Some, slice_get, set, if◌then◌else◌, refl, sym, ap, ◌∙◌, subst, arith}
 use Rattle.md_base.specs.declared.measure.Counts.{Counts}
-use Rattle.md_base.specs.declared.measure.Measure.{Measure}
 use Rattle.md_base.specs.declared.measure.Measure.TheVariants.{Exits, Fails, Redos, Allocs, Words}
 use Rattle.md_trace.specs.declared.event.Event.{Event}
 use Rattle.md_trace.specs.declared.event.Event.TheVariants.{Exit, Redo, Fail, Alloc}
 use Rattle.md_trace.specs.Activation.{activations, numbered, parent_of}
 use Rattle.md_trace.specs.PortHistory.{SiteTable, current, MayFollow}
-use Rattle.md_trace.specs.Context.{Link, Placed, chain, has_link, same_link, placed_of, current_chain}
+use Rattle.md_trace.specs.Context.{Placed, chain, has_link, same_link, placed_of, current_chain}
 use Rattle.md_trace.specs.Links.{Leading, links}
 use Rattle.md_trace.specs.Count.{with_more}
-use Rattle.md_trace.specs.Counted.{longest}
-use Rattle.md_trace.proofs.Finds.{same-link-refl, same-link-tells}
+use Rattle.md_trace.proofs.Finds.{same-link-refl}
 use Rattle.md_trace.proofs.Histories.{orderly, chain-of, current-there}
 use Rattle.md_trace.proofs.Longest.{chain-longest, current-longest}
 use Rattle.md_trace.proofs.Numbered.{numbered-below}
@@ -23,9 +20,9 @@ use Rattle.md_dynamic.specs.Rows.{Rows}
 use Rattle.md_record.specs.Parts.{RowsAre, ActiveIs, AreSteps}
 use Rattle.md_record.specs.Kept.{Kept, Stands}
 use Rattle.md_record.specs.Marks.{BelongsTo}
-use Rattle.md_record.proofs.PointerSteps.{EndsWith, ends-with, chain-last}
+use Rattle.md_record.proofs.PointerSteps.{ends-with, chain-last}
 use Rattle.md_record.proofs.Returns.{stands-same, left, back}
-use Rattle.md_record.proofs.RowSteps.{RowsBy, counts_in, rows-by, rows-are, CountsLink, SameButLinks, counted, has-same, has-other, links-differ}
+use Rattle.md_record.proofs.RowSteps.{RowsBy, counts_in, rows-by, rows-are, CountsLink, counted, has-same, has-other, links-differ}
 
 -- the rows r1 with another pointer
 abbrev pub Points : Rows → Rows → ℕ → Option ℕ → Type 0

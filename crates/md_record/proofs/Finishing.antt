@@ -1,12 +1,9 @@
 -- The end of a call, as the code reads it.
-use Rattle.std.proofs.Common.{ℕ, ◌≡◌, ◌<◌, ◌≤◌, List, [], ◌∷◌, ◌++◌, length, Option, Some, None, slice_get, set, refl, sym, ap, ◌∙◌, subst, arith}
+use Rattle.std.proofs.Common.{ℕ, ◌≡◌, ◌≤◌, List, [], ◌∷◌, ◌++◌, length, Option, Some, slice_get, sym, ap, ◌∙◌, subst}
 use Rattle.std.specs.Option.{option_map}
-use Rattle.md_base.specs.declared.measure.Measure.TheVariants.{Calls}
 use Rattle.md_trace.specs.declared.event.Event.{Event}
-use Rattle.md_trace.specs.PortHistory.{SiteTable, MayFollow}
-use Rattle.md_trace.specs.Context.{Link, Placed, placed_of, current_chain}
-use Rattle.md_trace.specs.Links.{Leading, links}
-use Rattle.md_trace.proofs.LinkFacts.{leading}
+use Rattle.md_trace.specs.PortHistory.{SiteTable}
+use Rattle.md_trace.specs.Context.{current_chain}
 use Rattle.md_dynamic.specs.declared.link.LinkRow.{LinkRow}
 use Rattle.md_dynamic.specs.Rows.{Rows}
 use Rattle.md_record.specs.Kept.{Kept, Stands}

@@ -1,18 +1,18 @@
 -- The first call, that of the main procedure.
-use Rattle.std.proofs.Common.{ℕ, ◌+◌, ◌≡◌, ◌<◌, ◌≤◌, List, [], ◌∷◌, ◌++◌, length, Option, Some, None, slice_get, refl, sym, ap, ◌∙◌, subst, arith}
+use Rattle.std.proofs.Common.{ℕ, ◌≡◌, ◌≤◌, List, [], ◌∷◌, ◌++◌, length, Option, Some, None, slice_get, refl, sym, ap, ◌∙◌, subst}
 use Rattle.std.specs.Option.{option_map}
 use Rattle.md_base.specs.declared.measure.Measure.TheVariants.{Calls}
 use Rattle.md_trace.specs.declared.event.Event.{Event}
 use Rattle.md_trace.specs.PortHistory.{SiteTable, current, MayCall, MayFollow}
-use Rattle.md_trace.specs.Context.{Link, Placed, placed_of, contexts, current_chain}
-use Rattle.md_trace.specs.Links.{Leading, root_link, links}
+use Rattle.md_trace.specs.Context.{Placed, placed_of, current_chain}
+use Rattle.md_trace.specs.Links.{root_link, links}
 use Rattle.md_trace.proofs.LinkFacts.{leading, links-more}
 use Rattle.md_trace.proofs.Lists.{get-within}
 use Rattle.md_dynamic.specs.declared.link.LinkRow.{LinkRow}
 use Rattle.md_dynamic.specs.Rows.{Rows}
 use Rattle.md_record.specs.Kept.{Kept, Stands}
 use Rattle.md_record.specs.Leads.{CountsOn}
-use Rattle.md_record.specs.Parts.{nearest, row_of}
+use Rattle.md_record.specs.Parts.{nearest}
 use Rattle.md_record.proofs.Callings.{first-context, found-row}
 use Rattle.md_record.proofs.Calls.{the_call, begun, Shows, shows-found}
 use Rattle.md_record.proofs.Events.{Points}

@@ -1,7 +1,7 @@
 -- Finding or adding the link of a callee, and counting the call on it.
-use Rattle.std.proofs.Common.{ℕ, ◌+◌, ◌-◌, ◌≡◌, ◌≢◌, ◌<◌, ◌≤◌, ◌⊎◌, inl, inr, All, List, [], ◌∷◌, ◌++◌, length, if◌then◌else◌, ◌==◌, Option, Some, None, IfSome, IsSomeAnd, MatchOption, slice_get, set, refl, sym, ap, ◌∙◌, subst, arith}
-use Rattle.std.proofs.lemmas.Bool.{eq-eqb, ne_eqb}
-use Rattle.std.proofs.lemmas.List.{set_at, length-append, length-set}
+use Rattle.std.proofs.Common.{ℕ, ◌+◌, ◌-◌, ◌≡◌, ◌≤◌, inl, inr, List, [], ◌∷◌, ◌++◌, length, Option, Some, None, IfSome, IsSomeAnd, MatchOption, slice_get, set, refl, sym, ap, ◌∙◌, subst, arith}
+use Rattle.std.proofs.lemmas.Bool.{ne_eqb}
+use Rattle.std.proofs.lemmas.List.{set_at, length-append}
 use Rattle.md_base.specs.declared.measure.Measure.TheVariants.{Calls}
 use Rattle.md_static.specs.declared.entry.Site.{Site}
 use Rattle.md_static.specs.Sites.{sites_of}
@@ -14,8 +14,8 @@ use Rattle.md_dynamic.specs.declared.link.LinkRow.{LinkRow}
 use Rattle.md_dynamic.specs.declared.slot.Slot.{Slot}
 use Rattle.md_dynamic.specs.Fills.{FillsSlot}
 use Rattle.md_dynamic.specs.Links.{link_row}
-use Rattle.md_dynamic.specs.Rows.{Rows, IsFresh, Adds, AddsLink, AddsContext, add_cost, list_in, link_in, place_in}
-use Rattle.md_record.specs.Leads.{CountsOn, HasLink, LeadsBy, IsPlaceOf, new_sites}
+use Rattle.md_dynamic.specs.Rows.{Rows, Adds, add_cost, list_in, link_in, place_in}
+use Rattle.md_record.specs.Leads.{CountsOn, LeadsBy, IsPlaceOf, new_sites}
 
 -- a link just added, counted once
 counted-new : (r1 r2 : Rows) (old : List LinkRow) (node site to k : ℕ) → r1.links ≡ old ++ link_row node site to 0 ∷ [] → k ≡ length old → CountsOn r1 r2 k Calls 1 → r2 ≡ record r1 { links = old ++ link_row node site to 1 ∷ [] }

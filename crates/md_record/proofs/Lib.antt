@@ -8,8 +8,11 @@ pub mod Events
 pub mod Finishing
 pub mod First
 pub mod Leading
+pub mod Made
 pub mod PointerSteps
 pub mod Returns
+pub mod Room
 pub mod RowSteps
 pub mod SlotSteps
 pub mod Uses
+pub mod ValidProfiles

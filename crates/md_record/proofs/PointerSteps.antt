@@ -1,9 +1,8 @@
 -- The active contexts and the kept chain, as the current chain grows and shrinks.
-use Rattle.std.proofs.Common.{ℕ, ◌+◌, ◌-◌, ◌≡◌, ◌≢◌, ◌<◌, ◌⊎◌, inl, inr, Bool, true, false, List, [], ◌∷◌, ◌++◌, length, reverse, take, find, Option, Some, None, slice_get, set, refl, sym, ap, ◌∙◌, subst, arith}
-use Rattle.std.specs.Option.{option_map}
+use Rattle.std.proofs.Common.{ℕ, ◌+◌, ◌-◌, ◌≡◌, ◌≢◌, ◌<◌, inl, inr, List, [], ◌∷◌, ◌++◌, length, reverse, take, Option, Some, slice_get, set, refl, sym, ap, ◌∙◌, subst, arith}
 use Rattle.std.proofs.lemmas.Bool.{cases_eq, eq-eqb, ne_eqb}
-use Rattle.std.proofs.lemmas.List.{length-set, length-reverse, length-append, reverse-append, reverse-reverse, take_at}
-use Rattle.md_trace.specs.Context.{Placed, has_procedure}
+use Rattle.std.proofs.lemmas.List.{length-set, length-append, reverse-append, reverse-reverse, take_at}
+use Rattle.md_trace.specs.Context.{Placed}
 use Rattle.md_trace.specs.Links.{Leading}
 use Rattle.md_trace.proofs.Lists.{get-set-same, get-set-other, get-push-new}
 use Rattle.md_record.specs.Parts.{ActiveIs, AreSteps, nearest}

@@ -1,32 +1,25 @@
 -- Exits, redos, fails and allocations keep what a recorder stands for.
-use Rattle.std.proofs.Common.{ℕ, suc, ◌+◌, ◌-◌, ◌≡◌, ◌≢◌, ◌<◌, ◌≤◌, ◌⊎◌, inl, inr, Bool, true, false, List, [], ◌∷◌, ◌++◌, length, reverse, take, max, find, Option, Some, None, slice_get, set, refl, sym, ap, ◌∙◌, subst, arith}
-use Rattle.md_base.specs.declared.measure.Counts.{Counts}
-use Rattle.md_base.specs.declared.measure.Measure.{Measure}
-use Rattle.md_base.specs.declared.measure.Measure.TheVariants.{Calls, Exits, Fails, Redos, Allocs, Words}
+use Rattle.std.proofs.Common.{ℕ, ◌-◌, ◌≡◌, ◌<◌, ◌≤◌, List, [], ◌∷◌, ◌++◌, length, reverse, take, Option, Some, slice_get, set, sym, ap, ◌∙◌, subst, arith}
 use Rattle.md_static.specs.Tables.{Static, site_table}
 use Rattle.md_static.specs.Sound.{IsSound}
 use Rattle.md_trace.specs.declared.event.Event.{Event}
-use Rattle.md_trace.specs.declared.event.Event.TheVariants.{Call, Exit, Redo, Fail, Alloc}
-use Rattle.md_trace.specs.Activation.{Activation, activations, numbered, parent_of}
-use Rattle.md_trace.specs.PortHistory.{SiteTable, current, has_exited, MayFollow, IsPortHistory}
-use Rattle.md_trace.specs.Context.{Link, Placed, chain, contexts, has_link, placed, placed_of, current_chain}
+use Rattle.md_trace.specs.declared.event.Event.TheVariants.{Redo}
+use Rattle.md_trace.specs.Activation.{activations, parent_of}
+use Rattle.md_trace.specs.PortHistory.{SiteTable, current, MayFollow, IsPortHistory}
+use Rattle.md_trace.specs.Context.{Placed, chain, contexts, placed_of, current_chain}
 use Rattle.md_trace.specs.Links.{Leading, links}
-use Rattle.md_trace.specs.Count.{with_more, set_counts}
 use Rattle.md_trace.specs.Counted.{longest}
-use Rattle.md_trace.proofs.Histories.{IsOrderly, orderly, chain-of, current-there}
+use Rattle.md_trace.proofs.Histories.{orderly, chain-of}
 use Rattle.md_trace.proofs.LinkFacts.{AreRight, are-right, are-calls}
 use Rattle.md_trace.proofs.Longest.{chain-longest, current-longest}
 use Rattle.md_trace.proofs.Numbered.{numbered-below}
 use Rattle.md_trace.proofs.Placing.{length-placed, parent_of-placed}
-use Rattle.md_trace.proofs.Setwise.{set-exit, set-fail, set-redo, set-alloc, set-exit-other, set-fail-other, set-redo-other, set-alloc-other}
 use Rattle.md_dynamic.specs.declared.slot.Slot.{Slot}
-use Rattle.md_dynamic.specs.Rows.{Rows}
 use Rattle.md_record.specs.Kept.{Kept, Stands}
 use Rattle.md_record.specs.Marks.{BelongsTo}
 use Rattle.md_record.specs.Parts.{RowsAre, SlotsAre, ActiveIs, AreSteps, nearest}
-use Rattle.md_record.proofs.PointerSteps.{nearest-same, nearest-other, active-set, steps-length, chain-pushed, EndsWith, ends-with, chain-popped, chain-last}
+use Rattle.md_record.proofs.PointerSteps.{nearest-same, nearest-other, active-set, steps-length, chain-pushed, ends-with, chain-popped}
 use Rattle.std.proofs.lemmas.List.{length-reverse}
-use Rattle.md_record.proofs.RowSteps.{RowsBy, counts_in, rows-by, rows-are, CountsLink, SameButLinks, counted, has-same, has-other, links-differ}
 
 -- a history whose activations are those of before: what is to be shown anew
 pub stands-same : (t : SiteTable) (h h2 : List Event) (k0 k2 : Kept) → Stands k0 t h → IsPortHistory t h2 → placed_of t.main h2 ≡ placed_of t.main h →

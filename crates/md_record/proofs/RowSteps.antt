@@ -1,11 +1,11 @@
 -- One more on a measure of a link.
-use Rattle.std.proofs.Common.{ℕ, ◌≡◌, ◌≢◌, ◌<◌, ◌⊎◌, inl, inr, Bool, true, false, List, [], ◌∷◌, ◌++◌, length, Option, Some, None, IfSome, slice_get, set, refl, sym, ap, ◌∙◌, subst, arith}
+use Rattle.std.proofs.Common.{ℕ, ◌≡◌, ◌≢◌, inl, inr, true, false, List, length, Option, Some, IfSome, slice_get, set, sym, ap, ◌∙◌, subst}
 use Rattle.std.proofs.lemmas.Bool.{cases_eq}
 use Rattle.std.proofs.lemmas.List.{length-set}
 use Rattle.md_base.specs.declared.measure.Counts.{Counts}
 use Rattle.md_base.specs.declared.measure.Measure.{Measure}
 use Rattle.md_trace.specs.declared.event.Event.{Event}
-use Rattle.md_trace.specs.Context.{Link, Placed, has_link, same_link, placed_of}
+use Rattle.md_trace.specs.Context.{Link, Placed, has_link, same_link}
 use Rattle.md_trace.specs.Links.{Leading, links}
 use Rattle.md_trace.specs.Count.{with_more, set_counts}
 use Rattle.md_trace.proofs.Finds.{same-link-refl, same-link-tells}
@@ -13,7 +13,7 @@ use Rattle.md_trace.proofs.LinkFacts.{links-distinct}
 use Rattle.md_trace.proofs.Lists.{get-set-same, get-set-other, get-within}
 use Rattle.md_dynamic.specs.declared.link.LinkRow.{LinkRow}
 use Rattle.md_dynamic.specs.Rows.{Rows}
-use Rattle.md_record.specs.Parts.{RowsAre, row_of}
+use Rattle.md_record.specs.Parts.{RowsAre}
 
 -- the row of a link with counts by a function of the link
 abbrev pub row_by : (Leading → Counts) → Leading → LinkRow

@@ -1,5 +1,5 @@
 -- The slots after a link is added, and after a context is.
-use Rattle.std.proofs.Common.{ℕ, ◌+◌, ◌-◌, ◌≡◌, ◌≢◌, ◌<◌, ◌≤◌, ◌⊎◌, inl, inr, Bool, true, false, List, [], ◌∷◌, ◌++◌, length, map, Option, Some, None, IsSomeAnd, slice_get, set, refl, sym, ap, ◌∙◌, subst, arith}
+use Rattle.std.proofs.Common.{ℕ, ◌+◌, ◌-◌, ◌≡◌, ◌≢◌, ◌<◌, inl, inr, List, [], ◌∷◌, ◌++◌, length, map, Option, Some, None, IsSomeAnd, slice_get, set, refl, sym, ap, ◌∙◌, subst, arith}
 use Rattle.std.specs.Option.{option_map, option_and_then}
 use Rattle.std.proofs.lemmas.Bool.{cases_eq}
 use Rattle.std.proofs.lemmas.List.{length-append}
@@ -10,14 +10,13 @@ use Rattle.md_static.specs.declared.entry.SiteKind.TheVariants.{Plain as OneCall
 use Rattle.md_static.specs.Tables.{callee_of}
 use Rattle.md_static.specs.Sites.{OwnersRiseFrom, first_site, sites_of, place_of}
 use Rattle.md_static.proofs.SiteLists.{site-place}
-use Rattle.md_trace.specs.Context.{Link}
 use Rattle.md_trace.specs.Links.{Leading}
 use Rattle.md_trace.proofs.Lists.{get-set-same, get-set-other, get-push-old, get-push-new, get-push-either, get-within}
 use Rattle.md_dynamic.specs.declared.slot.Slot.{Slot}
-use Rattle.md_dynamic.specs.declared.slot.Slot.TheVariants.{Plain, Many}
+use Rattle.md_dynamic.specs.declared.slot.Slot.TheVariants.{Plain}
 use Rattle.md_dynamic.specs.Slots.{empty_slot, empty_slot_of, filled}
 use Rattle.md_dynamic.proofs.Growth.{WasFilled, filled-length}
-use Rattle.md_record.specs.Parts.{SlotsAre, slot_at, slot_for, is_at, callees_of, first_link}
+use Rattle.md_record.specs.Parts.{SlotsAre, slot_at, slot_for, callees_of, first_link}
 use Rattle.md_record.proofs.CalleeLists.{at-is-true, at-is-false, callees-push-same, callees-push-other, callees-none}
 
 -- the slots of a context, of which one was looked at

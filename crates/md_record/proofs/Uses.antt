@@ -1,5 +1,5 @@
 -- What the tables are asked for is there.
-use Rattle.std.proofs.Common.{ℕ, ◌-◌, ◌≡◌, ◌<◌, ◌≤◌, ◌⊎◌, inl, inr, List, length, find, Option, Some, None, IfSome, slice_get, set, refl, sym, ap, ◌∙◌, subst, arith}
+use Rattle.std.proofs.Common.{ℕ, ◌-◌, ◌≡◌, ◌<◌, List, length, find, Option, Some, None, IfSome, slice_get, set, refl, sym, ap, ◌∙◌, subst, arith}
 use Rattle.std.specs.Option.{option_map}
 use Rattle.std.proofs.lemmas.Bool.{eqb-true}
 use Rattle.std.proofs.lemmas.List.{length-set}
@@ -9,21 +9,19 @@ use Rattle.md_trace.specs.Count.{with_more}
 use Rattle.md_trace.proofs.Histories.{procedure-of-table}
 use Rattle.md_trace.proofs.Placing.{procedure_of-placed}
 use Rattle.md_dynamic.specs.declared.link.LinkRow.{LinkRow}
-use Rattle.md_record.proofs.Events.{RunsAt, runs-at}
+use Rattle.md_record.proofs.Events.{runs-at}
 use Rattle.md_record.proofs.RowSteps.{CountsLink, SameButLinks}
 use Rattle.md_trace.specs.declared.event.Event.{Event}
-use Rattle.md_trace.specs.Activation.{activations, numbered, procedure_of}
-use Rattle.md_trace.specs.PortHistory.{SiteTable, current, IsPortHistory}
-use Rattle.md_trace.specs.Context.{Placed, chain, contexts, has_procedure, placed_of, current_chain}
-use Rattle.md_trace.specs.Links.{links}
+use Rattle.md_trace.specs.Activation.{activations, procedure_of}
+use Rattle.md_trace.specs.PortHistory.{SiteTable, current}
+use Rattle.md_trace.specs.Context.{Placed, chain, has_procedure, placed_of}
 use Rattle.md_trace.proofs.Finds.{find-passes, chain-there}
 use Rattle.md_trace.proofs.Lists.{get-within, get-there}
 use Rattle.md_dynamic.specs.Rows.{Rows}
 use Rattle.md_record.specs.Kept.{Kept, Stands}
 use Rattle.md_record.specs.Marks.{BelongsTo}
-use Rattle.md_record.specs.Parts.{nearest, row_of}
+use Rattle.md_record.specs.Parts.{nearest}
 use Rattle.md_record.proofs.Returns.{right-of, mark-procedure, mark-node}
-use Rattle.md_static.specs.Sound.{IsSound}
 
 -- the nearest activation of a procedure is in a context of it
 some-nearest : (t : SiteTable) (h : List Event) (k : Kept) (q : ℕ) (o : Option ℕ) (f : Option Placed) → Stands k t h → find (has_procedure q) (chain (placed_of t.main h) o) ≡ f → IfSome (option_map (λ x. x.context) f) (λ v. slice_get k.rows.nodes v ≡ Some q)

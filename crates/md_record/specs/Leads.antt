@@ -1,5 +1,5 @@
 -- Where the link of a call is found, or added, in the tables.
-use Rattle.std.specs.Prelude.{ℕ, ◌≡◌, ◌≢◌, ◌<◌, ◌≤◌, ◌+◌, ◌⊎◌, All, ◌==◌, Option, Some, None, IfSome, IsSomeAnd, MatchOption, length, slice_get, slice_set, if◌then◌else◌}
+use Rattle.std.specs.Prelude.{ℕ, ◌≡◌, ◌≢◌, ◌<◌, ◌≤◌, ◌+◌, ◌⊎◌, All, ◌==◌, Option, Some, IfSome, IsSomeAnd, MatchOption, length, slice_get, slice_set, if◌then◌else◌}
 use Rattle.md_base.specs.declared.measure.Measure.{Measure}
 use Rattle.md_base.specs.declared.measure.Measure.TheVariants.{Calls}
 use Rattle.md_static.specs.Sites.{sites_of}

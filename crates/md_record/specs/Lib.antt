@@ -4,6 +4,7 @@ pub mod Kept
 pub mod Laws
 pub mod Leads
 pub mod Marks
+pub mod Memory
 pub mod Parts
 pub mod Profiles
 pub mod Stays

@@ -1,10 +1,9 @@
 -- A mark belongs to its activation for ever.
-use Rattle.std.specs.Prelude.{ℕ, ◌≡◌, List, ◌∷◌, Option, Some, None}
+use Rattle.std.specs.Prelude.{ℕ, List, ◌∷◌, Option}
 use Rattle.std.proofs.Common.{length, sym, ap, ◌∙◌, arith}
 use Rattle.md_trace.specs.declared.event.Event.{Event}
 use Rattle.md_trace.specs.declared.event.Event.TheVariants.{Call, Exit, Redo, Fail, Alloc}
-use Rattle.md_trace.specs.Activation.{activations}
-use Rattle.md_trace.specs.PortHistory.{SiteTable, current, IsPortHistory}
+use Rattle.md_trace.specs.PortHistory.{SiteTable, IsPortHistory}
 use Rattle.md_trace.specs.Context.{placed_of}
 use Rattle.md_trace.proofs.Chains.{below-more, chain-more, parent-below}
 use Rattle.md_trace.proofs.Histories.{orderly}

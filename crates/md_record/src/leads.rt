@@ -2,7 +2,7 @@
 ghost use Rattle.std.specs.Prelude.{ℕ, ◌≡◌, ◌≤◌, ◌<◌, ◌+◌, ◌-◌, length, slice_get, IfOk, OnOk, OnErr, IfSome, IsSomeAnd, Some, None};
 ghost use Rattle.md_static.specs.Sites.{sites_of};
 ghost use Rattle.md_static.specs.Tables.{callee_of};
-ghost use Rattle.md_dynamic.specs.Rows.{Owns, MayLead, list_in};
+ghost use Rattle.md_dynamic.specs.Rows.{Owns, MayLead, IsFresh, list_in};
 ghost use Rattle.md_record.specs.Leads.{LeadsBy, LinksThere, IsPlaceOf, LeadCost, lead_refused_cost, new_sites};
 ghost use Rattle.md_closure.specs.Callees.{find_or_add_cost};
 
@@ -13,7 +13,8 @@ use md_static::SiteKind;
 use std::sync::ledger::Ledger;
 
 /// Counts a call on the link of `callee` at a site in a context, and gives the link. Where it is not there yet it is
-/// added, and leads to `old`, which is the callee's active context, or to a new context where there is none.
+/// added, and leads to `old`, which is the callee's active context, or to a new context where there is none. A link that
+/// is there takes no memory.
 pub(crate) fn lead<L: Ledger>(
     tables: &mut Tables,
     node: PdId,
@@ -31,6 +32,8 @@ pub(crate) fn lead<L: Ledger>(
     requires room { length tables.old.links < 4294967295 }
     ensures ok { IfOk result (λ link. LeadsBy tables.old tables.new node site callee old.now link) }
     ensures err { OnErr result (tables.new ≡ tables.old) }
+    ensures statics { tables.new.statics ≡ tables.old.statics }
+    ensures fresh { OnErr result (IsFresh tables.old node site callee) }
     ensures cost { IfOk result (λ link. LeadCost tables.old tables.new node site callee link steps.old steps.new) }
     ensures cost_refused { OnErr result (steps.new ≤ steps.old + lead_refused_cost tables.old node site callee) }
 {
@@ -57,6 +60,8 @@ fn lead_plain<L: Ledger>(
     requires room { length tables.old.links < 4294967295 }
     ensures ok { IfOk result (λ link. LeadsBy tables.old tables.new node site callee old link) }
     ensures err { OnErr result (tables.new ≡ tables.old) }
+    ensures statics { tables.new.statics ≡ tables.old.statics }
+    ensures fresh { OnErr result (IsFresh tables.old node site callee) }
     ensures cost { OnOk result (steps.new ≤ steps.old + (6 + new_sites tables.old tables.new callee)) }
     ensures cost_refused { OnErr result (steps.new ≤ steps.old + (6 + length (sites_of callee tables.old.statics.sites))) }
 {
@@ -86,6 +91,8 @@ fn lead_many<L: Ledger>(
     requires room { length tables.old.links < 4294967295 }
     ensures ok { IfOk result (λ link. LeadsBy tables.old tables.new node site callee old link) }
     ensures err { OnErr result (tables.new ≡ tables.old) }
+    ensures statics { tables.new.statics ≡ tables.old.statics }
+    ensures fresh { OnErr result (IsFresh tables.old node site callee) }
     ensures cost { IfOk result (λ link. (n : ℕ) × IsPlaceOf tables.old node site callee link n × (steps.new ≤ steps.old + (n + (7 + new_sites tables.old tables.new callee)))) }
     ensures cost_refused { OnErr result (steps.new ≤ steps.old + find_or_add_cost tables.old node site callee) }
 {

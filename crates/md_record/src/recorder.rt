@@ -38,7 +38,9 @@ impl Recorder {
     ghost use Rattle.md_record.specs.Kept.{Kept, Stands};
     ghost use Rattle.md_record.specs.Belongs.{Belongs};
     ghost use Rattle.md_record.specs.Costs.{CallCost, SiteCost};
+    ghost use Rattle.md_record.specs.Memory.{TakesMemory};
     ghost use Rattle.md_record.specs.Profiles.{IsProfileOf};
+    ghost use Rattle.md_dynamic.specs.Valid.{IsValid};
     ghost use Rattle.md_trace.specs.PortHistory.{SiteTable};
 
     /// A recorder of a run that has not begun: it stands for the empty history over the site table of its statics and
@@ -47,6 +49,7 @@ impl Recorder {
         requires sound { IsSound statics }
         requires main_there { main < length statics.procs }
         ensures stands { IfOk result (λ recorder. Stands recorder (site_table statics main) []) }
+        ensures statics { IfOk result (λ recorder. recorder.rows.statics ≡ statics) }
     {
         let tables = Tables::new(alloc, statics, main)?;
         Ok(Recorder {
@@ -56,16 +59,18 @@ impl Recorder {
     }
 
     /// The profile of the events so far: for each history for which the recorder stands it has that history's contexts
-    /// and links with their own counts. Takes no memory.
+    /// and links with their own counts. It is valid. Takes no memory.
     pub fn into_profile(self, finished: bool) -> Profile
         ensures exact { (t : SiteTable) (h : List Event) → Stands self t h → IsProfileOf self.rows.statics t.main h finished result }
+        ensures valid { (t : SiteTable) (h : List Event) → Stands self t h → IsValid result }
     {
         let Recorder { tables, chain: _ } = self;
         tables.freeze(finished)
     }
 
     /// The current activation calls `callee` at `site`, or the run begins with the main procedure's call, at no site.
-    /// Memory is taken first, room for the chain included; where it is refused, all is as before.
+    /// Memory is taken first, room for the chain included; where it is refused, all is as before. None is taken where the
+    /// link is there already and an earlier chain was as long as the new one.
     pub fn call<L: Ledger>(
         &mut self,
         site: Option<SiteId>,
@@ -76,6 +81,8 @@ impl Recorder {
         ensures taken { OnOk result (Takes (Stands self.old) (Stands self.new) (next_call site callee)) }
         ensures marked { IfOk result (λ saved. MarksNewest (Stands self.old) (Belongs saved) (next_call site callee)) }
         ensures refused { OnErr result (StandsAsBefore (Stands self.old) (Stands self.new)) }
+        ensures statics { self.new.rows.statics ≡ self.old.rows.statics }
+        ensures needed { OnErr result (TakesMemory (Stands self.old) site callee) }
         ensures cost { IfOk result (λ saved. CallCost self.old self.new site callee saved.middle steps.old steps.new) }
     {
         match site {
@@ -94,6 +101,8 @@ impl Recorder {
         ensures taken { OnOk result (Takes (Stands self.old) (Stands self.new) (next_call None callee)) }
         ensures marked { IfOk result (λ saved. MarksNewest (Stands self.old) (Belongs saved) (next_call None callee)) }
         ensures refused { OnErr result (StandsAsBefore (Stands self.old) (Stands self.new)) }
+        ensures statics { self.new.rows.statics ≡ self.old.rows.statics }
+        ensures needed { OnErr result (TakesMemory (Stands self.old) None callee) }
         ensures cost { steps.new ≤ steps.old + 4 }
     {
         let root = CsdId::new(0);
@@ -120,6 +129,8 @@ impl Recorder {
         ensures taken { OnOk result (Takes (Stands self.old) (Stands self.new) (next_call (Some site) callee)) }
         ensures marked { IfOk result (λ saved. MarksNewest (Stands self.old) (Belongs saved) (next_call (Some site) callee)) }
         ensures refused { OnErr result (StandsAsBefore (Stands self.old) (Stands self.new)) }
+        ensures statics { self.new.rows.statics ≡ self.old.rows.statics }
+        ensures needed { OnErr result (TakesMemory (Stands self.old) (Some site) callee) }
         ensures cost { IfOk result (λ saved. SiteCost self.old self.new site callee saved.middle steps.old steps.new) }
     {
         let node = self.current();
@@ -141,6 +152,7 @@ impl Recorder {
     pub fn exit<L: Ledger>(&mut self, saved: &Saved, steps: &mut Steps<L>)
         requires { CanTakeMarked (Stands self.old) (Belongs saved.now) Exit }
         ensures taken { TakesMarked (Stands self.old) (Stands self.new) (Belongs saved.now) Exit }
+        ensures statics { self.new.rows.statics ≡ self.old.rows.statics }
         ensures cost { steps.new ≡ steps.old + 4 }
     {
         let proc = self.tables.proc_of(saved.top, steps);
@@ -154,6 +166,7 @@ impl Recorder {
     pub fn fail<L: Ledger>(&mut self, saved: &Saved, steps: &mut Steps<L>)
         requires { CanTakeMarked (Stands self.old) (Belongs saved.now) Fail }
         ensures taken { TakesMarked (Stands self.old) (Stands self.new) (Belongs saved.now) Fail }
+        ensures statics { self.new.rows.statics ≡ self.old.rows.statics }
         ensures cost { steps.new ≡ steps.old + 4 }
     {
         let proc = self.tables.proc_of(saved.top, steps);
@@ -167,6 +180,7 @@ impl Recorder {
     pub fn redo<L: Ledger>(&mut self, saved: &Saved, steps: &mut Steps<L>)
         requires { CanTakeMarked (Stands self.old) (Belongs saved.now) Redo }
         ensures taken { TakesMarked (Stands self.old) (Stands self.new) (Belongs saved.now) Redo }
+        ensures statics { self.new.rows.statics ≡ self.old.rows.statics }
         ensures cost { steps.new ≡ steps.old + 4 }
     {
         let proc = self.tables.proc_of(saved.top, steps);
@@ -180,6 +194,7 @@ impl Recorder {
     pub fn alloc<L: Ledger>(&mut self, words: u32, steps: &mut Steps<L>)
         requires { CanTake (Stands self.old) (next_alloc words) }
         ensures taken { Takes (Stands self.old) (Stands self.new) (next_alloc words) }
+        ensures statics { self.new.rows.statics ≡ self.old.rows.statics }
         ensures cost { steps.new ≤ steps.old + 4 }
     {
         if let Some(latest) = self.latest() {

@@ -14,15 +14,18 @@ use std::marker::Brand;
 use std::sync::ledger::{Blank, Ledger};
 
 impl PortSink for Recorder {
+    ghost use Rattle.std.specs.Prelude.{◌≡◌};
     ghost use Rattle.md_record.specs.Kept.{Stands};
     ghost use Rattle.md_record.specs.Belongs.{Belongs};
-    ghost use Rattle.md_record.specs.Laws.{stands-history, belongs-stays};
+    ghost use Rattle.md_record.specs.Laws.{stands-history, belongs-stays, same-tables, tables-on};
 
     type Mark = Saved;
 
     ghost stands_for = { λ s t h. Stands s t h };
 
     ghost belongs = { λ m t h a. Belongs m t h a };
+
+    ghost alike = { λ s u. u.rows.statics ≡ s.rows.statics };
 
     fn call(&mut self, site: Option<SiteId>, callee: ProcId) -> Result<Saved, NoMemory> {
         call_counted::<Brand>(self, site, callee, Blank::new(1))
@@ -46,6 +49,10 @@ impl PortSink for Recorder {
 
     ghost is_history = { λ s t h st. stands-history s t h st };
 
+    ghost alike_self = { λ s. same-tables s };
+
+    ghost alike_on = { λ s t u p q. tables-on s t u p q };
+
     ghost stays = { λ m t h e a is was. belongs-stays m t h e a is was };
 }
 
@@ -63,6 +70,7 @@ fn call_counted<L: Ledger>(
     ensures taken { OnOk result (Takes (Stands recorder.old) (Stands recorder.new) (next_call site callee)) }
     ensures marked { IfOk result (λ saved. MarksNewest (Stands recorder.old) (Belongs saved) (next_call site callee)) }
     ensures refused { OnErr result (StandsAsBefore (Stands recorder.old) (Stands recorder.new)) }
+    ensures alike { recorder.new.rows.statics ≡ recorder.old.rows.statics }
 {
     let mut steps = Steps::<L>::open(blank);
     recorder.call(site, callee, &mut steps)
@@ -74,7 +82,8 @@ fn exit_counted<L: Ledger>(recorder: &mut Recorder, mark: &Saved, blank: Blank)
     requires parts { blank.parts ≡ L.parts }
     requires some { 0 < blank.parts }
     requires can { CanTakeMarked (Stands recorder.old) (Belongs mark.now) Exit }
-    ensures { TakesMarked (Stands recorder.old) (Stands recorder.new) (Belongs mark.now) Exit }
+    ensures taken { TakesMarked (Stands recorder.old) (Stands recorder.new) (Belongs mark.now) Exit }
+    ensures alike { recorder.new.rows.statics ≡ recorder.old.rows.statics }
 {
     let mut steps = Steps::<L>::open(blank);
     recorder.exit(mark, &mut steps);
@@ -86,7 +95,8 @@ fn redo_counted<L: Ledger>(recorder: &mut Recorder, mark: &Saved, blank: Blank)
     requires parts { blank.parts ≡ L.parts }
     requires some { 0 < blank.parts }
     requires can { CanTakeMarked (Stands recorder.old) (Belongs mark.now) Redo }
-    ensures { TakesMarked (Stands recorder.old) (Stands recorder.new) (Belongs mark.now) Redo }
+    ensures taken { TakesMarked (Stands recorder.old) (Stands recorder.new) (Belongs mark.now) Redo }
+    ensures alike { recorder.new.rows.statics ≡ recorder.old.rows.statics }
 {
     let mut steps = Steps::<L>::open(blank);
     recorder.redo(mark, &mut steps);
@@ -98,7 +108,8 @@ fn fail_counted<L: Ledger>(recorder: &mut Recorder, mark: &Saved, blank: Blank)
     requires parts { blank.parts ≡ L.parts }
     requires some { 0 < blank.parts }
     requires can { CanTakeMarked (Stands recorder.old) (Belongs mark.now) Fail }
-    ensures { TakesMarked (Stands recorder.old) (Stands recorder.new) (Belongs mark.now) Fail }
+    ensures taken { TakesMarked (Stands recorder.old) (Stands recorder.new) (Belongs mark.now) Fail }
+    ensures alike { recorder.new.rows.statics ≡ recorder.old.rows.statics }
 {
     let mut steps = Steps::<L>::open(blank);
     recorder.fail(mark, &mut steps);
@@ -110,7 +121,8 @@ fn alloc_counted<L: Ledger>(recorder: &mut Recorder, words: u32, blank: Blank)
     requires parts { blank.parts ≡ L.parts }
     requires some { 0 < blank.parts }
     requires can { CanTake (Stands recorder.old) (next_alloc words) }
-    ensures { Takes (Stands recorder.old) (Stands recorder.new) (next_alloc words) }
+    ensures taken { Takes (Stands recorder.old) (Stands recorder.new) (next_alloc words) }
+    ensures alike { recorder.new.rows.statics ≡ recorder.old.rows.statics }
 {
     let mut steps = Steps::<L>::open(blank);
     recorder.alloc(words, &mut steps);

@@ -1,4 +1,9 @@
+pub mod Ends
 pub mod Literals
 pub mod Scans
+pub mod Spelled
+pub mod SpelledTexts
+pub mod SpelledTokens
+pub mod SpelledWords
 pub mod Strings
 pub mod Words

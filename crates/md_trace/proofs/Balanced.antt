@@ -1,12 +1,12 @@
 -- Each activation that is entered is left, but for those of the current chain.
-use Rattle.std.proofs.Common.{ℕ, ◌+◌, ◌≡◌, ◌<◌, Bool, true, false, inl, inr, List, [], ◌∷◌, length, if◌then◌else◌, Option, Some, None, refl, sym, ap, ◌∙◌, subst, arith}
+use Rattle.std.proofs.Common.{ℕ, ◌+◌, ◌≡◌, Bool, true, false, inl, inr, List, [], ◌∷◌, if◌then◌else◌, Some, refl, sym, ap, ◌∙◌, arith}
 use Rattle.std.proofs.lemmas.Bool.{cases_Bool}
 use Rattle.md_base.specs.declared.measure.Measure.{Measure}
 use Rattle.md_base.specs.declared.measure.Measure.TheVariants.{Calls, Exits, Fails, Redos}
 use Rattle.md_trace.specs.declared.event.Event.{Event}
 use Rattle.md_trace.specs.declared.event.Event.TheVariants.{Call, Exit, Redo, Fail, Alloc}
-use Rattle.md_trace.specs.Activation.{activations, numbered, parent_of}
-use Rattle.md_trace.specs.PortHistory.{SiteTable, current, IsPortHistory}
+use Rattle.md_trace.specs.Activation.{activations, numbered}
+use Rattle.md_trace.specs.PortHistory.{SiteTable, IsPortHistory}
 use Rattle.md_trace.specs.Context.{Placed, chain, placed_of, current_chain, has_link}
 use Rattle.md_trace.specs.Balance.{LinksBalance}
 use Rattle.md_trace.specs.Count.{activation_of, amount, passing, sum_where}

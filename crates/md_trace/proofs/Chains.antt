@@ -1,11 +1,9 @@
 -- Chains of activations in their contexts: who called whom.
-use Rattle.std.proofs.Common.{ℕ, ◌≡◌, ◌<◌, ◌≤◌, ◌⊎◌, inl, inr, Bool, true, false, List, [], ◌∷◌, length, Option, Some, None, cond, eqb, refl, sym, ap, ◌∙◌, subst, arith}
-use Rattle.std.specs.Option.{option_map, option_and_then}
+use Rattle.std.proofs.Common.{ℕ, ◌≡◌, ◌<◌, ◌≤◌, inl, inr, List, [], ◌∷◌, length, Option, Some, None, refl, sym, subst, arith}
 use Rattle.std.proofs.lemmas.Bool.{eq-eqb, ne_eqb}
-use Rattle.std.proofs.lemmas.Bool.Decides.{eqb_tells}
-use Rattle.md_trace.specs.Activation.{Activation, numbered, parent_of, procedure_of}
-use Rattle.md_trace.specs.Context.{Link, Placed, chain, place, link_of, with_placed, placed, context_at}
-use Rattle.md_trace.proofs.Numbered.{numbered-new, numbered-more, numbered-below, numbered-either}
+use Rattle.md_trace.specs.Activation.{numbered}
+use Rattle.md_trace.specs.Context.{Placed, chain}
+use Rattle.md_trace.proofs.Numbered.{numbered-below, numbered-either}
 
 -- the number, where there is one, is below n
 abbrev pub IsBelow : Option ℕ → ℕ → Type 0

@@ -1,22 +1,22 @@
 -- What each event does to what a counter keeps.
-use Rattle.std.proofs.Common.{ℕ, zero, suc, replicate, ◌+◌, ◌-◌, ◌≡◌, ◌≢◌, ◌<◌, ◌≤◌, ◌⊎◌, inl, inr, Bool, true, false, eqb, if◌then◌else◌, List, [], ◌∷◌, ◌++◌, length, map, max, reverse, take, Option, Some, None, IfSome, slice_get, set, refl, sym, ap, ◌∙◌, subst, arith}
+use Rattle.std.proofs.Common.{ℕ, ◌+◌, ◌-◌, ◌≡◌, ◌≢◌, ◌<◌, ◌≤◌, inl, inr, true, false, eqb, if◌then◌else◌, List, [], ◌∷◌, ◌++◌, length, map, reverse, take, Option, Some, IfSome, slice_get, set, refl, sym, ap, ◌∙◌, subst, arith}
 use Rattle.std.proofs.lemmas.Bool.{eq-eqb, ne_eqb, cases_eq}
-use Rattle.std.proofs.lemmas.List.{reverse-append, reverse-reverse, length-reverse, length-append, length-map, length-replicate, take_at, length-set}
+use Rattle.std.proofs.lemmas.List.{reverse-append, reverse-reverse, length-reverse, length-append, length-map, take_at, length-set}
 use Rattle.md_base.specs.declared.measure.Counts.{Counts}
 use Rattle.md_base.specs.declared.measure.Measure.{Measure}
 use Rattle.md_base.specs.declared.measure.Measure.TheVariants.{Calls, Exits, Fails, Redos, Allocs, Words}
 use Rattle.md_trace.specs.declared.event.Event.{Event}
 use Rattle.md_trace.specs.declared.event.Event.TheVariants.{Call, Exit, Redo, Fail, Alloc}
 use Rattle.md_trace.specs.Activation.{activations, numbered, parent_of, procedure_of}
-use Rattle.md_trace.specs.PortHistory.{SiteTable, IsSiteTable, MayFollow, IsPortHistory, current}
-use Rattle.md_trace.specs.Context.{Link, Placed, chain, placed_of, current_chain, has_procedure}
-use Rattle.md_trace.specs.Count.{set_counts, with_more}
+use Rattle.md_trace.specs.PortHistory.{SiteTable, MayFollow, IsPortHistory, current}
+use Rattle.md_trace.specs.Context.{Placed, chain, placed_of, current_chain, has_procedure}
+use Rattle.md_trace.specs.Count.{with_more}
 use Rattle.md_trace.specs.Counted.{Counted, CountsFor, CountsUp, Enters, Leaves, AsBefore, longest, procedure_counts, chain_procedures}
 use Rattle.md_trace.specs.Laws.{procedure-below}
 use Rattle.md_trace.proofs.Lists.{get-set-same, get-set-other, get-push-new}
 use Rattle.md_trace.proofs.Numbered.{numbered-there}
 use Rattle.md_trace.proofs.Placing.{length-placed, procedure_of-placed}
-use Rattle.md_trace.proofs.Histories.{callee-below, procedure-of-table, IsOrderly, orderly, current-there, exited-there, chain-of, chain-call}
+use Rattle.md_trace.proofs.Histories.{callee-below, procedure-of-table, orderly, current-there, chain-of, chain-call}
 use Rattle.md_trace.proofs.Setwise.{newest, set-exit, set-fail, set-redo, set-alloc, set-exit-other, set-fail-other, set-redo-other, set-alloc-other, set-call, set-call-other}
 use Rattle.md_trace.proofs.Longest.{chain-longest, current-longest}
 

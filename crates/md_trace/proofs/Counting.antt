@@ -1,5 +1,5 @@
 -- How each event changes the counts of a set of activations.
-use Rattle.std.proofs.Common.{ℕ, ◌+◌, ◌≡◌, ◌<◌, ◌≤◌, min, Bool, true, false, cond, List, [], ◌∷◌, length, Option, Some, None, refl, sym, ap, subst, ◌∙◌, arith}
+use Rattle.std.proofs.Common.{ℕ, ◌+◌, ◌≡◌, ◌<◌, ◌≤◌, Bool, true, false, cond, List, [], ◌∷◌, length, Option, Some, refl, sym, ap, subst, ◌∙◌, arith}
 use Rattle.md_base.specs.declared.measure.Counts.{Counts}
 use Rattle.md_base.specs.declared.measure.Measure.{Measure}
 use Rattle.md_base.specs.declared.measure.Measure.TheVariants.{Calls, Exits, Fails, Redos, Allocs, Words}
@@ -7,7 +7,7 @@ use Rattle.md_trace.specs.declared.event.Event.{Event}
 use Rattle.md_trace.specs.declared.event.Event.TheVariants.{Call, Exit, Redo, Fail, Alloc}
 use Rattle.md_trace.specs.Activation.{activations}
 use Rattle.md_trace.specs.PortHistory.{SiteTable, current, MayFollow, IsPortHistory}
-use Rattle.md_trace.specs.Count.{activation_of, amount, sum_where, capped, counts_by, with_more, counts_where}
+use Rattle.md_trace.specs.Count.{activation_of, amount, sum_where, capped, with_more, counts_where}
 use Rattle.md_trace.proofs.Chains.{IsBelow}
 use Rattle.md_trace.proofs.Histories.{IsOrderly, orderly}
 

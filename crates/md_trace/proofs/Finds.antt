@@ -1,9 +1,9 @@
 -- Finding an activation by its link or its procedure.
-use Rattle.std.proofs.Common.{ℕ, ◌≡◌, ◌≢◌, ◌<◌, ◌⊎◌, ◌&&◌, inl, inr, Bool, true, false, cond, eqb, List, [], ◌∷◌, length, find, Option, Some, None, refl, sym, ap, ◌∙◌, subst, arith}
-use Rattle.std.proofs.lemmas.Bool.{false≢true, cases_Bool, and_parts, and_cases, eq-eqb, eqb-true, eqb-false}
+use Rattle.std.proofs.Common.{ℕ, ◌≡◌, ◌≢◌, ◌⊎◌, ◌&&◌, inl, inr, Bool, true, false, eqb, List, [], ◌∷◌, length, find, Option, Some, None, refl, sym, ap, ◌∙◌, subst}
+use Rattle.std.proofs.lemmas.Bool.{false≢true, cases_Bool, and_parts, eq-eqb, eqb-true}
 use Rattle.std.proofs.lemmas.Bool.Decides.{eqb_tells}
 use Rattle.md_trace.specs.Activation.{numbered}
-use Rattle.md_trace.specs.Context.{Link, Placed, chain, same_option, same_link, has_link, has_procedure}
+use Rattle.md_trace.specs.Context.{Link, Placed, chain, same_option, same_link}
 use Rattle.md_trace.proofs.Numbered.{numbered-more, numbered-new, numbered-below, numbered-either}
 
 -- what is found passes the test

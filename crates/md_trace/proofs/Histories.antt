@@ -1,18 +1,17 @@
 -- What holds in every port history, and how each event changes the current chain.
-use Rattle.std.proofs.Common.{ℕ, zero, suc, All, IfSome, IsSomeAnd, MatchOption, slice_get, ◌≡◌, ◌<◌, ◌≤◌, ◌⊎◌, inl, inr, Bool, true, false, cond, eqb, List, [], ◌∷◌, length, Option, Some, None, refl, sym, ap, ◌∙◌, subst, arith}
-use Rattle.std.specs.Option.{option_map, option_and_then}
-use Rattle.std.proofs.lemmas.Bool.{eq-eqb, false≢true}
+use Rattle.std.proofs.Common.{ℕ, All, IfSome, IsSomeAnd, MatchOption, slice_get, ◌≡◌, ◌<◌, ◌⊎◌, inl, inr, Bool, true, false, cond, eqb, List, [], ◌∷◌, length, Option, Some, None, refl, sym, ap, ◌∙◌, subst, arith}
+use Rattle.std.proofs.lemmas.Bool.{false≢true}
 use Rattle.std.proofs.lemmas.Bool.Decides.{eqb_tells}
 use Rattle.md_trace.specs.declared.event.Event.{Event}
 use Rattle.md_trace.specs.declared.event.Event.TheVariants.{Call, Exit, Redo, Fail, Alloc}
-use Rattle.md_trace.specs.Activation.{Activation, activations, numbered, parent_of, procedure_of}
+use Rattle.md_trace.specs.Activation.{activations, numbered, parent_of, procedure_of}
 use Rattle.md_trace.specs.PortHistory.{SiteTable, CallSite, IsSiteTable, MayCallAt, MayCall, current, has_exited, MayFollow, IsPortHistory}
-use Rattle.md_trace.specs.Context.{Link, Placed, chain, place, link_of, with_placed, placed, placed_of, current_chain}
+use Rattle.md_trace.specs.Context.{Placed, chain, place, link_of, placed_of, current_chain}
 use Rattle.std.proofs.lemmas.Option.{get_or_from_slice_get}
 use Rattle.md_trace.proofs.Lists.{get-within}
-use Rattle.md_trace.proofs.Numbered.{numbered-new, numbered-more, numbered-below, numbered-either, numbered-there}
+use Rattle.md_trace.proofs.Numbered.{numbered-there}
 use Rattle.md_trace.proofs.Placing.{length-placed, parent_of-placed}
-use Rattle.md_trace.proofs.Chains.{IsBelow, AreParentsBelow, below-more, parent-below, chain-new, chain-more, chain-unfold}
+use Rattle.md_trace.proofs.Chains.{IsBelow, AreParentsBelow, below-more, parent-below, chain-new, chain-unfold}
 
 -- parents are earlier, and the current activation and those that have exited were called
 pub record IsOrderly (m : ℕ) (h : List Event) : Type 0 where

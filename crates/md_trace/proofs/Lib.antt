@@ -1,5 +1,6 @@
 pub mod Balanced
 pub mod Chains
+pub mod ContextBalance
 pub mod CounterSteps
 pub mod Counting
 pub mod Finds

@@ -1,19 +1,19 @@
 -- What the three rules of contexts give: each link has one number and one end, and each context one procedure.
-use Rattle.std.proofs.Common.{ℕ, zero, suc, ◌+◌, ◌≡◌, ◌≢◌, ◌<◌, ◌≤◌, ◌⊎◌, inl, inr, Bool, true, false, cond, eqb, List, [], ◌∷◌, ◌++◌, length, find, MatchOption, IsSomeAnd, Option, Some, None, unwrap_or, slice_get, refl, sym, ap, ◌∙◌, subst, arith}
+use Rattle.std.proofs.Common.{ℕ, zero, suc, ◌≡◌, ◌<◌, ◌≤◌, ◌⊎◌, inl, inr, true, false, eqb, List, [], ◌∷◌, ◌++◌, length, find, MatchOption, IsSomeAnd, Option, Some, None, unwrap_or, slice_get, refl, sym, ap, ◌∙◌, subst, arith}
 use Rattle.std.specs.Option.{option_map}
 use Rattle.std.proofs.lemmas.List.{length-append}
-use Rattle.std.proofs.lemmas.Bool.{false≢true, cases_Bool, or_cases, or_parts, eq-eqb, ne_eqb, eqb-true}
+use Rattle.std.proofs.lemmas.Bool.{false≢true, cases_Bool, eq-eqb, eqb-true}
 use Rattle.std.proofs.lemmas.Bool.Decides.{eqb_tells}
 use Rattle.md_trace.specs.declared.event.Event.{Event}
 use Rattle.md_trace.specs.declared.event.Event.TheVariants.{Call, Exit, Redo, Fail, Alloc}
 use Rattle.md_trace.specs.Activation.{Activation, activations, numbered, procedure_of}
 use Rattle.md_trace.specs.PortHistory.{SiteTable, CallSite, MayCallAt, current, MayCall, IsPortHistory}
-use Rattle.md_trace.specs.Context.{Link, Placed, chain, context_of, context_at, contexts, has_link, has_procedure, same_link, link_of, place, with_placed, placed, placed_of}
-use Rattle.md_trace.specs.Links.{Leading, root_link, is_among, links, IsNumberOf}
+use Rattle.md_trace.specs.Context.{Link, Placed, chain, context_at, contexts, has_link, has_procedure, same_link, link_of, place, placed, placed_of}
+use Rattle.md_trace.specs.Links.{Leading, root_link, is_among, links}
 use Rattle.md_trace.proofs.Chains.{IsBelow}
-use Rattle.md_trace.proofs.Finds.{find-passes, find-there, find-none, chain-there, same-link-true, same-link-refl, same-link-tells}
-use Rattle.md_trace.proofs.Histories.{IsOrderly, orderly}
-use Rattle.md_trace.proofs.Lists.{get-push-old, get-push-new, get-push-either, get-within, get-there}
+use Rattle.md_trace.proofs.Finds.{find-passes, find-there, find-none, chain-there, same-link-true, same-link-refl}
+use Rattle.md_trace.proofs.Histories.{orderly}
+use Rattle.md_trace.proofs.Lists.{get-push-old, get-push-new, get-push-either, get-within}
 use Rattle.md_trace.proofs.Numbered.{numbered-new, numbered-more, numbered-below, numbered-either, numbered-there}
 use Rattle.md_trace.proofs.Placing.{length-placed, numbered-placed}
 

@@ -1,14 +1,14 @@
 -- No chain of a history is longer than its longest current chain.
-use Rattle.std.proofs.Common.{ℕ, ◌≡◌, ◌<◌, ◌≤◌, ◌⊎◌, inl, inr, List, [], ◌∷◌, length, Option, Some, None, max, refl, sym, ap, ◌∙◌, subst, arith}
+use Rattle.std.proofs.Common.{ℕ, ◌≡◌, ◌<◌, ◌≤◌, inl, inr, List, [], ◌∷◌, length, Some, ap, arith}
 use Rattle.std.proofs.lemmas.Bool.{cases_eq}
 use Rattle.md_trace.specs.declared.event.Event.{Event}
 use Rattle.md_trace.specs.declared.event.Event.TheVariants.{Call, Exit, Redo, Fail, Alloc}
 use Rattle.md_trace.specs.Activation.{activations}
-use Rattle.md_trace.specs.PortHistory.{SiteTable, current, IsPortHistory}
+use Rattle.md_trace.specs.PortHistory.{SiteTable, IsPortHistory}
 use Rattle.md_trace.specs.Context.{chain, placed_of, current_chain}
 use Rattle.md_trace.specs.Counted.{longest}
 use Rattle.md_trace.proofs.Placing.{length-placed}
-use Rattle.md_trace.proofs.Chains.{chain-more, chain-none}
+use Rattle.md_trace.proofs.Chains.{chain-more}
 use Rattle.md_trace.proofs.Setwise.{newest}
 
 pub chain-longest : (t : SiteTable) (m : ℕ) (h : List Event) (a : ℕ) → IsPortHistory t h → a < length (activations h) → length (chain (placed_of m h) (Some a)) ≤ longest m h

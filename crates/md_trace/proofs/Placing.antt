@@ -1,10 +1,7 @@
 -- An activation in its context is the same activation.
-use Rattle.std.proofs.Common.{ℕ, suc, ◌≡◌, ◌<◌, ◌≤◌, ◌⊎◌, inl, inr, List, [], ◌∷◌, length, Option, Some, None, refl, sym, ap, ◌∙◌, subst, arith}
-use Rattle.std.specs.Option.{option_map, option_and_then}
-use Rattle.std.proofs.lemmas.Bool.{eq-eqb}
-use Rattle.std.proofs.lemmas.Bool.Decides.{eqb_tells}
+use Rattle.std.proofs.Common.{ℕ, suc, ◌≡◌, inl, inr, List, [], ◌∷◌, length, Some, refl, sym, ap, ◌∙◌, subst, arith}
 use Rattle.md_trace.specs.Activation.{Activation, numbered, parent_of, procedure_of}
-use Rattle.md_trace.specs.Context.{Link, Placed, chain, place, link_of, with_placed, placed, context_at}
+use Rattle.md_trace.specs.Context.{Placed, place, link_of, placed}
 use Rattle.md_trace.proofs.Numbered.{numbered-new, numbered-more, numbered-below, numbered-either, numbered-there}
 
 pub length-placed : (m : ℕ) (xs : List Activation) → length (placed m xs) ≡ length xs

@@ -1,12 +1,11 @@
 -- How each event changes the counts of the activations that pass a test of what they are.
-use Rattle.std.proofs.Common.{ℕ, ◌≡◌, ◌<◌, Bool, true, false, List, [], ◌∷◌, length, Option, Some, None, refl, sym, ap, ◌∙◌, subst, arith}
-use Rattle.md_base.specs.declared.measure.Counts.{Counts}
+use Rattle.std.proofs.Common.{ℕ, ◌≡◌, ◌<◌, Bool, true, false, List, ◌∷◌, length, Option, Some, ap, ◌∙◌, subst, arith}
 use Rattle.md_base.specs.declared.measure.Measure.TheVariants.{Calls, Exits, Fails, Redos, Allocs, Words}
 use Rattle.md_trace.specs.declared.event.Event.{Event}
 use Rattle.md_trace.specs.declared.event.Event.TheVariants.{Call, Exit, Redo, Fail, Alloc}
-use Rattle.md_trace.specs.Activation.{Activation, activations, numbered}
-use Rattle.md_trace.specs.PortHistory.{SiteTable, MayFollow, IsPortHistory}
-use Rattle.md_trace.specs.Context.{Link, Placed, place, link_of, placed_of}
+use Rattle.md_trace.specs.Activation.{activations, numbered}
+use Rattle.md_trace.specs.PortHistory.{SiteTable, IsPortHistory}
+use Rattle.md_trace.specs.Context.{Placed, place, link_of, placed_of}
 use Rattle.md_trace.specs.Count.{passes, passing, with_more, counts_where, set_counts}
 use Rattle.md_trace.proofs.Numbered.{numbered-new, numbered-more}
 use Rattle.md_trace.proofs.Placing.{length-placed}

@@ -3,6 +3,7 @@ use Rattle.std.specs.Prelude.{ℕ, ◌+◌, ◌&&◌, Bool, false, List, [], ◌
 use Rattle.md_base.specs.declared.measure.Counts.{Counts}
 use Rattle.md_base.specs.declared.measure.Measure.{Measure}
 use Rattle.md_base.specs.declared.measure.Measure.TheVariants.{Calls, Exits, Fails, Redos, Allocs, Words}
+pub use Rattle.md_base.specs.Counts.{count_of, with_more}
 use Rattle.md_trace.specs.declared.event.Event.{Event}
 use Rattle.md_trace.specs.declared.event.Event.TheVariants.{Call, Exit, Redo, Fail, Alloc}
 use Rattle.md_trace.specs.Activation.{numbered}
@@ -55,27 +56,9 @@ abbrev pub count_over : ℕ → List Event → (ℕ → Bool) → Measure → �
 count_over main h test m =
     sum_by (λ l. capped (sum_where (λ a. test a && passing (placed_of main h) (has_link l.link) a) m h)) (links main (placed_of main h))
 
--- the count of one measure
-abbrev pub count_of : Counts → Measure → ℕ
-count_of c Calls = c.calls
-count_of c Exits = c.exits
-count_of c Fails = c.fails
-count_of c Redos = c.redos
-count_of c Allocs = c.allocs
-count_of c Words = c.words
-
 -- six counts, each given by its measure
 abbrev pub counts_by : (Measure → ℕ) → Counts
 counts_by f = record { calls = f Calls; exits = f Exits; fails = f Fails; redos = f Redos; allocs = f Allocs; words = f Words }
-
--- some more on one measure, up to the greatest number
-abbrev pub with_more : Counts → Measure → ℕ → Counts
-with_more c Calls n = record c { calls = capped (c.calls + n) }
-with_more c Exits n = record c { exits = capped (c.exits + n) }
-with_more c Fails n = record c { fails = capped (c.fails + n) }
-with_more c Redos n = record c { redos = capped (c.redos + n) }
-with_more c Allocs n = record c { allocs = capped (c.allocs + n) }
-with_more c Words n = record c { words = capped (c.words + n) }
 
 -- the counts of the activations that pass a test of their numbers, each up to the greatest number
 abbrev pub counts_where : (ℕ → Bool) → List Event → Counts

@@ -4,7 +4,7 @@ use Rattle.md_base.specs.declared.measure.Counts.{Counts}
 use Rattle.md_base.specs.declared.measure.Measure.{Measure}
 use Rattle.md_trace.specs.declared.event.Event.{Event}
 use Rattle.md_trace.specs.PortHistory.{SiteTable, IsPortHistory}
-use Rattle.md_trace.specs.Context.{Placed, has_procedure, current_chain}
+use Rattle.md_trace.specs.Context.{has_procedure, current_chain}
 use Rattle.md_trace.specs.Count.{set_counts, with_more}
 
 -- the own counts of each procedure by number, the procedures of the current chain, the latest last, and for how many

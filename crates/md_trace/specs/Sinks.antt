@@ -1,6 +1,6 @@
 -- What a sink of port events stands for: port histories over a site table. A sink is asked for the next event by what
 -- the event is after a history, since who calls and who allocates follows from the events so far.
-use Rattle.std.specs.Prelude.{ℕ, ◌≡◌, List, ◌∷◌, length, Option, unwrap_or}
+use Rattle.std.specs.Prelude.{ℕ, List, ◌∷◌, length, Option, unwrap_or}
 use Rattle.md_trace.specs.declared.event.Event.{Event}
 use Rattle.md_trace.specs.declared.event.Event.TheVariants.{Call, Alloc}
 use Rattle.md_trace.specs.Activation.{activations}

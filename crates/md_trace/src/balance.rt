@@ -1,8 +1,13 @@
-// The balance of a finished run, as a law over the definitions.
-ghost use Rattle.md_trace.specs.Balance.{LinksBalance};
+// The balance of a finished run, as laws over the definitions.
+ghost use Rattle.md_trace.specs.Balance.{LinksBalance, ContextsBalance};
 
 /// After a history in which nothing runs any more, each link that is not full has as many calls and redos as exits and
 /// fails. An activation that was cut ends with an exit.
 pub fn links_balance()
     ensures { LinksBalance }
+{}
+
+/// The same of each context none of whose links is full: by its own counts, it was entered as often as it was left.
+pub fn contexts_balance()
+    ensures { ContextsBalance }
 {}

@@ -1,7 +1,6 @@
 // The counter: own counts per procedure, without contexts.
 ghost use Rattle.std.specs.Prelude.{◌≡◌, ◌<◌, ◌≤◌, ◌-◌, ◌∷◌, ◌++◌, [], List, ℕ, length, slice_get, slice_set, Some, IfSome, OnOk, OnErr, IfOk, replicate};
 
-use crate::count::count_up;
 use crate::port_sink::PortSink;
 use md_base::{Counts, Measure, NoMemory, ProcId, SiteId};
 use std::alloc::Global;
@@ -55,7 +54,7 @@ impl Counter {
         requires { p < length self.old.own }
         ensures { CountsUp self.old self.new p measure by }
     {
-        count_up(&mut self.own[p.number() as usize], measure, by);
+        self.own[p.number() as usize].add(measure, by);
     }
 
     /// Puts a procedure at the end of the chain.
@@ -102,6 +101,8 @@ impl PortSink for Counter {
 
     ghost belongs = { λ m t h a. procedure_of (activations h) a ≡ Some m };
 
+    ghost alike = { λ s u. Unit {0} };
+
     fn call(&mut self, _site: Option<SiteId>, callee: ProcId) -> Result<ProcId, NoMemory> {
         self.enter(callee)?;
         self.count(callee, Measure::Calls, 1);
@@ -131,6 +132,10 @@ impl PortSink for Counter {
     }
 
     ghost is_history = { λ s t h p. p.history };
+
+    ghost alike_self = { λ s. tt };
+
+    ghost alike_on = { λ s t u p q. tt };
 
     ghost stays = { λ m t h e a is was. procedure-stays m t h e a is was };
 }

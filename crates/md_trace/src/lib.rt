@@ -3,7 +3,6 @@
 #![tactic(auto)]
 
 mod balance;
-mod count;
 mod counter;
 mod event;
 mod port_sink;
@@ -11,8 +10,7 @@ mod silent;
 #[cfg(test)]
 mod tests;
 
-pub use balance::links_balance;
-pub use count::count_up;
+pub use balance::{contexts_balance, links_balance};
 pub use counter::Counter;
 pub use event::Event;
 pub use port_sink::PortSink;

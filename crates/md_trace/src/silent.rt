@@ -17,6 +17,8 @@ impl PortSink for Silent {
 
     ghost belongs = { λ m t h a. Unit {0} };
 
+    ghost alike = { λ s u. Unit {0} };
+
     fn call(&mut self, _site: Option<SiteId>, _callee: ProcId) -> Result<(), NoMemory> {
         Ok(())
     }
@@ -30,6 +32,10 @@ impl PortSink for Silent {
     fn alloc(&mut self, _words: u32) {}
 
     ghost is_history = { λ s t h p. p };
+
+    ghost alike_self = { λ s. tt };
+
+    ghost alike_on = { λ s t u p q. tt };
 
     ghost stays = { λ m t h e a p b. tt };
 }

@@ -1,5 +1,4 @@
-use Rattle.std.proofs.Common.{◌≢◌, All, slice_get}
-use Rattle.md_dynamic.specs.Rows.{list_in, link_in}
+use Rattle.std.proofs.Common.{slice_get}
 use Rattle.md_closure.proofs.Fresh.{fresh-from}
 use Rattle.md_closure.proofs.callees.find_or_add.Goals as goal
 

@@ -1,4 +1,4 @@
-use Rattle.std.proofs.Common.{◌≡◌, ◌<◌, true, ℕ, Some, List, Bool, slice_get, length, sym, ◌∙◌, ap, subst, arith}
+use Rattle.std.proofs.Common.{◌≡◌, ◌<◌, true, ℕ, Some, List, Bool, slice_get, length, ◌∙◌, ap, arith}
 use Rattle.std.proofs.lemmas.List.Folds.{Any-from_list_any, list_any-from_Any}
 use Rattle.std.specs.List.{list_any}
 use Rattle.md_dynamic.specs.Valid.{leads_down}

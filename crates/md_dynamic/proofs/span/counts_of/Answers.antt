@@ -1,4 +1,4 @@
-use Rattle.std.proofs.Common.{ℕ, ◌+◌, ◌<◌, length, sym, ◌∙◌, subst, List, set, get_or, arith}
+use Rattle.std.proofs.Common.{◌+◌, ◌<◌, ◌∙◌, arith}
 use Rattle.std.proofs.lemmas.List.{length-set}
 use Rattle.md_static.specs.declared.entry.Site.{Site}
 use Rattle.md_dynamic.proofs.SpanSteps.{all-read, counts-more, counts-fit}

@@ -1,4 +1,4 @@
-use Rattle.std.proofs.Common.{ℕ, ◌≡◌, ◌<◌, length, take, slice_get, vec_len, Some}
+use Rattle.std.proofs.Common.{ℕ, ◌≡◌, ◌<◌, length, take, slice_get, Some}
 use Rattle.md_static.specs.Sites.{sites_of}
 use Rattle.md_dynamic.proofs.span.counts_of.Given as goal
 

@@ -1,7 +1,7 @@
 use Rattle.std.proofs.Common.{arith, ◌∙◌, ap, sym, ◌++◌}
 use Rattle.md_hlds.specs.Part.{part_of}
 use Rattle.md_modes.specs.Goals.{variables}
-use Rattle.md_modes.proofs.Counts.{adds_along, adds_after, adds_more, adds_goal, goals_variables, goals_variables-Conj, goals_variables-Disj, variables-If, some_variables}
+use Rattle.md_modes.proofs.Counts.{adds_along, adds_after, adds_goal, goals_variables, goals_variables-Conj, goals_variables-Disj, variables-If, some_variables}
 use Rattle.md_modes.proofs.tally.+goals.Goals as goal
 
 pub add_goal-returns-in-Conj : goal.add_goal-returns-in-Conj

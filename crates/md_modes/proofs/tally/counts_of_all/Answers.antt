@@ -1,7 +1,4 @@
-use Rattle.std.proofs.Common.{◌++◌}
-use Rattle.md_hlds.specs.Part.{part_of}
-use Rattle.md_modes.specs.Goals.{variables}
-use Rattle.md_modes.proofs.Counts.{from_nothing, adds_more, goals_variables}
+use Rattle.md_modes.proofs.Counts.{from_nothing, goals_variables}
 use Rattle.md_modes.proofs.tally.counts_of_all.Goals as goal
 
 pub returns : goal.returns

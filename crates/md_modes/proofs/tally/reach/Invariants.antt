@@ -1,4 +1,4 @@
-use Rattle.std.proofs.Common.{◌≡◌, ◌≤◌, [], length}
+use Rattle.std.proofs.Common.{◌≤◌, [], length}
 use Rattle.md_modes.specs.Tally.{Adds}
 use Rattle.md_modes.proofs.tally.reach.Given as goal
 

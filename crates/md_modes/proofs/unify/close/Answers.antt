@@ -1,8 +1,7 @@
-use Rattle.std.proofs.Common.{arith, sym, ap, ◌≡◌, ◌∙◌, ◌<◌, false, take, drop, length}
+use Rattle.std.proofs.Common.{arith, sym, ap, ◌≡◌, ◌∙◌, ◌<◌, false, length}
 use Rattle.md_hlds.specs.Listing.{args_of, procedure_of}
 use Rattle.md_modes.specs.Known.{known_at, is_bound}
-use Rattle.md_modes.specs.Kinds.{knowledge_of, Leads}
-use Rattle.md_modes.specs.Simple.{capture}
+use Rattle.md_modes.specs.Kinds.{knowledge_of}
 use Rattle.md_modes.proofs.NameLemmas.{length_args_of, args_of_take, args_of_drop}
 use Rattle.md_modes.proofs.Closures.{closed}
 use Rattle.md_modes.proofs.unify.close.Goals as goal
@@ -15,7 +14,7 @@ returns c =
     let items = c.args.pred.now.args.items in
     let few : length c.args.places.now < length (args_of items) = omega (arith, c.arity.ensures, ap (λ args. length (args_of args)) c.as_slice-args.ensures.value) in
     let unbound : is_bound (known_at (knowledge_of c.args.marks.now.items) c.args.x) ≡ false =
-        rw (← c.deref.ensures.value, ← c.mark_at.ensures) (sym c.is_bound.ensures ∙ c.if-is_bound.false) in
+    rw (← c.deref.ensures.value, ← c.mark_at.ensures) (sym c.is_bound.ensures ∙ c.if-is_bound.false) in
     closed c.capture.result (knowledge_of c.capture.new.marks.items) c.args.line c.args.x (procedure_of c.args.pred.now) c.args.places.now
     (knowledge_of c.args.marks.now.items) few unbound
     (rw (← args_of_take, ← args_of_drop, ← c.as_slice-args.ensures.value, ← c.split_at.ensures.front, ← c.split_at.ensures.back) c.capture.ensures)

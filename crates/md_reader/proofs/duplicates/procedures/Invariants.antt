@@ -1,5 +1,4 @@
 use Rattle.std.proofs.Common.{◌≡◌, ◌++◌, drop, map}
-use Rattle.std.specs.List.{flat_map}
 use Rattle.md_hlds.specs.Listing.{procedures_of}
 use Rattle.md_reader.specs.Duplicates as spec
 use Rattle.md_reader.specs.Views.{all_declared}

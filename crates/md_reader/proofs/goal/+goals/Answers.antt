@@ -1,9 +1,9 @@
-use Rattle.std.proofs.Common.{rules, arith, ◌≡◌, [], ◌∷◌, ◌++◌, ◌∙◌, ap, sym, refl, length}
+use Rattle.std.proofs.Common.{rules, arith}
 use Rattle.std.proofs.lemmas.Grind.{common_steps}
-use Rattle.md_hlds.specs.Part.{part_of, parts_of, At, Either, gathered}
+use Rattle.md_hlds.specs.Part.{parts_of}
 use Rattle.md_hlds.proofs.Bridge.{parts_of-append, task_of-Disj}
 use Rattle.md_reader.specs.Input.{input_of}
-use Rattle.md_reader.specs.Rules.{conjunction, conjunction_with, within, units, units_from, arms, arms_from, disjunction, choice}
+use Rattle.md_reader.specs.Rules.{within, units_from, arms_from, disjunction}
 use Rattle.md_reader.proofs.Turns.{one_more, no_more}
 use Rattle.md_reader.proofs.Goals.{conjunction_is, within_is}
 use Rattle.md_reader.proofs.goal.+goals.Goals as goal

@@ -1,4 +1,4 @@
-use Rattle.std.proofs.Common.{ℕ, ◌+◌, ◌*◌, ◌-◌, ◌≡◌, []}
+use Rattle.std.proofs.Common.{◌+◌, ◌*◌, ◌-◌, ◌≡◌}
 use Rattle.md_hlds.specs.Part.{parts_of, part_of}
 use Rattle.md_reader.specs.Input.{input_of}
 use Rattle.md_reader.specs.Rules.{units, units_from, arms, arms_from, within}

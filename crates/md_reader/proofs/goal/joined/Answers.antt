@@ -1,5 +1,5 @@
-use Rattle.std.proofs.Common.{◌≡◌, ◌≢◌, arith, refl, length, sym, ap, ◌∙◌}
-use Rattle.md_hlds.specs.Part.{At, Each, gathered, parts_of, task_of}
+use Rattle.std.proofs.Common.{◌≡◌, ◌≢◌, length, sym, ap, ◌∙◌}
+use Rattle.md_hlds.specs.Part.{At, parts_of}
 use Rattle.md_hlds.proofs.Bridge.{task_of-Conj}
 use Rattle.md_reader.specs.Rules.{first_line}
 use Rattle.md_reader.proofs.Goals.{joined_many}

@@ -1,9 +1,8 @@
-use Rattle.std.proofs.Common.{rules, arith, ◌≡◌, Ok, ap, sym, ◌∙◌, refl}
-use Rattle.std.proofs.lemmas.Grind.{common_steps}
-use Rattle.md_hlds.specs.Listing.{Listing, listing_of, family_of}
+use Rattle.std.proofs.Common.{Ok, ap, sym, refl}
+use Rattle.md_hlds.specs.Listing.{Listing}
 use Rattle.md_reader.specs.declared.program.Draft.{Draft}
 use Rattle.md_reader.specs.Input.{input_of}
-use Rattle.md_reader.specs.Rules.{declared_family, with_family}
+use Rattle.md_reader.specs.Rules.{declared_family}
 use Rattle.md_reader.proofs.Lists.{with_one_family}
 use Rattle.md_reader.proofs.program.declared_family.Goals as goal
 

@@ -1,9 +1,8 @@
-use Rattle.std.proofs.Common.{rules, arith, ◌≡◌, Ok, ap, sym, ◌∙◌, refl}
-use Rattle.std.proofs.lemmas.Grind.{common_steps}
-use Rattle.md_hlds.specs.Listing.{Listing, listing_of, procedure_of}
+use Rattle.std.proofs.Common.{Ok, ap, sym, refl}
+use Rattle.md_hlds.specs.Listing.{Listing}
 use Rattle.md_reader.specs.declared.program.Draft.{Draft}
 use Rattle.md_reader.specs.Input.{input_of}
-use Rattle.md_reader.specs.Rules.{declared_procedure, with_procedure}
+use Rattle.md_reader.specs.Rules.{declared_procedure}
 use Rattle.md_reader.proofs.Lists.{with_one_procedure}
 use Rattle.md_reader.proofs.program.declared_procedure.Goals as goal
 

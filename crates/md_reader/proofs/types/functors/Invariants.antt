@@ -1,4 +1,4 @@
-use Rattle.std.proofs.Common.{◌≡◌, ◌-◌, []}
+use Rattle.std.proofs.Common.{◌≡◌, ◌-◌}
 use Rattle.md_hlds.specs.Listing.{constructs_of}
 use Rattle.md_reader.specs.Input.{input_of}
 use Rattle.md_reader.specs.Rules as spec

@@ -1,5 +1,3 @@
-use Rattle.std.proofs.Common.{ℕ, ◌<◌, ap, sym, subst}
-use Rattle.md_dynamic.specs.Rows.{Rows, MayLead}
 use Rattle.md_dynamic.proofs.Growth.{rows-callee-there}
 use Rattle.md_dynamic.proofs.tables.Tables.add.Goals as goal
 

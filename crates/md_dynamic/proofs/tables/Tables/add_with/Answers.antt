@@ -1,4 +1,4 @@
-use Rattle.std.proofs.Common.{ℕ, ◌<◌, ◌≡◌, ◌++◌, ◌∷◌, [], List, Option, length, map, slice_get, IsSomeAnd, sym, ap, ◌∙◌, subst, arith}
+use Rattle.std.proofs.Common.{ℕ, ◌<◌, ◌++◌, ◌∷◌, [], List, length, map, slice_get, IsSomeAnd, sym, ap, ◌∙◌, subst, arith}
 use Rattle.md_static.specs.Sites.{sites_of}
 use Rattle.md_dynamic.specs.declared.slot.Slot.{Slot}
 use Rattle.md_dynamic.specs.Fills.{FillsSlot}

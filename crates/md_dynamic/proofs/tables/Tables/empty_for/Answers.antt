@@ -1,4 +1,4 @@
-use Rattle.std.proofs.Common.{ℕ, ◌+◌, ◌<◌, ◌≡◌, List, Result, IfOk, is_ok, if◌then◌else◌, length, take, drop, map, sym, ap, ◌∙◌, subst, arith}
+use Rattle.std.proofs.Common.{◌+◌, ◌<◌, ◌≡◌, List, IfOk, is_ok, if◌then◌else◌, length, take, drop, map, ap, ◌∙◌, subst, arith}
 use Rattle.md_static.specs.declared.entry.Site.{Site}
 use Rattle.md_static.specs.Sites.{sites_of}
 use Rattle.md_dynamic.specs.Rows.{Rows}

@@ -1,4 +1,4 @@
-use Rattle.std.proofs.Common.{◌≡◌, ◌∙◌, sym, ap}
+use Rattle.std.proofs.Common.{◌∙◌, sym, ap}
 use Rattle.md_hlds.specs.Listing.{sort_of}
 use Rattle.md_hlds.proofs.Bridge.{sort_of-Ho}
 use Rattle.md_modes.proofs.kind.Kind.new.Goals as goal

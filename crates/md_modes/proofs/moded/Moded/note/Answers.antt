@@ -8,5 +8,5 @@ use Rattle.md_modes.proofs.moded.Moded.note.Goals as goal
 pub returns : goal.returns
 returns c =
     note_found c.self.inside.notes.items c.args.goal (program_notes (listing_of c.args.self.now)) c.get.result
-        (c.self.invariant.1 ∙ ap (λ (p : Program). program_notes (listing_of p)) c.self.view_is)
-        (rw (c.deref.ensures.value) at c.get.ensures.lookup)
+    (c.self.invariant.1 ∙ ap (λ (p : Program). program_notes (listing_of p)) c.self.view_is)
+    (rw (c.deref.ensures.value) at c.get.ensures.lookup)

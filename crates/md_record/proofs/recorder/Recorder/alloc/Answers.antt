@@ -1,10 +1,9 @@
-use Rattle.std.proofs.Common.{ℕ, ◌-◌, ◌<◌, ◌≡◌, List, Option, Some, None, length, unwrap_or, slice_get, sym, ap, ◌∙◌, subst, arith}
-use Rattle.md_base.specs.declared.measure.Measure.TheVariants.{Allocs, Words}
-use Rattle.md_trace.proofs.Lists.{get-within}
+use Rattle.std.proofs.Common.{ℕ, ◌-◌, ◌<◌, ◌≡◌, Some, length, unwrap_or, slice_get, sym, ap, ◌∙◌, subst, arith}
+use Rattle.md_base.specs.declared.measure.Measure.TheVariants.{Allocs}
 use Rattle.md_trace.specs.PortHistory.{current}
 use Rattle.md_dynamic.specs.Rows.{Rows}
 use Rattle.md_record.specs.Kept.{Kept}
-use Rattle.md_record.proofs.Events.{RunsAt, runs-at, kept-alloc}
+use Rattle.md_record.proofs.Events.{runs-at, kept-alloc}
 use Rattle.md_record.proofs.RowSteps.{CountsLink}
 use Rattle.md_record.proofs.Uses.{latest-there, count-frame}
 use Rattle.md_record.proofs.recorder.Recorder.alloc.Goals as goal

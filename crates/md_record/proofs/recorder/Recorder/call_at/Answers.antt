@@ -1,19 +1,15 @@
-use Rattle.std.proofs.Common.{ℕ, ◌+◌, ◌-◌, ◌<◌, ◌≤◌, ◌≡◌, List, [], ◌∷◌, ◌++◌, Option, Some, length, slice_get, sym, ap, ◌∙◌, subst, arith}
-use Rattle.std.specs.Option.{option_map}
-use Rattle.std.proofs.lemmas.List.{length-append}
-use Rattle.md_trace.specs.Activation.{activations}
-use Rattle.md_trace.specs.PortHistory.{current}
+use Rattle.std.proofs.Common.{◌+◌, ◌<◌, ◌≤◌, ◌≡◌, [], ◌∷◌, ◌++◌, Some, length, slice_get, sym, ap, ◌∙◌, subst, arith}
 use Rattle.md_trace.proofs.Lists.{get-within}
-use Rattle.md_dynamic.specs.declared.link.LinkRow.{LinkRow}
-use Rattle.md_dynamic.specs.Rows.{Rows, Owns, MayLead}
-use Rattle.md_record.specs.Kept.{Kept}
+use Rattle.md_dynamic.specs.Rows.{Rows, Owns, MayLead, IsFresh}
+use Rattle.md_record.specs.Kept.{Kept, Stands}
+use Rattle.md_record.specs.Memory.{TakesMemory}
 use Rattle.md_record.specs.Leads.{LeadsBy, LinksThere}
 use Rattle.md_record.proofs.Added.{links-fit}
 use Rattle.md_record.proofs.CallCosts.{site-cost}
-use Rattle.md_record.proofs.Callings.{Calling, calling, calling-owns, calling-leads, calling-links, chain-some, outcome}
-use Rattle.md_record.proofs.Calls.{Shows, stands-call, marks-call}
+use Rattle.md_record.proofs.Callings.{calling, calling-owns, calling-leads, calling-links, chain-some, outcome}
+use Rattle.md_record.proofs.Calls.{stands-call, marks-call}
 use Rattle.md_record.proofs.Finishing.{due-of, end-from, shows-end}
-use Rattle.md_record.proofs.Uses.{PointerUse}
+use Rattle.md_record.proofs.Room.{full-chain, missing-link, on-err}
 use Rattle.md_record.proofs.recorder.Recorder.call_at.Goals as goal
 
 pub current-node-requires : goal.current-node-requires
@@ -152,3 +148,18 @@ returns-clause-cost g c =
     let k2 : Kept = record { rows = c.set_active.new.self; chain = c.push_reserved.new.self.items; room = c.push_reserved.new.self.cap } in
     site-cost k k2 c.self.inside.tables c.lead.new.tables c.current-node.result c.args.site c.args.callee c.in_ok-link.link c.args.steps.now c.active-old.new.steps c.lead.new.steps c.set_active.new.steps
     (ap (λ (z : Kept). z.rows) c.self.view_is) (ap (λ (z : Rows). z.nodes) c.set_active.ensures.value) c.current-node.ensures c.active-old.ensures.cost (omega (arith, c.set_active.ensures.cost, c.end_of-end.ensures.cost)) c.in_ok-link.ensures.cost
+
+pub returns-in_err-reserve-clause-needed : goal.returns-in_err-reserve-clause-needed
+returns-in_err-reserve-clause-needed g c =
+    let k = c.args.self.now in
+    let full : k.room < length k.chain + 1 = omega (arith, c.in_err-reserve.ensures.full, c.self.inside.chain.ok.0, ap (λ (z : Kept). z.room) c.self.view_is, ap (λ (z : Kept). length z.chain) c.self.view_is) in
+    on-err c.from_residual.result (TakesMemory (Stands k) (Some c.args.site) c.args.callee) (λ t h st may at. full-chain t h k (Some c.args.site) c.args.callee st may full at)
+
+pub returns-in_err-link-clause-needed : goal.returns-in_err-link-clause-needed
+returns-in_err-link-clause-needed g c =
+    let k = c.args.self.now in
+    let rows : c.self.inside.tables ≡ k.rows = ap (λ (z : Kept). z.rows) c.self.view_is in
+    let P : Rows → Type 0 = λ z. IsFresh z c.current-node.result c.args.site c.args.callee in
+    let fresh = subst P rows c.in_err-link.ensures.fresh in
+    on-err c.from_residual-in_err-link.result (TakesMemory (Stands k) (Some c.args.site) c.args.callee)
+    (λ t h st may at. missing-link t h k c.args.site c.args.callee c.current-node.result (calling t h k c.args.site c.args.callee c.current-node.result st may c.current-node.ensures) fresh at)

@@ -1,4 +1,4 @@
-use Rattle.std.proofs.Common.{ℕ, ◌+◌, ◌<◌, ◌≤◌, ◌≡◌, List, [], ◌∷◌, ◌++◌, Option, Some, None, length, slice_get, sym, ap, ◌∙◌, subst, arith}
+use Rattle.std.proofs.Common.{ℕ, ◌≤◌, ◌≡◌, [], ◌∷◌, ◌++◌, None, length, slice_get, sym, ap, ◌∙◌, subst, arith}
 use Rattle.std.specs.Option.{option_map}
 use Rattle.md_base.specs.declared.measure.Measure.TheVariants.{Calls}
 use Rattle.md_trace.specs.Activation.{activations}
@@ -7,7 +7,7 @@ use Rattle.md_dynamic.specs.Rows.{Rows}
 use Rattle.md_record.specs.Kept.{Kept}
 use Rattle.md_record.specs.Leads.{CountsOn}
 use Rattle.md_record.specs.Marks.{BelongsTo}
-use Rattle.md_record.proofs.Calls.{the_call, Shows, stands-call, marks-call}
+use Rattle.md_record.proofs.Calls.{the_call, stands-call, marks-call}
 use Rattle.md_record.proofs.First.{main-old, main-pointer, main-shows}
 use Rattle.md_record.proofs.recorder.Recorder.call_main.Goals as goal
 

@@ -1,9 +1,6 @@
-use Rattle.std.proofs.Common.{ℕ, ◌<◌, ◌≡◌, Some, length, slice_get, ◌-◌, unwrap_or, sym, ◌∙◌, subst, ap, arith}
-use Rattle.std.proofs.lemmas.List.{length-set}
-use Rattle.md_base.specs.declared.measure.Counts.{Counts}
+use Rattle.std.proofs.Common.{◌≡◌, Some, unwrap_or, ◌∙◌, ap, arith}
 use Rattle.md_trace.specs.Activation.{activations, procedure_of}
-use Rattle.md_trace.specs.PortHistory.{SiteTable, current}
-use Rattle.md_trace.specs.Counted.{Counted, CountsFor, CountsUp}
+use Rattle.md_trace.specs.PortHistory.{current}
 use Rattle.md_trace.proofs.Histories.{procedure-of-table}
 use Rattle.md_trace.proofs.CounterSteps.{top-is, counter-alloc}
 use Rattle.md_trace.proofs.counter.CounterPortSink.alloc.Goals as goal
@@ -26,16 +23,16 @@ count-requires-in-Some c =
     let same : top.0 ≡ c.in-Some.p = cc (top.2) in
     omega (arith, below, same, r.stood.procedures, c.count.ensures.procedures)
 
-pub returns-in-Some : goal.returns-in-Some
-returns-in-Some c = λ t h for may.
+pub returns-in-Some-clause-taken : goal.returns-in-Some-clause-taken
+returns-in-Some-clause-taken c = λ t h for may.
     let a = unwrap_or (current h) 0 in
     let top = top-is t h c.args.self.now a for may in
     let same : top.0 ≡ c.in-Some.p = cc (top.2) in
     let marked : procedure_of (activations h) a ≡ Some c.in-Some.p = top.1 ∙ ap Some same in
     counter-alloc t h c.args.self.now c.count.new.self c.count-in-Some.new.self a c.in-Some.p c.args.words for marked may c.count.ensures c.count-in-Some.ensures
 
-pub returns-in_default : goal.returns-in_default
-returns-in_default c = λ t h for may.
+pub returns-in_default-clause-taken : goal.returns-in_default-clause-taken
+returns-in_default-clause-taken c = λ t h for may.
     let a = unwrap_or (current h) 0 in
     let top = top-is t h c.args.self.now a for may in
     absurd (cc (top.2, c.in_default.ensures))

@@ -9,6 +9,6 @@ count-requires c =
     let below = procedure-of-table r.table r.history r.activation c.args.mark.now r.stood.history r.owned in
     omega (arith, below, r.stood.procedures)
 
-pub returns : goal.returns
-returns c = λ t h a for marked may.
+pub returns-clause-taken : goal.returns-clause-taken
+returns-clause-taken c = λ t h a for marked may.
     counter-fail t h c.args.self.now c.count.new.self c.leave.new.self a c.args.mark.now for marked may c.count.ensures c.leave.ensures

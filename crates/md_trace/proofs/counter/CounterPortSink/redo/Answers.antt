@@ -14,6 +14,6 @@ count-requires c =
     let below = procedure-of-table r.table r.history r.activation c.args.mark.now r.stood.history r.owned in
     omega (arith, below, r.stood.procedures, ap length c.enter_again.ensures.own)
 
-pub returns : goal.returns
-returns c = λ t h a for marked may.
+pub returns-clause-taken : goal.returns-clause-taken
+returns-clause-taken c = λ t h a for marked may.
     counter-redo t h c.args.self.now c.enter_again.new.self c.count.new.self a c.args.mark.now for marked may c.enter_again.ensures c.count.ensures

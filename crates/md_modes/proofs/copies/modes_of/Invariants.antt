@@ -1,0 +1,7 @@
+use Rattle.std.proofs.Common.{◌≡◌, ◌++◌, drop}
+use Rattle.md_hlds.specs.Listing.{args_of}
+use Rattle.md_modes.specs.Simple.{modes_of}
+use Rattle.md_modes.proofs.copies.modes_of.Given as goal
+
+abbrev pub invariant-loop-arg : goal.invariant-loop-arg
+invariant-loop-arg l = l.modes.items ++ modes_of (args_of (drop l.arg-index l.args)) ≡ modes_of (args_of l.args)

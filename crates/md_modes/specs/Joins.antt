@@ -1,0 +1,39 @@
+-- The arms of a branch that were checked so far, as the code keeps them.
+use Rattle.std.specs.Prelude.{◌≡◌, ◌≢◌, ⊤, ℕ, Bool, true, false, List, [], ◌∷◌, length, get_or, Option, Some, None, Result, Ok, Err, Vec}
+use Rattle.md_modes.specs.declared.fault.ModeFault.{ModeFault}
+use Rattle.md_modes.specs.declared.fault.ModeFault.TheVariants.{NoMemory}
+use Rattle.std.specs.declared.alloc.Global.{Global}
+use Rattle.md_modes.specs.declared.mark.Mark.{Mark}
+use Rattle.md_modes.specs.declared.joined.Joined.{Joined}
+use Rattle.md_modes.specs.declared.arms.Arms.{Arms}
+use Rattle.md_modes.specs.Verdict.{Verdict}
+use Rattle.md_modes.specs.Known.{Knowledge, known_at}
+use Rattle.md_modes.specs.Branches.{After, after, all_have, some_unlike, some_differ, reachable}
+use Rattle.md_modes.specs.Kinds.{knowledge_of}
+
+-- of arms that began with `s`, the first ends with `r` and the others with `qs`
+pub record Joins (p : ℕ → Bool) (s : Knowledge) (j : Joined) (r : Knowledge) (qs : List Knowledge) : Type 0 where
+  pub first : knowledge_of j.first.items ≡ r
+  pub common : knowledge_of j.common.items ≡ all_have r qs
+  pub room : length j.unlike.items ≡ length j.first.items
+  pub unlike : (x : ℕ) → get_or j.unlike.items x false ≡ some_unlike (known_at r x) x qs
+  pub differ : j.differ ≡ some_differ p s r qs
+
+abbrev pub IsJoin : (ℕ → Bool) → Knowledge → Option Joined → List Knowledge → Type 0
+IsJoin p s None [] = ⊤
+IsJoin p s (Some j) (r ∷ qs) = Joins p s j r qs
+IsJoin p s j rs = ⊥
+
+-- the arms that were checked so far end so
+pub record Ends (p : ℕ → Bool) (arms : Arms) (ends : List After) : Type 0 where
+  pub joined : IsJoin p (knowledge_of arms.before.items) arms.joined (reachable ends)
+
+-- whether the place after a goal is reachable, and what is known there, are those of the definition, unless memory is refused
+abbrev pub Reaches : Result Bool ModeFault → Knowledge → Verdict After → Type 0
+Reaches (Ok reach) s v = v ≡ Ok (after s reach)
+Reaches (Err e) s v = e ≢ NoMemory → v ≡ Err e
+
+-- the same of what is known after a branch whose end is reachable
+abbrev pub IsJoined : Result (Vec Mark Global) ModeFault → Verdict After → Type 0
+IsJoined (Ok marks) v = v ≡ Ok (after (knowledge_of marks.items) true)
+IsJoined (Err e) v = e ≢ NoMemory → v ≡ Err e

@@ -1,0 +1,15 @@
+// A clause with how often each of its variables occurs.
+ghost use Rattle.md_hlds.specs.Listing.{procedure_of};
+ghost use Rattle.md_modes.specs.Goals.{clause_variables};
+ghost use Rattle.md_modes.specs.Tally.{AreCounts};
+
+use md_hlds::{Pred, Program};
+
+/// A clause of a program, with how often each of its variables occurs.
+#[derive(Drop)]
+pub struct Clause<'a> {
+    pub program: &'a Program,
+    pub pred: &'a Pred,
+    pub counts: Vec<u64>,
+    pub ghost counted: { AreCounts counts.items (clause_variables (procedure_of pred.now)) },
+}

@@ -1,0 +1,10 @@
+pub mod AgainGoals
+pub mod AgainParts
+pub mod AgainPrograms
+pub mod AgainTypes
+pub mod Moves
+pub mod Onto
+pub mod Takes
+pub mod Unlined
+pub mod Views
+pub mod Worked

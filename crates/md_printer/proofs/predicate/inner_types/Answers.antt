@@ -1,0 +1,10 @@
+use Rattle.std.proofs.Common.{rules, arith}
+use Rattle.std.proofs.lemmas.Grind.{common_steps}
+use Rattle.md_printer.specs.Layout.{laid}
+use Rattle.md_printer.proofs.Views.{inner_types-Ho}
+use Rattle.md_printer.proofs.predicate.inner_types.Goals as goal
+
+pub returns-in_ok-type_words-in-Ho : goal.returns-in_ok-type_words-in-Ho
+unfolding laid
+returns-in_ok-type_words-in-Ho c =
+    rw (inner_types-Ho c.args.ty.now c.in-Ho.higher c.deref.result.now c.in-Ho.is c.deref.ensures.value) (grind (arith, common_steps))

@@ -1,0 +1,3 @@
+// Profiles of recorded runs, against counts taken by hand.
+mod programs;
+mod worked;
