@@ -7,7 +7,7 @@ use Rattle.md_hlds.specs.declared.goal.Term.{Term}
 use Rattle.md_hlds.specs.declared.goal.Term.TheVariants.{Var, Int, Str, Name}
 use Rattle.md_hlds.specs.declared.goal.PredName.{PredName}
 use Rattle.md_hlds.specs.Part.{Simple, Succeeds, Fails, Unifies, Computes, Compares, WritesInt, WritesText, EndsLine, Part, At, Task, Plain, Invoke, Apply, Each, Either, Choose, Unless, Once, Parts, nothing, also}
-use Rattle.md_hlds.specs.Listing.{Sort, number, text, world, named, closure, Construct, Family, Procedure, Listing, procedure_called, has_construct, has_functor, is_functor, unqualified_functor}
+use Rattle.md_hlds.specs.Listing.{Sort, closure, Construct, Family, Procedure, Listing, procedure_called, has_construct, has_functor, is_functor, unqualified_functor}
 use Rattle.md_hlds.specs.Switch.{Key, IntKey, TextKey, FunctorKey, term_key, variable_key, goal_key, arm_key, keys_of, all_different, if_different, switch_on, switch_shape}
 use Rattle.md_modes.specs.Known.{Known, free, has, Knowledge, known_at, is_bound}
 use Rattle.md_modes.specs.Named.{Functor, functor_among, functor_of, functor_called, or_else as or_functor, if_unqualified}
@@ -184,11 +184,8 @@ read_plain p at (EndsLine before after) s = refl
 
 read_closure : (k : Known) → read_apply (role_of_closure k) ≡ apply_pair k
 read_closure free = refl
-read_closure (has number used) = refl
-read_closure (has text used) = refl
-read_closure (has world used) = refl
-read_closure (has (named name) used) = refl
 read_closure (has (closure ts ms d) used) = refl
+read_closure (has t used) = refl
 
 -- a judgement, part by part
 own_is : (w w' : Option Switch) (p p' : Pair) (f f' : Option DetFault) (fs fs' : List Finding) → w ≡ w' → p ≡ p' → f ≡ f' → fs ≡ fs'

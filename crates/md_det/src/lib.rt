@@ -15,7 +15,11 @@ mod leaf;
 mod main_predicate;
 mod pair;
 mod predicate;
+#[cfg(test)]
+mod program_tests;
 mod switch;
+#[cfg(test)]
+mod tests;
 
 pub use check::check_det;
 pub use checked::Checked;
