@@ -17,3 +17,4 @@ pub mod Steps
 pub mod Taking
 pub mod Turns
 pub mod Words
+pub mod Worked

@@ -1,0 +1,71 @@
+-- Definitions computed on small texts: what each spells, or its fault, was worked out by hand from the grammar, and `refl`
+-- says that the rules give it.
+use Rattle.std.proofs.Common.{◌≡◌, refl, [], ◌∷◌, Ok, Err, None, negsuc}
+use Rattle.std.specs.Prelude.{codes}
+use Rattle.md_hlds.specs.declared.types.Det.TheVariants.{Det as One}
+use Rattle.md_hlds.specs.declared.goal.Term.TheVariants.{Int}
+use Rattle.md_hlds.specs.Part.{At, Plain, Unifies, Invoke, Each, gathered}
+use Rattle.md_hlds.specs.Listing.{Listing}
+use Rattle.md_token.specs.Kinds.{same_kind}
+use Rattle.md_token.specs.Token as token
+use Rattle.md_token.specs.Literal as number
+use Rattle.md_reader.specs.declared.refused.Refusal.TheVariants as refusal
+use Rattle.md_reader.specs.declared.refused.Refused.TheVariants as refused
+use Rattle.md_reader.specs.Input as input
+use Rattle.md_reader.specs.Rules as rule
+use Rattle.md_reader.specs.Duplicates as twice
+use Rattle.md_reader.specs.Grammar.{Spells, Repeats}
+use Rattle.md_reader.specs.Faults.{IsAtFault}
+use Rattle.md_reader.specs.Reading.{reading}
+use Rattle.md_reader.proofs.SoundPrograms.{reading_sound, reading_repeats}
+use Rattle.md_reader.proofs.FaultTexts.{at_fault}
+
+-- the program without types and predicates
+abbrev empty : Listing
+empty = record { module_name = codes "t"; module_line = 2; types = []; procedures = [] }
+
+empty_read : reading (codes "\n:- module t.") ≡ Ok empty
+unfolding reading same_kind token.tokens_of token.front_at token.token_at token.name_at token.word_kind token.sign_at token.colon_at token.single_at input.token input.sees input.next input.expect input.take_name input.word rule.module_name rule.heading rule.declarations rule.declarations_from rule.program twice.duplicate twice.second_family twice.second_construct twice.second_procedure
+empty_read = refl
+
+pub spells_the_empty_program : Spells (codes "\n:- module t.") empty
+spells_the_empty_program = reading_sound (codes "\n:- module t.") empty empty_read
+
+-- a conjunction with an integer, and a call by the own module's name
+abbrev loops : Listing
+loops = record {
+  module_name = codes "t";
+  module_line = 1;
+  types = [];
+  procedures = record {
+    qualifier = None;
+    name = codes "p";
+    line = 2;
+    clause_line = 3;
+    args = [];
+    det = One;
+    vars = codes "X" ∷ [];
+    head = [];
+    body = At 3 (Each (gathered (At 3 (Plain (Unifies 0 (Int (negsuc 4)))) ∷ At 4 (Invoke 0 (record { qualifier = None; name = codes "p" }) []) ∷ [])));
+  } ∷ [];
+}
+
+loops_read : reading (codes ":- module t.\n:- pred p is det.\np :- X = -5,\n( t.p ).") ≡ Ok loops
+unfolding reading same_kind token.tokens_of token.front_at token.token_at token.name_at token.word_kind token.sign_at token.colon_at token.single_at input.token input.sees input.next input.expect input.take_name input.word rule.module_name rule.heading rule.declarations rule.declarations_from rule.program twice.duplicate twice.second_family twice.second_construct twice.second_procedure token.variable_at token.dash_at number.number_of number.meaning input.after input.name input.variable input.with_variable input.end_clause input.site input.place rule.qualified rule.written rule.pred_name rule.declared_name rule.this_name rule.variables_from rule.arguments rule.negated rule.second rule.application rule.call rule.relation rule.unit rule.units_from rule.units rule.conjunction rule.within rule.determinism rule.declared_arguments rule.head rule.declared_determinism rule.declaration rule.body rule.clause rule.procedure_from rule.procedure rule.with_procedure rule.declared_procedure rule.declared rule.open_goal rule.group
+loops_read = refl
+
+pub spells_a_conjunction : Spells (codes ":- module t.\n:- pred p is det.\np :- X = -5,\n( t.p ).") loops
+spells_a_conjunction = reading_sound (codes ":- module t.\n:- pred p is det.\np :- X = -5,\n( t.p ).") loops loops_read
+
+-- a type that is declared a second time
+twice_read : reading (codes ":- module t.\n:- type a ---> b.\n:- type a ---> c.") ≡ Err (refused.Duplicate 3)
+unfolding reading same_kind token.tokens_of token.front_at token.token_at token.name_at token.word_kind token.sign_at token.colon_at token.single_at input.token input.sees input.next input.expect input.take_name input.word rule.module_name rule.heading rule.declarations rule.declarations_from rule.program twice.duplicate twice.second_family twice.second_construct twice.second_procedure token.dash_at input.after input.name input.place rule.functor_arguments rule.functor rule.functors_from rule.functors rule.type_name rule.family rule.with_family rule.declared_family rule.declared
+twice_read = refl
+
+pub repeats_a_type : Repeats (codes ":- module t.\n:- type a ---> b.\n:- type a ---> c.") 3
+repeats_a_type = reading_repeats (codes ":- module t.\n:- type a ---> b.\n:- type a ---> c.") 3 twice_read
+
+-- a name where a declaration may begin
+pub a_name_is_at_fault : IsAtFault (codes ":- module t.\np") 2
+unfolding same_kind token.tokens_of token.front_at token.token_at token.name_at token.word_kind token.sign_at token.colon_at token.single_at input.token input.sees input.next input.expect input.take_name input.word rule.module_name rule.heading rule.declarations rule.declarations_from rule.program rule.declared input.place
+a_name_is_at_fault = at_fault (codes ":- module t.\np") (refusal.Syntax (record { line = 2; left = 2 })) refl
