@@ -15,6 +15,8 @@ mod leaf;
 mod main_predicate;
 mod pair;
 mod predicate;
+#[cfg(test)]
+mod program_tests;
 mod switch;
 #[cfg(test)]
 mod tests;
