@@ -1,9 +1,9 @@
 -- The goals of a vector inside a goal, as arms and as the parts of a conjunction.
-use Rattle.std.proofs.Common.{◌≡◌, refl, sym, ap, ◌∙◌, ℕ, List, [], ◌∷◌, length, Option, Some, None, Vec, get_or, drop, slice_get}
+use Rattle.std.proofs.Common.{◌≡◌, refl, ap, ◌∙◌, ℕ, List, [], ◌∷◌, Option, Some, None, Vec, slice_get}
 use Rattle.std.specs.declared.alloc.Global.{Global}
 use Rattle.md_hlds.specs.declared.goal.Goal.{Goal}
-use Rattle.md_hlds.specs.declared.goal.GoalKind.{GoalKind, Conj, Disj}
-use Rattle.md_hlds.specs.Part.{Part, At, Each, gathered, part_of, parts_of, task_of}
+use Rattle.md_hlds.specs.declared.goal.GoalKind.{Conj}
+use Rattle.md_hlds.specs.Part.{At, Each, gathered, part_of, parts_of, task_of}
 use Rattle.md_hlds.specs.Listing.{Listing}
 use Rattle.md_hlds.specs.Switch.{Key, goal_key, arm_key}
 use Rattle.md_hlds.proofs.Bridge.{task_of-Conj}

@@ -4,7 +4,7 @@ use Rattle.std.specs.Prelude.{is_some}
 use Rattle.std.specs.Str.{bytes_eq}
 use Rattle.md_hlds.specs.declared.program.Functor.{Functor}
 use Rattle.md_hlds.specs.declared.program.TypeDef.{TypeDef}
-use Rattle.md_hlds.specs.Listing.{Construct, Family, construct_of, constructs_of, family_of, has_construct, has_functor}
+use Rattle.md_hlds.specs.Listing.{Construct, Family, constructs_of, family_of, has_construct, has_functor}
 use Rattle.md_names.specs.Named.{construct_among, found_in, functor_found}
 use Rattle.md_det.specs.Switches.{family_with, is_alone}
 

@@ -1,10 +1,10 @@
 -- Judgements of the code: one goal and then others, one arm beside others, and a goal with those within it.
-use Rattle.std.proofs.Common.{◌≡◌, refl, sym, ap, ◌∙◌, subst, arith, ℕ, suc, ◌+◌, ◌<◌, Bool, true, false, cond, ◌&&◌, ◌||◌, List, [], ◌∷◌, ◌++◌, length, length-append, drop, get_or, Option, Some, None, Vec, Box, Result, Ok, Err, append_assoc, slice_set}
-use Rattle.std.specs.Prelude.{is_none, IfOk}
+use Rattle.std.proofs.Common.{◌≡◌, refl, sym, ap, ◌∙◌, subst, ℕ, suc, ◌+◌, ◌<◌, Bool, true, false, ◌&&◌, ◌||◌, List, [], ◌∷◌, ◌++◌, length, length-append, drop, get_or, Option, Some, None, Vec, Box, Result, append_assoc, slice_set}
+use Rattle.std.specs.Prelude.{IfOk}
 use Rattle.std.specs.declared.alloc.Global.{Global}
 use Rattle.md_hlds.specs.declared.goal.Goal.{Goal}
 use Rattle.md_hlds.specs.declared.goal.GoalKind.{GoalKind, Conj, Disj, If}
-use Rattle.md_hlds.specs.Part.{Part, Each, Either, Choose, gathered, part_of, parts_of, task_of}
+use Rattle.md_hlds.specs.Part.{Each, Either, Choose, gathered, part_of, parts_of, task_of}
 use Rattle.md_hlds.proofs.Bridge.{task_of-Conj, task_of-Disj}
 use Rattle.md_det.specs.declared.fault.DetFault.{DetFault}
 use Rattle.md_det.specs.declared.finding.Finding.{Finding}
@@ -14,8 +14,8 @@ use Rattle.md_det.specs.declared.pair.Bound.{Bound}
 use Rattle.md_det.specs.declared.pair.Bound.TheVariants.{Zero, One, Many}
 use Rattle.md_det.specs.declared.pair.Pair.{Pair}
 use Rattle.md_det.specs.Bounds.{product, sum, greatest, is_many}
-use Rattle.md_det.specs.Pairs.{in_turn, alternatives, one_of_two}
-use Rattle.md_det.specs.Judge.{Reading, Judgement, judgement, Found, found, whole, or_else, beside, no_arm, and_then, or_arm, chosen, condition_fault, judge_part, judge_task, judge_each, judge_arms, onto}
+use Rattle.md_det.specs.Pairs.{in_turn, one_of_two}
+use Rattle.md_det.specs.Judge.{Reading, Judgement, judgement, Found, found, whole, or_else, beside, and_then, or_arm, condition_fault, judge_part, judge_task, judge_each, judge_arms, onto}
 use Rattle.md_det.specs.Told.{found_told, found_onto}
 use Rattle.md_det.proofs.KeyLemmas.{parts-step}
 

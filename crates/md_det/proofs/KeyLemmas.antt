@@ -1,20 +1,20 @@
 -- Keys of switches: those of the code and those of the definitions, and lists of them that are pairwise different.
-use Rattle.std.proofs.Common.{◌≡◌, refl, sym, ap, ◌∙◌, subst, arith, ℕ, suc, ◌+◌, ◌<◌, Bool, true, false, cond, not, ◌&&◌, ◌||◌, List, [], ◌∷◌, ◌++◌, length, drop, get_or, Option, Some, None, slice_get, nat_eq, append_assoc, drop-cons, add-one}
+use Rattle.std.proofs.Common.{◌≡◌, refl, sym, ap, ◌∙◌, ℕ, suc, ◌+◌, ◌<◌, Bool, true, false, cond, not, ◌&&◌, ◌||◌, List, [], ◌∷◌, ◌++◌, length, drop, get_or, Option, Some, None, slice_get, nat_eq, append_assoc, drop-cons, add-one}
 use Rattle.std.proofs.lemmas.Cmp.{int_eq_equiv, nat_eq_equiv}
 use Rattle.std.specs.List.{list_any}
 use Rattle.std.specs.Str.{bytes_eq}
 use Rattle.md_hlds.specs.declared.goal.Goal.{Goal}
 use Rattle.md_hlds.specs.declared.program.Functor.{Functor}
 use Rattle.md_hlds.specs.declared.types.Ty.{Ty}
-use Rattle.md_hlds.specs.Listing.{Family, Listing, construct_of, constructs_of, sorts_of}
+use Rattle.md_hlds.specs.Listing.{Listing, construct_of, constructs_of, sorts_of}
 use Rattle.md_hlds.specs.Part.{gathered, part_of, parts_of}
 use Rattle.md_hlds.specs.Switch.{Key, IntKey, TextKey, FunctorKey, same_key, has_key, all_different, if_different, keys_of, prepend_key, arm_key}
 use Rattle.std.specs.Cmp.Lexicographic.{pointwise}
 use Rattle.md_det.specs.declared.key.Key as code
 use Rattle.md_det.specs.declared.key.Key.TheVariants as variant
 use Rattle.md_det.specs.contracts.key.KeyPartialEq.TheImpl.{ghosts}
-use Rattle.md_det.specs.Keys.{key_of_code, keys_told, tested_told, keys_onto}
-use Rattle.md_det.specs.Switches.{key_of, all_have_keys, is_whole, no_functor_missing, family_with}
+use Rattle.md_det.specs.Keys.{key_of_code, keys_told, keys_onto}
+use Rattle.md_det.specs.Switches.{key_of, is_whole, no_functor_missing, family_with}
 
 -- ---- one key and another
 

@@ -1,35 +1,34 @@
 -- What is read off the notes of the mode checks is what the definitions say: by induction on the goal, where the notes from
 -- the goal's number on begin with the goal's own.
-use Rattle.std.proofs.Common.{◌≡◌, refl, sym, ap, ◌∙◌, subst, arith, ℕ, zero, suc, ◌+◌, Bool, true, false, cond, ◌&&◌, ◌||◌, List, [], ◌∷◌, ◌++◌, length, length-append, drop, Option, Some, None, slice_get, append_assoc}
+use Rattle.std.proofs.Common.{◌≡◌, refl, sym, ap, ◌∙◌, arith, ℕ, zero, suc, ◌+◌, Bool, true, false, cond, ◌&&◌, ◌||◌, List, [], ◌∷◌, ◌++◌, length, length-append, drop, Option, Some, None, slice_get, append_assoc}
 use Rattle.std.specs.Prelude.{is_none, is_some, nat_eq}
 use Rattle.std.specs.Str.{bytes_eq}
 use Rattle.md_hlds.specs.declared.goal.Term.{Term}
 use Rattle.md_hlds.specs.declared.goal.Term.TheVariants.{Var, Int, Str, Name}
-use Rattle.md_hlds.specs.declared.goal.PredName.{PredName}
 use Rattle.md_hlds.specs.Part.{Simple, Succeeds, Fails, Unifies, Computes, Compares, WritesInt, WritesText, EndsLine, Part, At, Task, Plain, Invoke, Apply, Each, Either, Choose, Unless, Once, Parts, nothing, also}
-use Rattle.md_hlds.specs.Listing.{Sort, closure, Construct, Family, Procedure, Listing, procedure_called, has_construct, has_functor, is_functor, unqualified_functor}
-use Rattle.md_hlds.specs.Switch.{Key, IntKey, TextKey, FunctorKey, term_key, variable_key, goal_key, arm_key, keys_of, all_different, if_different, switch_on, switch_shape}
+use Rattle.md_hlds.specs.Listing.{Sort, closure, Construct, Family, Procedure, Listing, has_construct, has_functor, is_functor, unqualified_functor}
+use Rattle.md_hlds.specs.Switch.{Key, FunctorKey, term_key, variable_key, goal_key, arm_key, keys_of, all_different, if_different, switch_on}
 use Rattle.md_modes.specs.Known.{Known, free, has, Knowledge, known_at, is_bound}
 use Rattle.md_modes.specs.Named.{Functor, functor_among, functor_of, functor_called, or_else as or_functor, if_unqualified}
 use Rattle.md_modes.specs.Branches.{outside, some_of}
 use Rattle.md_modes.specs.Goals.{Scope, within, variables, goal}
 use Rattle.md_modes.specs.Modes.{entry, scope_of}
-use Rattle.md_modes.specs.Notes.{Role, constructs, closes, takes_apart, assigns, tests, applies, Note, role_of, role_of_unification, role_of_term, role_of_name, role_of_closure, binds, names_state, known_after, notes, inner_notes, each_notes, arm_notes, clause_notes, notes_from, program_notes, bound_places}
+use Rattle.md_modes.specs.Notes.{Role, constructs, closes, takes_apart, assigns, tests, applies, Note, role_of, role_of_unification, role_of_term, role_of_name, role_of_closure, binds, known_after, notes, inner_notes, each_notes, arm_notes, clause_notes, notes_from, program_notes}
 use Rattle.md_modes.specs.Classes.{role_at, role_of_note, binds_at, binds_of_note, state_at, state_of_note}
 use Rattle.md_det.specs.declared.fault.DetFault.{DetFault}
 use Rattle.md_det.specs.declared.fault.DetFault.TheVariants.{ManyInCondition, IoInBacktracking}
 use Rattle.md_det.specs.declared.finding.Finding.{Finding}
 use Rattle.md_det.specs.declared.finding.Switch.{Switch}
 use Rattle.md_det.specs.declared.pair.Bound.{Bound}
-use Rattle.md_det.specs.declared.pair.Bound.TheVariants.{Zero, One, Many}
+use Rattle.md_det.specs.declared.pair.Bound.TheVariants.{One}
 use Rattle.md_det.specs.declared.pair.Pair.{Pair}
 use Rattle.md_det.specs.Bounds.{is_many, product}
-use Rattle.md_det.specs.Pairs.{pair, in_turn, one_of_two, cut, all_alternatives, one_of_all}
+use Rattle.md_det.specs.Pairs.{cut, all_alternatives, one_of_all}
 use Rattle.md_det.specs.Switches.{switch_with, switch_on_known, switch_of, variable_of}
-use Rattle.md_det.specs.Determinism.{sure, unsure, apart_pair, unification_pair, simple_pair, call_pair, apply_pair, sort_pair, disjunction_pair, goal_pair, task_pair, each_pair, arm_pairs}
-use Rattle.md_det.specs.Faults.{fault_if, binds_many, own_faults, goal_faults, inner_faults, each_faults, arm_faults, first_of, state_faults, declared_faults, body_pair, procedure_faults, faults_of, det_fault}
-use Rattle.md_det.specs.Findings.{task_switch, findings, inner_findings, each_findings, arm_findings, findings_from, program_findings}
-use Rattle.md_det.specs.Judge.{Reading, Judgement, judgement, or_else, fault_where, read_simple, read_apply, first_goal, is_apart, shaped, read_switch, beside, no_arm, if_missing, found, whole, io_fault, condition_fault, judge_leaf, and_then, or_arm, chosen, judge_part, judge_task, judge_each, judge_arms, reading_of, state_fault, declared_fault, declared, judge_procedure, and_others, judge_procedures}
+use Rattle.md_det.specs.Determinism.{sure, apart_pair, unification_pair, simple_pair, apply_pair, disjunction_pair, goal_pair, each_pair, arm_pairs}
+use Rattle.md_det.specs.Faults.{fault_if, binds_many, goal_faults, each_faults, arm_faults, first_of, declared_faults, body_pair, procedure_faults, faults_of, det_fault}
+use Rattle.md_det.specs.Findings.{findings, inner_findings, each_findings, arm_findings, findings_from, program_findings}
+use Rattle.md_det.specs.Judge.{Reading, Judgement, judgement, or_else, fault_where, read_simple, read_apply, first_goal, is_apart, shaped, read_switch, beside, no_arm, if_missing, found, whole, io_fault, and_then, or_arm, chosen, judge_part, judge_each, judge_arms, state_fault, declared, judge_procedure, and_others, judge_procedures}
 
 abbrev pub reading : Scope → List Note → Reading
 reading c ns = record { program = c.program; all = c.all; notes = ns }

@@ -3,15 +3,13 @@
 -- give them.
 use Rattle.std.proofs.Common.{◌≡◌, refl, ℕ, true, false, Bool, List, [], ◌∷◌, Option, Some, None, map}
 use Rattle.std.specs.Prelude.{codes}
-use Rattle.md_hlds.specs.declared.types.Mode.{Mode}
 use Rattle.md_hlds.specs.declared.types.Mode.TheVariants.{In, Out, Di, Uo}
 use Rattle.md_hlds.specs.declared.types.Det.{Det}
 use Rattle.md_hlds.specs.declared.types.Det.TheVariants.{Semidet, Multi, Nondet, Failure}
 use Rattle.md_hlds.specs.declared.types.Det.TheVariants.{Det as One}
 use Rattle.md_hlds.specs.Part.{Part}
-use Rattle.md_hlds.specs.Listing.{Listing, Procedure, Family, Sort, number, world, named}
-use Rattle.md_modes.specs.Modes.{mode_fault}
-use Rattle.md_modes.proofs.Worked.{conj, disj, is_int, same, made, call, apply, succeed, fail, choose, unless, some, at_most, write_int, new_line, predicate, main, program, list, list_type, colour_type, functor, type_of, hand_over, hello, count, member, one_member, no_member, closures, loop, picks, code, queens, modules, failing_arm, local}
+use Rattle.md_hlds.specs.Listing.{Listing, Procedure, number, world, named}
+use Rattle.md_modes.proofs.Worked.{conj, disj, is_int, same, made, call, succeed, fail, choose, unless, some, at_most, write_int, new_line, predicate, main, program, list, list_type, colour_type, functor, type_of, hand_over, hello, count, member, one_member, no_member, closures, loop, queens, modules, failing_arm}
 use Rattle.md_det.specs.declared.pair.Bound.TheVariants as bound
 use Rattle.md_det.specs.declared.pair.Pair.{Pair}
 use Rattle.md_det.specs.declared.fault.DetFault.{DetFault}

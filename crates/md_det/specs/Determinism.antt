@@ -1,7 +1,7 @@
 -- The determinism of each goal, by the table of the language.
 use Rattle.std.specs.Prelude.{ℕ, Bool, true, false, ◌&&◌, ◌||◌, List, [], ◌∷◌, length, Option, Some, None, nat_eq}
 use Rattle.md_hlds.specs.declared.goal.Term.{Term}
-use Rattle.md_hlds.specs.declared.goal.Term.TheVariants.{Var, Int, Str, Name}
+use Rattle.md_hlds.specs.declared.goal.Term.TheVariants.{Name}
 use Rattle.md_hlds.specs.Part.{Simple, Succeeds, Fails, Unifies, Computes, Compares, WritesInt, WritesText, EndsLine, Part, At, Task, Plain, Invoke, Apply, Each, Either, Choose, Unless, Once, Parts, nothing, also}
 use Rattle.md_hlds.specs.Listing.{Sort, closure, Procedure, Listing, procedure_called}
 use Rattle.md_modes.specs.Known.{Known, free, has, Knowledge, known_at}

@@ -1,5 +1,5 @@
 -- The judgements of the code as the definitions have them.
-use Rattle.std.specs.Prelude.{ℕ, List, ◌++◌, Option}
+use Rattle.std.specs.Prelude.{List, ◌++◌}
 use Rattle.md_hlds.specs.Listing.{listing_of, procedure_of}
 use Rattle.md_modes.specs.Notes.{program_notes}
 use Rattle.md_det.specs.declared.context.Context.{Context}

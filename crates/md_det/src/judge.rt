@@ -29,6 +29,22 @@ pub struct Found {
     pub fault: Option<DetFault>,
 }
 
+impl Found {
+    /// Of a goal that is no switch.
+    fn plain(pair: Pair, fault: Option<DetFault>) -> Found
+        ensures { result ≡ record { switch = None; pair = pair; fault = fault } }
+    {
+        Found {
+            switch: None,
+            pair,
+            fault,
+        }
+    }
+}
+
+/// Goals have numbers of 32 bits.
+const MOST_GOALS: usize = 4_294_967_290;
+
 /// Judges a goal. Its number is the number of goals so far. `at` is the variable of the switch whose arm it begins; `again`
 /// says that a run may come back to it.
 #[cycle(judging)]
@@ -61,9 +77,6 @@ pub fn judge(
     })
 }
 
-/// Goals have numbers of 32 bits.
-const MOST_GOALS: usize = 4_294_967_290;
-
 /// The same of a goal that has its number, and a place among the findings; only the goals within it add theirs.
 #[cycle(judging)]
 fn judge_kind(
@@ -82,11 +95,7 @@ fn judge_kind(
     match &goal.kind {
         GoalKind::Conj(goals) => {
             let judged = judge_each(context, goals.as_slice(), at, again, findings)?;
-            Ok(Found {
-                switch: None,
-                pair: judged.pair,
-                fault: judged.fault,
-            })
+            Ok(Found::plain(judged.pair, judged.fault))
         }
         GoalKind::Disj(arms) => {
             judge_disjunction(context, arms.as_slice(), number, again, findings)
@@ -96,33 +105,24 @@ fn judge_kind(
             let fault = condition_fault(context, goal.line, number + 1, condition, tested.pair)?;
             let first = judge(context, then, None, again, findings)?;
             let second = judge(context, otherwise, None, again, findings)?;
-            Ok(Found {
-                switch: None,
-                pair: first.pair.or(second.pair),
-                fault: fault.or(tested.fault.or(first.fault.or(second.fault))),
-            })
+            let fault = fault.or(tested.fault.or(first.fault.or(second.fault)));
+            Ok(Found::plain(first.pair.or(second.pair), fault))
         }
         GoalKind::Not(inner) => {
             let judged = judge(context, inner, None, again, findings)?;
-            Ok(Found {
-                switch: None,
-                pair: Pair::UNSURE,
-                fault: io_fault(context, number, again, goal.line).or(judged.fault),
-            })
+            let fault = io_fault(context, number, again, goal.line).or(judged.fault);
+            Ok(Found::plain(Pair::UNSURE, fault))
         }
         GoalKind::Some(_, inner) => {
             let judged = judge(context, inner, None, again, findings)?;
-            Ok(Found {
-                switch: None,
-                pair: judged.pair.cut(),
-                fault: io_fault(context, number, again, goal.line).or(judged.fault),
-            })
+            let fault = io_fault(context, number, again, goal.line).or(judged.fault);
+            Ok(Found::plain(judged.pair.cut(), fault))
         }
-        _ => Ok(Found {
-            switch: None,
-            pair: leaf_pair(context, &goal.kind, number, at),
-            fault: io_fault(context, number, again, goal.line),
-        }),
+        _ => {
+            let pair = leaf_pair(context, &goal.kind, number, at);
+            let fault = io_fault(context, number, again, goal.line);
+            Ok(Found::plain(pair, fault))
+        }
     }
 }
 

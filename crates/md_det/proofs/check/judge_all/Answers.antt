@@ -1,7 +1,7 @@
 use Rattle.std.proofs.Common.{◌≡◌, ◌∙◌, sym, ap, arith, subst, List, append-nil, length, get_or, ◌<◌, ◌≤◌}
 use Rattle.md_hlds.specs.declared.program.Pred.{Pred}
 use Rattle.md_hlds.specs.declared.program.Program.{Program}
-use Rattle.md_hlds.specs.Listing.{listing_of, procedure_of, procedures_of}
+use Rattle.md_hlds.specs.Listing.{listing_of, procedures_of}
 use Rattle.md_modes.specs.Notes.{program_notes}
 use Rattle.md_det.specs.Faults.{det_fault}
 use Rattle.md_det.specs.Judge.{Judgement}

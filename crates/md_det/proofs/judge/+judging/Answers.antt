@@ -19,9 +19,10 @@ judge-returns t c =
 
 pub judge_kind-returns-in_ok-judged-in-Conj : goal.judge_kind-returns-in_ok-judged-in-Conj
 judge_kind-returns-in_ok-judged-in-Conj t c =
-    conj_found (reading_in c.args.context.now) c.args.number c.args.at c.args.again c.args.goal.now.line c.args.goal.now.kind c.in-Conj.goals c.as_slice.result.now
+    rw c.plain.ensures
+    (conj_found (reading_in c.args.context.now) c.args.number c.args.at c.args.again c.args.goal.now.line c.args.goal.now.kind c.in-Conj.goals c.as_slice.result.now
     c.in_ok-judged-in-Conj.judged.pair c.in_ok-judged-in-Conj.judged.fault c.args.findings.now.items c.judge_each.new.findings.items
-    c.in-Conj.is c.as_slice.ensures.value c.requires.numbered c.in_ok-judged-in-Conj.ensures
+    c.in-Conj.is c.as_slice.ensures.value c.requires.numbered c.in_ok-judged-in-Conj.ensures)
 
 pub judge_kind-returns-in-Disj : goal.judge_kind-returns-in-Disj
 judge_kind-returns-in-Disj t c =
@@ -36,7 +37,7 @@ judge_kind-returns-in_ok-second-in-If t c =
     = c.in_ok-fault-in-If.ensures
     ∙ rw add-one (ap (λ (g : Goal). condition_fault r c.args.goal.now.line (suc c.args.number) (part_of g) c.in_ok-tested-in-If.tested.pair)
     (c.deref-in-If.ensures ∙ sym c.deref.ensures)) in
-    rw (c.or.ensures, c.or-in-If-3.ensures, c.or-in-If-2.ensures, c.or-in-If.ensures)
+    rw (c.plain-in-If.ensures, c.or-in-If-2.ensures, c.or-fault.ensures, c.or-in-If.ensures, c.or.ensures)
     (choice_found (reading_in c.args.context.now) c.args.number c.args.at c.args.again c.args.goal.now.line c.args.goal.now.kind
     c.in-If.condition c.in-If.then c.in-If.otherwise c.deref.result.now c.deref-in-If-2.result.now c.deref-in-If-3.result.now
     c.args.findings.now.items c.judge.new.findings.items c.judge-in-If.new.findings.items c.judge-in-If-2.new.findings.items

@@ -1,4 +1,4 @@
-use Rattle.std.proofs.Common.{◌≡◌, ◌∙◌, sym, ap, None, Some, slice_get}
+use Rattle.std.proofs.Common.{◌∙◌, sym, ap, slice_get}
 use Rattle.std.specs.Option.{option_copied}
 use Rattle.md_hlds.specs.Listing.{listing_of}
 use Rattle.md_det.proofs.Arms.{arm_key-Conj, no_first, from_first}

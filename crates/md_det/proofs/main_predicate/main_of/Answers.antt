@@ -1,4 +1,3 @@
-use Rattle.std.proofs.Common.{arith}
 use Rattle.md_hlds.specs.Listing.{listing_of}
 use Rattle.md_det.proofs.Whole.{main_missed}
 use Rattle.md_det.proofs.main_predicate.main_of.Goals as goal

@@ -1,5 +1,5 @@
 use Rattle.std.proofs.Common.{◌≡◌, ◌∙◌, ◌+◌, sym, ap, arith, List, drop, false, true, ◌&&◌}
-use Rattle.md_hlds.specs.Switch.{Key, FunctorKey, has_key}
+use Rattle.md_hlds.specs.Switch.{Key, has_key}
 use Rattle.md_hlds.specs.Listing.{Construct, construct_of, constructs_of}
 use Rattle.md_det.specs.declared.key.Key.TheVariants.{Functor}
 use Rattle.md_det.specs.Keys.{keys_told}

@@ -1,7 +1,6 @@
 use Rattle.std.proofs.Common.{◌≡◌, ◌∙◌, sym, ap, None}
 use Rattle.std.specs.Option.{option_copied}
-use Rattle.md_hlds.specs.Listing.{Family, Construct, listing_of, constructs_of}
-use Rattle.md_names.specs.Named.{functor_found}
+use Rattle.md_hlds.specs.Listing.{listing_of, constructs_of}
 use Rattle.md_det.specs.declared.key.Key.{Key}
 use Rattle.md_det.specs.Keys.{key_of_code, keys_told}
 use Rattle.md_det.specs.Switches.{no_functor_missing, all_have_keys, family_with}

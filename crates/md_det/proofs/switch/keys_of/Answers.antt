@@ -1,6 +1,6 @@
-use Rattle.std.proofs.Common.{◌≡◌, ◌∙◌, ◌+◌, sym, ap, arith, add-one, List, ◌∷◌, [], ◌++◌, drop, false, true, not, Option, Some, ℕ}
+use Rattle.std.proofs.Common.{◌≡◌, ◌∙◌, ◌+◌, sym, ap, arith, List, ◌∷◌, [], ◌++◌, drop, true, Option, ℕ}
 use Rattle.md_hlds.specs.Listing.{listing_of}
-use Rattle.md_hlds.specs.Part.{part_of, parts_of, gathered}
+use Rattle.md_hlds.specs.Part.{parts_of, gathered}
 use Rattle.md_hlds.specs.Switch.{Key, keys_of, prepend_key, has_key, if_different, all_different}
 use Rattle.md_det.specs.Keys.{key_of_code, keys_told, tested_told, keys_onto}
 use Rattle.md_det.proofs.KeyLemmas.{any_told, not_true, not_false, told_new, different_more, keys_more, keys_again, keys_of-step}
