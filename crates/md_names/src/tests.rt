@@ -81,31 +81,56 @@ fn program(alloc: Global) -> Result<Program, Fail> {
     })
 }
 
+/// The number and the line of the predicate that a name stands for.
+fn place_of_predicate(names: &Names, name: &PredName) -> Option<(u32, u32)> {
+    match names.predicate(name) {
+        Some((number, pred)) => Some((number.number(), pred.line)),
+        None => None,
+    }
+}
+
+/// The line of the type that has a functor of this name and arity, and the arity of that functor.
+fn place_of_functor(names: &Names, name: &Name, arity: usize) -> Option<(u32, usize)> {
+    let (family, functor) = names.functor(name, arity)?;
+    Some((family.line, functor.args.len()))
+}
+
 #[test]
-fn names_are_looked_up(rt: HostRuntime) -> Result<(), Fail> {
+fn predicates_are_found_by_name_and_module(rt: HostRuntime) -> Result<(), Fail> {
+    let alloc = rt.alloc();
+    let program = program(alloc)?;
+    let names = Names::new(alloc, &program)?;
+    let qualified = called(alloc, Some(b"a"), b"p")?;
+    assert_eq!(rt; place_of_predicate(&names, &qualified), Some((1, 6)));
+    let plain = called(alloc, None, b"q")?;
+    assert_eq!(rt; place_of_predicate(&names, &plain), Some((2, 8)));
+    let of_another_module = called(alloc, Some(b"b"), b"p")?;
+    assert_eq!(rt; place_of_predicate(&names, &of_another_module), None);
+    Ok(())
+}
+
+#[test]
+fn functors_are_found_by_name_and_arity(rt: HostRuntime) -> Result<(), Fail> {
+    let alloc = rt.alloc();
+    let program = program(alloc)?;
+    let names = Names::new(alloc, &program)?;
+    let pair = name(alloc, b"pair")?;
+    assert_eq!(rt; place_of_functor(&names, &pair, 1), Some((3, 1)));
+    assert_eq!(rt; place_of_functor(&names, &pair, 2), Some((2, 2)));
+    assert_eq!(rt; place_of_functor(&names, &pair, 3), None);
+    Ok(())
+}
+
+#[test]
+fn types_and_functors_have_names_apart(rt: HostRuntime) -> Result<(), Fail> {
     let alloc = rt.alloc();
     let program = program(alloc)?;
     let names = Names::new(alloc, &program)?;
     assert_eq!(rt; names.program().preds.len(), 3);
-
-    let (number, pred) = names
-        .predicate(&called(alloc, Some(b"a"), b"p")?)
-        .ok_or("a.p")?;
-    assert_eq!(rt; (number.number(), pred.line), (1, 6));
-    let (number, pred) = names.predicate(&called(alloc, None, b"q")?).ok_or("q")?;
-    assert_eq!(rt; (number.number(), pred.line), (2, 8));
-    assert!(rt; names.predicate(&called(alloc, Some(b"b"), b"p")?).is_none());
-    assert!(rt; names.predicate(&called(alloc, None, b"r")?).is_none());
-
-    let (family, functor) = names.functor(&name(alloc, b"pair")?, 1).ok_or("pair/1")?;
-    assert_eq!(rt; (family.line, functor.args.len()), (3, 1));
-    let (family, functor) = names.functor(&name(alloc, b"pair")?, 2).ok_or("pair/2")?;
-    assert_eq!(rt; (family.line, functor.args.len()), (2, 2));
-    assert!(rt; names.functor(&name(alloc, b"none")?, 1).is_none());
-
-    assert!(rt; names.has_type(&name(alloc, b"box")?));
-    assert!(rt; !names.has_type(&name(alloc, b"none")?));
-    assert!(rt; names.has_functor_name(&name(alloc, b"none")?));
-    assert!(rt; !names.has_functor_name(&name(alloc, b"p")?));
+    let none = name(alloc, b"none")?;
+    assert!(rt; !names.has_type(&none));
+    assert!(rt; names.has_functor_name(&none));
+    let family = name(alloc, b"box")?;
+    assert!(rt; names.has_type(&family));
     Ok(())
 }
