@@ -8,8 +8,10 @@ use Rattle.md_hlds.specs.declared.goal.Term.TheVariants.{Var, Int, Str, Name}
 use Rattle.md_hlds.specs.Part.{Simple, Succeeds, Fails, Unifies, Computes, Compares, WritesInt, WritesText, EndsLine, Part, At, Task, Plain, Invoke, Apply, Each, Either, Choose, Unless, Once, Parts, nothing, also}
 use Rattle.md_hlds.specs.Listing.{Sort, closure, Construct, Family, Procedure, Listing, has_construct, has_functor, is_functor, unqualified_functor}
 use Rattle.md_hlds.specs.Switch.{Key, FunctorKey, term_key, variable_key, goal_key, arm_key, keys_of, all_different, if_different, switch_on}
-use Rattle.md_modes.specs.Known.{Known, free, has, Knowledge, known_at, is_bound}
-use Rattle.md_modes.specs.Named.{Functor, functor_among, functor_of, functor_called, or_else as or_functor, if_unqualified}
+use Rattle.md_binding.specs.Known.{Known, free, has, Knowledge, known_at, is_bound}
+use Rattle.md_names.specs.Named.{functor_found}
+use Rattle.md_binding.specs.Named.{Functor, functor_of, functor_called, if_unqualified}
+use Rattle.md_det.proofs.Functors.{functor_there}
 use Rattle.md_modes.specs.Branches.{outside, some_of}
 use Rattle.md_modes.specs.Goals.{Scope, within, variables, goal}
 use Rattle.md_modes.specs.Modes.{entry, scope_of}
@@ -203,25 +205,13 @@ cond_same true x = refl
 cond_same false x = refl
 
 -- a term is a functor where the look-up of functors finds one
-found_among : (b : Bool) (f : Functor) (r : Option Functor) (x : Bool) → x ≡ is_some r → cond b true x ≡ is_some (cond b (Some f) r)
-found_among true f r x e = refl
-found_among false f r x e = e
-
-among_is : (name : List ℕ) (arity : ℕ) (t : Sort) (fs : List Construct) → has_construct name arity fs ≡ is_some (functor_among name arity t fs)
-among_is name arity t [] = refl
-among_is name arity t (f ∷ fs) = found_among (bytes_eq name f.name && nat_eq arity (length f.args)) _ _ _ (among_is name arity t fs)
-
-found_or : (a b : Option Functor) (x y : Bool) → x ≡ is_some a → y ≡ is_some b → cond x true y ≡ is_some (or_functor a b)
-found_or None b x y e f = rw (e, f) refl
-found_or (Some a) b x y e f = rw e refl
-
-functors_is : (name : List ℕ) (arity : ℕ) (ts : List Family) → has_functor name arity ts ≡ is_some (functor_of name arity ts)
-functors_is name arity [] = refl
-functors_is name arity (t ∷ ts) = found_or _ _ _ _ (among_is name arity _ t.functors) (functors_is name arity ts)
+found_kept : (f : Option (Family × Construct)) → is_some f ≡ is_some (functor_of f)
+found_kept None = refl
+found_kept (Some f) = refl
 
 unqualified_is : (p : Listing) (m : Option (List ℕ)) (name : List ℕ) (arity : ℕ)
-    → unqualified_functor p m name arity ≡ is_some (if_unqualified m (functor_of name arity p.types))
-unqualified_is p None name arity = functors_is name arity p.types
+    → unqualified_functor p m name arity ≡ is_some (if_unqualified m (functor_of (functor_found name arity p.types)))
+unqualified_is p None name arity = functor_there name arity p.types ∙ found_kept (functor_found name arity p.types)
 unqualified_is p (Some m) name arity = refl
 
 -- the key is of the variable of the unification, and tells whether that is bound

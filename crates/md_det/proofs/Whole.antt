@@ -3,8 +3,8 @@ use Rattle.std.proofs.Common.{◌≡◌, refl, sym, ap, ◌∙◌, arith, add-on
 use Rattle.std.specs.Result.{IsErrAnd, IfErr}
 use Rattle.md_hlds.specs.declared.program.Pred.{Pred}
 use Rattle.md_hlds.specs.Listing.{Listing, Procedure, procedure_of, procedures_of}
-use Rattle.md_modes.specs.declared.fault.ModeFault.{ModeFault}
-use Rattle.md_modes.specs.Verdict.{Verdict, ◌>>◌, fault_unless}
+use Rattle.md_binding.specs.declared.fault.ModeFault.{ModeFault}
+use Rattle.md_binding.specs.Verdict.{Verdict, ◌>>◌, fault_unless}
 use Rattle.md_modes.specs.Declarations as declarations
 use Rattle.md_modes.specs.Modes.{is_main, has_main, clauses, fault_of, mode_fault}
 use Rattle.md_modes.specs.Notes.{Note}

@@ -4,7 +4,7 @@ use Rattle.md_hlds.specs.declared.goal.Term.{Term}
 use Rattle.md_hlds.specs.declared.goal.Term.TheVariants.{Name}
 use Rattle.md_hlds.specs.Part.{Simple, Succeeds, Fails, Unifies, Computes, Compares, WritesInt, WritesText, EndsLine, Part, At, Task, Plain, Invoke, Apply, Each, Either, Choose, Unless, Once, Parts, nothing, also}
 use Rattle.md_hlds.specs.Listing.{Sort, closure, Procedure, Listing, procedure_called}
-use Rattle.md_modes.specs.Known.{Known, free, has, Knowledge, known_at}
+use Rattle.md_binding.specs.Known.{Known, free, has, Knowledge, known_at}
 use Rattle.md_modes.specs.Goals.{Scope, within, goal}
 use Rattle.md_modes.specs.Notes.{Role, constructs, closes, takes_apart, assigns, tests, applies, role_of_unification, known_after}
 use Rattle.md_det.specs.declared.pair.Bound.TheVariants.{Zero, One}

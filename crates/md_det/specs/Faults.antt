@@ -4,8 +4,8 @@ use Rattle.md_hlds.specs.declared.types.Mode.{Mode}
 use Rattle.md_hlds.specs.declared.types.Det.TheVariants as det
 use Rattle.md_hlds.specs.Part.{Part, At, Task, Plain, Invoke, Apply, Each, Either, Choose, Unless, Once, Parts, nothing, also}
 use Rattle.md_hlds.specs.Listing.{Sort, Procedure, Listing}
-use Rattle.md_modes.specs.Sorts.{is_world, same_det}
-use Rattle.md_modes.specs.Known.{Knowledge}
+use Rattle.md_binding.specs.Sorts.{is_world, same_det}
+use Rattle.md_binding.specs.Known.{Knowledge}
 use Rattle.md_modes.specs.Branches.{outside, some_of}
 use Rattle.md_modes.specs.Goals.{Scope, within, variables, goal}
 use Rattle.md_modes.specs.Modes.{entry, scope_of}

@@ -2,7 +2,7 @@
 use Rattle.std.specs.Prelude.{ℕ, Bool, List, [], ◌∷◌, ◌++◌, Option, Some, None, slice_get}
 use Rattle.md_hlds.specs.Part.{Part, At, Task, Plain, Invoke, Apply, Each, Either, Choose, Unless, Once, Parts, nothing, also}
 use Rattle.md_hlds.specs.Listing.{Procedure, Listing}
-use Rattle.md_modes.specs.Known.{Knowledge}
+use Rattle.md_binding.specs.Known.{Knowledge}
 use Rattle.md_modes.specs.Goals.{Scope, within, goal}
 use Rattle.md_modes.specs.Modes.{entry, scope_of}
 use Rattle.md_modes.specs.Notes.{known_after}

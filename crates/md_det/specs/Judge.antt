@@ -6,7 +6,7 @@ use Rattle.md_hlds.specs.declared.goal.Term.{Term}
 use Rattle.md_hlds.specs.Part.{Simple, Succeeds, Fails, Unifies, Computes, Compares, WritesInt, WritesText, EndsLine, Part, At, Task, Plain, Invoke, Apply, Each, Either, Choose, Unless, Once, Parts, nothing, also}
 use Rattle.md_hlds.specs.Listing.{Procedure, Listing, procedure_called}
 use Rattle.md_hlds.specs.Switch.{Key, switch_shape}
-use Rattle.md_modes.specs.Sorts.{same_det}
+use Rattle.md_binding.specs.Sorts.{same_det}
 use Rattle.md_modes.specs.Branches.{outside, some_of}
 use Rattle.md_modes.specs.Goals.{variables}
 use Rattle.md_modes.specs.Notes.{Role, takes_apart, applies, Note}

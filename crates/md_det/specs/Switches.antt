@@ -4,7 +4,7 @@ use Rattle.md_hlds.specs.declared.goal.PredName.{PredName}
 use Rattle.md_hlds.specs.Part.{Parts}
 use Rattle.md_hlds.specs.Listing.{Construct, Family, Listing, has_construct}
 use Rattle.md_hlds.specs.Switch.{Key, FunctorKey, has_key, switch_shape}
-use Rattle.md_modes.specs.Known.{Known, free, has, Knowledge, known_at}
+use Rattle.md_binding.specs.Known.{Known, free, has, Knowledge, known_at}
 use Rattle.md_det.specs.declared.finding.Switch.{Switch}
 
 -- the type that has a functor of this name and arity

@@ -1,7 +1,7 @@
 // The predicate with which a run begins, and io states among arguments.
 ghost use Rattle.std.specs.Prelude.{◌≡◌, ◌&&◌, None, Some};
 ghost use Rattle.md_hlds.specs.Listing.{listing_of, procedure_of, args_of, sort_of};
-ghost use Rattle.md_modes.specs.Sorts.{is_world};
+ghost use Rattle.md_binding.specs.Sorts.{is_world};
 ghost use Rattle.md_modes.specs.Modes as modes;
 ghost use Rattle.md_det.specs.Faults.{has_world};
 ghost use Rattle.md_det.specs.Main.{main_of};

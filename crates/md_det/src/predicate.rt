@@ -12,7 +12,7 @@ use crate::judge::judge;
 use crate::main_predicate::has_io;
 use crate::pair::Pair;
 use md_hlds::{Det, Pred};
-use md_modes::{Moded, counts_of};
+use md_modes::{Moded, counts_of_clause};
 use md_names::Names;
 use std::alloc::Global;
 
@@ -32,7 +32,7 @@ pub fn judge_predicate(
     ensures refused { IfErr result (λ fault. fault ≢ NoMemory
         → (spec.judge_procedure (listing_of moded.now) (program_notes (listing_of moded.now)) (length findings.old.items) (procedure_of pred.now)).fault ≡ Some fault) }
 {
-    let counts = counts_of(alloc, pred.head.as_slice(), &pred.body)?;
+    let counts = counts_of_clause(alloc, pred)?;
     let context = Context {
         alloc,
         moded,

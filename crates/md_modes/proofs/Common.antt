@@ -1,7 +1,8 @@
 -- What two arms have in common, place by place.
 use Rattle.std.proofs.Common.{◌≡◌, refl, sym, ap, arith, ℕ, zero, suc, ◌+◌, ◌<◌, ◌≤◌, [], ◌∷◌, length, add-one}
-use Rattle.md_modes.specs.Known.{Known, free, has, Knowledge, known_at, put}
-use Rattle.md_modes.specs.Branches.{common, in_common}
+use Rattle.md_binding.specs.Known.{Known, free, has, Knowledge, known_at, put}
+use Rattle.md_binding.specs.Common.{common}
+use Rattle.md_modes.specs.Branches.{in_common}
 
 -- what is known where the places from this one on are still to be compared
 abbrev pub common_from : ℕ → Knowledge → Knowledge → Knowledge

@@ -1,15 +1,16 @@
 -- Goals one after the other, arms, and branches.
-use Rattle.std.proofs.Common.{◌≡◌, refl, sym, ap, subst, arith, ℕ, zero, suc, ◌<◌, Bool, true, false, ◌&&◌, List, [], ◌∷◌, ◌++◌, append-nil, length, drop, get_or, Ok, Err}
+use Rattle.std.proofs.Common.{◌≡◌, refl, sym, ap, subst, arith, ℕ, zero, suc, ◌<◌, Bool, true, false, ◌&&◌, List, [], ◌∷◌, ◌++◌, append-nil, length, drop, get_or, Option, Ok, Err}
 use Rattle.md_hlds.specs.declared.goal.Goal.{Goal}
-use Rattle.md_hlds.specs.Part.{gathered, part_of, parts_of}
-use Rattle.md_modes.specs.declared.fault.ModeFault.{ModeFault}
-use Rattle.md_modes.specs.declared.arms.Arms.{Arms}
-use Rattle.md_modes.specs.Verdict.{Verdict, ◌>>=◌}
-use Rattle.md_modes.specs.Known.{Knowledge}
+use Rattle.md_hlds.specs.Part.{Parts, Either, gathered, part_of, parts_of}
+use Rattle.md_binding.specs.declared.fault.ModeFault.{ModeFault}
+use Rattle.md_modes.specs.declared.joined.Joined.{Joined}
+use Rattle.md_binding.specs.Verdict.{Verdict, ◌>>=◌}
+use Rattle.md_binding.specs.Known.{Knowledge}
 use Rattle.md_modes.specs.Branches.{After, after}
-use Rattle.md_modes.specs.Goals.{Scope, goal, each, arms}
-use Rattle.md_modes.specs.Kinds.{knowledge_of}
+use Rattle.md_modes.specs.Goals.{Scope, goal, task, each, arms}
 use Rattle.md_modes.specs.Joins.{Ends}
+use Rattle.md_modes.specs.Notes.{Note, arm_notes}
+use Rattle.md_modes.specs.Views.{seen, seen_ends, AllLeave}
 
 -- after goals of which the place is reachable or not, what the others lead to
 abbrev pub continued : Bool → Verdict After → Verdict After
@@ -72,6 +73,10 @@ with_more : (ends : List After) (a : After) (v : Verdict (List After)) → with_
 with_more ends a (Ok more) = ap Ok (append_one ends a more)
 with_more ends a (Err e) = refl
 
+pub arms-begin : (v : Verdict (List After)) → v ≡ with_ends [] v
+arms-begin (Ok ends) = refl
+arms-begin (Err e) = refl
+
 pub arms-more : (c : Scope) (gs : List Goal) (i : ℕ) (g : Goal) (s : Knowledge) (a : After) (ends : List After) → i < length gs → g ≡ get_or gs i g
     → goal c (part_of g) s ≡ Ok a
     → with_ends ends (arms c (gathered (parts_of (drop i gs))) s) ≡ with_ends (ends ++ a ∷ []) (arms c (gathered (parts_of (drop (suc i) gs))) s)
@@ -89,13 +94,17 @@ arms-fault c (k ∷ gs) zero g s e ends lt is h =
     rw first refl
 arms-fault c (k ∷ gs) (suc i) g s e ends lt is h = arms-fault c gs i g s e ends (omega (arith, lt)) is h
 
+pub either_fault : (c : Scope) (l : ℕ) (ps : Parts) (s : Knowledge) (e : ModeFault) → arms c ps s ≡ Err e → task c l (Either ps) s ≡ Err e
+either_fault c l ps s e h = rw h refl
+
 pub arms-end : (c : Scope) (gs : List Goal) (i : ℕ) (s : Knowledge) (ends : List After) → length gs ≡ i → with_ends ends (arms c (gathered (parts_of (drop i gs))) s) ≡ Ok ends
 arms-end c gs i s ends e = rw (each-none gs i e, append-nil ends) refl
 
--- the arms of a disjunction up to this one were checked
-pub record ArmsSoFar (c : Scope) (p : ℕ → Bool) (gs : List Goal) (i : ℕ) (s now : Knowledge) (a : Arms) : Type 0 where
+-- the arms of a disjunction up to this one were checked, and their notes were made
+pub record ArmsSoFar (c : Scope) (p : ℕ → Bool) (places : List ℕ) (gs : List Goal) (i : ℕ) (s now : Knowledge) (j : Option Joined) (old new : List Note) : Type 0 where
   pub ends : List After
-  pub are_ends : Ends p a ends
+  pub are_ends : Ends p (seen places s) j (seen_ends places ends)
+  pub leave : AllLeave places s ends
   pub rest : arms c (gathered (parts_of gs)) s ≡ with_ends ends (arms c (gathered (parts_of (drop i gs))) s)
-  pub before : knowledge_of a.before.items ≡ s
   pub known : now ≡ s
+  pub noted : new ++ arm_notes c (gathered (parts_of (drop i gs))) s ≡ old ++ arm_notes c (gathered (parts_of gs)) s

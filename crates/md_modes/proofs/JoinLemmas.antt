@@ -2,11 +2,12 @@
 use Rattle.std.proofs.Common.{◌≡◌, refl, sym, ap, ◌∙◌, ℕ, Bool, true, false, not, ◌||◌, ◌&&◌, List, [], ◌∷◌, ◌++◌, cond, length, get_or}
 use Rattle.std.proofs.Math.Bool.{or-false}
 use Rattle.md_modes.specs.declared.joined.Joined.{Joined}
-use Rattle.md_modes.specs.Known.{Known, Knowledge, known_at, is_bound, some_below}
-use Rattle.md_modes.specs.Kinds.{knowledge_of}
+use Rattle.md_binding.specs.Known.{Known, Knowledge, known_at, is_newly_bound, some_below}
+use Rattle.md_binding.specs.Kinds.{knowledge_of}
 use Rattle.md_modes.specs.Joins.{Joins}
 use Rattle.md_modes.proofs.Below.{some_below-same}
-use Rattle.md_modes.specs.Branches.{After, in_common, all_have, is_alike, some_unlike, differ, some_differ, reachable, clash}
+use Rattle.md_binding.specs.Common.{is_alike}
+use Rattle.md_modes.specs.Branches.{After, in_common, all_have, some_unlike, differ, some_differ, reachable, clash}
 
 or_again : (a b c : Bool) → (a || (b || c)) ≡ ((a || b) || c)
 or_again true b c = refl
@@ -52,10 +53,11 @@ joins_more p s j i r qs q h first common unlikes firsts noted parted = record {
 
 -- whether the arms clash, by what is kept of them
 pub clash_is : (p : ℕ → Bool) (s : Knowledge) (j : Joined) (r : Knowledge) (qs : List Knowledge) → Joins p s j r qs
-    → clash (all_have r qs) r qs ≡ some_below (length (knowledge_of j.common.items)) (λ x. is_bound (known_at (knowledge_of j.common.items) x) && get_or j.unlike.items x false)
+    → clash s (all_have r qs) r qs
+    ≡ some_below (length (knowledge_of j.common.items)) (λ x. is_newly_bound (known_at s x) (known_at (knowledge_of j.common.items) x) && get_or j.unlike.items x false)
 clash_is p s j r qs h =
     rw (← h.common)
     (some_below-same (length (knowledge_of j.common.items))
-    (λ x. is_bound (known_at (knowledge_of j.common.items) x) && some_unlike (known_at r x) x qs)
-    (λ x. is_bound (known_at (knowledge_of j.common.items) x) && get_or j.unlike.items x false)
-    (λ x. ap (λ b. is_bound (known_at (knowledge_of j.common.items) x) && b) (sym (h.unlike x))))
+    (λ x. is_newly_bound (known_at s x) (known_at (knowledge_of j.common.items) x) && some_unlike (known_at r x) x qs)
+    (λ x. is_newly_bound (known_at s x) (known_at (knowledge_of j.common.items) x) && get_or j.unlike.items x false)
+    (λ x. ap (λ b. is_newly_bound (known_at s x) (known_at (knowledge_of j.common.items) x) && b) (sym (h.unlike x))))

@@ -1,9 +1,8 @@
 pub mod Worked
-pub mod Lists
-pub mod Marks
-pub mod NameLemmas
-pub mod Closures
 pub mod Counts
+pub mod Listed
+pub mod Locals
+pub mod ViewLoops
 pub mod Below
 pub mod Common
 pub mod Noted
@@ -13,3 +12,8 @@ pub mod GoalLemmas
 pub mod Choices
 pub mod NoteLemmas
 pub mod Notings
+pub mod KnownLemmas
+pub mod Leaving
+pub mod Frames
+pub mod Views
+pub mod Insides

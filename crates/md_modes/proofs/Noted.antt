@@ -1,11 +1,11 @@
 -- Notes of variables that arms bind with different types.
 use Rattle.std.proofs.Common.{◌≡◌, ◌≢◌, refl, ◌∙◌, arith, ℕ, zero, suc, ◌+◌, ◌<◌, ◌≤◌, Bool, true, false, not, ◌||◌, List, [], ◌∷◌, ◌++◌, length, get_or, set, inl, inr, get_or-set_same, get_or-set_other}
 use Rattle.std.proofs.lemmas.Bool.{cases_eq, cases_lt}
-use Rattle.md_modes.specs.declared.mark.Mark.{Mark}
-use Rattle.md_modes.specs.Known.{known_at}
-use Rattle.md_modes.specs.Branches.{is_alike}
-use Rattle.md_modes.specs.Kinds.{knowledge_of}
-use Rattle.md_modes.proofs.Marks.{known_at-past}
+use Rattle.md_binding.specs.declared.mark.Mark.{Mark}
+use Rattle.md_binding.specs.Known.{known_at}
+use Rattle.md_binding.specs.Common.{is_alike}
+use Rattle.md_binding.specs.Kinds.{knowledge_of}
+use Rattle.md_binding.proofs.Marks.{known_at-past}
 use Rattle.std.proofs.Math.Bool.{or-true, or-false}
 
 pub none-more : (bs : List Bool) (x : ℕ) → get_or bs x false ≡ false → get_or (bs ++ false ∷ []) x false ≡ false

@@ -13,8 +13,8 @@ use Rattle.md_hlds.specs.declared.goal.Op.TheVariants.{Add, Sub, Mul}
 use Rattle.md_hlds.specs.declared.goal.Cmp.TheVariants.{Le, Gt}
 use Rattle.md_hlds.specs.Part.{Part, At, Plain, Invoke, Apply, Each, Either, Choose, Unless, Once, gathered, Succeeds, Fails, Unifies, Computes, Compares, WritesInt, WritesText, EndsLine}
 use Rattle.md_hlds.specs.Listing.{Listing, Procedure, Family, Construct, Sort, number, text, world, named, closure, gathered_sorts}
-use Rattle.md_modes.specs.declared.fault.ModeFault.{ModeFault}
-use Rattle.md_modes.specs.declared.fault.ModeFault.TheVariants.{UnknownName, Arity, TypeClash, Unbound, BoundTwice, BranchBinds, IoUsed, ClosureTest, NoMain}
+use Rattle.md_binding.specs.declared.fault.ModeFault.{ModeFault}
+use Rattle.md_binding.specs.declared.fault.ModeFault.TheVariants.{UnknownName, Arity, TypeClash, Unbound, BoundTwice, BranchBinds, IoUsed, ClosureTest, NoMain}
 use Rattle.md_modes.specs.Modes.{mode_fault}
 use Rattle.md_modes.specs.Notes.{Role, constructs, closes, takes_apart, assigns, tests, applies, Note, program_notes}
 

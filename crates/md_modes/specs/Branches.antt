@@ -1,9 +1,9 @@
 -- Branches: what is known after several arms, and what a branch may bind.
 use Rattle.std.specs.Prelude.{ℕ, Bool, true, false, not, ◌&&◌, ◌||◌, List, [], ◌∷◌, length, Ok, Err, cond, nat_lt}
-use Rattle.md_modes.specs.declared.fault.ModeFault.TheVariants.{TypeClash, BranchBinds}
-use Rattle.md_modes.specs.Verdict.{Verdict}
-use Rattle.md_modes.specs.Sorts.{same_sort}
-use Rattle.md_modes.specs.Known.{Known, free, has, Knowledge, known_at, is_bound, is_newly_bound, some_below, times}
+use Rattle.md_binding.specs.declared.fault.ModeFault.TheVariants.{TypeClash, BranchBinds}
+use Rattle.md_binding.specs.Verdict.{Verdict}
+use Rattle.md_binding.specs.Known.{Known, free, Knowledge, known_at, is_bound, is_newly_bound, some_below, times}
+use Rattle.md_binding.specs.Common.{disagree, common, is_alike}
 
 -- what is known after a goal, and whether the place after it is reachable
 pub record After : Type 0 where
@@ -31,12 +31,6 @@ abbrev pub reachable : List After → List Knowledge
 reachable [] = []
 reachable (a ∷ ends) = cond a.reach (a.known ∷ reachable ends) (reachable ends)
 
--- one arm binds a variable and another doesn't
-abbrev pub disagree : Known → Known → Bool
-disagree (has t used) free = true
-disagree free (has t used) = true
-disagree k j = false
-
 -- some variable with the property is free before, and bound by one of two arms and not by the other
 abbrev pub differ : (ℕ → Bool) → Knowledge → Knowledge → Knowledge → Bool
 differ p s r q = some_below (length s) (λ x. p x && (not (is_bound (known_at s x)) && disagree (known_at r x) (known_at q x)))
@@ -44,11 +38,6 @@ differ p s r q = some_below (length s) (λ x. p x && (not (is_bound (known_at s 
 abbrev pub some_differ : (ℕ → Bool) → Knowledge → Knowledge → List Knowledge → Bool
 some_differ p s r [] = false
 some_differ p s r (q ∷ qs) = differ p s r q || some_differ p s r qs
-
--- what two arms have in common at a variable: an io state is used where either uses it
-abbrev pub common : Known → Known → Known
-common (has t used) (has u spent) = has t (used || spent)
-common k j = free
 
 abbrev pub in_common : Knowledge → Knowledge → Knowledge
 in_common [] q = []
@@ -59,18 +48,13 @@ abbrev pub all_have : Knowledge → List Knowledge → Knowledge
 all_have r [] = r
 all_have r (q ∷ qs) = all_have (in_common r q) qs
 
--- two arms bind a variable with one type
-abbrev pub is_alike : Known → Known → Bool
-is_alike (has t used) (has u spent) = same_sort t u
-is_alike k j = true
-
 abbrev pub some_unlike : Known → ℕ → List Knowledge → Bool
 some_unlike k x [] = false
 some_unlike k x (q ∷ qs) = not (is_alike k (known_at q x)) || some_unlike k x qs
 
--- some variable that all arms bind has in one of them another type than in the first
-abbrev pub clash : (all r : Knowledge) → List Knowledge → Bool
-clash all r qs = some_below (length all) (λ x. is_bound (known_at all x) && some_unlike (known_at r x) x qs)
+-- some variable that is free before and that all arms bind has in one of them another type than in the first
+abbrev pub clash : (s all r : Knowledge) → List Knowledge → Bool
+clash s all r qs = some_below (length all) (λ x. is_newly_bound (known_at s x) (known_at all x) && some_unlike (known_at r x) x qs)
 
 -- What is known after arms that end so and began with `s`; the variables with the property occur outside the branch.
 -- Where no end is reachable, it is what was known at entry.
@@ -78,7 +62,7 @@ abbrev pub joined_ends : ℕ → (ℕ → Bool) → Knowledge → List Knowledge
 joined_ends l p s [] = Ok (after s false)
 joined_ends l p s (r ∷ qs) =
     cond (some_differ p s r qs) (Err (BranchBinds l))
-    (cond (clash (all_have r qs) r qs) (Err (TypeClash l)) (Ok (after (all_have r qs) true)))
+    (cond (clash s (all_have r qs) r qs) (Err (TypeClash l)) (Ok (after (all_have r qs) true)))
 
 abbrev pub joined : ℕ → (ℕ → Bool) → Knowledge → List After → Verdict After
 joined l p s ends = joined_ends l p s (reachable ends)

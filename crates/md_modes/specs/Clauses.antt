@@ -6,4 +6,4 @@ use Rattle.md_modes.specs.Goals.{Scope, clause_variables}
 
 -- where a goal of the clause stands
 abbrev pub scope_at : Clause → Bool → Scope
-scope_at k strict = record { program = listing_of k.program.now; all = clause_variables (procedure_of k.pred.now); strict = strict }
+scope_at k strict = record { program = listing_of k.names.now; all = clause_variables (procedure_of k.pred.now); strict = strict }

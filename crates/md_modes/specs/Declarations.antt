@@ -3,9 +3,9 @@ use Rattle.std.specs.Prelude.{ℕ, Bool, true, false, not, ◌&&◌, List, [], �
 use Rattle.md_hlds.specs.declared.types.Mode.{Mode}
 use Rattle.md_hlds.specs.declared.types.Mode.TheVariants.{In, Out, Di, Uo}
 use Rattle.md_hlds.specs.Listing.{Sort, Sorts, world, named, closure, no_sorts, also_sort, Construct, Family, Procedure}
-use Rattle.md_modes.specs.declared.fault.ModeFault.TheVariants.{UnknownName, TypeClash}
-use Rattle.md_modes.specs.Verdict.{Verdict, ◌>>◌, fine, fault_unless}
-use Rattle.md_modes.specs.Named.{is_type}
+use Rattle.md_binding.specs.declared.fault.ModeFault.TheVariants.{UnknownName, TypeClash}
+use Rattle.md_binding.specs.Verdict.{Verdict, ◌>>◌, fine, fault_unless}
+use Rattle.md_names.specs.Named.{is_type}
 
 -- a type that is named is declared
 abbrev pub is_declared : List Family → Sort → Bool

@@ -4,10 +4,10 @@ use Rattle.md_hlds.specs.declared.goal.Term.{Term}
 use Rattle.md_hlds.specs.declared.goal.Term.TheVariants.{Var, Int, Str, Name}
 use Rattle.md_hlds.specs.Part.{Simple, Succeeds, Fails, Unifies, Computes, Compares, WritesInt, WritesText, EndsLine, Part, At, Task, Plain, Invoke, Apply, Each, Either, Choose, Unless, Once, Parts, nothing, also}
 use Rattle.md_hlds.specs.Listing.{Procedure, Listing}
-use Rattle.md_modes.specs.declared.fault.ModeFault.TheVariants.{BranchBinds}
-use Rattle.md_modes.specs.Verdict.{Verdict, ◌>>=◌, ◌>>◌, fault_unless}
-use Rattle.md_modes.specs.Known.{Knowledge}
-use Rattle.md_modes.specs.Simple.{simple, goes_on, call, apply}
+use Rattle.md_binding.specs.declared.fault.ModeFault.TheVariants.{BranchBinds}
+use Rattle.md_binding.specs.Verdict.{Verdict, ◌>>=◌, ◌>>◌, fault_unless}
+use Rattle.md_binding.specs.Known.{Knowledge}
+use Rattle.md_binding.specs.Simple.{leaf, goes_on}
 use Rattle.md_modes.specs.Branches.{After, after, outside, binds_some, some_of, joined}
 
 -- ---- the variables of a goal, as often as they occur, in text order
@@ -65,13 +65,6 @@ within c = record { program = c.program; all = c.all; strict = true }
 
 abbrev pub reached : Bool → Verdict Knowledge → Verdict After
 reached reach v = v >>= (λ s. Ok (after s reach))
-
--- a goal that is no conjunction and no branch
-abbrev pub leaf : Listing → Bool → ℕ → Task → Knowledge → Verdict Knowledge
-leaf p strict l (Plain g) s = simple p strict l g s
-leaf p strict l (Invoke site q ys) s = call p strict l q ys s
-leaf p strict l (Apply site f ys) s = apply strict l f ys s
-leaf p strict l t s = Ok s
 
 -- the place after a goal that is no conjunction and no branch
 abbrev pub goes_on_after : Task → Bool

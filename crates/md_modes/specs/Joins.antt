@@ -1,15 +1,20 @@
 -- The arms of a branch that were checked so far, as the code keeps them.
 use Rattle.std.specs.Prelude.{◌≡◌, ◌≢◌, ⊤, ℕ, Bool, true, false, List, [], ◌∷◌, length, get_or, Option, Some, None, Result, Ok, Err, Vec}
-use Rattle.md_modes.specs.declared.fault.ModeFault.{ModeFault}
-use Rattle.md_modes.specs.declared.fault.ModeFault.TheVariants.{NoMemory}
+use Rattle.md_binding.specs.declared.fault.ModeFault.{ModeFault}
+use Rattle.md_binding.specs.declared.fault.ModeFault.TheVariants.{NoMemory}
 use Rattle.std.specs.declared.alloc.Global.{Global}
-use Rattle.md_modes.specs.declared.mark.Mark.{Mark}
+use Rattle.md_binding.specs.declared.mark.Mark.{Mark}
 use Rattle.md_modes.specs.declared.joined.Joined.{Joined}
-use Rattle.md_modes.specs.declared.arms.Arms.{Arms}
-use Rattle.md_modes.specs.Verdict.{Verdict}
-use Rattle.md_modes.specs.Known.{Knowledge, known_at}
+use Rattle.md_modes.specs.declared.outside.Outside.{Outside}
+use Rattle.md_binding.specs.Verdict.{Verdict}
+use Rattle.md_binding.specs.Known.{Knowledge, known_at}
 use Rattle.md_modes.specs.Branches.{After, after, all_have, some_unlike, some_differ, reachable}
-use Rattle.md_modes.specs.Kinds.{knowledge_of}
+use Rattle.md_binding.specs.Kinds.{knowledge_of}
+use Rattle.md_modes.specs.Tally.{exceeds}
+
+-- the variable of this number among those of a goal occurs outside it
+abbrev pub occurs : Outside → ℕ → Bool
+occurs o i = exceeds o.all.now o.local.now.places.items o.local.now.counts.items i
 
 -- of arms that began with `s`, the first ends with `r` and the others with `qs`
 pub record Joins (p : ℕ → Bool) (s : Knowledge) (j : Joined) (r : Knowledge) (qs : List Knowledge) : Type 0 where
@@ -24,9 +29,9 @@ IsJoin p s None [] = ⊤
 IsJoin p s (Some j) (r ∷ qs) = Joins p s j r qs
 IsJoin p s j rs = ⊥
 
--- the arms that were checked so far end so
-pub record Ends (p : ℕ → Bool) (arms : Arms) (ends : List After) : Type 0 where
-  pub joined : IsJoin p (knowledge_of arms.before.items) arms.joined (reachable ends)
+-- the arms that were checked so far, which began with `s`, end so
+pub record Ends (p : ℕ → Bool) (s : Knowledge) (j : Option Joined) (ends : List After) : Type 0 where
+  pub joined : IsJoin p s j (reachable ends)
 
 -- whether the place after a goal is reachable, and what is known there, are those of the definition, unless memory is refused
 abbrev pub Reaches : Result Bool ModeFault → Knowledge → Verdict After → Type 0

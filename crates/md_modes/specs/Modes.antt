@@ -5,11 +5,11 @@ use Rattle.md_hlds.specs.declared.types.Mode.{Mode}
 use Rattle.md_hlds.specs.declared.types.Mode.TheVariants.{In, Out, Di, Uo}
 use Rattle.md_hlds.specs.declared.types.Det.TheVariants as det
 use Rattle.md_hlds.specs.Listing.{Sort, Procedure, Listing}
-use Rattle.md_modes.specs.declared.fault.ModeFault.{ModeFault}
-use Rattle.md_modes.specs.declared.fault.ModeFault.TheVariants.{TypeClash, Unbound, IoUsed, NoMain}
-use Rattle.md_modes.specs.Verdict.{Verdict, ◌>>=◌, ◌>>◌, fine, fault_unless}
-use Rattle.md_modes.specs.Sorts.{same_sort, is_world, same_det}
-use Rattle.md_modes.specs.Known.{Known, free, has, Knowledge, known_at, put, nothing_known}
+use Rattle.md_binding.specs.declared.fault.ModeFault.{ModeFault}
+use Rattle.md_binding.specs.declared.fault.ModeFault.TheVariants.{TypeClash, Unbound, IoUsed, NoMain}
+use Rattle.md_binding.specs.Verdict.{Verdict, ◌>>=◌, ◌>>◌, fine, fault_unless}
+use Rattle.md_binding.specs.Sorts.{same_sort, is_world, same_det}
+use Rattle.md_binding.specs.Known.{Known, free, has, Knowledge, known_at, put, nothing_known}
 use Rattle.md_modes.specs.Declarations as declarations
 use Rattle.md_modes.specs.Branches.{After}
 use Rattle.md_modes.specs.Goals.{Scope, clause_variables, goal}

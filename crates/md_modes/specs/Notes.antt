@@ -4,10 +4,10 @@ use Rattle.md_hlds.specs.declared.goal.Term.{Term}
 use Rattle.md_hlds.specs.declared.goal.Term.TheVariants.{Var, Int, Str, Name}
 use Rattle.md_hlds.specs.Part.{Unifies, Part, At, Task, Plain, Invoke, Apply, Each, Either, Choose, Unless, Once, Parts, nothing, also}
 use Rattle.md_hlds.specs.Listing.{Sort, closure, Procedure, Listing}
-use Rattle.md_modes.specs.Verdict.{Verdict}
-use Rattle.md_modes.specs.Known.{Known, free, has, Knowledge, known_at, is_bound, is_newly_bound}
-use Rattle.md_modes.specs.Named.{Functor, functor_called}
-use Rattle.md_modes.specs.Sorts.{is_world}
+use Rattle.md_binding.specs.Verdict.{Verdict}
+use Rattle.md_binding.specs.Known.{Known, free, has, Knowledge, known_at, is_bound, is_newly_bound}
+use Rattle.md_binding.specs.Named.{Functor, functor_called}
+use Rattle.md_binding.specs.Sorts.{is_world}
 use Rattle.md_modes.specs.Branches.{After, some_of}
 use Rattle.md_modes.specs.Goals.{Scope, within, task_variables, goal}
 use Rattle.md_modes.specs.Modes.{entry, scope_of}

@@ -1,117 +1,81 @@
 // The arms of a branch, one after the other.
 ghost use Rattle.std.specs.Prelude.{◌≡◌, ℕ, Bool, List, [], ◌∷◌, ◌++◌, Some, IfOk, OnOk};
-ghost use Rattle.md_modes.specs.Known.{Knowledge};
-ghost use Rattle.md_modes.specs.Branches.{After, after, joined};
-ghost use Rattle.md_modes.specs.Tally.{exceeds};
-ghost use Rattle.md_modes.specs.Kinds.{knowledge_of};
-ghost use Rattle.md_modes.specs.Joins.{IsJoin, Ends, Reaches};
+ghost use Rattle.md_binding.specs.Known.{Knowledge};
+ghost use Rattle.md_modes.specs.Branches.{After, after};
+ghost use Rattle.md_modes.specs.Branches as spec;
+ghost use Rattle.md_binding.specs.Kinds.{knowledge_of};
+ghost use Rattle.md_modes.specs.Views as views;
+ghost use Rattle.md_modes.specs.Joins.{IsJoin, Ends, Reaches, occurs};
 
-use crate::ModeFault;
 use crate::joined::Joined;
-use crate::mark::Mark;
-use crate::outside::Outside;
+use crate::outside::View;
+use crate::view::{put_all, seen};
 use md_base::NoMemory;
+use md_binding::{Mark, ModeFault};
 use std::alloc::Global;
 
-/// What is known before a branch, and what the arms so far whose ends are reachable have in common.
-#[derive(Drop)]
-pub struct Arms<'a> {
-    pub before: Vec<Mark<'a>>,
-    pub joined: Option<Joined<'a>>,
-}
-
-impl<'a> Arms<'a> {
-    /// No arms yet.
-    pub fn new(alloc: Global, marks: &[Mark<'a>]) -> Result<Arms<'a>, NoMemory>
-        ensures before { IfOk result (λ arms. knowledge_of arms.before.items ≡ knowledge_of marks.now) }
-        ensures none { IfOk result (λ arms. (p : ℕ → Bool) → Ends p arms []) }
-    {
-        Ok(Arms {
-            before: Vec::from_slice(alloc, marks)?,
-            joined: None,
-        })
+/// One arm more, and what the arms so far whose ends are reachable have in common. Afterwards what is known of the branch's
+/// variables is what was known before it.
+pub fn add_arm<'a>(
+    alloc: Global,
+    view: View<'a, '_>,
+    joined: Option<Joined<'a>>,
+    marks: &mut Vec<Mark<'a>>,
+    reach: bool,
+) -> Result<Option<Joined<'a>>, NoMemory>
+    ensures marks { OnOk result (knowledge_of marks.new.items
+        ≡ views.put_all view.entry.outside.local.now.places.items (knowledge_of view.entry.before.now) (knowledge_of marks.old.items)) }
+    ensures ends { IfOk result (λ more. (ends : List After) → Ends (occurs view.entry.outside) (knowledge_of view.entry.before.now) joined.entry ends
+        → Ends (occurs view.entry.outside) (knowledge_of view.entry.before.now) more
+            (ends ++ after (views.seen view.entry.outside.local.now.places.items (knowledge_of marks.old.items)) reach ∷ [])) }
+{
+    let places = view.outside.local.places.as_slice();
+    let end = seen(alloc, places, marks)?;
+    put_all(marks, places, view.before);
+    if !reach {
+        return Ok(joined);
     }
-
-    /// One arm more, of which this is known at its end. Afterwards what is known is what was known before the branch.
-    pub fn add(
-        &mut self,
-        alloc: Global,
-        outside: Outside<'_, '_>,
-        marks: &mut Vec<Mark<'a>>,
-        reach: bool,
-    ) -> Result<(), NoMemory>
-        ensures before { OnOk result (knowledge_of self.new.before.items ≡ knowledge_of self.old.before.items) }
-        ensures marks { OnOk result (knowledge_of marks.new.items ≡ knowledge_of self.old.before.items) }
-        ensures ends { OnOk result ((ends : List After) → Ends (exceeds outside.entry.all.now outside.entry.inner.now) self.old ends
-            → Ends (exceeds outside.entry.all.now outside.entry.inner.now) self.new (ends ++ after (knowledge_of marks.old.items) reach ∷ [])) }
-    {
-        self.end_arm(alloc, outside, marks, reach)?;
-        restore(marks, &self.before)
-    }
-
-    fn end_arm(
-        &mut self,
-        alloc: Global,
-        outside: Outside<'_, '_>,
-        marks: &[Mark<'a>],
-        reach: bool,
-    ) -> Result<(), NoMemory>
-        ensures before { OnOk result (knowledge_of self.new.before.items ≡ knowledge_of self.old.before.items) }
-        ensures ends { OnOk result ((ends : List After) → Ends (exceeds outside.entry.all.now outside.entry.inner.now) self.old ends
-            → Ends (exceeds outside.entry.all.now outside.entry.inner.now) self.new (ends ++ after (knowledge_of marks.now) reach ∷ [])) }
-    {
-        if !reach {
-            return Ok(());
-        }
-        let joined = self.joined.take();
-        self.joined = Some(one_more(alloc, joined, outside, &self.before, marks)?);
-        Ok(())
-    }
-
-    /// What is known after the branch, and whether the place after it is reachable.
-    pub fn end(self, marks: &mut Vec<Mark<'a>>, line: u32) -> Result<bool, ModeFault>
-        ensures { (p : ℕ → Bool) → (ends : List After) → Ends p self.entry ends → knowledge_of marks.old.items ≡ knowledge_of self.entry.before.items
-            → Reaches result (knowledge_of marks.new.items) (joined line p (knowledge_of self.entry.before.items) ends) }
-    {
-        let Arms {
-            before: _before,
-            joined,
-        } = self;
-        match joined {
-            None => Ok(false),
-            Some(joined) => {
-                *marks = joined.end(line)?;
-                Ok(true)
-            }
-        }
-    }
+    let joined = one_more(alloc, view, joined, end)?;
+    Ok(Some(joined))
 }
 
 /// One arm more whose end is reachable.
 fn one_more<'a>(
     alloc: Global,
+    view: View<'a, '_>,
     joined: Option<Joined<'a>>,
-    outside: Outside<'_, '_>,
-    before: &[Mark<'a>],
-    marks: &[Mark<'a>],
+    end: Vec<Mark<'a>>,
 ) -> Result<Joined<'a>, NoMemory>
-    ensures { IfOk result (λ more. (rs : List Knowledge) → IsJoin (exceeds outside.entry.all.now outside.entry.inner.now) (knowledge_of before.now) joined.entry rs
-        → IsJoin (exceeds outside.entry.all.now outside.entry.inner.now) (knowledge_of before.now) (Some more) (rs ++ knowledge_of marks.now ∷ [])) }
+    ensures { IfOk result (λ more. (rs : List Knowledge) → IsJoin (occurs view.entry.outside) (knowledge_of view.entry.before.now) joined.entry rs
+        → IsJoin (occurs view.entry.outside) (knowledge_of view.entry.before.now) (Some more) (rs ++ knowledge_of end.entry.items ∷ [])) }
 {
     match joined {
-        None => Joined::new(alloc, marks),
+        None => Joined::new(alloc, end),
         Some(mut joined) => {
-            joined.add(outside, before, marks);
+            joined.add(view, &end);
             Ok(joined)
         }
     }
 }
 
-/// Makes what is known what was known before.
-pub fn restore<'a>(marks: &mut Vec<Mark<'a>>, before: &[Mark<'a>]) -> Result<(), NoMemory>
-    ensures { OnOk result (knowledge_of marks.new.items ≡ knowledge_of before.now) }
+/// What is known after a branch with these arms, and whether the place after it is reachable.
+pub fn end_arms<'a>(
+    view: View<'a, '_>,
+    joined: Option<Joined<'a>>,
+    marks: &mut Vec<Mark<'a>>,
+    line: u32,
+) -> Result<bool, ModeFault>
+    ensures { (p : ℕ → Bool) → (ends : List After) → Ends p (knowledge_of view.entry.before.now) joined.entry ends
+        → knowledge_of view.entry.before.now ≡ views.seen view.entry.outside.local.now.places.items (knowledge_of marks.old.items)
+        → Reaches result (knowledge_of marks.new.items)
+            (views.put_verdict view.entry.outside.local.now.places.items (knowledge_of marks.old.items) (spec.joined line p (knowledge_of view.entry.before.now) ends)) }
 {
-    marks.clear();
-    marks.extend_from_slice(before)?;
-    Ok(())
+    match joined {
+        None => Ok(false),
+        Some(joined) => {
+            let end = joined.end(view.before, line)?;
+            put_all(marks, &view.outside.local.places, &end);
+            Ok(true)
+        }
+    }
 }

@@ -1,70 +1,85 @@
 // The whole program.
-ghost use Rattle.std.specs.Prelude.{◌≡◌, ◌≢◌, None, Some, ◌++◌, IfOk, OnOk, MatchResult};
+ghost use Rattle.std.specs.Prelude.{◌≡◌, ◌≢◌, None, Some, Err, ◌++◌, IfOk, OnOk, MatchResult};
 ghost use Rattle.md_hlds.specs.Listing.{listing_of, procedure_of, procedures_of};
+ghost use Rattle.md_binding.specs.Kinds.{Finds};
+ghost use Rattle.md_binding.specs.Verdict.{fine};
+ghost use Rattle.md_binding.specs.declared.fault.ModeFault.TheVariants as faults;
 ghost use Rattle.md_modes.specs.Modes as spec;
-ghost use Rattle.md_modes.specs.Kinds.{Finds};
 ghost use Rattle.md_modes.specs.Modes.{mode_fault};
-ghost use Rattle.md_modes.specs.Notes.{program_notes, clause_notes};
+ghost use Rattle.md_modes.specs.Notes.{program_notes, notes_from, clause_notes};
 ghost use Rattle.md_modes.specs.Classes.{notes_told};
-ghost use Rattle.md_modes.specs.declared.fault.ModeFault.TheVariants as faults;
 
-use crate::ModeFault;
 use crate::class::Note;
 use crate::clause::Clause;
 use crate::declarations::{check_predicates, check_types};
 use crate::ends::{check_exits, entry};
 use crate::main_predicate::has_main;
 use crate::moded::Moded;
-use crate::tally::counts_of;
-use md_base::NoMemory;
+use crate::tally::counts_of_clause;
+use md_binding::ModeFault;
 use md_hlds::{Pred, Program};
+use md_names::Names;
 use std::alloc::Global;
 
 /// Checks the modes of a program, and gives it back with what was found at each goal. A refusal names the program's first
-/// fault with its line, and gives the program up.
+/// fault with its line, and gives the program up. Takes time near linear in the program, times the depth of its goals.
 #[tactic(auto, unfolding(crate::specs::Modes::mode_fault))]
 pub fn check_modes(alloc: Global, program: Program) -> Result<Moded, ModeFault>
     ensures answer { MatchResult result (λ moded. moded ≡ program) (λ fault. fault ≢ faults.NoMemory → mode_fault (listing_of program) ≡ Some fault) }
     ensures accepted { IfOk result (λ moded. mode_fault (listing_of moded) ≡ None) }
 {
-    check_program(alloc, &program)?;
-    let notes = notes_of(alloc, &program)?;
+    let notes = check_program(alloc, &program)?;
     Ok(Moded::new(program, notes))
 }
 
-fn check_program(alloc: Global, program: &Program) -> Result<(), ModeFault>
-    ensures { Finds result (spec.checked (listing_of program.now)) }
+#[tactic(auto, unfolding(crate::specs::Notes::program_notes))]
+fn check_program(alloc: Global, program: &Program) -> Result<Vec<Note>, ModeFault>
+    ensures checked { MatchResult result (λ notes. spec.checked (listing_of program.now) ≡ fine) (λ fault. fault ≢ faults.NoMemory → spec.checked (listing_of program.now) ≡ Err fault) }
+    ensures notes { IfOk result (λ notes. notes_told notes.items ≡ program_notes (listing_of program.now)) }
 {
-    check_types(program.types.as_slice(), program.types.as_slice())?;
-    check_predicates(program.types.as_slice(), program.preds.as_slice())?;
-    check_clauses(alloc, program, program.preds.as_slice())?;
+    let names = Names::new(alloc, program)?;
+    check_types(&names, program.types.as_slice())?;
+    check_predicates(&names, program.preds.as_slice())?;
+    let mut notes = Vec::new(alloc);
+    check_clauses(alloc, &names, program.preds.as_slice(), &mut notes)?;
     if !has_main(program.preds.as_slice()) {
         return Err(ModeFault::NoMain(program.module_line));
     }
-    Ok(())
+    Ok(notes)
 }
 
-/// Checks these clauses of a program.
-fn check_clauses(alloc: Global, program: &Program, preds: &[Pred]) -> Result<(), ModeFault>
-    ensures { Finds result (spec.clauses (listing_of program.now) (procedures_of preds.now)) }
+/// Checks these clauses of a program, and notes what is found at their goals.
+fn check_clauses<'a>(
+    alloc: Global,
+    names: &Names<'a>,
+    preds: &'a [Pred],
+    notes: &mut Vec<Note>,
+) -> Result<(), ModeFault>
+    ensures checked { Finds result (spec.clauses (listing_of names.now) (procedures_of preds.now)) }
+    ensures notes { OnOk result (notes_told notes.new.items ≡ notes_told notes.old.items ++ notes_from (listing_of names.now) (procedures_of preds.now)) }
 {
     for pred in preds {
-        check_clause(alloc, program, pred)?;
+        check_clause(alloc, names, pred, notes)?;
     }
     Ok(())
 }
 
-fn check_clause(alloc: Global, program: &Program, pred: &Pred) -> Result<(), ModeFault>
-    ensures { Finds result (spec.clause (listing_of program.now) (procedure_of pred.now)) }
+fn check_clause<'a>(
+    alloc: Global,
+    names: &Names<'a>,
+    pred: &'a Pred,
+    notes: &mut Vec<Note>,
+) -> Result<(), ModeFault>
+    ensures checked { Finds result (spec.clause (listing_of names.now) (procedure_of pred.now)) }
+    ensures notes { OnOk result (notes_told notes.new.items ≡ notes_told notes.old.items ++ clause_notes (listing_of names.now) (procedure_of pred.now)) }
 {
-    let counts = counts_of(alloc, pred.head.as_slice(), &pred.body)?;
     let clause = Clause {
-        program,
+        names,
         pred,
-        counts,
+        counts: counts_of_clause(alloc, pred)?,
     };
     let mut marks = entry(alloc, pred)?;
-    let reach = clause.check(alloc, &mut marks, false, &pred.body)?;
+    let reach = clause.check(alloc, &mut marks, false, &pred.body, notes)?;
     if !reach {
         return Ok(());
     }
@@ -74,34 +89,4 @@ fn check_clause(alloc: Global, program: &Program, pred: &Pred) -> Result<(), Mod
         pred.args.as_slice(),
         pred.head.as_slice(),
     )
-}
-
-/// What there is to say of each goal of a program, in text order.
-#[tactic(auto, unfolding(crate::specs::Notes::program_notes))]
-fn notes_of(alloc: Global, program: &Program) -> Result<Vec<Note>, NoMemory>
-    ensures { IfOk result (λ notes. notes_told notes.items ≡ program_notes (listing_of program.now)) }
-{
-    let mut notes = Vec::new(alloc);
-    for pred in &program.preds {
-        note_clause(alloc, program, pred, &mut notes)?;
-    }
-    Ok(notes)
-}
-
-fn note_clause(
-    alloc: Global,
-    program: &Program,
-    pred: &Pred,
-    notes: &mut Vec<Note>,
-) -> Result<(), NoMemory>
-    ensures { OnOk result (notes_told notes.new.items ≡ notes_told notes.old.items ++ clause_notes (listing_of program.now) (procedure_of pred.now)) }
-{
-    let counts = counts_of(alloc, pred.head.as_slice(), &pred.body)?;
-    let clause = Clause {
-        program,
-        pred,
-        counts,
-    };
-    let mut marks = entry(alloc, pred)?;
-    clause.note(alloc, &mut marks, false, &pred.body, notes)
 }

@@ -1,6 +1,7 @@
 // What the mode checks find at a goal.
 
 use md_hlds::HoTy;
+use std::alloc::Global;
 
 /// What a unification does, or the type of the closure that a higher-order call calls.
 #[derive(Debug, Drop)]
@@ -30,4 +31,15 @@ pub struct Note {
     /// Whether an io state is a variable of the goal, before or after it; a conjunction, disjunction or if-then-else names
     /// none itself.
     pub names_io: bool,
+}
+
+impl Note {
+    /// A note that says nothing.
+    pub(crate) fn blank(alloc: Global) -> Note {
+        Note {
+            class: None,
+            binds: Vec::new(alloc),
+            names_io: false,
+        }
+    }
 }

@@ -1,7 +1,7 @@
 // Copies of the types of closures.
 ghost use Rattle.std.specs.Prelude.{◌≡◌, IfOk};
 ghost use Rattle.md_hlds.specs.Listing.{sort_of, sorts_of, args_of};
-ghost use Rattle.md_modes.specs.Simple.{types_of, modes_of};
+ghost use Rattle.md_binding.specs.Simple.{types_of, modes_of};
 
 use md_base::NoMemory;
 use md_hlds::{Det, HoTy, Mode, Ty};

@@ -1,51 +1,50 @@
 // The checks of declarations: of types, and of predicates.
 ghost use Rattle.std.specs.Prelude.{◌≡◌};
-ghost use Rattle.md_hlds.specs.Listing.{families_of, family_of, construct_of, constructs_of, procedures_of, procedure_of, sort_of, sorts_of, args_of, gathered_sorts};
-ghost use Rattle.md_modes.specs.Simple.{types_of, modes_of};
+ghost use Rattle.md_hlds.specs.Listing.{listing_of, families_of, constructs_of, procedures_of, sorts_of, args_of, gathered_sorts};
+ghost use Rattle.md_binding.specs.Simple.{types_of, modes_of};
 ghost use Rattle.md_modes.specs.Declarations as spec;
-ghost use Rattle.md_modes.specs.Kinds.{kind_sort, Finds};
+ghost use Rattle.md_binding.specs.Kinds.{kind_sort, Finds};
 
-use crate::ModeFault;
-use crate::kind::Kind;
-use crate::names::is_type;
+use md_binding::{Kind, ModeFault};
 use md_hlds::{Functor, Mode, Pred, Ty, TypeDef};
+use md_names::Names;
 
-/// Checks the declarations of types, where these are all types that are declared.
-pub fn check_types(all: &[TypeDef], types: &[TypeDef]) -> Result<(), ModeFault>
-    ensures { Finds result (spec.families (families_of all.now) (families_of types.now)) }
+/// Checks the declarations of these types of a program.
+pub fn check_types(names: &Names<'_>, types: &[TypeDef]) -> Result<(), ModeFault>
+    ensures { Finds result (spec.families (listing_of names.now).types (families_of types.now)) }
 {
     for ty in types {
-        check_functors(all, ty.line, ty.functors.as_slice())?;
+        check_functors(names, ty.line, ty.functors.as_slice())?;
     }
     Ok(())
 }
 
-fn check_functors(all: &[TypeDef], line: u32, functors: &[Functor]) -> Result<(), ModeFault>
-    ensures { Finds result (spec.functors (families_of all.now) line (constructs_of functors.now)) }
+fn check_functors(names: &Names<'_>, line: u32, functors: &[Functor]) -> Result<(), ModeFault>
+    ensures { Finds result (spec.functors (listing_of names.now).types line (constructs_of functors.now)) }
 {
     for functor in functors {
-        check_parts(all, line, functor.args.as_slice())?;
+        check_parts(names, line, functor.args.as_slice())?;
     }
     Ok(())
 }
 
 /// Checks the arguments of a functor.
-fn check_parts(all: &[TypeDef], line: u32, types: &[Ty]) -> Result<(), ModeFault>
-    ensures { Finds result (spec.parts (families_of all.now) line (sorts_of types.now)) }
+fn check_parts(names: &Names<'_>, line: u32, types: &[Ty]) -> Result<(), ModeFault>
+    ensures { Finds result (spec.parts (listing_of names.now).types line (sorts_of types.now)) }
 {
     match types {
         [] => Ok(()),
         [ty, types @ ..] => {
-            check_part(all, line, Kind::new(ty))?;
-            check_parts(all, line, types)
+            check_part(names, line, Kind::new(ty))?;
+            check_parts(names, line, types)
         }
     }
 }
 
-fn check_part(all: &[TypeDef], line: u32, kind: Kind<'_>) -> Result<(), ModeFault>
-    ensures { Finds result (spec.part (families_of all.now) line (kind_sort kind.entry)) }
+fn check_part(names: &Names<'_>, line: u32, kind: Kind<'_>) -> Result<(), ModeFault>
+    ensures { Finds result (spec.part (listing_of names.now).types line (kind_sort kind.entry)) }
 {
-    if !is_known(all, kind) {
+    if !is_known(names, kind) {
         return Err(ModeFault::UnknownName(line));
     }
     if !is_plain_pair(kind, Mode::In) {
@@ -54,32 +53,32 @@ fn check_part(all: &[TypeDef], line: u32, kind: Kind<'_>) -> Result<(), ModeFaul
     Ok(())
 }
 
-/// Checks the declarations of predicates, where these are all types that are declared.
-pub fn check_predicates(all: &[TypeDef], preds: &[Pred]) -> Result<(), ModeFault>
-    ensures { Finds result (spec.procedures (families_of all.now) (procedures_of preds.now)) }
+/// Checks the declarations of these predicates of a program.
+pub fn check_predicates(names: &Names<'_>, preds: &[Pred]) -> Result<(), ModeFault>
+    ensures { Finds result (spec.procedures (listing_of names.now).types (procedures_of preds.now)) }
 {
     for pred in preds {
-        check_arguments(all, pred.line, pred.args.as_slice())?;
+        check_arguments(names, pred.line, pred.args.as_slice())?;
     }
     Ok(())
 }
 
-fn check_arguments(all: &[TypeDef], line: u32, args: &[(Ty, Mode)]) -> Result<(), ModeFault>
-    ensures { Finds result (spec.arguments (families_of all.now) line (args_of args.now)) }
+fn check_arguments(names: &Names<'_>, line: u32, args: &[(Ty, Mode)]) -> Result<(), ModeFault>
+    ensures { Finds result (spec.arguments (listing_of names.now).types line (args_of args.now)) }
 {
     match args {
         [] => Ok(()),
         [arg, args @ ..] => {
-            check_argument(all, line, Kind::new(&arg.0), arg.1)?;
-            check_arguments(all, line, args)
+            check_argument(names, line, Kind::new(&arg.0), arg.1)?;
+            check_arguments(names, line, args)
         }
     }
 }
 
-fn check_argument(all: &[TypeDef], line: u32, kind: Kind<'_>, mode: Mode) -> Result<(), ModeFault>
-    ensures { Finds result (spec.argument (families_of all.now) line (kind_sort kind.entry, mode)) }
+fn check_argument(names: &Names<'_>, line: u32, kind: Kind<'_>, mode: Mode) -> Result<(), ModeFault>
+    ensures { Finds result (spec.argument (listing_of names.now).types line (kind_sort kind.entry, mode)) }
 {
-    if !is_known(all, kind) {
+    if !is_known(names, kind) {
         return Err(ModeFault::UnknownName(line));
     }
     if !is_pair(kind, mode) {
@@ -89,41 +88,41 @@ fn check_argument(all: &[TypeDef], line: u32, kind: Kind<'_>, mode: Mode) -> Res
 }
 
 /// Whether a type is declared; of a higher-order type, whether those of its arguments are.
-fn is_known(all: &[TypeDef], kind: Kind<'_>) -> bool
-    ensures { result ≡ spec.is_known (families_of all.now) (kind_sort kind.entry) }
+fn is_known(names: &Names<'_>, kind: Kind<'_>) -> bool
+    ensures { result ≡ spec.is_known (listing_of names.now).types (kind_sort kind.entry) }
 {
     match kind {
         Kind::Number | Kind::Text | Kind::World => true,
-        Kind::Named(name) => is_type(name, all),
-        Kind::Closure(ho) => are_declared(all, ho.types.as_slice()),
-        Kind::Open(args, _) => have_declared(all, args),
+        Kind::Named(name) => names.has_type(name),
+        Kind::Closure(ho) => are_declared(names, ho.types.as_slice()),
+        Kind::Open(args, _) => have_declared(names, args),
     }
 }
 
-fn are_declared(all: &[TypeDef], types: &[Ty]) -> bool
-    ensures { result ≡ spec.are_declared (families_of all.now) (gathered_sorts (sorts_of types.now)) }
+fn are_declared(names: &Names<'_>, types: &[Ty]) -> bool
+    ensures { result ≡ spec.are_declared (listing_of names.now).types (gathered_sorts (sorts_of types.now)) }
 {
     match types {
         [] => true,
-        [ty, types @ ..] => is_declared(all, Kind::new(ty)) && are_declared(all, types),
+        [ty, types @ ..] => is_declared(names, Kind::new(ty)) && are_declared(names, types),
     }
 }
 
 /// Whether the types of these arguments are declared.
-fn have_declared(all: &[TypeDef], args: &[(Ty, Mode)]) -> bool
-    ensures { result ≡ spec.are_declared (families_of all.now) (gathered_sorts (types_of (args_of args.now))) }
+fn have_declared(names: &Names<'_>, args: &[(Ty, Mode)]) -> bool
+    ensures { result ≡ spec.are_declared (listing_of names.now).types (gathered_sorts (types_of (args_of args.now))) }
 {
     match args {
         [] => true,
-        [arg, args @ ..] => is_declared(all, Kind::new(&arg.0)) && have_declared(all, args),
+        [arg, args @ ..] => is_declared(names, Kind::new(&arg.0)) && have_declared(names, args),
     }
 }
 
-fn is_declared(all: &[TypeDef], kind: Kind<'_>) -> bool
-    ensures { result ≡ spec.is_declared (families_of all.now) (kind_sort kind.entry) }
+fn is_declared(names: &Names<'_>, kind: Kind<'_>) -> bool
+    ensures { result ≡ spec.is_declared (listing_of names.now).types (kind_sort kind.entry) }
 {
     match kind {
-        Kind::Named(name) => is_type(name, all),
+        Kind::Named(name) => names.has_type(name),
         Kind::Number | Kind::Text | Kind::World | Kind::Closure(_) | Kind::Open(..) => true,
     }
 }

@@ -1,14 +1,12 @@
 // The beginning and the end of a clause.
 ghost use Rattle.std.specs.Prelude.{◌≡◌, IfOk};
 ghost use Rattle.md_hlds.specs.Listing.{args_of, procedure_of};
-ghost use Rattle.md_modes.specs.Known.{nothing_known};
+ghost use Rattle.md_binding.specs.Known.{nothing_known};
 ghost use Rattle.md_modes.specs.Modes as spec;
-ghost use Rattle.md_modes.specs.Kinds.{kind_sort, known_of, knowledge_of, Finds};
+ghost use Rattle.md_binding.specs.Kinds.{kind_sort, known_of, knowledge_of, Finds};
 
-use crate::ModeFault;
-use crate::kind::Kind;
-use crate::mark::{Mark, mark_at, set_mark};
 use md_base::NoMemory;
+use md_binding::{Kind, Mark, ModeFault, mark_at, set_mark};
 use md_hlds::{Mode, Pred, Ty};
 use std::alloc::Global;
 

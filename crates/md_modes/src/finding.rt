@@ -1,59 +1,33 @@
 // What there is to say of one goal, by what is known before and after it.
-ghost use Rattle.std.specs.Prelude.{◌≡◌, cond, [], ◌∷◌, ◌++◌, length, IfOk, OnOk};
-ghost use Rattle.md_hlds.specs.Listing.{listing_of, sort_of};
+ghost use Rattle.std.specs.Prelude.{◌≡◌, ◌||◌, cond, [], length, IfOk};
+ghost use Rattle.md_hlds.specs.Listing.{listing_of};
 ghost use Rattle.md_hlds.specs.Part.{task_of};
-ghost use Rattle.md_modes.specs.Kinds.{kind_sort, known_of, knowledge_of};
-ghost use Rattle.md_modes.specs.Notes.{role_of, role_of_variables, role_of_term, role_of_name, role_of_sort, role_of_closure, role_of_unification, bound_places, newly_bound, names_state};
-ghost use Rattle.md_modes.specs.Named as named;
+ghost use Rattle.md_binding.specs.Kinds.{kind_sort, known_of, knowledge_of};
+ghost use Rattle.md_modes.specs.Notes.{role_of, role_of_variables, role_of_term, role_of_name, role_of_sort, role_of_closure, role_of_unification, bound_places, is_state};
+ghost use Rattle.md_modes.specs.Views.{picked, some_state, names_seen};
+ghost use Rattle.md_binding.specs.Named as named;
 ghost use Rattle.md_modes.specs.Classes.{role_told, class_told, note_told};
 
 use crate::class::{Class, Note};
 use crate::copies::{copy_closure, open_closure};
-use crate::kind::Kind;
-use crate::mark::{Mark, mark_at, mark_in};
-use crate::names::functor_called;
-use crate::states::States;
 use md_base::NoMemory;
-use md_hlds::{GoalKind, PredName, Program, Term};
+use md_binding::{Kind, Mark, functor_called, mark_at, mark_in};
+use md_hlds::{GoalKind, PredName, Term};
+use md_names::Names;
 use std::alloc::Global;
 
-/// What there is to say of a goal. `reach` says whether the place after it is reachable.
-pub fn note_of(
-    alloc: Global,
-    program: &Program,
-    goal: &GoalKind,
-    before: &[Mark<'_>],
-    after: &[Mark<'_>],
-    reach: bool,
-) -> Result<Note, NoMemory>
-    ensures { IfOk result (λ note. note_told note ≡ record {
-      role = role_of (listing_of program.now) (task_of goal.now) (knowledge_of before.now);
-      binds = cond reach (newly_bound 0 (knowledge_of before.now) (knowledge_of after.now)) [];
-      state = names_state (task_of goal.now) (knowledge_of before.now) (knowledge_of after.now);
-    }) }
-{
-    let class = class_of(alloc, program, goal, before)?;
-    let binds = binds_of(alloc, before, after, reach)?;
-    let states = States { before, after };
-    Ok(Note {
-        class,
-        binds,
-        names_io: states.names_io(goal),
-    })
-}
-
 /// What a unification does, or the type of the closure that is called.
-fn class_of(
+pub fn class_of(
     alloc: Global,
-    program: &Program,
+    names: &Names<'_>,
     goal: &GoalKind,
     marks: &[Mark<'_>],
 ) -> Result<Option<Class>, NoMemory>
-    ensures { IfOk result (λ class. class_told class ≡ role_of (listing_of program.now) (task_of goal.now) (knowledge_of marks.now)) }
+    ensures { IfOk result (λ class. class_told class ≡ role_of (listing_of names.now) (task_of goal.now) (knowledge_of marks.now)) }
 {
     match goal {
         GoalKind::Unify(x, term) => {
-            let class = class_of_unification(alloc, program, marks, *x, term)?;
+            let class = class_of_unification(alloc, names, marks, *x, term)?;
             Ok(Some(class))
         }
         GoalKind::HoCall(_, closure, _) => class_of_closure(alloc, mark_at(marks, *closure)),
@@ -75,19 +49,19 @@ fn class_of(
 
 fn class_of_unification(
     alloc: Global,
-    program: &Program,
+    names: &Names<'_>,
     marks: &[Mark<'_>],
     x: u32,
     term: &Term,
 ) -> Result<Class, NoMemory>
-    ensures { IfOk result (λ class. role_told class ≡ role_of_unification (listing_of program.now) x term.now (knowledge_of marks.now)) }
+    ensures { IfOk result (λ class. role_told class ≡ role_of_unification (listing_of names.now) x term.now (knowledge_of marks.now)) }
 {
     match term {
         Term::Var(y) => Ok(class_of_variables(x, *y, mark_at(marks, x), mark_at(marks, *y))),
         Term::Int(_) | Term::Str(_) => class_of_term(alloc, &[], mark_at(marks, x), marks),
         Term::Name(name, places) => class_of_name(
             alloc,
-            program,
+            names,
             marks,
             mark_at(marks, x),
             name,
@@ -126,16 +100,16 @@ fn class_of_term(
 
 fn class_of_name(
     alloc: Global,
-    program: &Program,
+    names: &Names<'_>,
     marks: &[Mark<'_>],
     mark: Mark<'_>,
     name: &PredName,
     places: &[u32],
 ) -> Result<Class, NoMemory>
     ensures { IfOk result (λ class. role_told class ≡ role_of_name places.now (known_of mark.entry) (knowledge_of marks.now)
-        (named.functor_called (listing_of program.now) name.now (length places.now))) }
+        (named.functor_called (listing_of names.now) name.now (length places.now))) }
 {
-    match functor_called(program, name, places.len()) {
+    match functor_called(names, name, places.len()) {
         Some(_) => class_of_term(alloc, places, mark, marks),
         None => Ok(Class::Close),
     }
@@ -180,45 +154,108 @@ fn bound_among(alloc: Global, places: &[u32], marks: &[Mark<'_>]) -> Result<Vec<
     Ok(bound)
 }
 
-/// What a goal binds; nothing where the place after it isn't reachable.
-fn binds_of(
-    alloc: Global,
-    before: &[Mark<'_>],
-    after: &[Mark<'_>],
-    reach: bool,
-) -> Result<Vec<u32>, NoMemory>
-    ensures { IfOk result (λ binds. binds.items ≡ cond reach (newly_bound 0 (knowledge_of before.now) (knowledge_of after.now)) []) }
-{
-    if reach {
-        newly_bound(alloc, before, after)
-    } else {
-        Ok(Vec::new(alloc))
+/// What is known of the variables of a goal before it and after it.
+#[derive(Clone, Copy)]
+pub struct Change<'a, 'b> {
+    pub places: &'b [u32],
+    pub before: &'b [Mark<'a>],
+    pub after: &'b [Mark<'a>],
+    pub ghost before_all: { length before.now ≡ length places.now },
+    pub ghost after_all: { length after.now ≡ length places.now },
+}
+
+impl<'a, 'b> Change<'a, 'b> {
+    /// What there is to say of the goal, which is of this kind. `reach` says whether the place after it is reachable.
+    pub fn note(
+        self,
+        alloc: Global,
+        class: Option<Class>,
+        goal: &GoalKind,
+        reach: bool,
+    ) -> Result<Note, NoMemory>
+        ensures { IfOk result (λ note. note_told note ≡ record {
+          role = class_told class;
+          binds = cond reach (picked self.entry.places.now (knowledge_of self.entry.before.now) (knowledge_of self.entry.after.now)) [];
+          state = names_seen (task_of goal.now) (knowledge_of self.entry.before.now) (knowledge_of self.entry.after.now);
+        }) }
+    {
+        let binds = if reach {
+            self.newly_bound(alloc)?
+        } else {
+            Vec::new(alloc)
+        };
+        Ok(Note {
+            class,
+            binds,
+            names_io: self.names_io(goal),
+        })
+    }
+
+    /// The variables that are free before and bound after.
+    fn newly_bound(self, alloc: Global) -> Result<Vec<u32>, NoMemory>
+        ensures { IfOk result (λ bound. bound.items ≡ picked self.entry.places.now (knowledge_of self.entry.before.now) (knowledge_of self.entry.after.now)) }
+    {
+        let mut bound = Vec::new(alloc);
+        for number in 0..self.places.len() {
+            if Mark::is_newly_bound(mark_in(self.before, number), mark_in(self.after, number)) {
+                bound.push(self.places[number])?;
+            }
+        }
+        Ok(bound)
+    }
+
+    /// Whether a variable of the goal is an io state before or after it; a conjunction, a disjunction and an if-then-else
+    /// name none.
+    fn names_io(self, goal: &GoalKind) -> bool
+        ensures { result ≡ names_seen (task_of goal.now) (knowledge_of self.entry.before.now) (knowledge_of self.entry.after.now) }
+    {
+        match goal {
+            GoalKind::Conj(_) | GoalKind::Disj(_) | GoalKind::If(..) => false,
+            GoalKind::True
+            | GoalKind::Fail
+            | GoalKind::Unify(..)
+            | GoalKind::Arith(..)
+            | GoalKind::Compare(..)
+            | GoalKind::WriteInt(..)
+            | GoalKind::WriteStr(..)
+            | GoalKind::Nl(..)
+            | GoalKind::Call(..)
+            | GoalKind::HoCall(..)
+            | GoalKind::Not(_)
+            | GoalKind::Some(..) => self.has_state(),
+        }
+    }
+
+    fn has_state(self) -> bool
+        ensures { result ≡ some_state (knowledge_of self.entry.before.now) (knowledge_of self.entry.after.now) }
+    {
+        for number in 0..self.places.len() {
+            if is_either_state(mark_in(self.before, number), mark_in(self.after, number)) {
+                return true;
+            }
+        }
+        false
     }
 }
 
-/// The variables that are free before and bound after, in rising order.
-fn newly_bound(alloc: Global, before: &[Mark<'_>], after: &[Mark<'_>]) -> Result<Vec<u32>, NoMemory>
-    ensures { IfOk result (λ bound. bound.items ≡ newly_bound 0 (knowledge_of before.now) (knowledge_of after.now)) }
+/// Whether a variable is bound to an io state before or after the goal.
+fn is_either_state(before: Mark<'_>, after: Mark<'_>) -> bool
+    ensures { result ≡ (is_state (known_of before.entry) || is_state (known_of after.entry)) }
 {
-    let mut bound = Vec::new(alloc);
-    for place in 0..before.len() {
-        let is_new = Mark::is_newly_bound(mark_in(before, place), mark_in(after, place));
-        add_if(&mut bound, place, is_new)?;
-    }
-    Ok(bound)
+    is_state(before) || is_state(after)
 }
 
-/// Adds a place, where this holds.
-fn add_if(places: &mut Vec<u32>, place: usize, holds: bool) -> Result<(), NoMemory>
-    ensures { OnOk result (places.new.items ≡ places.old.items ++ cond holds (place ∷ []) []) }
+/// Whether a variable is bound to an io state.
+fn is_state(mark: Mark<'_>) -> bool
+    ensures { result ≡ is_state (known_of mark.entry) }
 {
-    if holds {
-        places.push(number_of(place)?)?;
+    match mark {
+        Mark::Free => false,
+        Mark::Bound(kind, _) => kind.is_world(),
     }
-    Ok(())
 }
 
-/// A place as the number of a variable.
+/// A place as the number of an argument.
 fn number_of(place: usize) -> Result<u32, NoMemory>
     ensures { IfOk result (λ number. number ≡ place) }
 {

@@ -1,24 +1,29 @@
 // The goals of a clause.
-ghost use Rattle.std.specs.Prelude.{◌≡◌, ◌&&◌, Bool};
+ghost use Rattle.std.specs.Prelude.{◌≡◌, ◌++◌, ◌&&◌, ℕ, List, true, IfOk};
 ghost use Rattle.md_hlds.specs.Part.{Either, Once, part_of, parts_of, task_of, gathered};
+ghost use Rattle.md_modes.specs.Goals.{parts_variables};
 ghost use Rattle.md_modes.specs.Goals as spec;
-ghost use Rattle.md_modes.specs.Kinds.{knowledge_of};
+ghost use Rattle.md_modes.specs.Notes as noted;
+ghost use Rattle.md_modes.specs.Classes.{notes_told};
 ghost use Rattle.md_modes.specs.Joins.{Reaches};
+ghost use Rattle.md_modes.specs.Inside.{IsViewOf, AreAmong, inside};
 ghost use Rattle.md_modes.specs.Clauses.{scope_at};
+ghost use Rattle.md_binding.specs.Kinds.{knowledge_of};
 
-use crate::ModeFault;
-use crate::argument::Spot;
-use crate::arms::{Arms, restore};
+use crate::arms::{add_arm, end_arms};
+use crate::class::Note;
 use crate::clause::Clause;
-use crate::mark::Mark;
-use crate::outside::{Outside, binds_some, some_outside};
-use crate::simple::leaf;
-use crate::tally::{counts_of, counts_of_all, counts_of_three};
+use crate::finding::{Change, class_of};
+use crate::local::Local;
+use crate::outside::{Outside, View, binds_some};
+use crate::view::{put_all, seen};
+use md_binding::{Mark, ModeFault, Spot, leaf};
 use md_hlds::{Goal, GoalKind};
 use std::alloc::Global;
 
-impl<'a> Clause<'a> {
-    /// Checks a goal of the clause: what is known after it, and whether the place after it is reachable.
+impl<'a, 'b> Clause<'a, 'b> {
+    /// Checks a goal of the clause: what is known after it, and whether the place after it is reachable. Notes what is found
+    /// at it and at the goals within it, outer before inner.
     #[cycle(goals)]
     pub fn check(
         &self,
@@ -26,33 +31,72 @@ impl<'a> Clause<'a> {
         marks: &mut Vec<Mark<'a>>,
         strict: bool,
         goal: &Goal,
+        notes: &mut Vec<Note>,
     ) -> Result<bool, ModeFault>
-        ensures { Reaches result (knowledge_of marks.new.items) (spec.goal (scope_at self.now strict) (part_of goal.now) (knowledge_of marks.old.items)) }
+        ensures reaches { Reaches result (knowledge_of marks.new.items) (spec.goal (scope_at self.now strict) (part_of goal.now) (knowledge_of marks.old.items)) }
+        ensures notes { IfOk result (λ reach. notes_told notes.new.items
+            ≡ notes_told notes.old.items ++ noted.notes (scope_at self.now strict) (part_of goal.now) (knowledge_of marks.old.items)) }
+    {
+        let local = Local::new(alloc, &goal.kind)?;
+        let class = class_of(alloc, self.names, &goal.kind, marks)?;
+        let before = seen(alloc, &local.places, marks)?;
+        let number = notes.len();
+        notes.push(Note::blank(alloc))?;
+        let outside = Outside {
+            all: &self.counts,
+            local: &local,
+        };
+        let view = View {
+            outside,
+            before: &before,
+        };
+        let reach = self.check_kind(alloc, marks, view, strict, goal, notes)?;
+        let after = seen(alloc, &local.places, marks)?;
+        let change = Change {
+            places: &local.places,
+            before: &before,
+            after: &after,
+        };
+        notes[number] = change.note(alloc, class, &goal.kind, reach)?;
+        Ok(reach)
+    }
+
+    /// Checks a goal of whose variables this is known.
+    #[cycle(goals)]
+    fn check_kind(
+        &self,
+        alloc: Global,
+        marks: &mut Vec<Mark<'a>>,
+        view: View<'a, '_>,
+        strict: bool,
+        goal: &Goal,
+        notes: &mut Vec<Note>,
+    ) -> Result<bool, ModeFault>
+        requires view { IsViewOf self.now view (spec.task_variables (task_of goal.now.kind)) (knowledge_of marks.now.items) }
+        ensures reaches { Reaches result (knowledge_of marks.new.items) (spec.task (scope_at self.now strict) goal.now.line (task_of goal.now.kind) (knowledge_of marks.old.items)) }
+        ensures notes { IfOk result (λ reach. notes_told notes.new.items
+            ≡ notes_told notes.old.items ++ noted.inner_notes (scope_at self.now strict) (task_of goal.now.kind) (knowledge_of marks.old.items)) }
     {
         let at = Spot {
             line: goal.line,
             strict,
         };
         match &goal.kind {
-            GoalKind::Conj(goals) => self.check_each(alloc, marks, strict, goals.as_slice()),
-            GoalKind::Disj(arms) => self.check_arms(alloc, marks, at, arms.as_slice()),
-            GoalKind::If(condition, then, otherwise) => {
-                let counts = counts_of_three(alloc, condition, then, otherwise)?;
-                let outside = self.outside(&counts);
-                let mut arms = Arms::new(alloc, marks)?;
-                self.check(alloc, marks, true, condition)?;
-                if binds_some(outside, &arms.before, marks) {
-                    return Err(ModeFault::BranchBinds(goal.line));
-                }
-                let reach = self.check(alloc, marks, strict, then)?;
-                arms.add(alloc, outside, marks, reach)?;
-                let reach = self.check(alloc, marks, strict, otherwise)?;
-                arms.add(alloc, outside, marks, reach)?;
-                arms.end(marks, goal.line)
+            GoalKind::Conj(goals) => self.check_each(alloc, marks, strict, goals.as_slice(), notes),
+            GoalKind::Disj(arms) => {
+                self.check_arms(alloc, marks, view, at, arms.as_slice(), notes)
             }
-            GoalKind::Not(inner) => self.check_inside(alloc, marks, goal.line, &[], inner),
+            GoalKind::If(condition, then, otherwise) => {
+                self.check_condition(alloc, marks, view, goal.line, condition, notes)?;
+                let reach = self.check(alloc, marks, strict, then, notes)?;
+                let joined = add_arm(alloc, view, None, marks, reach)?;
+                let reach = self.check(alloc, marks, strict, otherwise, notes)?;
+                let joined = add_arm(alloc, view, joined, marks, reach)?;
+                end_arms(view, joined, marks, goal.line)
+            }
+            GoalKind::Not(inner) => self.check_inside(alloc, marks, view, at, &[], inner, notes),
             GoalKind::Some(quantified, inner) => {
-                self.check_inside(alloc, marks, goal.line, quantified.as_slice(), inner)
+                self.check_inside(alloc, marks, view, at, quantified.as_slice(), inner, notes)
             }
             _ => self.check_leaf(marks, at, &goal.kind),
         }
@@ -66,62 +110,93 @@ impl<'a> Clause<'a> {
         marks: &mut Vec<Mark<'a>>,
         strict: bool,
         goals: &[Goal],
+        notes: &mut Vec<Note>,
     ) -> Result<bool, ModeFault>
-        ensures { Reaches result (knowledge_of marks.new.items) (spec.each (scope_at self.now strict) (gathered (parts_of goals.now)) (knowledge_of marks.old.items)) }
+        ensures reaches { Reaches result (knowledge_of marks.new.items) (spec.each (scope_at self.now strict) (gathered (parts_of goals.now)) (knowledge_of marks.old.items)) }
+        ensures notes { IfOk result (λ reach. notes_told notes.new.items
+            ≡ notes_told notes.old.items ++ noted.each_notes (scope_at self.now strict) (gathered (parts_of goals.now)) (knowledge_of marks.old.items)) }
     {
         let mut reach = true;
         for goal in goals {
-            let goes_on = self.check(alloc, marks, strict, goal)?;
+            let goes_on = self.check(alloc, marks, strict, goal, notes)?;
             reach = both(reach, goes_on);
         }
         Ok(reach)
     }
 
-    /// Checks the arms of a disjunction.
+    /// Checks the arms of a disjunction, each from what is known before it.
     #[cycle(goals)]
     fn check_arms(
         &self,
         alloc: Global,
         marks: &mut Vec<Mark<'a>>,
+        view: View<'a, '_>,
         at: Spot,
         goals: &[Goal],
+        notes: &mut Vec<Note>,
     ) -> Result<bool, ModeFault>
-        ensures { Reaches result (knowledge_of marks.new.items) (spec.task (scope_at self.now at.strict) at.line (Either (gathered (parts_of goals.now))) (knowledge_of marks.old.items)) }
+        ensures reaches { IsViewOf self.now view.entry (parts_variables (gathered (parts_of goals.now))) (knowledge_of marks.old.items)
+            → Reaches result (knowledge_of marks.new.items) (spec.task (scope_at self.now at.strict) at.line (Either (gathered (parts_of goals.now))) (knowledge_of marks.old.items)) }
+        ensures notes { IsViewOf self.now view.entry (parts_variables (gathered (parts_of goals.now))) (knowledge_of marks.old.items)
+            → IfOk result (λ reach. notes_told notes.new.items
+                ≡ notes_told notes.old.items ++ noted.arm_notes (scope_at self.now at.strict) (gathered (parts_of goals.now)) (knowledge_of marks.old.items)) }
     {
-        let counts = counts_of_all(alloc, goals)?;
-        let outside = self.outside(&counts);
-        let mut arms = Arms::new(alloc, marks)?;
+        let mut joined = None;
         for goal in goals {
-            let reach = self.check(alloc, marks, at.strict, goal)?;
-            arms.add(alloc, outside, marks, reach)?;
+            let reach = self.check(alloc, marks, at.strict, goal, notes)?;
+            joined = add_arm(alloc, view, joined, marks, reach)?;
         }
-        arms.end(marks, at.line)
+        end_arms(view, joined, marks, at.line)
     }
 
-    /// Checks a goal that may bind nothing that occurs outside, and neither may these variables occur there.
+    /// Checks a goal that may bind nothing that occurs outside, and neither may these variables occur there. Afterwards what
+    /// is known is what was known before.
     #[cycle(goals)]
     fn check_inside(
         &self,
         alloc: Global,
         marks: &mut Vec<Mark<'a>>,
-        line: u32,
+        view: View<'a, '_>,
+        at: Spot,
         quantified: &[u32],
         inner: &Goal,
+        notes: &mut Vec<Note>,
     ) -> Result<bool, ModeFault>
-        ensures { (strict : Bool) → Reaches result (knowledge_of marks.new.items) (spec.task (scope_at self.now strict) line (Once quantified.now (part_of inner.now)) (knowledge_of marks.old.items)) }
+        requires view { IsViewOf self.now view (quantified.now ++ spec.variables (part_of inner.now)) (knowledge_of marks.now.items) }
+        ensures reaches { Reaches result (knowledge_of marks.new.items) (spec.task (scope_at self.now at.strict) at.line (Once quantified.now (part_of inner.now)) (knowledge_of marks.old.items)) }
+        ensures notes { IfOk result (λ reach. notes_told notes.new.items
+            ≡ notes_told notes.old.items ++ noted.notes (scope_at self.now true) (part_of inner.now) (knowledge_of marks.old.items)) }
     {
-        let counts = counts_of(alloc, quantified, inner)?;
-        let outside = self.outside(&counts);
-        let before = Vec::from_slice(alloc, marks)?;
-        self.check(alloc, marks, true, inner)?;
-        if binds_some(outside, &before, marks) {
-            return Err(ModeFault::BranchBinds(line));
+        self.check_condition(alloc, marks, view, at.line, inner, notes)?;
+        if view.outside.has_some(quantified) {
+            return Err(ModeFault::BranchBinds(at.line));
         }
-        if some_outside(outside, quantified) {
-            return Err(ModeFault::BranchBinds(line));
-        }
-        restore(marks, &before)?;
+        put_all(marks, &view.outside.local.places, view.before);
         Ok(true)
+    }
+
+    /// Checks a goal within a branch, where it may bind nothing that occurs outside the branch.
+    #[cycle(goals)]
+    fn check_condition(
+        &self,
+        alloc: Global,
+        marks: &mut Vec<Mark<'a>>,
+        view: View<'a, '_>,
+        line: u32,
+        goal: &Goal,
+        notes: &mut Vec<Note>,
+    ) -> Result<bool, ModeFault>
+        ensures reaches { (vars : List ℕ) → IsViewOf self.now view.entry vars (knowledge_of marks.old.items) → AreAmong (spec.variables (part_of goal.now)) vars
+            → Reaches result (knowledge_of marks.new.items) (inside (scope_at self.now true) line vars (part_of goal.now) (knowledge_of marks.old.items)) }
+        ensures notes { IfOk result (λ reach. notes_told notes.new.items
+            ≡ notes_told notes.old.items ++ noted.notes (scope_at self.now true) (part_of goal.now) (knowledge_of marks.old.items)) }
+    {
+        let reach = self.check(alloc, marks, true, goal, notes)?;
+        let after = seen(alloc, &view.outside.local.places, marks)?;
+        if binds_some(view.outside, view.before, &after) {
+            return Err(ModeFault::BranchBinds(line));
+        }
+        Ok(reach)
     }
 
     /// Checks a goal that is no conjunction and no branch.
@@ -133,19 +208,8 @@ impl<'a> Clause<'a> {
     ) -> Result<bool, ModeFault>
         ensures { Reaches result (knowledge_of marks.new.items) (spec.leaf_task (scope_at self.now at.strict) at.line (task_of goal.now) (knowledge_of marks.old.items)) }
     {
-        leaf(self.program, marks, at, goal)?;
+        leaf(self.names, marks, at, goal)?;
         Ok(goes_on_after(goal))
-    }
-
-    /// How often the variables occur in the clause, and in one of its goals.
-    fn outside<'b, 'c>(&'b self, inner: &'c [u64]) -> Outside<'b, 'c>
-        ensures all { result.all.now ≡ self.now.counts.items }
-        ensures inner { result.inner.now ≡ inner.now }
-    {
-        Outside {
-            all: self.counts.as_slice(),
-            inner,
-        }
     }
 }
 

@@ -1,15 +1,14 @@
 // What several arms of a branch have in common.
 ghost use Rattle.std.specs.Prelude.{◌≡◌, ℕ, Bool, List, [], ◌∷◌, ◌++◌, ◌&&◌, ◌||◌, not, false, length, get_or, IfOk, OnOk};
-ghost use Rattle.md_modes.specs.Known.{Knowledge, known_at, is_bound, some_below};
-ghost use Rattle.md_modes.specs.Branches.{in_common, is_alike, all_have, clash, joined_ends};
-ghost use Rattle.md_modes.specs.Tally.{exceeds};
-ghost use Rattle.md_modes.specs.Kinds.{knowledge_of};
-ghost use Rattle.md_modes.specs.Joins.{Joins, IsJoined};
+ghost use Rattle.md_binding.specs.Known.{Knowledge, known_at, is_newly_bound, some_below};
+ghost use Rattle.md_modes.specs.Branches.{in_common, joined_ends};
+ghost use Rattle.md_binding.specs.Common.{is_alike};
+ghost use Rattle.md_binding.specs.Kinds.{knowledge_of};
+ghost use Rattle.md_modes.specs.Joins.{Joins, IsJoined, occurs};
 
-use crate::ModeFault;
-use crate::mark::{Mark, mark_in};
-use crate::outside::{Outside, differ};
+use crate::outside::{View, differ};
 use md_base::NoMemory;
+use md_binding::{Mark, ModeFault, mark_in};
 use std::alloc::Global;
 
 /// Arms whose ends are reachable.
@@ -26,37 +25,38 @@ pub struct Joined<'a> {
 }
 
 impl<'a> Joined<'a> {
-    /// One arm.
-    pub fn new(alloc: Global, marks: &[Mark<'a>]) -> Result<Joined<'a>, NoMemory>
-        ensures { IfOk result (λ joined. (p : ℕ → Bool) → (s : Knowledge) → Joins p s joined (knowledge_of marks.now) []) }
+    /// One arm, at the end of which this is known.
+    pub fn new(alloc: Global, marks: Vec<Mark<'a>>) -> Result<Joined<'a>, NoMemory>
+        ensures { IfOk result (λ joined. (p : ℕ → Bool) → (s : Knowledge) → Joins p s joined (knowledge_of marks.entry.items) []) }
     {
         Ok(Joined {
-            first: Vec::from_slice(alloc, marks)?,
-            common: Vec::from_slice(alloc, marks)?,
+            common: Vec::from_slice(alloc, &marks)?,
             unlike: none_of(alloc, marks.len())?,
+            first: marks,
             differ: false,
         })
     }
 
     /// One arm more; all began with what was known before.
-    pub fn add(&mut self, outside: Outside<'_, '_>, before: &[Mark<'a>], marks: &[Mark<'a>])
+    pub fn add(&mut self, view: View<'a, '_>, marks: &[Mark<'a>])
         ensures { (r : Knowledge) → (qs : List Knowledge)
-            → Joins (exceeds outside.entry.all.now outside.entry.inner.now) (knowledge_of before.now) self.old r qs
-            → Joins (exceeds outside.entry.all.now outside.entry.inner.now) (knowledge_of before.now) self.new r (qs ++ knowledge_of marks.now ∷ []) }
+            → Joins (occurs view.entry.outside) (knowledge_of view.entry.before.now) self.old r qs
+            → Joins (occurs view.entry.outside) (knowledge_of view.entry.before.now) self.new r (qs ++ knowledge_of marks.now ∷ []) }
     {
-        self.differ = self.differ || differ(outside, before, &self.first, marks);
+        self.differ = self.differ || differ(view.outside, view.before, &self.first, marks);
         note_unlike(&mut self.unlike, &self.first, marks);
         keep_common(&mut self.common, marks);
     }
 
-    /// What is known after the arms.
-    pub fn end(self, line: u32) -> Result<Vec<Mark<'a>>, ModeFault>
-        ensures { (p : ℕ → Bool) → (s r : Knowledge) → (qs : List Knowledge) → Joins p s self.entry r qs → IsJoined result (joined_ends line p s (r ∷ qs)) }
+    /// What is known after the arms, which began with what was known before.
+    pub fn end(self, before: &[Mark<'a>], line: u32) -> Result<Vec<Mark<'a>>, ModeFault>
+        ensures { (p : ℕ → Bool) → (r : Knowledge) → (qs : List Knowledge) → Joins p (knowledge_of before.now) self.entry r qs
+            → IsJoined result (joined_ends line p (knowledge_of before.now) (r ∷ qs)) }
     {
         if self.differ {
             return Err(ModeFault::BranchBinds(line));
         }
-        if clashes(&self.common, &self.unlike) {
+        if clashes(before, &self.common, &self.unlike) {
             return Err(ModeFault::TypeClash(line));
         }
         Ok(self.common)
@@ -96,12 +96,14 @@ fn keep_common<'a>(common: &mut Vec<Mark<'a>>, marks: &[Mark<'a>])
     }
 }
 
-/// Whether a variable that all arms bind is noted.
-fn clashes(common: &[Mark<'_>], unlike: &[bool]) -> bool
-    ensures { result ≡ some_below (length (knowledge_of common.now)) (λ x. is_bound (known_at (knowledge_of common.now) x) && get_or unlike.now x false) }
+/// Whether a variable that is free before and that all arms bind is noted.
+fn clashes(before: &[Mark<'_>], common: &[Mark<'_>], unlike: &[bool]) -> bool
+    ensures { result ≡ some_below (length (knowledge_of common.now)) (λ x. is_newly_bound (known_at (knowledge_of before.now) x) (known_at (knowledge_of common.now) x) && get_or unlike.now x false) }
 {
     for place in 0..common.len() {
-        if mark_in(common, place).is_bound() && is_noted(unlike, place) {
+        if Mark::is_newly_bound(mark_in(before, place), mark_in(common, place))
+            && is_noted(unlike, place)
+        {
             return true;
         }
     }

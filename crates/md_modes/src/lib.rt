@@ -2,36 +2,30 @@
 //! fault (Mercury Language Reference Manual, "Types", "Modes" and "Unique modes", in this project's profile).
 #![tactic(auto)]
 
-mod argument;
 mod arms;
-mod call;
 mod check;
 mod class;
 mod clause;
-mod closure;
 mod copies;
 mod declarations;
 mod ends;
-mod fault;
 mod finding;
 mod goals;
 mod joined;
-mod kind;
+mod local;
 mod main_predicate;
-mod mark;
 mod moded;
-mod names;
-mod noting;
+mod occurrences;
 mod outside;
-mod simple;
-mod states;
 mod tally;
 #[cfg(test)]
 mod tests;
-mod unify;
+mod view;
 
 pub use check::check_modes;
 pub use class::{Class, Note};
-pub use fault::ModeFault;
+pub use local::Local;
+pub use md_binding::ModeFault;
 pub use moded::Moded;
-pub use tally::{count_at, counts_of};
+pub use outside::Outside;
+pub use tally::{count_at, counts_of_clause};

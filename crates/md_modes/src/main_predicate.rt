@@ -1,11 +1,10 @@
 // The predicate with which a run begins.
 ghost use Rattle.std.specs.Prelude.{◌≡◌, ◌&&◌};
 ghost use Rattle.md_hlds.specs.Listing.{procedures_of, procedure_of, args_of, sort_of};
-ghost use Rattle.md_modes.specs.Sorts.{is_world};
+ghost use Rattle.md_binding.specs.Sorts.{is_world};
 ghost use Rattle.md_modes.specs.Modes as spec;
 
-use crate::closure::same_det;
-use crate::kind::Kind;
+use md_binding::{Kind, same_det};
 use md_hlds::{Det, Mode, Pred, Ty};
 
 /// Whether a predicate `main(io::di, io::uo) is det` is declared.

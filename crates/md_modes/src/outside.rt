@@ -1,35 +1,69 @@
 // The variables that occur outside a goal, and what a branch may bind.
-ghost use Rattle.std.specs.Prelude.{◌≡◌};
-ghost use Rattle.md_modes.specs.Branches.{binds_some, differ, some_of};
-ghost use Rattle.md_modes.specs.Tally.{exceeds};
-ghost use Rattle.md_modes.specs.Kinds.{knowledge_of};
+ghost use Rattle.std.specs.Prelude.{◌≡◌, ℕ, List, slice_index};
+ghost use Rattle.md_modes.specs.Branches.{binds_some, differ, some_of, outside};
+ghost use Rattle.md_modes.specs.Tally.{AreCounts, IsLocal};
+ghost use Rattle.md_modes.specs.Joins.{occurs};
+ghost use Rattle.md_binding.specs.Kinds.{knowledge_of};
 
-use crate::mark::{Mark, mark_in};
-use crate::tally::count_at;
+use crate::local::Local;
+use crate::tally::{count_at, count_in};
+use md_binding::{Mark, mark_in};
 
-/// How often each variable occurs in a clause, and in one of its goals.
+/// How often each variable occurs in a clause, and how often each variable of one of its goals occurs in that.
 #[derive(Clone, Copy)]
-pub struct Outside<'b, 'c> {
+pub struct Outside<'b> {
     pub all: &'b [u64],
-    pub inner: &'c [u64],
+    pub local: &'b Local,
 }
 
-impl<'b, 'c> Outside<'b, 'c> {
-    /// Whether a variable occurs outside the goal.
-    pub fn has(self, place: usize) -> bool
-        ensures { result ≡ exceeds self.entry.all.now self.entry.inner.now place }
+impl<'b> Outside<'b> {
+    /// Whether the variable of this number among those of the goal occurs outside it.
+    pub fn has(self, number: usize) -> bool
+        ensures { result ≡ occurs self.entry number }
     {
-        count_at(self.inner, place) < count_at(self.all, place)
+        count_in(&self.local.counts, number)
+            < count_at(self.all, place_in(&self.local.places, number))
+    }
+
+    /// Whether one of these variables occurs outside.
+    pub fn has_some(self, places: &[u32]) -> bool
+        ensures { (all vars : List ℕ) → AreCounts self.entry.all.now all → IsLocal self.entry.local.now.places.items self.entry.local.now.counts.items vars
+            → result ≡ some_of (outside all vars) places.now }
+    {
+        for place in places {
+            if self.local.count_of(*place) < count_at(self.all, *place) {
+                return true;
+            }
+        }
+        false
     }
 }
 
-/// Whether a variable that occurs outside is free before and bound after.
-pub fn binds_some(outside: Outside<'_, '_>, before: &[Mark<'_>], after: &[Mark<'_>]) -> bool
-    ensures { result ≡ binds_some (exceeds outside.entry.all.now outside.entry.inner.now) (knowledge_of before.now) (knowledge_of after.now) }
+/// The variable of this number; past the end it is 0.
+fn place_in(places: &[u32], number: usize) -> u32
+    ensures { result ≡ slice_index places.now number }
 {
-    for place in 0..before.len() {
-        if outside.has(place)
-            && Mark::is_newly_bound(mark_in(before, place), mark_in(after, place))
+    if number < places.len() {
+        places[number]
+    } else {
+        0
+    }
+}
+
+/// What is known of the variables of a goal before it, and which of them occur outside it.
+#[derive(Clone, Copy)]
+pub struct View<'a, 'b> {
+    pub outside: Outside<'b>,
+    pub before: &'b [Mark<'a>],
+}
+
+/// Whether a variable that occurs outside is free before and bound after.
+pub fn binds_some(outside: Outside<'_>, before: &[Mark<'_>], after: &[Mark<'_>]) -> bool
+    ensures { result ≡ binds_some (occurs outside.entry) (knowledge_of before.now) (knowledge_of after.now) }
+{
+    for number in 0..before.len() {
+        if outside.has(number)
+            && Mark::is_newly_bound(mark_in(before, number), mark_in(after, number))
         {
             return true;
         }
@@ -39,30 +73,18 @@ pub fn binds_some(outside: Outside<'_, '_>, before: &[Mark<'_>], after: &[Mark<'
 
 /// Whether a variable that occurs outside is free before, and bound by one of two arms and not by the other.
 pub fn differ(
-    outside: Outside<'_, '_>,
+    outside: Outside<'_>,
     before: &[Mark<'_>],
     first: &[Mark<'_>],
     other: &[Mark<'_>],
 ) -> bool
-    ensures { result ≡ differ (exceeds outside.entry.all.now outside.entry.inner.now) (knowledge_of before.now) (knowledge_of first.now) (knowledge_of other.now) }
+    ensures { result ≡ differ (occurs outside.entry) (knowledge_of before.now) (knowledge_of first.now) (knowledge_of other.now) }
 {
-    for place in 0..before.len() {
-        if outside.has(place)
-            && !mark_in(before, place).is_bound()
-            && mark_in(first, place).disagree(mark_in(other, place))
+    for number in 0..before.len() {
+        if outside.has(number)
+            && !mark_in(before, number).is_bound()
+            && mark_in(first, number).disagree(mark_in(other, number))
         {
-            return true;
-        }
-    }
-    false
-}
-
-/// Whether one of these variables occurs outside.
-pub fn some_outside(outside: Outside<'_, '_>, places: &[u32]) -> bool
-    ensures { result ≡ some_of (exceeds outside.entry.all.now outside.entry.inner.now) places.now }
-{
-    for place in places {
-        if outside.has(*place as usize) {
             return true;
         }
     }

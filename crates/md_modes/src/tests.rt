@@ -1,5 +1,5 @@
 // Programs built by hand: an accepted one, and faults with their lines.
-use crate::{Class, ModeFault, check_modes};
+use crate::{Class, Local, ModeFault, Outside, check_modes, count_at, counts_of_clause};
 use md_base::{Name, SiteId, Text};
 use md_hlds::{
     Det, Functor, Goal, GoalKind, Mode, Pred, PredName, Program, Term, Ty, TypeDef, Variables,
@@ -194,22 +194,32 @@ fn a_program_without_main_is_refused(rt: HostRuntime) -> Result<(), Fail> {
     Ok(())
 }
 
+/// `X = Y, X = 1`: X occurs twice.
 #[test]
-fn faults_have_texts(rt: HostRuntime) -> Result<(), Fail> {
+fn variables_of_a_goal_are_counted(rt: HostRuntime) -> Result<(), Fail> {
     let alloc = rt.alloc();
-    let told = [
-        (ModeFault::UnknownName(1), "unknown name"),
-        (ModeFault::Arity(1), "wrong number of arguments"),
-        (ModeFault::TypeClash(1), "type clash"),
-        (ModeFault::Unbound(1), "unbound variable"),
-        (ModeFault::BoundTwice(1), "variable bound twice"),
-        (ModeFault::BranchBinds(1), "branches bind differently"),
-        (ModeFault::IoUsed(1), "io used"),
-        (ModeFault::ClosureTest(1), "closure compared"),
-        (ModeFault::NoMain(1), "no main"),
-    ];
-    for (fault, text) in told {
-        assert_eq!(rt; format!(in alloc; "{fault}")?.as_str(), text);
-    }
+    let body = both(alloc, same(3, 2, 1), one(3, 2))?;
+    let local = Local::new(alloc, &body.kind)?;
+    assert_eq!(rt; local.places.as_slice(), [1, 2].as_slice());
+    assert_eq!(rt; local.count_of(1), 1);
+    assert_eq!(rt; local.count_of(2), 2);
+    assert_eq!(rt; local.count_of(3), 0);
+    Ok(())
+}
+
+/// The head of main has the variables 0 and 1; in `V = V1` they occur no more often.
+#[test]
+fn variables_outside_a_goal_are_told(rt: HostRuntime) -> Result<(), Fail> {
+    let alloc = rt.alloc();
+    let pred = main_with(alloc, same(3, 2, 1))?;
+    let counts = counts_of_clause(alloc, &pred)?;
+    assert_eq!(rt; count_at(&counts, 1), 2);
+    let local = Local::new(alloc, &pred.body.kind)?;
+    let outside = Outside {
+        all: &counts,
+        local: &local,
+    };
+    assert_eq!(rt; outside.has_some(&[2]), false);
+    assert_eq!(rt; outside.has_some(&[2, 1]), true);
     Ok(())
 }

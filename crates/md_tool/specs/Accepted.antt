@@ -6,8 +6,8 @@ use Rattle.md_reader.specs.declared.refused.Refused.{Refused}
 use Rattle.md_reader.specs.declared.refused.Refused.TheVariants as refused
 use Rattle.md_reader.specs.Grammar.{Spells}
 use Rattle.md_reader.specs.Reading.{reading}
-use Rattle.md_modes.specs.declared.fault.ModeFault.{ModeFault}
-use Rattle.md_modes.specs.declared.fault.ModeFault.TheVariants as modes
+use Rattle.md_binding.specs.declared.fault.ModeFault.{ModeFault}
+use Rattle.md_binding.specs.declared.fault.ModeFault.TheVariants as modes
 use Rattle.md_modes.specs.Modes.{mode_fault}
 use Rattle.md_det.specs.declared.fault.DetFault.{DetFault}
 use Rattle.md_det.specs.declared.fault.DetFault.TheVariants as determinism

@@ -1,6 +1,6 @@
 use Rattle.std.proofs.Common.{◌≡◌, ◌++◌, drop}
 use Rattle.md_hlds.specs.Listing.{args_of, sorts_of}
-use Rattle.md_modes.specs.Simple.{types_of}
+use Rattle.md_binding.specs.Simple.{types_of}
 use Rattle.md_modes.proofs.copies.types_of.Given as goal
 
 abbrev pub invariant-loop-arg : goal.invariant-loop-arg

@@ -3,7 +3,7 @@ use Rattle.md_hlds.specs.declared.types.Ty.{Ty}
 use Rattle.md_hlds.specs.declared.types.Mode.{Mode}
 use Rattle.md_hlds.specs.Listing.{sorts_of, gathered_sorts}
 use Rattle.md_modes.specs.Declarations.{are_pairs}
-use Rattle.md_modes.proofs.Lists.{only_second}
+use Rattle.md_binding.proofs.Lists.{only_second}
 use Rattle.md_modes.proofs.declarations.+are_pairs.Goals as goal
 
 pub returns-in-len1-up-modes : goal.returns-in-len1-up-modes

@@ -1,8 +1,8 @@
 use Rattle.std.proofs.Common.{◌∙◌, ap, [], ◌∷◌, ◌++◌, add-one}
-use Rattle.md_modes.specs.declared.mark.Mark.TheVariants.{Free}
-use Rattle.md_modes.specs.Known.{free}
-use Rattle.md_modes.specs.Kinds.{knowledge_of}
-use Rattle.md_modes.proofs.Marks.{knowledge_of-append, nothing_known-more}
+use Rattle.md_binding.specs.declared.mark.Mark.TheVariants.{Free}
+use Rattle.md_binding.specs.Known.{free}
+use Rattle.md_binding.specs.Kinds.{knowledge_of}
+use Rattle.md_binding.proofs.Marks.{knowledge_of-append, nothing_known-more}
 use Rattle.md_modes.proofs.ends.nothing_known.Goals as goal
 
 pub loop-turn-preserved : goal.loop-turn-preserved

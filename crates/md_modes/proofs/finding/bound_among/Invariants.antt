@@ -1,5 +1,5 @@
 use Rattle.std.proofs.Common.{◌≡◌, ◌++◌, drop}
-use Rattle.md_modes.specs.Kinds.{knowledge_of}
+use Rattle.md_binding.specs.Kinds.{knowledge_of}
 use Rattle.md_modes.specs.Notes.{bound_places}
 use Rattle.md_modes.proofs.finding.bound_among.Given as goal
 

@@ -1,9 +1,9 @@
 use Rattle.std.proofs.Common.{◌≡◌, ◌∙◌, ◌<◌, sym, arith, length}
 use Rattle.std.proofs.lemmas.List.{length-set}
-use Rattle.md_modes.specs.Known.{known_at}
-use Rattle.md_modes.specs.Branches.{common}
-use Rattle.md_modes.specs.Kinds.{known_of, knowledge_of}
-use Rattle.md_modes.proofs.Marks.{length-knowledge_of, knowledge_of-put, known_at-mark}
+use Rattle.md_binding.specs.Known.{known_at}
+use Rattle.md_binding.specs.Common.{common}
+use Rattle.md_binding.specs.Kinds.{known_of, knowledge_of}
+use Rattle.md_binding.proofs.Marks.{length-knowledge_of, knowledge_of-put, known_at-mark}
 use Rattle.md_modes.proofs.Common.{common_from-step, common_from-end}
 use Rattle.md_modes.proofs.joined.keep_common.Goals as goal
 

@@ -1,6 +1,6 @@
 use Rattle.std.proofs.Common.{◌≡◌, length}
 use Rattle.md_modes.specs.Branches.{in_common}
-use Rattle.md_modes.specs.Kinds.{knowledge_of}
+use Rattle.md_binding.specs.Kinds.{knowledge_of}
 use Rattle.md_modes.proofs.Common.{common_from}
 use Rattle.md_modes.proofs.joined.keep_common.Given as goal
 

@@ -1,8 +1,8 @@
 use Rattle.std.proofs.Common.{◌≡◌, ◌<◌, sym, refl, arith, ℕ, true, false, not, length}
 use Rattle.std.proofs.lemmas.List.{length-set}
-use Rattle.md_modes.specs.Known.{known_at}
-use Rattle.md_modes.specs.Branches.{is_alike}
-use Rattle.md_modes.specs.Kinds.{knowledge_of}
+use Rattle.md_binding.specs.Known.{known_at}
+use Rattle.md_binding.specs.Common.{is_alike}
+use Rattle.md_binding.specs.Kinds.{knowledge_of}
 use Rattle.md_modes.proofs.Noted.{noted-below, noted-above, passed-below, passed-above, noted-all}
 use Rattle.md_modes.proofs.joined.note_unlike.Goals.{then-not-is_alike, else-not-is_alike}
 use Rattle.md_modes.proofs.joined.note_unlike.Goals as goal

@@ -1,7 +1,7 @@
 use Rattle.std.proofs.Common.{◌≡◌, ◌<◌, ◌≤◌, ℕ, false, not, ◌||◌, length, get_or}
-use Rattle.md_modes.specs.Known.{known_at}
-use Rattle.md_modes.specs.Branches.{is_alike}
-use Rattle.md_modes.specs.Kinds.{knowledge_of}
+use Rattle.md_binding.specs.Known.{known_at}
+use Rattle.md_binding.specs.Common.{is_alike}
+use Rattle.md_binding.specs.Kinds.{knowledge_of}
 use Rattle.md_modes.proofs.joined.note_unlike.Given as goal
 
 abbrev pub invariant-loop-place : goal.invariant-loop-place

@@ -1,8 +1,8 @@
 use Rattle.std.proofs.Common.{◌≡◌, ◌∙◌, sym, arith, true, ◌&&◌, length}
-use Rattle.md_modes.specs.Known.{known_at, is_newly_bound}
-use Rattle.md_modes.specs.Tally.{exceeds}
-use Rattle.md_modes.specs.Kinds.{knowledge_of}
-use Rattle.md_modes.proofs.Marks.{length-knowledge_of}
+use Rattle.md_binding.specs.Known.{known_at, is_newly_bound}
+use Rattle.md_modes.specs.Joins.{occurs}
+use Rattle.md_binding.specs.Kinds.{knowledge_of}
+use Rattle.md_binding.proofs.Marks.{length-knowledge_of}
 use Rattle.md_modes.proofs.Below.{some_below-found, both}
 use Rattle.md_modes.proofs.outside.binds_some.Goals as goal
 
@@ -10,15 +10,15 @@ pub returns-then-is_newly_bound : goal.returns-then-is_newly_bound
 returns-then-is_newly_bound c =
     let s = knowledge_of c.args.before.now in
     let r = knowledge_of c.args.after.now in
-    let i = c.loop-place.place in
-    let outside : exceeds c.args.outside.all.now c.args.outside.inner.now i ≡ true = sym c.has.ensures ∙ c.if-has.true in
+    let i = c.loop-number.number in
+    let outside : occurs c.args.outside i ≡ true = sym c.has.ensures ∙ c.if-has.true in
     let bound : is_newly_bound (known_at s i) (known_at r i) ≡ true =
     rw (← c.mark_in.ensures, ← c.mark_in-then-has.ensures) (sym c.is_newly_bound.ensures ∙ c.if-is_newly_bound.true) in
     sym (some_below-found (length s) i
-    (λ x. exceeds c.args.outside.all.now c.args.outside.inner.now x && is_newly_bound (known_at s x) (known_at r x))
+    (λ x. occurs c.args.outside x && is_newly_bound (known_at s x) (known_at r x))
     (omega (arith, length-knowledge_of c.args.before.now)) (both _ _ outside bound))
 
 pub returns : goal.returns
 returns c =
-    let e : length (knowledge_of c.args.before.now) ≡ c.loop-place.place = omega (arith, length-knowledge_of c.args.before.now) in
-    rw e (sym c.loop-place.invariant)
+    let e : length (knowledge_of c.args.before.now) ≡ c.loop-number.number = omega (arith, length-knowledge_of c.args.before.now) in
+    rw e (sym c.loop-number.invariant)

@@ -1,145 +1,344 @@
-use Rattle.std.proofs.Common.{◌≡◌, ◌∙◌, sym, ap, arith, false, [], ◌∷◌, ◌++◌, Ok, add-one}
+use Rattle.std.proofs.Common.{◌≡◌, ◌∙◌, refl, sym, ap, arith, subst, false, true, [], ◌∷◌, ◌++◌, List, Ok, Err, add-one, length}
 use Rattle.std.proofs.lemmas.Result.{err_from_is_err_and}
-use Rattle.md_hlds.specs.Part.{Either, part_of, parts_of, gathered}
-use Rattle.md_modes.specs.Branches.{after, outside, binds_some, joined}
-use Rattle.md_modes.specs.Goals.{within, goal, task, each, arms, parts_variables}
-use Rattle.md_modes.specs.Tally.{AreCounts, exceeds}
-use Rattle.md_modes.specs.Kinds.{knowledge_of}
+use Rattle.md_hlds.specs.Part.{Either, part_of, parts_of, task_of, gathered}
+use Rattle.md_binding.specs.Known.{Knowledge}
+use Rattle.md_binding.specs.Kinds.{knowledge_of}
+use Rattle.md_modes.specs.Branches.{After, after, outside, binds_some, some_of, joined}
+use Rattle.md_modes.specs.Goals.{goal, task, each, arms, variables, parts_variables}
+use Rattle.md_modes.specs.Notes.{inner_notes, each_notes, arm_notes}
+use Rattle.md_modes.specs.Classes.{notes_told}
+use Rattle.md_modes.specs.Inside.{IsViewOf}
+use Rattle.md_modes.specs.Joins.{occurs, Ends}
+use Rattle.md_modes.specs.Views.{seen, put_all, seen_ends}
 use Rattle.md_modes.specs.Clauses.{scope_at}
-use Rattle.md_modes.proofs.Counts.{exceeds_is}
-use Rattle.md_modes.proofs.Choices.{reaches_along, conj_is, disj_is, not_is, choose_is, three_variables, binds_along, then_fault, else_fault, choose_joined}
-use Rattle.md_modes.proofs.GoalLemmas.{arms-more, arms-end}
+use Rattle.md_modes.proofs.ArmLemmas.{no_ends, seen_ends-more, all_leave-more}
+use Rattle.md_modes.proofs.Choices.{reaches_along, conj_is, disj_is, choose_is, three_variables, inside_ok, inside_by, inside_binds, condition_fault, then_fault, else_fault, choose_joined, once_fault, once_outside, once_right}
+use Rattle.md_modes.proofs.GoalLemmas.{arms-begin, arms-more, arms-fault, either_fault, arms-end}
+use Rattle.md_modes.proofs.Insides.{places_of, view_leaves, views_leave, put_back, among_first, among_others, among_itself, among_second, among_third, among_goals, binds_by, branch_end, own_note, view_counts, view_along, ends_seen, ends_viewed, reaches_from}
+use Rattle.md_modes.proofs.Listed.{goals_variables, goals_variables-Disj, variables-If}
+use Rattle.md_modes.proofs.Notings.{within_notes, goal_notes, notes_along, each_notes_is, arm_notes_is, arms-loop, arms-loop-end, choice_notes, choice_notes_is, always}
 use Rattle.md_modes.proofs.clause.Clause.+goals.Goals as goals
 
-pub check-returns-in_err-reach-in-If : goals.check-returns-in_err-reach-in-If
-check-returns-in_err-reach-in-If t c =
+pub check-index_mut-requires : goals.check-index_mut-requires
+check-index_mut-requires t c =
+    let lt = within_notes c.args.notes.now.items c.push.new.self.items c.check_kind.new.notes.items c.blank.result _ c.in_ok-push.ensures.items c.in_ok-reach.ensures.notes in
+    omega (arith, lt, c.len-number.ensures)
+
+pub check-returns-clause-notes : goals.check-returns-clause-notes
+check-returns-clause-notes t c =
     let scope = scope_at c.args.self.now c.args.strict in
     let s = knowledge_of c.args.marks.now.items in
+    let r = knowledge_of c.check_kind.new.marks.items in
+    let k = task_of c.args.goal.now.kind in
+    let local = c.in_ok-local.local in
+    let before = ap knowledge_of c.deref-9.ensures.value ∙ (c.in_ok-before.ensures.known ∙ rw (c.deref-2.ensures.value, c.deref-3.ensures.value) refl) in
+    let after' = ap knowledge_of c.deref-10.ensures.value ∙ (c.in_ok-after.ensures.known ∙ rw (c.deref-6.ensures.value, c.deref-7.ensures.value) refl) in
+    goal_notes c.args.notes.now.items c.push.new.self.items c.check_kind.new.notes.items _ c.len-number.result c.blank.result c.in_ok-notes.field-0 _ (inner_notes scope k s)
+    c.in_ok-push.ensures.items (omega (arith, c.len-number.ensures)) c.in_ok-reach.ensures.notes refl
+    (own_note scope c.args.goal.now.line k local.places.items local.counts.items c.deref-8.result.now s r (knowledge_of c.deref-9.result.now) (knowledge_of c.deref-10.result.now)
+    c.in_ok-reach.reach _ _ _ c.in_ok-local.ensures c.deref-8.ensures.value c.in_ok-reach.ensures.reaches before after'
+    (c.in_ok-class.ensures ∙ rw c.deref.ensures.value refl) c.in_ok-notes.ensures)
+
+pub check_arms-loop-goal-init : goals.check_arms-loop-goal-init
+check_arms-loop-goal-init t c view = record {
+  ends = [];
+  are_ends = no_ends _ _;
+  leave = tt;
+  rest = arms-begin _;
+  known = refl;
+  noted = refl;
+}
+
+pub check_arms-returns-in_err-reach-clause-reaches : goals.check_arms-returns-in_err-reach-clause-reaches
+check_arms-returns-in_err-reach-clause-reaches t c view =
+    let scope = scope_at c.args.self.now c.args.at.strict in
+    let s = knowledge_of c.args.marks.now.items in
+    let inv = c.loop-goal.invariant view in
+    let told = err_from_is_err_and c.from_residual.result c.from_residual.ensures.1 in
+    rw (told.1, told.2)
+    (λ ne.
+      either_fault scope c.args.at.line (gathered (parts_of c.args.goals.now)) s c.in_err-reach.field-0.0
+      (inv.rest ∙ arms-fault scope c.args.goals.now c.loop-goal.goal-index c.goal-item.result s c.in_err-reach.field-0.0 inv.ends c.loop-goal-test.true c.goal-item.is
+      (subst (λ (k : Knowledge). goal scope (part_of c.goal-item.result) k ≡ Err c.in_err-reach.field-0.0) inv.known (c.in_err-reach.ensures.reaches ne))))
+
+pub check_arms-loop-goal-preserved : goals.check_arms-loop-goal-preserved
+check_arms-loop-goal-preserved t c h =
+    let k = c.args.self.now in
+    let view = c.args.view in
+    let gs = c.args.goals.now in
+    let vars = goals_variables gs in
+    let scope = scope_at k c.args.at.strict in
+    let s = knowledge_of c.args.marks.now.items in
     let r = knowledge_of c.check.new.marks.items in
-    let p = part_of c.in-If.condition.value in
-    let t' = part_of c.in-If.then.value in
-    let e = part_of c.in-If.otherwise.value in
-    let counted : AreCounts c.in_ok-counts-in-If.counts.items (three_variables p t' e) =
-    rw (← c.deref.ensures, ← c.deref-in-If.ensures, ← c.deref-in-If-2.ensures) c.in_ok-counts-in-If.ensures in
-    let out : exceeds c.outside-outside.result.all.now c.outside-outside.result.inner.now ≡ outside scope.all (three_variables p t' e) =
-    rw (c.outside-outside.ensures.all, c.outside-outside.ensures.inner, c.deref-in-If-3.ensures.value)
-    (exceeds_is c.args.self.now.counts.items c.in_ok-counts-in-If.counts.items scope.all (three_variables p t' e) c.args.self.now.counted counted) in
-    let before : knowledge_of c.in_ok-arms-in-If.arms.before.items ≡ s = c.in_ok-arms-in-If.ensures.before ∙ ap knowledge_of c.deref-in-If-4.ensures.value in
-    let first : goal (within scope) p s ≡ Ok (after r c.in_ok-check-in-If.field-0) = rw (← c.deref-in-If-5.ensures) c.in_ok-check-in-If.ensures in
-    let inside : binds_some (outside scope.all (three_variables p t' e)) s r ≡ false =
-    binds_along _ _ _ _ _ _ out (ap knowledge_of c.deref-in-If-6.ensures.value ∙ before) (ap knowledge_of c.deref-in-If-7.ensures.value)
-    (sym c.binds_some.ensures ∙ c.if-binds_some.false) in
+    let a = after r c.in_ok-reach.reach in
+    let inv = c.loop-goal.invariant h in
+    let i = c.loop-goal.goal-index in
+    let g = c.goal-item.result in
+    let p = occurs view.outside in
+    let found : goal scope (part_of g) s ≡ Ok a = rw (← inv.known) c.in_ok-reach.ensures.reaches in
+    let leaves = view_leaves k view vars s scope (part_of g) a h (among_goals gs i g c.loop-goal-test.true c.goal-item.is) found in
+    let ends = seen_ends (places_of view) inv.ends in
+    record {
+      ends = inv.ends ++ a ∷ [];
+      are_ends =
+        subst (λ (es : List After). Ends p (seen (places_of view) s) c.in_ok-joined.joined es) (sym (seen_ends-more (places_of view) inv.ends a))
+        (ends_seen k view vars s p c.in_ok-joined.joined _ h
+        (c.in_ok-joined.ensures.ends ends (ends_viewed k view vars s p c.loop-goal.joined ends h inv.are_ends)));
+      leave = all_leave-more (places_of view) s inv.ends a inv.leave leaves;
+      rest = inv.rest ∙ rw add-one (arms-more scope gs i g s a inv.ends c.loop-goal-test.true c.goal-item.is found);
+      known = put_back k view vars s r (knowledge_of c.add_arm.new.marks.items) h leaves c.in_ok-joined.ensures.marks;
+      noted = arms-loop scope gs i g s (notes_told c.loop-goal.notes.items) (notes_told c.check.new.notes.items) _ c.loop-goal-test.true c.goal-item.is
+        (rw (← inv.known) c.in_ok-reach.ensures.notes) inv.noted;
+    }
+
+pub check_arms-returns-clause-reaches : goals.check_arms-returns-clause-reaches
+check_arms-returns-clause-reaches t c h =
+    let k = c.args.self.now in
+    let view = c.args.view in
+    let gs = c.args.goals.now in
+    let vars = goals_variables gs in
+    let scope = scope_at k c.args.at.strict in
+    let s = knowledge_of c.args.marks.now.items in
+    let inv = c.loop-goal.invariant h in
+    let p = occurs view.outside in
+    let ends = seen_ends (places_of view) inv.ends in
+    let now = knowledge_of c.end_arms.new.marks.items in
+    let all : arms scope (gathered (parts_of gs)) s ≡ Ok inv.ends = inv.rest ∙ arms-end scope gs c.loop-goal.goal-index s inv.ends (omega arith) in
+    branch_end k view vars s now c.args.at.strict c.args.at.line inv.ends c.end_arms.result _ h inv.leave (rw all refl)
+    (reaches_from c.end_arms.result now (knowledge_of c.loop-goal.marks.items) s (places_of view) _ inv.known
+    (c.end_arms.ensures p ends (ends_viewed k view vars s p c.loop-goal.joined ends h inv.are_ends)
+    (h.before ∙ ap (seen (places_of view)) (sym inv.known))))
+
+pub check_arms-returns-clause-notes : goals.check_arms-returns-clause-notes
+check_arms-returns-clause-notes t c h =
+    always c.end_arms.result
+    (arms-loop-end (scope_at c.args.self.now c.args.at.strict) c.args.goals.now c.loop-goal.goal-index (knowledge_of c.args.marks.now.items) _ _ (omega arith)
+    (c.loop-goal.invariant h).noted)
+
+pub check_condition-returns-then-binds_some-clause-reaches : goals.check_condition-returns-then-binds_some-clause-reaches
+check_condition-returns-then-binds_some-clause-reaches t c vars h among ne =
+    let k = c.args.self.now in
+    let view = c.args.view in
+    let scope = scope_at k true in
+    let s = knowledge_of c.args.marks.now.items in
+    let r = knowledge_of c.check.new.marks.items in
+    let a = after r c.in_ok-reach.reach in
+    let p = part_of c.args.goal.now in
+    let known = ap knowledge_of c.deref-3.ensures.value ∙ (c.in_ok-after.ensures.known ∙ rw (c.deref.ensures.value, c.deref-2.ensures.value) refl) in
+    inside_binds scope c.args.line vars p s a c.in_ok-reach.ensures.reaches
+    (binds_by k view vars s r true true h (view_leaves k view vars s scope p a h among c.in_ok-reach.ensures.reaches)
+    (ap (binds_some (occurs view.outside) (knowledge_of view.before.now)) (sym known) ∙ (sym c.binds_some.ensures ∙ c.if-binds_some.true)))
+
+pub check_condition-returns-clause-reaches : goals.check_condition-returns-clause-reaches
+check_condition-returns-clause-reaches t c vars h among =
+    let k = c.args.self.now in
+    let view = c.args.view in
+    let scope = scope_at k true in
+    let s = knowledge_of c.args.marks.now.items in
+    let r = knowledge_of c.check.new.marks.items in
+    let a = after r c.in_ok-reach.reach in
+    let p = part_of c.args.goal.now in
+    let known = ap knowledge_of c.deref-3.ensures.value ∙ (c.in_ok-after.ensures.known ∙ rw (c.deref.ensures.value, c.deref-2.ensures.value) refl) in
+    inside_by scope c.args.line vars p s a c.in_ok-reach.ensures.reaches
+    (binds_by k view vars s r true false h (view_leaves k view vars s scope p a h among c.in_ok-reach.ensures.reaches)
+    (ap (binds_some (occurs view.outside) (knowledge_of view.before.now)) (sym known) ∙ (sym c.binds_some.ensures ∙ c.if-binds_some.false)))
+
+pub check_inside-returns-in_err-check_condition-clause-reaches : goals.check_inside-returns-in_err-check_condition-clause-reaches
+check_inside-returns-in_err-check_condition-clause-reaches t c =
+    let vs = c.args.quantified.now in
+    let p = part_of c.args.inner.now in
+    let told = err_from_is_err_and c.from_residual.result c.from_residual.ensures.1 in
+    rw (told.1, told.2)
+    (λ ne.
+      once_fault (scope_at c.args.self.now c.args.at.strict) c.args.at.line vs p (knowledge_of c.args.marks.now.items) _
+      (c.in_err-check_condition.ensures.reaches (vs ++ variables p) c.requires.view (among_others (variables p) (variables p) vs (among_itself (variables p))) ne))
+
+pub check_inside-returns-then-has_some-clause-reaches : goals.check_inside-returns-then-has_some-clause-reaches
+check_inside-returns-then-has_some-clause-reaches t c ne =
+    let k = c.args.self.now in
+    let scope = scope_at k c.args.at.strict in
+    let vs = c.args.quantified.now in
+    let p = part_of c.args.inner.now in
+    let vars = vs ++ variables p in
+    let s = knowledge_of c.args.marks.now.items in
+    once_outside scope c.args.at.line vs p s _
+    (c.in_ok-check_condition.ensures.reaches vars c.requires.view (among_others (variables p) (variables p) vs (among_itself (variables p))))
+    (sym (c.has_some.ensures scope.all vars (view_counts k c.args.view vars s c.args.at.strict c.requires.view) c.requires.view.local) ∙ c.if-has_some.true)
+
+pub check_inside-returns-clause-reaches : goals.check_inside-returns-clause-reaches
+check_inside-returns-clause-reaches t c =
+    let k = c.args.self.now in
+    let view = c.args.view in
+    let scope = scope_at k c.args.at.strict in
+    let vs = c.args.quantified.now in
+    let p = part_of c.args.inner.now in
+    let vars = vs ++ variables p in
+    let s = knowledge_of c.args.marks.now.items in
+    let r = knowledge_of c.check_condition.new.marks.items in
+    let among = among_others (variables p) (variables p) vs (among_itself (variables p)) in
+    let inside' = c.in_ok-check_condition.ensures.reaches vars c.requires.view among in
+    let leaves = view_leaves k view vars s (scope_at k true) p _ c.requires.view among (inside_ok (scope_at k true) c.args.at.line vars p s _ inside') in
+    let back : knowledge_of c.put_all.new.marks.items ≡ s =
+    put_back k view vars s r _ c.requires.view leaves (c.put_all.ensures ∙ ap (λ xs. put_all xs (knowledge_of view.before.now) r) c.deref.ensures.value) in
+    rw back
+    (once_right scope c.args.at.line vs p s _ inside'
+    (sym (c.has_some.ensures scope.all vars (view_counts k view vars s c.args.at.strict c.requires.view) c.requires.view.local) ∙ c.if-has_some.false))
+
+pub check_kind-returns-in_err-check_condition-in-If-clause-reaches : goals.check_kind-returns-in_err-check_condition-in-If-clause-reaches
+check_kind-returns-in_err-check_condition-in-If-clause-reaches t c =
+    let k = c.args.self.now in
+    let scope = scope_at k c.args.strict in
+    let l = c.args.goal.now.line in
+    let kind = c.args.goal.now.kind in
+    let s = knowledge_of c.args.marks.now.items in
+    let g = c.deref.result.now in
+    let h = c.in-If.then.value in
+    let j = c.in-If.otherwise.value in
+    let vars = three_variables (part_of g) (part_of h) (part_of j) in
+    let view = view_along k c.args.view _ vars s (variables-If kind c.in-If.condition c.in-If.then c.in-If.otherwise g h j c.in-If.is c.deref.ensures refl refl) c.requires.view in
+    let told = err_from_is_err_and c.from_residual.result c.from_residual.ensures.1 in
+    rw (told.1, told.2)
+    (λ ne. choose_is scope l kind c.in-If.condition c.in-If.then c.in-If.otherwise g h j s c.in-If.is c.deref.ensures refl refl
+    ∙ condition_fault scope l (part_of g) (part_of h) (part_of j) s _ (c.in_err-check_condition-in-If.ensures.reaches vars view (among_first _ _) ne))
+
+pub check_kind-returns-in_err-reach-in-If-clause-reaches : goals.check_kind-returns-in_err-reach-in-If-clause-reaches
+check_kind-returns-in_err-reach-in-If-clause-reaches t c =
+    let k = c.args.self.now in
+    let scope = scope_at k c.args.strict in
+    let l = c.args.goal.now.line in
+    let kind = c.args.goal.now.kind in
+    let s = knowledge_of c.args.marks.now.items in
+    let g = c.deref.result.now in
+    let h = c.deref-in-If.result.now in
+    let j = c.in-If.otherwise.value in
+    let vars = three_variables (part_of g) (part_of h) (part_of j) in
+    let view = view_along k c.args.view _ vars s (variables-If kind c.in-If.condition c.in-If.then c.in-If.otherwise g h j c.in-If.is c.deref.ensures c.deref-in-If.ensures refl) c.requires.view in
+    let first = c.in_ok-check_condition-in-If.ensures.reaches vars view (among_first _ _) in
     let told = err_from_is_err_and c.from_residual-in_err-reach-in-If.result c.from_residual-in_err-reach-in-If.ensures.1 in
     rw (told.1, told.2)
-    (λ ne. choose_is scope c.args.goal.now.line c.args.goal.now.kind c.in-If.condition c.in-If.then c.in-If.otherwise s c.in-If.is
-    ∙ then_fault scope c.args.goal.now.line p t' e s (after r c.in_ok-check-in-If.field-0) _ first inside
-    (rw (← c.deref-in-If-8.ensures) (c.in_err-reach-in-If.ensures ne)))
+    (λ ne. choose_is scope l kind c.in-If.condition c.in-If.then c.in-If.otherwise g h j s c.in-If.is c.deref.ensures c.deref-in-If.ensures refl
+    ∙ then_fault scope l (part_of g) (part_of h) (part_of j) s _ _ first (c.in_err-reach-in-If.ensures.reaches ne))
 
-pub check-returns-in_err-reach-in-If-2 : goals.check-returns-in_err-reach-in-If-2
-check-returns-in_err-reach-in-If-2 t c =
-    let scope = scope_at c.args.self.now c.args.strict in
+pub check_kind-returns-in_err-reach-in-If-2-clause-reaches : goals.check_kind-returns-in_err-reach-in-If-2-clause-reaches
+check_kind-returns-in_err-reach-in-If-2-clause-reaches t c =
+    let k = c.args.self.now in
+    let scope = scope_at k c.args.strict in
+    let l = c.args.goal.now.line in
+    let kind = c.args.goal.now.kind in
     let s = knowledge_of c.args.marks.now.items in
-    let r = knowledge_of c.check.new.marks.items in
-    let p = part_of c.in-If.condition.value in
-    let t' = part_of c.in-If.then.value in
-    let e = part_of c.in-If.otherwise.value in
-    let counted : AreCounts c.in_ok-counts-in-If.counts.items (three_variables p t' e) =
-    rw (← c.deref.ensures, ← c.deref-in-If.ensures, ← c.deref-in-If-2.ensures) c.in_ok-counts-in-If.ensures in
-    let out : exceeds c.outside-outside.result.all.now c.outside-outside.result.inner.now ≡ outside scope.all (three_variables p t' e) =
-    rw (c.outside-outside.ensures.all, c.outside-outside.ensures.inner, c.deref-in-If-3.ensures.value)
-    (exceeds_is c.args.self.now.counts.items c.in_ok-counts-in-If.counts.items scope.all (three_variables p t' e) c.args.self.now.counted counted) in
-    let before : knowledge_of c.in_ok-arms-in-If.arms.before.items ≡ s = c.in_ok-arms-in-If.ensures.before ∙ ap knowledge_of c.deref-in-If-4.ensures.value in
-    let first : goal (within scope) p s ≡ Ok (after r c.in_ok-check-in-If.field-0) = rw (← c.deref-in-If-5.ensures) c.in_ok-check-in-If.ensures in
-    let inside : binds_some (outside scope.all (three_variables p t' e)) s r ≡ false =
-    binds_along _ _ _ _ _ _ out (ap knowledge_of c.deref-in-If-6.ensures.value ∙ before) (ap knowledge_of c.deref-in-If-7.ensures.value)
-    (sym c.binds_some.ensures ∙ c.if-binds_some.false) in
-    let b = after (knowledge_of c.check-in-If.new.marks.items) c.in_ok-reach-in-If.reach in
-    let then' : goal scope t' r ≡ Ok b = rw (← c.deref-in-If-8.ensures) c.in_ok-reach-in-If.ensures in
-    let back : knowledge_of c.add.new.marks.items ≡ s = c.in_ok-add-in-If.ensures.marks ∙ before in
+    let g = c.deref.result.now in
+    let h = c.deref-in-If.result.now in
+    let j = c.deref-in-If-2.result.now in
+    let p = part_of g in
+    let t' = part_of h in
+    let e = part_of j in
+    let vars = three_variables p t' e in
+    let view = view_along k c.args.view _ vars s
+    (variables-If kind c.in-If.condition c.in-If.then c.in-If.otherwise g h j c.in-If.is c.deref.ensures c.deref-in-If.ensures c.deref-in-If-2.ensures) c.requires.view in
+    let a = after (knowledge_of c.check_condition.new.marks.items) c.in_ok-check_condition-in-If.field-0 in
+    let first = c.in_ok-check_condition-in-If.ensures.reaches vars view (among_first _ _) in
+    let b = after (knowledge_of c.check.new.marks.items) c.in_ok-reach-in-If.reach in
+    let then' : goal scope t' a.known ≡ Ok b = c.in_ok-reach-in-If.ensures.reaches in
+    let leaves = views_leave k c.args.view vars s (scope_at k true) scope p t' a b view (among_first _ _) (among_second p t' e) (inside_ok (scope_at k true) l vars p s a first) then' in
+    let back = put_back k c.args.view vars s b.known (knowledge_of c.add_arm.new.marks.items) view leaves c.in_ok-joined-in-If.ensures.marks in
     let told = err_from_is_err_and c.from_residual-in_err-reach-in-If-2.result c.from_residual-in_err-reach-in-If-2.ensures.1 in
     rw (told.1, told.2)
-    (λ ne. choose_is scope c.args.goal.now.line c.args.goal.now.kind c.in-If.condition c.in-If.then c.in-If.otherwise s c.in-If.is
-    ∙ else_fault scope c.args.goal.now.line p t' e s (after r c.in_ok-check-in-If.field-0) b _ first inside then'
-    (rw (← c.deref-in-If-9.ensures, ← back) (c.in_err-reach-in-If-2.ensures ne)))
+    (λ ne. choose_is scope l kind c.in-If.condition c.in-If.then c.in-If.otherwise g h j s c.in-If.is c.deref.ensures c.deref-in-If.ensures c.deref-in-If-2.ensures
+    ∙ else_fault scope l p t' e s a b _ first then' (rw (← back) (c.in_err-reach-in-If-2.ensures.reaches ne)))
 
-pub check-returns-in_ok-add-in-If-2 : goals.check-returns-in_ok-add-in-If-2
-check-returns-in_ok-add-in-If-2 t c =
-    let scope = scope_at c.args.self.now c.args.strict in
-    let s = knowledge_of c.args.marks.now.items in
-    let r = knowledge_of c.check.new.marks.items in
-    let p = part_of c.in-If.condition.value in
-    let t' = part_of c.in-If.then.value in
-    let e = part_of c.in-If.otherwise.value in
-    let counted : AreCounts c.in_ok-counts-in-If.counts.items (three_variables p t' e) =
-    rw (← c.deref.ensures, ← c.deref-in-If.ensures, ← c.deref-in-If-2.ensures) c.in_ok-counts-in-If.ensures in
-    let out : exceeds c.outside-outside.result.all.now c.outside-outside.result.inner.now ≡ outside scope.all (three_variables p t' e) =
-    rw (c.outside-outside.ensures.all, c.outside-outside.ensures.inner, c.deref-in-If-3.ensures.value)
-    (exceeds_is c.args.self.now.counts.items c.in_ok-counts-in-If.counts.items scope.all (three_variables p t' e) c.args.self.now.counted counted) in
-    let before : knowledge_of c.in_ok-arms-in-If.arms.before.items ≡ s = c.in_ok-arms-in-If.ensures.before ∙ ap knowledge_of c.deref-in-If-4.ensures.value in
-    let first : goal (within scope) p s ≡ Ok (after r c.in_ok-check-in-If.field-0) = rw (← c.deref-in-If-5.ensures) c.in_ok-check-in-If.ensures in
-    let inside : binds_some (outside scope.all (three_variables p t' e)) s r ≡ false =
-    binds_along _ _ _ _ _ _ out (ap knowledge_of c.deref-in-If-6.ensures.value ∙ before) (ap knowledge_of c.deref-in-If-7.ensures.value)
-    (sym c.binds_some.ensures ∙ c.if-binds_some.false) in
-    let b = after (knowledge_of c.check-in-If.new.marks.items) c.in_ok-reach-in-If.reach in
-    let then' : goal scope t' r ≡ Ok b = rw (← c.deref-in-If-8.ensures) c.in_ok-reach-in-If.ensures in
-    let back : knowledge_of c.add.new.marks.items ≡ s = c.in_ok-add-in-If.ensures.marks ∙ before in
-    let d = after (knowledge_of c.check-in-If-2.new.marks.items) c.in_ok-reach-in-If-2.reach in
-    let else' : goal scope e s ≡ Ok d = rw (← c.deref-in-If-9.ensures, ← back) c.in_ok-reach-in-If-2.ensures in
-    let end-before : knowledge_of c.add-in-If.new.self.before.items ≡ s = c.in_ok-add-in-If-2.ensures.before ∙ c.in_ok-add-in-If.ensures.before ∙ before in
-    let ends = c.in_ok-add-in-If-2.ensures.ends (b ∷ []) (c.in_ok-add-in-If.ensures.ends [] (c.in_ok-arms-in-If.ensures.none _)) in
-    reaches_along c.end.result (knowledge_of c.end.new.marks.items) _ (joined c.args.goal.now.line (outside scope.all (three_variables p t' e)) s (b ∷ d ∷ []))
-    (choose_is scope c.args.goal.now.line c.args.goal.now.kind c.in-If.condition c.in-If.then c.in-If.otherwise s c.in-If.is
-    ∙ choose_joined scope c.args.goal.now.line p t' e s (after r c.in_ok-check-in-If.field-0) b d first inside then' else')
-    (rw (← out, ← end-before) (c.end.ensures _ (b ∷ d ∷ []) ends (c.in_ok-add-in-If-2.ensures.marks ∙ sym c.in_ok-add-in-If-2.ensures.before)))
-
-pub check-returns-in-Conj : goals.check-returns-in-Conj
-check-returns-in-Conj t c =
+pub check_kind-returns-in-Conj-clause-reaches : goals.check_kind-returns-in-Conj-clause-reaches
+check_kind-returns-in-Conj-clause-reaches t c =
     let scope = scope_at c.args.self.now c.args.strict in
     let s = knowledge_of c.args.marks.now.items in
     reaches_along c.check_each.result (knowledge_of c.check_each.new.marks.items) _ _
     (conj_is scope c.args.goal.now.line c.args.goal.now.kind c.in-Conj.goals s c.in-Conj.is ∙ ap (λ gs. each scope (gathered (parts_of gs)) s) (sym c.as_slice.ensures.value))
-    c.check_each.ensures
+    c.check_each.ensures.reaches
 
-pub check-returns-in-Disj : goals.check-returns-in-Disj
-check-returns-in-Disj t c =
+pub check_kind-returns-in-Conj-clause-notes : goals.check_kind-returns-in-Conj-clause-notes
+check_kind-returns-in-Conj-clause-notes t c =
+    let scope = scope_at c.args.self.now c.args.strict in
+    let s = knowledge_of c.args.marks.now.items in
+    notes_along c.check_each.result (notes_told c.args.notes.now.items) (notes_told c.check_each.new.notes.items) _ _
+    (each_notes_is scope c.args.goal.now.kind c.in-Conj.goals s c.in-Conj.is ∙ ap (λ gs. each_notes scope (gathered (parts_of gs)) s) (sym c.as_slice.ensures.value))
+    c.check_each.ensures.notes
+
+pub check_kind-returns-in-Disj-clause-reaches : goals.check_kind-returns-in-Disj-clause-reaches
+check_kind-returns-in-Disj-clause-reaches t c =
     let scope = scope_at c.args.self.now c.args.strict in
     let s = knowledge_of c.args.marks.now.items in
     reaches_along c.check_arms.result (knowledge_of c.check_arms.new.marks.items) _ _
     (disj_is scope c.args.goal.now.line c.args.goal.now.kind c.in-Disj.arms s c.in-Disj.is
     ∙ ap (λ gs. task scope c.args.goal.now.line (Either (gathered (parts_of gs))) s) (sym c.as_slice-in-Disj.ensures.value))
-    c.check_arms.ensures
+    (c.check_arms.ensures.reaches (view_along c.args.self.now c.args.view _ _ s
+    (goals_variables-Disj c.args.goal.now.kind c.in-Disj.arms c.in-Disj.is ∙ ap goals_variables (sym c.as_slice-in-Disj.ensures.value)) c.requires.view))
 
-pub check-returns-in-Not : goals.check-returns-in-Not
-check-returns-in-Not t c =
-    reaches_along c.check_inside.result (knowledge_of c.check_inside.new.marks.items) _ _
-    (not_is (scope_at c.args.self.now c.args.strict) c.args.goal.now.line c.args.goal.now.kind c.in-Not.inner c.deref-in-Not.result.now
-    (knowledge_of c.args.marks.now.items) c.in-Not.is c.deref-in-Not.ensures)
-    (c.check_inside.ensures c.args.strict)
-
-pub check_arms-loop-goal-preserved : goals.check_arms-loop-goal-preserved
-check_arms-loop-goal-preserved t c =
-    let scope = scope_at c.args.self.now c.args.at.strict in
+pub check_kind-returns-in-Disj-clause-notes : goals.check_kind-returns-in-Disj-clause-notes
+check_kind-returns-in-Disj-clause-notes t c =
+    let scope = scope_at c.args.self.now c.args.strict in
     let s = knowledge_of c.args.marks.now.items in
-    let a = after (knowledge_of c.check.new.marks.items) c.in_ok-reach.reach in
-    let inv = c.loop-goal.invariant in
-    let found : goal scope (part_of c.goal-item.result) s ≡ Ok a = rw (← inv.known) c.in_ok-reach.ensures in
-    record {
-      ends = inv.ends ++ a ∷ [];
-      are_ends = c.in_ok-add.ensures.ends inv.ends inv.are_ends;
-      rest = inv.rest ∙ rw add-one (arms-more scope c.args.goals.now c.loop-goal.goal-index c.goal-item.result s a inv.ends (omega arith) c.goal-item.is found);
-      before = c.in_ok-add.ensures.before ∙ inv.before;
-      known = c.in_ok-add.ensures.marks ∙ inv.before;
-    }
+    notes_along c.check_arms.result (notes_told c.args.notes.now.items) (notes_told c.check_arms.new.notes.items) _ _
+    (arm_notes_is scope c.args.goal.now.kind c.in-Disj.arms s c.in-Disj.is ∙ ap (λ gs. arm_notes scope (gathered (parts_of gs)) s) (sym c.as_slice-in-Disj.ensures.value))
+    (c.check_arms.ensures.notes (view_along c.args.self.now c.args.view _ _ s
+    (goals_variables-Disj c.args.goal.now.kind c.in-Disj.arms c.in-Disj.is ∙ ap goals_variables (sym c.as_slice-in-Disj.ensures.value)) c.requires.view))
 
-pub check_arms-returns : goals.check_arms-returns
-check_arms-returns t c =
-    let scope = scope_at c.args.self.now c.args.at.strict in
+pub check_kind-returns-in_ok-joined-in-If-2-clause-reaches : goals.check_kind-returns-in_ok-joined-in-If-2-clause-reaches
+check_kind-returns-in_ok-joined-in-If-2-clause-reaches t c =
+    let k = c.args.self.now in
+    let scope = scope_at k c.args.strict in
+    let l = c.args.goal.now.line in
+    let kind = c.args.goal.now.kind in
     let s = knowledge_of c.args.marks.now.items in
-    let inv = c.loop-goal.invariant in
-    let vars = parts_variables (gathered (parts_of c.args.goals.now)) in
-    let out : exceeds c.outside-outside.result.all.now c.outside-outside.result.inner.now ≡ outside scope.all vars =
-    rw (c.outside-outside.ensures.all, c.outside-outside.ensures.inner, c.deref.ensures.value)
-    (exceeds_is c.args.self.now.counts.items c.in_ok-counts.counts.items scope.all vars c.args.self.now.counted c.in_ok-counts.ensures) in
-    let all : arms scope (gathered (parts_of c.args.goals.now)) s ≡ Ok inv.ends =
-    inv.rest ∙ arms-end scope c.args.goals.now c.loop-goal.goal-index s inv.ends (omega arith) in
-    rw (all, ← out, ← inv.before) (c.end.ensures _ inv.ends inv.are_ends (inv.known ∙ sym inv.before))
+    let g = c.deref.result.now in
+    let h = c.deref-in-If.result.now in
+    let j = c.deref-in-If-2.result.now in
+    let p = part_of g in
+    let t' = part_of h in
+    let e = part_of j in
+    let vars = three_variables p t' e in
+    let view = view_along k c.args.view _ vars s
+    (variables-If kind c.in-If.condition c.in-If.then c.in-If.otherwise g h j c.in-If.is c.deref.ensures c.deref-in-If.ensures c.deref-in-If-2.ensures) c.requires.view in
+    let a = after (knowledge_of c.check_condition.new.marks.items) c.in_ok-check_condition-in-If.field-0 in
+    let first = c.in_ok-check_condition-in-If.ensures.reaches vars view (among_first _ _) in
+    let b = after (knowledge_of c.check.new.marks.items) c.in_ok-reach-in-If.reach in
+    let then' : goal scope t' a.known ≡ Ok b = c.in_ok-reach-in-If.ensures.reaches in
+    let leaves = views_leave k c.args.view vars s (scope_at k true) scope p t' a b view (among_first _ _) (among_second p t' e) (inside_ok (scope_at k true) l vars p s a first) then' in
+    let back = put_back k c.args.view vars s b.known (knowledge_of c.add_arm.new.marks.items) view leaves c.in_ok-joined-in-If.ensures.marks in
+    let d = after (knowledge_of c.check-in-If.new.marks.items) c.in_ok-reach-in-If-2.reach in
+    let else' : goal scope e s ≡ Ok d = rw (← back) c.in_ok-reach-in-If-2.ensures.reaches in
+    let leaves' = view_leaves k c.args.view vars s scope e d view (among_third p t' e) else' in
+    let back' = put_back k c.args.view vars s d.known (knowledge_of c.add_arm-in-If.new.marks.items) view leaves' c.in_ok-joined-in-If-2.ensures.marks in
+    let ends = seen_ends (places_of c.args.view) (b ∷ d ∷ []) in
+    let two = c.in_ok-joined-in-If-2.ensures.ends _ (c.in_ok-joined-in-If.ensures.ends [] (no_ends _ _)) in
+    let now = knowledge_of c.end_arms.new.marks.items in
+    branch_end k c.args.view vars s now c.args.strict l (b ∷ d ∷ []) c.end_arms.result _ view (leaves, (leaves', tt))
+    (choose_is scope l kind c.in-If.condition c.in-If.then c.in-If.otherwise g h j s c.in-If.is c.deref.ensures c.deref-in-If.ensures c.deref-in-If-2.ensures
+    ∙ choose_joined scope l p t' e s a b d first then' else')
+    (reaches_from c.end_arms.result now (knowledge_of c.add_arm-in-If.new.marks.items) s (places_of c.args.view) _ back'
+    (c.end_arms.ensures (occurs c.args.view.outside) ends two (view.before ∙ ap (seen (places_of c.args.view)) (sym back'))))
+
+pub check_kind-returns-in_ok-joined-in-If-2-clause-notes : goals.check_kind-returns-in_ok-joined-in-If-2-clause-notes
+check_kind-returns-in_ok-joined-in-If-2-clause-notes t c =
+    let k = c.args.self.now in
+    let scope = scope_at k c.args.strict in
+    let l = c.args.goal.now.line in
+    let kind = c.args.goal.now.kind in
+    let s = knowledge_of c.args.marks.now.items in
+    let g = c.deref.result.now in
+    let h = c.deref-in-If.result.now in
+    let j = c.deref-in-If-2.result.now in
+    let p = part_of g in
+    let t' = part_of h in
+    let e = part_of j in
+    let vars = three_variables p t' e in
+    let view = view_along k c.args.view _ vars s
+    (variables-If kind c.in-If.condition c.in-If.then c.in-If.otherwise g h j c.in-If.is c.deref.ensures c.deref-in-If.ensures c.deref-in-If-2.ensures) c.requires.view in
+    let a = after (knowledge_of c.check_condition.new.marks.items) c.in_ok-check_condition-in-If.field-0 in
+    let found = inside_ok (scope_at k true) l vars p s a (c.in_ok-check_condition-in-If.ensures.reaches vars view (among_first _ _)) in
+    let b = after (knowledge_of c.check.new.marks.items) c.in_ok-reach-in-If.reach in
+    let leaves = views_leave k c.args.view vars s (scope_at k true) scope p t' a b view (among_first _ _) (among_second p t' e) found c.in_ok-reach-in-If.ensures.reaches in
+    let back = put_back k c.args.view vars s b.known (knowledge_of c.add_arm.new.marks.items) view leaves c.in_ok-joined-in-If.ensures.marks in
+    always c.end_arms.result
+    (choice_notes scope (scope_at k true) p t' e s a _ _ _ (notes_told c.check-in-If.new.notes.items) found
+    c.in_ok-check_condition-in-If.ensures.notes c.in_ok-reach-in-If.ensures.notes (rw (← back) c.in_ok-reach-in-If-2.ensures.notes)
+    ∙ ap (λ ns. notes_told c.args.notes.now.items ++ ns)
+    (sym (choice_notes_is scope kind c.in-If.condition c.in-If.then c.in-If.otherwise g h j s c.in-If.is c.deref.ensures c.deref-in-If.ensures c.deref-in-If-2.ensures)))

@@ -1,15 +1,15 @@
 use Rattle.std.proofs.Common.{◌≡◌, refl, ◌||◌}
 use Rattle.md_modes.specs.Branches.{differ}
-use Rattle.md_modes.specs.Tally.{exceeds}
-use Rattle.md_modes.specs.Kinds.{knowledge_of}
+use Rattle.md_modes.specs.Joins.{occurs}
+use Rattle.md_binding.specs.Kinds.{knowledge_of}
 use Rattle.md_modes.proofs.JoinLemmas.{joins_more}
 use Rattle.md_modes.proofs.joined.Joined.add.Goals.{then-self, else-self}
 use Rattle.md_modes.proofs.joined.Joined.add.Goals as goal
 
 pub returns : goal.returns
 returns c r qs h =
-    let p = exceeds c.args.outside.all.now c.args.outside.inner.now in
-    let s = knowledge_of c.args.before.now in
+    let p = occurs c.args.view.outside in
+    let s = knowledge_of c.args.view.before.now in
     let q = knowledge_of c.args.marks.now in
     let j = c.args.self.now in
     let parted : c.if-self.self ≡ (j.differ || differ p s (knowledge_of j.first.items) q) = elim c.if-self.branch [

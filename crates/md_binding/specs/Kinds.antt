@@ -1,0 +1,39 @@
+-- The code's types and marks as the definitions see them.
+use Rattle.std.specs.Prelude.{◌≡◌, ◌≢◌, List, [], ◌∷◌, Result, Ok, Err}
+use Rattle.md_hlds.specs.Listing.{Sort, number, text, world, named, closure, gathered_sorts, sorts_of, args_of}
+use Rattle.md_binding.specs.declared.kind.Kind.{Kind}
+use Rattle.md_binding.specs.declared.kind.Kind.TheVariants.{Number, Text, World, Named, Closure, Open}
+use Rattle.md_binding.specs.declared.mark.Mark.{Mark}
+use Rattle.md_binding.specs.declared.mark.Mark.TheVariants.{Free, Bound}
+use Rattle.md_binding.specs.declared.fault.ModeFault.{ModeFault}
+use Rattle.md_binding.specs.declared.fault.ModeFault.TheVariants.{NoMemory}
+use Rattle.md_binding.specs.Verdict.{Verdict}
+use Rattle.md_binding.specs.Known.{Known, free, has, Knowledge}
+use Rattle.md_binding.specs.Simple.{left_open}
+
+abbrev pub kind_sort : Kind → Sort
+kind_sort Number = number
+kind_sort Text = text
+kind_sort World = world
+kind_sort (Named name) = named name.now
+kind_sort (Closure h) = closure (gathered_sorts (sorts_of h.now.types.items)) h.now.modes.items h.now.det
+kind_sort (Open args det) = left_open (args_of args.now) det
+
+-- what is known of the variables, as the code keeps it
+abbrev pub known_of : Mark → Known
+known_of Free = free
+known_of (Bound kind used) = has (kind_sort kind) used
+
+abbrev pub knowledge_of : List Mark → Knowledge
+knowledge_of [] = []
+knowledge_of (m ∷ ms) = known_of m ∷ knowledge_of ms
+
+-- what is known after a check and its verdict are those of the definition, unless memory is refused
+abbrev pub Leads : Result (Unit {0}) ModeFault → Knowledge → Verdict Knowledge → Type 0
+Leads (Ok u) s v = v ≡ Ok s
+Leads (Err e) s v = e ≢ NoMemory → v ≡ Err e
+
+-- the same of a check that finds no more than whether there is a fault
+abbrev pub Finds : Result (Unit {0}) ModeFault → Verdict (Unit {0}) → Type 0
+Finds (Ok u) v = v ≡ Ok tt
+Finds (Err e) v = e ≢ NoMemory → v ≡ Err e

@@ -1,0 +1,145 @@
+-- The code's view of a goal's variables.
+use Rattle.std.proofs.Common.{◌≡◌, ◌≢◌, refl, sym, ap, ◌∙◌, subst, arith, ℕ, zero, suc, ◌+◌, ◌<◌, Bool, true, false, cond, not, ◌||◌, nat_lt, List, [], ◌∷◌, ◌++◌, length, get_or, drop, slice_index, Option, Some, None, Result, Ok, Err}
+use Rattle.md_hlds.specs.declared.goal.Goal.{Goal}
+use Rattle.md_hlds.specs.Part.{Part, Parts, Task, At, Plain, Invoke, Apply, Each, Either, Choose, Unless, Once, gathered, part_of, parts_of}
+use Rattle.md_hlds.specs.Listing.{Listing}
+use Rattle.md_binding.specs.declared.fault.ModeFault.{ModeFault}
+use Rattle.md_binding.specs.Verdict.{Verdict}
+use Rattle.md_binding.specs.Known.{Known, Knowledge, known_at, times}
+use Rattle.md_binding.specs.Kinds.{knowledge_of}
+use Rattle.md_modes.specs.declared.clause.Clause.{Clause}
+use Rattle.md_modes.specs.declared.outside.View.{View}
+use Rattle.md_modes.specs.declared.joined.Joined.{Joined}
+use Rattle.md_modes.specs.Branches.{After, after, outside, binds_some, some_of, joined}
+use Rattle.md_modes.specs.Goals.{Scope, variables, task_variables, parts_variables, goal, task}
+use Rattle.md_modes.specs.Notes.{Note, Role, is_state, binds, names_state, known_after, newly_bound}
+use Rattle.md_modes.specs.Tally.{IsLocal, AreCounts, exceeds}
+use Rattle.md_modes.specs.Views.{Leaves, AllLeave, seen, put_all, put_verdict, seen_ends, picked, some_state, names_seen}
+use Rattle.md_modes.specs.Joins.{occurs, Ends, Reaches}
+use Rattle.md_modes.specs.Clauses.{scope_at}
+use Rattle.md_modes.specs.Inside.{IsViewOf, AreAmong}
+use Rattle.md_modes.proofs.Counts.{times-append}
+use Rattle.md_modes.proofs.Listed.{goals_variables}
+use Rattle.md_modes.proofs.Leaving.{leaves_among, leaves_then}
+use Rattle.md_modes.proofs.Frames.{goal_leaves, task_leaves}
+use Rattle.md_modes.proofs.Views.{restored, binds_seen, joined_seen, newly_seen, some_of_members, states_seen}
+
+abbrev pub places_of : View → List ℕ
+places_of view = view.outside.local.now.places.items
+
+-- what occurs outside, by the code's counts
+pub occurs_is : (k : Clause) (view : View) (vars : List ℕ) (s : Knowledge) (strict : Bool) → IsViewOf k view vars s
+    → (i : ℕ) → i < length (places_of view) → occurs view.outside i ≡ outside (scope_at k strict).all vars (slice_index (places_of view) i)
+occurs_is k view vars s strict h i lt = rw (h.local.counted i lt, h.all, k.counted (slice_index (places_of view) i)) refl
+
+-- ---- what a goal within leaves alone
+
+pub view_leaves : (k : Clause) (view : View) (vars : List ℕ) (s : Knowledge) (c : Scope) (p : Part) (a : After) → IsViewOf k view vars s → AreAmong (variables p) vars
+    → goal c p s ≡ Ok a → Leaves (places_of view) s a.known
+view_leaves k view vars s c p a h among is = leaves_among (variables p) (places_of view) s a.known (λ x e. among x (h.local.all x e)) (goal_leaves c p s a is)
+
+-- two goals within, one after the other
+pub views_leave : (k : Clause) (view : View) (vars : List ℕ) (s : Knowledge) (c d : Scope) (p t : Part) (a b : After) → IsViewOf k view vars s
+    → AreAmong (variables p) vars → AreAmong (variables t) vars → goal c p s ≡ Ok a → goal d t a.known ≡ Ok b → Leaves (places_of view) s b.known
+views_leave k view vars s c d p t a b h first second is then' =
+    leaves_then (places_of view) s a.known b.known (view_leaves k view vars s c p a h first is)
+    (leaves_among (variables t) (places_of view) a.known b.known (λ x e. second x (h.local.all x e)) (goal_leaves d t a.known b then'))
+
+-- what was known before is put back
+pub put_back : (k : Clause) (view : View) (vars : List ℕ) (s r now : Knowledge) → IsViewOf k view vars s → Leaves (places_of view) s r
+    → now ≡ put_all (places_of view) (knowledge_of view.before.now) r → now ≡ s
+put_back k view vars s r now h leaves is = is ∙ (ap (λ ks. put_all (places_of view) ks r) h.before ∙ restored (places_of view) s r leaves)
+
+-- ---- variables among others
+
+sum_zero : (a b c : ℕ) → a ≡ b + c → a ≡ 0 → (b ≡ 0) × (c ≡ 0)
+sum_zero a b c e f = (omega (arith, e, f), omega (arith, e, f))
+
+pub among_first : (vs ws : List ℕ) → AreAmong vs (vs ++ ws)
+among_first vs ws x e = (sum_zero _ _ _ (times-append x vs ws) e).0
+
+pub among_others : (vs ws xs : List ℕ) → AreAmong vs ws → AreAmong vs (xs ++ ws)
+among_others vs ws xs h x e = h x (sum_zero _ _ _ (times-append x xs ws) e).1
+
+pub among_itself : (vs : List ℕ) → AreAmong vs vs
+among_itself vs x e = e
+
+pub among_second : (p t e : Part) → AreAmong (variables t) (variables p ++ (variables t ++ variables e))
+among_second p t e = among_others (variables t) (variables t ++ variables e) (variables p) (among_first (variables t) (variables e))
+
+pub among_third : (p t e : Part) → AreAmong (variables e) (variables p ++ (variables t ++ variables e))
+among_third p t e =
+    among_others (variables e) (variables t ++ variables e) (variables p) (among_others (variables e) (variables e) (variables t) (among_itself (variables e)))
+
+pub among_goals : (gs : List Goal) (i : ℕ) (g : Goal) → i < length gs → g ≡ get_or gs i g → AreAmong (variables (part_of g)) (goals_variables gs)
+among_goals [] i g lt is = absurd (omega (arith, lt))
+among_goals (h ∷ gs) zero g lt is = rw is (among_first (variables (part_of h)) (goals_variables gs))
+among_goals (h ∷ gs) (suc i) g lt is = among_others (variables (part_of g)) (goals_variables gs) (variables (part_of h)) (among_goals gs i g (omega (arith, lt)) is)
+
+-- ---- what is bound, and the end of a branch
+
+pub binds_by : (k : Clause) (view : View) (vars : List ℕ) (s r : Knowledge) (strict b : Bool) → IsViewOf k view vars s → Leaves (places_of view) s r
+    → binds_some (occurs view.outside) (knowledge_of view.before.now) (seen (places_of view) r) ≡ b → binds_some (outside (scope_at k strict).all vars) s r ≡ b
+binds_by k view vars s r strict b h leaves e =
+    binds_seen (places_of view) s r (outside (scope_at k strict).all vars) (occurs view.outside) (occurs_is k view vars s strict h) leaves
+    ∙ (ap (λ ks. binds_some (occurs view.outside) ks (seen (places_of view) r)) (sym h.before) ∙ e)
+
+-- the code's end of a branch is that of the definition
+pub branch_end : (k : Clause) (view : View) (vars : List ℕ) (s now : Knowledge) (strict : Bool) (l : ℕ) (ends : List After) (r : Result Bool ModeFault) (v : Verdict After)
+    → IsViewOf k view vars s → AllLeave (places_of view) s ends → v ≡ joined l (outside (scope_at k strict).all vars) s ends
+    → Reaches r now (put_verdict (places_of view) s (joined l (occurs view.outside) (knowledge_of view.before.now) (seen_ends (places_of view) ends)))
+    → Reaches r now v
+branch_end k view vars s now strict l ends r v h leave is e =
+    let whole : v ≡ put_verdict (places_of view) s (joined l (occurs view.outside) (seen (places_of view) s) (seen_ends (places_of view) ends)) =
+    is ∙ joined_seen l (places_of view) s ends (outside (scope_at k strict).all vars) (occurs view.outside) h.local.rising (occurs_is k view vars s strict h) leave in
+    subst (λ (w : Verdict After). Reaches r now w)
+    (ap (λ ks. put_verdict (places_of view) s (joined l (occurs view.outside) ks (seen_ends (places_of view) ends))) h.before ∙ sym whole) e
+
+-- ---- a goal's own note
+
+state_by : (places counts vars : List ℕ) (s r : Knowledge) → IsLocal places counts vars
+    → some_state (seen places s) (seen places r) ≡ some_of (λ x. is_state (known_at s x) || is_state (known_at r x)) vars
+state_by places counts vars s r h =
+    sym (states_seen places s r) ∙ some_of_members (λ x. is_state (known_at s x) || is_state (known_at r x)) places vars (λ x e. h.only x e) (λ x e. h.all x e)
+
+names_by : (t : Task) (places counts : List ℕ) (s r : Knowledge) → IsLocal places counts (task_variables t) → names_seen t (seen places s) (seen places r) ≡ names_state t s r
+names_by (Plain g) places counts s r h = state_by places counts _ s r h
+names_by (Invoke site q ys) places counts s r h = state_by places counts _ s r h
+names_by (Apply site f ys) places counts s r h = state_by places counts _ s r h
+names_by (Each ps) places counts s r h = refl
+names_by (Either ps) places counts s r h = refl
+names_by (Choose p t e) places counts s r h = refl
+names_by (Unless p) places counts s r h = state_by places counts _ s r h
+names_by (Once vs p) places counts s r h = state_by places counts _ s r h
+
+abbrev pub note_with : Option Role → List ℕ → Bool → Note
+note_with role bound state = record { role = role; binds = bound; state = state }
+
+pub own_note : (c : Scope) (l : ℕ) (t : Task) (places counts xs : List ℕ) (s r b a : Knowledge) (reach : Bool) (role own : Option Role) (n : Note)
+    → IsLocal places counts (task_variables t) → xs ≡ places → task c l t s ≡ Ok (after r reach) → b ≡ seen places s → a ≡ seen places r → role ≡ own
+    → n ≡ note_with role (cond reach (picked xs b a) []) (names_seen t b a)
+    → n ≡ note_with own (binds s (goal c (At l t) s)) (names_state t s (known_after s (goal c (At l t) s)))
+own_note c l t places counts xs s r b a reach role own n h same is before after' roles note =
+    let leaves : Leaves places s r = leaves_among (task_variables t) places s r (λ x e. h.all x e) (task_leaves c l t s (after r reach) is) in
+    note ∙ rw (same, before, after', roles, is, names_by t places counts s r h, newly_seen places s r h.rising leaves) refl
+
+-- the counts of a clause, as the view has them
+pub view_counts : (k : Clause) (view : View) (vars : List ℕ) (s : Knowledge) (strict : Bool) → IsViewOf k view vars s → AreCounts view.outside.all.now (scope_at k strict).all
+view_counts k view vars s strict h = subst (λ (cs : List ℕ). AreCounts cs (scope_at k strict).all) (sym h.all) k.counted
+
+-- a view of variables that are those of a goal
+pub view_along : (k : Clause) (view : View) (vs ws : List ℕ) (s : Knowledge) → vs ≡ ws → IsViewOf k view vs s → IsViewOf k view ws s
+view_along k view vs ws s e h = subst (λ (vars : List ℕ). IsViewOf k view vars s) e h
+
+-- the arms so far, by what is known before the branch and by the code's view of that
+pub ends_seen : (k : Clause) (view : View) (vars : List ℕ) (s : Knowledge) (p : ℕ → Bool) (j : Option Joined) (ends : List After) → IsViewOf k view vars s
+    → Ends p (knowledge_of view.before.now) j ends → Ends p (seen (places_of view) s) j ends
+ends_seen k view vars s p j ends h e = subst (λ (b : Knowledge). Ends p b j ends) h.before e
+
+pub ends_viewed : (k : Clause) (view : View) (vars : List ℕ) (s : Knowledge) (p : ℕ → Bool) (j : Option Joined) (ends : List After) → IsViewOf k view vars s
+    → Ends p (seen (places_of view) s) j ends → Ends p (knowledge_of view.before.now) j ends
+ends_viewed k view vars s p j ends h e = subst (λ (b : Knowledge). Ends p b j ends) (sym h.before) e
+
+-- what is known at the end of a branch, where what is known before it has been put back
+pub reaches_from : (r : Result Bool ModeFault) (now b s : Knowledge) (xs : List ℕ) (v : Verdict After) → b ≡ s → Reaches r now (put_verdict xs b v) → Reaches r now (put_verdict xs s v)
+reaches_from r now b s xs v e h = subst (λ (k : Knowledge). Reaches r now (put_verdict xs k v)) e h

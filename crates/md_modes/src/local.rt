@@ -1,0 +1,88 @@
+// The variables of one goal.
+ghost use Rattle.std.specs.Prelude.{◌≡◌, ℕ, List, [], ◌∷◌, ◌++◌, IfOk, OnOk};
+ghost use Rattle.std.specs.List.Sorted.{IsNonDecreasing};
+ghost use Rattle.md_hlds.specs.Part.{task_of};
+ghost use Rattle.md_binding.specs.Known.{times};
+ghost use Rattle.md_modes.specs.Goals.{task_variables};
+ghost use Rattle.md_modes.specs.Tally.{IsLocal, IsNoLess, ends_with, count_last};
+
+use crate::occurrences::variables_of;
+use crate::tally::count_in;
+use md_base::NoMemory;
+use md_hlds::GoalKind;
+use std::alloc::Global;
+
+/// The variables that occur in a goal, each once and in rising order, and how often each occurs there.
+#[derive(Drop)]
+pub struct Local {
+    pub places: Vec<u32>,
+    pub counts: Vec<u64>,
+}
+
+impl Local {
+    /// The variables of a goal of this kind. Takes time and memory near linear in the goal.
+    pub fn new(alloc: Global, goal: &GoalKind) -> Result<Local, NoMemory>
+        ensures { IfOk result (λ local. IsLocal local.places.items local.counts.items (task_variables (task_of goal.now))) }
+    {
+        let mut vars = variables_of(alloc, goal)?;
+        vars.sort_unstable();
+        Local::grouped(alloc, &vars)
+    }
+
+    /// The numbers of this list, which is in rising order.
+    fn grouped(alloc: Global, vars: &[u32]) -> Result<Local, NoMemory>
+        requires { IsNonDecreasing vars.now }
+        ensures { IfOk result (λ local. IsLocal local.places.items local.counts.items vars.now) }
+    {
+        let mut local = Local {
+            places: Vec::new(alloc),
+            counts: Vec::new(alloc),
+        };
+        for place in vars {
+            local.add(*place)?;
+        }
+        Ok(local)
+    }
+
+    /// One number more, none of those so far being greater.
+    fn add(&mut self, place: u32) -> Result<(), NoMemory>
+        ensures { OnOk result ((vars : List ℕ) → IsLocal self.old.places.items self.old.counts.items vars → IsNoLess place vars
+            → IsLocal self.new.places.items self.new.counts.items (vars ++ place ∷ [])) }
+    {
+        if ends_with(&self.places, place) {
+            return count_last(&mut self.counts);
+        }
+        self.places.push(place)?;
+        self.counts.push(1)?;
+        Ok(())
+    }
+
+    /// How often a variable occurs in the goal.
+    pub fn count_of(&self, place: u32) -> u64
+        ensures { (vars : List ℕ) → IsLocal self.now.places.items self.now.counts.items vars → result ≡ times place vars }
+    {
+        match self.places.binary_search(&place) {
+            Ok(number) => count_in(&self.counts, number),
+            Err(_) => 0,
+        }
+    }
+}
+
+/// Whether this is the last number of a list.
+fn ends_with(places: &[u32], place: u32) -> bool
+    ensures { result ≡ ends_with place places.now }
+{
+    let end = places.len();
+    end > 0 && places[end - 1] == place
+}
+
+/// Adds one to the last count.
+fn count_last(counts: &mut Vec<u64>) -> Result<(), NoMemory>
+    ensures { OnOk result (counts.new.items ≡ count_last counts.old.items) }
+{
+    let end = counts.len();
+    if end > 0 {
+        counts[end - 1] = counts[end - 1].checked_add(1).ok_or(NoMemory)?;
+    }
+    Ok(())
+}

@@ -1,0 +1,101 @@
+// The variables of a goal or a clause, as often as they occur.
+ghost use Rattle.std.specs.Prelude.{◌≡◌, ◌++◌, IfOk, OnOk};
+ghost use Rattle.md_hlds.specs.Listing.{procedure_of};
+ghost use Rattle.md_hlds.specs.Part.{parts_of, task_of, gathered};
+ghost use Rattle.md_modes.specs.Goals.{task_variables, parts_variables, term_variables, clause_variables};
+ghost use Rattle.md_modes.specs.Tally.{leaf_variables};
+
+use md_base::NoMemory;
+use md_hlds::{Goal, GoalKind, Pred, Term};
+use std::alloc::Global;
+
+/// The variables of a goal of this kind, in text order.
+pub fn variables_of(alloc: Global, goal: &GoalKind) -> Result<Vec<u32>, NoMemory>
+    ensures { IfOk result (λ vars. vars.items ≡ task_variables (task_of goal.now)) }
+{
+    let mut vars = Vec::new(alloc);
+    add_goal(&mut vars, goal)?;
+    Ok(vars)
+}
+
+/// The variables of a clause: those of its head, and those of its body.
+pub fn variables_of_clause(alloc: Global, pred: &Pred) -> Result<Vec<u32>, NoMemory>
+    ensures { IfOk result (λ vars. vars.items ≡ clause_variables (procedure_of pred.now)) }
+{
+    let mut vars = Vec::from_slice(alloc, pred.head.as_slice())?;
+    add_goal(&mut vars, &pred.body.kind)?;
+    Ok(vars)
+}
+
+/// Adds the variables of a goal.
+#[cycle(goals)]
+fn add_goal(vars: &mut Vec<u32>, goal: &GoalKind) -> Result<(), NoMemory>
+    ensures { OnOk result (vars.new.items ≡ vars.old.items ++ task_variables (task_of goal.now)) }
+{
+    match goal {
+        GoalKind::Conj(goals) => add_goals(vars, goals.as_slice()),
+        GoalKind::Disj(goals) => add_goals(vars, goals.as_slice()),
+        GoalKind::If(condition, then, otherwise) => {
+            add_goal(vars, &condition.kind)?;
+            add_goal(vars, &then.kind)?;
+            add_goal(vars, &otherwise.kind)
+        }
+        GoalKind::Not(inner) => add_goal(vars, &inner.kind),
+        GoalKind::Some(quantified, inner) => {
+            vars.extend_from_slice(quantified.as_slice())?;
+            add_goal(vars, &inner.kind)
+        }
+        _ => add_leaf(vars, goal),
+    }
+}
+
+#[cycle(goals)]
+fn add_goals(vars: &mut Vec<u32>, goals: &[Goal]) -> Result<(), NoMemory>
+    ensures { OnOk result (vars.new.items ≡ vars.old.items ++ parts_variables (gathered (parts_of goals.now))) }
+{
+    for goal in goals {
+        add_goal(vars, &goal.kind)?;
+    }
+    Ok(())
+}
+
+/// Adds the variables of a goal that is no conjunction and no branch.
+fn add_leaf(vars: &mut Vec<u32>, goal: &GoalKind) -> Result<(), NoMemory>
+    ensures { OnOk result (vars.new.items ≡ vars.old.items ++ leaf_variables (task_of goal.now)) }
+{
+    match goal {
+        GoalKind::Unify(x, term) => {
+            vars.push(*x)?;
+            return add_term(vars, term);
+        }
+        GoalKind::Arith(z, a, _, b) => vars.extend_from_slice(&[*z, *a, *b])?,
+        GoalKind::Compare(a, _, b) => vars.extend_from_slice(&[*a, *b])?,
+        GoalKind::WriteInt(x, before, after) => vars.extend_from_slice(&[*x, *before, *after])?,
+        GoalKind::WriteStr(x, before, after) => vars.extend_from_slice(&[*x, *before, *after])?,
+        GoalKind::Nl(before, after) => vars.extend_from_slice(&[*before, *after])?,
+        GoalKind::Call(_, _, places) => vars.extend_from_slice(places.as_slice())?,
+        GoalKind::HoCall(_, closure, places) => {
+            vars.push(*closure)?;
+            vars.extend_from_slice(places.as_slice())?;
+        }
+        GoalKind::True
+        | GoalKind::Fail
+        | GoalKind::Conj(_)
+        | GoalKind::Disj(_)
+        | GoalKind::If(..)
+        | GoalKind::Not(_)
+        | GoalKind::Some(..) => {}
+    }
+    Ok(())
+}
+
+fn add_term(vars: &mut Vec<u32>, term: &Term) -> Result<(), NoMemory>
+    ensures { OnOk result (vars.new.items ≡ vars.old.items ++ term_variables term.now) }
+{
+    match term {
+        Term::Var(y) => vars.push(*y)?,
+        Term::Int(_) | Term::Str(_) => {}
+        Term::Name(_, places) => vars.extend_from_slice(places.as_slice())?,
+    }
+    Ok(())
+}
