@@ -1,5 +1,7 @@
 // A goal at a time: what it asks of its variables, and what it makes of them.
-use crate::{Kind, Mark, ModeFault, Spot, functor_called, leaf, mark_at, mark_in, same_det, set_mark};
+use crate::{
+    Kind, Mark, ModeFault, Spot, functor_called, leaf, mark_at, mark_in, same_det, set_mark,
+};
 use md_base::{Name, Text};
 use md_hlds::{Det, Functor, GoalKind, PredName, Program, Term, Ty, TypeDef};
 use md_names::Names;
@@ -58,7 +60,10 @@ fn a_goal_binds_its_variable(rt: HostRuntime) -> Result<(), Fail> {
     assert_eq!(rt; mark_at(&marks, 1).is_bound(), true);
     assert_eq!(rt; mark_in(&marks, 0).is_bound(), false);
     let text = GoalKind::Unify(1, Term::Str(Text::from_bytes(alloc, b"a")?));
-    assert_eq!(rt; leaf(&names, &mut marks, at, &text).err(), Some(ModeFault::TypeClash(7)));
+    assert_eq!(rt;
+        leaf(&names, &mut marks, at, &text).err(),
+        Some(ModeFault::TypeClash(7))
+    );
     Ok(())
 }
 

@@ -35,4 +35,3 @@ pub from_nothing : (a b vars : List ℕ) → a ≡ [] → Adds a b vars → AreC
 from_nothing a b vars e f x =
     let none : slice_index a x ≡ 0 = rw e refl in
     omega (arith, f x, none)
-

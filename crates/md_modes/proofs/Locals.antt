@@ -107,11 +107,11 @@ new_place places counts vars x h less = record {
   room = omega (arith, h.room, length-append counts (1 ∷ []), length-append places (x ∷ []));
   counted = counted-more places counts vars x h less;
   all = λ y e.
-    let parts = sum_zero _ _ _ (times-append y places (x ∷ [])) e in
-    times-append y vars (x ∷ []) ∙ omega (arith, h.all y parts.0, parts.1);
+      let parts = sum_zero _ _ _ (times-append y places (x ∷ [])) e in
+      times-append y vars (x ∷ []) ∙ omega (arith, h.all y parts.0, parts.1);
   only = λ y e.
-    let parts = sum_zero _ _ _ (times-append y vars (x ∷ [])) e in
-    times-append y places (x ∷ []) ∙ omega (arith, h.only y parts.0, parts.1);
+      let parts = sum_zero _ _ _ (times-append y vars (x ∷ [])) e in
+      times-append y places (x ∷ []) ∙ omega (arith, h.only y parts.0, parts.1);
 }
 
 -- ---- the last number once more
@@ -140,9 +140,9 @@ same_again places counts vars x m h size last = record {
   room = length-set counts (length counts - 1) (slice_index counts (length counts - 1) + 1) ∙ h.room;
   counted = counted-again places counts vars x m h size last;
   all = λ y e.
-    let there : times x places ≢ 0 = subst (λ z. times z places ≢ 0) last (occurs-at places m (omega (arith, size))) in
-    let apart : times y (x ∷ []) ≡ 0 = times_other y x (λ (same : y ≡ x). there (subst (λ z. times z places ≡ 0) same e)) in
-    times-append y vars (x ∷ []) ∙ omega (arith, h.all y e, apart);
+      let there : times x places ≢ 0 = subst (λ z. times z places ≢ 0) last (occurs-at places m (omega (arith, size))) in
+      let apart : times y (x ∷ []) ≡ 0 = times_other y x (λ (same : y ≡ x). there (subst (λ z. times z places ≡ 0) same e)) in
+      times-append y vars (x ∷ []) ∙ omega (arith, h.all y e, apart);
   only = λ y e. h.only y (sum_zero _ _ _ (times-append y vars (x ∷ [])) e).0;
 }
 
@@ -266,8 +266,8 @@ rising-sorted places h i j le lt = elim (cases_eq i j) [
 pub not_found : (places counts vars : List ℕ) (x : ℕ) (r : Result ℕ ℕ) (i : ℕ) → r ≡ Err i → IsBinarySearchResult (λ y. nat_cmp y x) places r → IsLocal places counts vars → 0 ≡ times x vars
 not_found places counts vars x r i is found h =
     let ends = subst (λ (q : Result ℕ ℕ). MatchResult q (λ i. (i < length places) × (get_or places i 0 ≡ x))
-      (λ i. (i ≤ length places) × ((k : ℕ) → k < i → get_or places k 0 < x) × ((k : ℕ) → i ≤ k → k < length places → x < get_or places k 0)))
-      is (searched places x r found (rising-sorted places h.rising)) in
+    (λ i. (i ≤ length places) × ((k : ℕ) → k < i → get_or places k 0 < x) × ((k : ℕ) → i ≤ k → k < length places → x < get_or places k 0)))
+    is (searched places x r found (rising-sorted places h.rising)) in
     sym (h.all x (absent x places (λ j lt same. elim (cases_lt j i) [
       | inl less ↦ let below = ends.1 j less in absurd (omega (arith, below, same))
       | inr more ↦ let above = ends.2 j more lt in absurd (omega (arith, above, same))

@@ -27,7 +27,7 @@ pub fn add_arm<'a>(
         ≡ views.put_all view.entry.outside.local.now.places.items (knowledge_of view.entry.before.now) (knowledge_of marks.old.items)) }
     ensures ends { IfOk result (λ more. (ends : List After) → Ends (occurs view.entry.outside) (knowledge_of view.entry.before.now) joined.entry ends
         → Ends (occurs view.entry.outside) (knowledge_of view.entry.before.now) more
-            (ends ++ after (views.seen view.entry.outside.local.now.places.items (knowledge_of marks.old.items)) reach ∷ [])) }
+        (ends ++ after (views.seen view.entry.outside.local.now.places.items (knowledge_of marks.old.items)) reach ∷ [])) }
 {
     let places = view.outside.local.places.as_slice();
     let end = seen(alloc, places, marks)?;
@@ -68,7 +68,7 @@ pub fn end_arms<'a>(
     ensures { (p : ℕ → Bool) → (ends : List After) → Ends p (knowledge_of view.entry.before.now) joined.entry ends
         → knowledge_of view.entry.before.now ≡ views.seen view.entry.outside.local.now.places.items (knowledge_of marks.old.items)
         → Reaches result (knowledge_of marks.new.items)
-            (views.put_verdict view.entry.outside.local.now.places.items (knowledge_of marks.old.items) (spec.joined line p (knowledge_of view.entry.before.now) ends)) }
+        (views.put_verdict view.entry.outside.local.now.places.items (knowledge_of marks.old.items) (spec.joined line p (knowledge_of view.entry.before.now) ends)) }
 {
     match joined {
         None => Ok(false),

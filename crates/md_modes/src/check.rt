@@ -1,8 +1,7 @@
 // The whole program.
-ghost use Rattle.std.specs.Prelude.{◌≡◌, ◌≢◌, None, Some, Err, ◌++◌, IfOk, OnOk, MatchResult};
+ghost use Rattle.std.specs.Prelude.{◌≡◌, ◌≢◌, None, Some, ◌++◌, IfOk, OnOk, MatchResult};
 ghost use Rattle.md_hlds.specs.Listing.{listing_of, procedure_of, procedures_of};
 ghost use Rattle.md_binding.specs.Kinds.{Finds};
-ghost use Rattle.md_binding.specs.Verdict.{fine};
 ghost use Rattle.md_binding.specs.declared.fault.ModeFault.TheVariants as faults;
 ghost use Rattle.md_modes.specs.Modes as spec;
 ghost use Rattle.md_modes.specs.Modes.{mode_fault};
@@ -28,24 +27,34 @@ pub fn check_modes(alloc: Global, program: Program) -> Result<Moded, ModeFault>
     ensures answer { MatchResult result (λ moded. moded ≡ program) (λ fault. fault ≢ faults.NoMemory → mode_fault (listing_of program) ≡ Some fault) }
     ensures accepted { IfOk result (λ moded. mode_fault (listing_of moded) ≡ None) }
 {
-    let notes = check_program(alloc, &program)?;
+    let mut notes = Vec::new(alloc);
+    check_program(alloc, &program, &mut notes)?;
     Ok(Moded::new(program, notes))
 }
 
-#[tactic(auto, unfolding(crate::specs::Notes::program_notes))]
-fn check_program(alloc: Global, program: &Program) -> Result<Vec<Note>, ModeFault>
-    ensures checked { MatchResult result (λ notes. spec.checked (listing_of program.now) ≡ fine) (λ fault. fault ≢ faults.NoMemory → spec.checked (listing_of program.now) ≡ Err fault) }
-    ensures notes { IfOk result (λ notes. notes_told notes.items ≡ program_notes (listing_of program.now)) }
+/// Checks a program, and notes what is found at its goals.
+fn check_program(alloc: Global, program: &Program, notes: &mut Vec<Note>) -> Result<(), ModeFault>
+    ensures checked { Finds result (spec.checked (listing_of program.now)) }
+    ensures notes { OnOk result (notes_told notes.new.items ≡ notes_told notes.old.items ++ program_notes (listing_of program.now)) }
 {
     let names = Names::new(alloc, program)?;
-    check_types(&names, program.types.as_slice())?;
-    check_predicates(&names, program.preds.as_slice())?;
-    let mut notes = Vec::new(alloc);
-    check_clauses(alloc, &names, program.preds.as_slice(), &mut notes)?;
+    check_named(alloc, &names, notes)
+}
+
+/// Checks the program that has these names.
+#[tactic(auto, unfolding(crate::specs::Notes::program_notes))]
+fn check_named(alloc: Global, names: &Names<'_>, notes: &mut Vec<Note>) -> Result<(), ModeFault>
+    ensures checked { Finds result (spec.checked (listing_of names.now)) }
+    ensures notes { OnOk result (notes_told notes.new.items ≡ notes_told notes.old.items ++ program_notes (listing_of names.now)) }
+{
+    let program = names.program();
+    check_types(names, program.types.as_slice())?;
+    check_predicates(names, program.preds.as_slice())?;
+    check_clauses(alloc, names, program.preds.as_slice(), notes)?;
     if !has_main(program.preds.as_slice()) {
         return Err(ModeFault::NoMain(program.module_line));
     }
-    Ok(notes)
+    Ok(())
 }
 
 /// Checks these clauses of a program, and notes what is found at their goals.

@@ -139,7 +139,7 @@ impl<'a, 'b> Clause<'a, 'b> {
             → Reaches result (knowledge_of marks.new.items) (spec.task (scope_at self.now at.strict) at.line (Either (gathered (parts_of goals.now))) (knowledge_of marks.old.items)) }
         ensures notes { IsViewOf self.now view.entry (parts_variables (gathered (parts_of goals.now))) (knowledge_of marks.old.items)
             → IfOk result (λ reach. notes_told notes.new.items
-                ≡ notes_told notes.old.items ++ noted.arm_notes (scope_at self.now at.strict) (gathered (parts_of goals.now)) (knowledge_of marks.old.items)) }
+            ≡ notes_told notes.old.items ++ noted.arm_notes (scope_at self.now at.strict) (gathered (parts_of goals.now)) (knowledge_of marks.old.items)) }
     {
         let mut joined = None;
         for goal in goals {

@@ -57,9 +57,9 @@ check_arms-returns-in_err-reach-clause-reaches t c view =
     let told = err_from_is_err_and c.from_residual.result c.from_residual.ensures.1 in
     rw (told.1, told.2)
     (λ ne.
-      either_fault scope c.args.at.line (gathered (parts_of c.args.goals.now)) s c.in_err-reach.field-0.0
-      (inv.rest ∙ arms-fault scope c.args.goals.now c.loop-goal.goal-index c.goal-item.result s c.in_err-reach.field-0.0 inv.ends c.loop-goal-test.true c.goal-item.is
-      (subst (λ (k : Knowledge). goal scope (part_of c.goal-item.result) k ≡ Err c.in_err-reach.field-0.0) inv.known (c.in_err-reach.ensures.reaches ne))))
+    either_fault scope c.args.at.line (gathered (parts_of c.args.goals.now)) s c.in_err-reach.field-0.0
+    (inv.rest ∙ arms-fault scope c.args.goals.now c.loop-goal.goal-index c.goal-item.result s c.in_err-reach.field-0.0 inv.ends c.loop-goal-test.true c.goal-item.is
+    (subst (λ (k : Knowledge). goal scope (part_of c.goal-item.result) k ≡ Err c.in_err-reach.field-0.0) inv.known (c.in_err-reach.ensures.reaches ne))))
 
 pub check_arms-loop-goal-preserved : goals.check_arms-loop-goal-preserved
 check_arms-loop-goal-preserved t c h =
@@ -81,14 +81,14 @@ check_arms-loop-goal-preserved t c h =
     record {
       ends = inv.ends ++ a ∷ [];
       are_ends =
-        subst (λ (es : List After). Ends p (seen (places_of view) s) c.in_ok-joined.joined es) (sym (seen_ends-more (places_of view) inv.ends a))
-        (ends_seen k view vars s p c.in_ok-joined.joined _ h
-        (c.in_ok-joined.ensures.ends ends (ends_viewed k view vars s p c.loop-goal.joined ends h inv.are_ends)));
+          subst (λ (es : List After). Ends p (seen (places_of view) s) c.in_ok-joined.joined es) (sym (seen_ends-more (places_of view) inv.ends a))
+          (ends_seen k view vars s p c.in_ok-joined.joined _ h
+          (c.in_ok-joined.ensures.ends ends (ends_viewed k view vars s p c.loop-goal.joined ends h inv.are_ends)));
       leave = all_leave-more (places_of view) s inv.ends a inv.leave leaves;
       rest = inv.rest ∙ rw add-one (arms-more scope gs i g s a inv.ends c.loop-goal-test.true c.goal-item.is found);
       known = put_back k view vars s r (knowledge_of c.add_arm.new.marks.items) h leaves c.in_ok-joined.ensures.marks;
       noted = arms-loop scope gs i g s (notes_told c.loop-goal.notes.items) (notes_told c.check.new.notes.items) _ c.loop-goal-test.true c.goal-item.is
-        (rw (← inv.known) c.in_ok-reach.ensures.notes) inv.noted;
+          (rw (← inv.known) c.in_ok-reach.ensures.notes) inv.noted;
     }
 
 pub check_arms-returns-clause-reaches : goals.check_arms-returns-clause-reaches
@@ -150,8 +150,8 @@ check_inside-returns-in_err-check_condition-clause-reaches t c =
     let told = err_from_is_err_and c.from_residual.result c.from_residual.ensures.1 in
     rw (told.1, told.2)
     (λ ne.
-      once_fault (scope_at c.args.self.now c.args.at.strict) c.args.at.line vs p (knowledge_of c.args.marks.now.items) _
-      (c.in_err-check_condition.ensures.reaches (vs ++ variables p) c.requires.view (among_others (variables p) (variables p) vs (among_itself (variables p))) ne))
+    once_fault (scope_at c.args.self.now c.args.at.strict) c.args.at.line vs p (knowledge_of c.args.marks.now.items) _
+    (c.in_err-check_condition.ensures.reaches (vs ++ variables p) c.requires.view (among_others (variables p) (variables p) vs (among_itself (variables p))) ne))
 
 pub check_inside-returns-then-has_some-clause-reaches : goals.check_inside-returns-then-has_some-clause-reaches
 check_inside-returns-then-has_some-clause-reaches t c ne =
