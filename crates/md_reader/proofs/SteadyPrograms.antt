@@ -130,7 +130,7 @@ module _ (d : ℕ) (more : List Lexeme) where
   unfolding rule.declared_family
   declared_family_steady l line = bound d more (rule.family line) _ (family_steady d more line) (λ t. given d more (rule.with_family l t))
 
-  declared_rest_steady : (l : Listing) (line : ℕ) → Stable (λ i. cond (sees kind.Pred i) (rule.declared_procedure l line i) (rule.declared_family l line i))
+  pub declared_rest_steady : (l : Listing) (line : ℕ) → Stable (λ i. cond (sees kind.Pred i) (rule.declared_procedure l line i) (rule.declared_family l line i))
   unfolding sees
   declared_rest_steady l line = by_token d more (λ t i. cond (same_kind t.kind kind.Pred) (rule.declared_procedure l line i) (rule.declared_family l line i)) (λ t i e. tested d more i.rest (same_kind t.kind kind.Pred) _ _ _ _ (declared_procedure_steady l line i) (declared_family_steady l line i))
 

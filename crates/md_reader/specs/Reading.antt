@@ -10,7 +10,7 @@ use Rattle.md_reader.specs.declared.refused.Refused.TheVariants as refused
 use Rattle.md_reader.specs.Input.{Outcome}
 use Rattle.md_reader.specs.Rules.{program, start}
 use Rattle.md_reader.specs.Duplicates.{duplicate}
-use Rattle.md_reader.specs.Faults.{IsAtFault}
+use Rattle.md_reader.specs.Faults.{IsSyntaxFault, IsLimitFault}
 use Rattle.md_reader.specs.Grammar.{Repeats}
 
 abbrev pub refused_of : Refusal → Refused
@@ -55,6 +55,6 @@ IsFault (Err e) = ⊤
 -- why a refusal is answered
 abbrev pub HasCause : Refused → List ℕ → Type 0
 HasCause (refused.Duplicate line) text = Repeats text line
-HasCause (refused.Syntax line) text = IsAtFault text line
-HasCause (refused.Limit line) text = IsAtFault text line
+HasCause (refused.Syntax line) text = IsSyntaxFault text line
+HasCause (refused.Limit line) text = IsLimitFault text line
 HasCause refused.NoMemory text = ⊤
