@@ -1,5 +1,5 @@
 -- The token at which a text is refused: a program begins with the tokens before it, or with it too, but none with it.
-use Rattle.std.proofs.Common.{◌≡◌, ℕ, suc, ◌+◌, ◌-◌, ◌≤◌, ◌<◌, List, [], ◌∷◌, ◌++◌, length, take, refl, inl, inr, Ok, Err, sym, ap, ◌∙◌, arith, subst, append_assoc, length-append}
+use Rattle.std.proofs.Common.{◌⊎◌, ◌≡◌, ℕ, suc, ◌+◌, ◌-◌, ◌≤◌, ◌<◌, List, [], ◌∷◌, ◌++◌, length, take, drop, refl, inl, inr, Ok, Err, sym, ap, ◌∙◌, arith, subst, append_assoc, length-append}
 use Rattle.md_hlds.specs.Listing.{Listing}
 use Rattle.md_token.specs.Token.{Lexeme, tokens_of}
 use Rattle.md_token.proofs.Ends.{HasEnd, tokens_end}
@@ -8,6 +8,7 @@ use Rattle.md_reader.specs.declared.refused.Refusal.{Refusal}
 use Rattle.md_reader.specs.declared.refused.Refusal.TheVariants.{Syntax, Limit, NoMemory}
 use Rattle.md_reader.specs.Input.{Input, Limits, standard, Outcome, first}
 use Rattle.md_reader.specs.Rules as rule
+use Rattle.md_reader.specs.Grammar.{Program}
 use Rattle.md_reader.specs.Faults.{the_end, BeginsWithin, Begins, IsSyntaxFault, IsLimitFault, TextBegins, IsAtFault}
 use Rattle.md_reader.proofs.Steady.{Stands, FaultAt, Agree, cut, recut, at}
 use Rattle.md_reader.proofs.SteadyPrograms.{program_steady}
@@ -168,3 +169,44 @@ syntax_at_fault text line f = record { before = f.before; token = f.token; later
 
 pub limit_at_fault : (text : List ℕ) (line : ℕ) → IsLimitFault text line → IsAtFault text line
 limit_at_fault text line f = record { before = f.before; token = f.token; later = f.later; tokens = f.tokens; here = f.here; none = λ b. f.none (text_begins (f.before ++ f.token ∷ []) b) }
+
+-- ---- there is one such token
+
+pub begins_shorter : (ts us : List Lexeme) → Begins (ts ++ us) → Begins ts
+begins_shorter ts us b =
+    let e : up_to_end (ts ++ us) b.within.later ≡ up_to_end ts (us ++ b.within.later) = append_assoc ts us (b.within.later ++ the_end ∷ []) ∙ ap (λ (vs : List Lexeme). ts ++ vs) (sym (append_assoc us b.within.later (the_end ∷ []))) in
+    record {
+      limits = b.limits;
+      within = record {
+        later = us ++ b.within.later;
+        listing = b.within.listing;
+        end = b.within.end;
+        program = subst (λ (vs : List Lexeme). Program b.within.listing (rule.start_within b.limits vs) b.within.end) e b.within.program;
+        whole = b.within.whole;
+      };
+    }
+
+-- of two tokens of a list one stands before the other, or they are one
+splits : (a b : List Lexeme) (t u : Lexeme) (x y : List Lexeme) → a ++ t ∷ x ≡ b ++ u ∷ y → ((c : List Lexeme) × (b ≡ (a ++ t ∷ []) ++ c)) ⊎ ((t ≡ u) ⊎ ((c : List Lexeme) × (a ≡ (b ++ u ∷ []) ++ c)))
+splits [] [] t u x y e = inr (inl (ap first e))
+splits [] (v ∷ b) t u x y e = inl (b, ap (λ (w : Lexeme). w ∷ b) (sym (ap first e)))
+splits (w ∷ a) [] t u x y e = inr (inr (a, ap (λ (v : Lexeme). v ∷ a) (ap first e)))
+splits (w ∷ a) (v ∷ b) t u x y e =
+    let head : w ≡ v = ap first e in
+    elim (splits a b t u x y (ap (drop 1) e)) [
+      | inl p ↦ inl (p.0, rw (head, p.1) refl)
+      | inr q ↦ elim q [
+        | inl same ↦ inr (inl same)
+        | inr p ↦ inr (inr (p.0, rw (head, p.1) refl))
+      ]
+    ]
+
+pub one_syntax_fault : (text : List ℕ) (line other : ℕ) → IsSyntaxFault text line → IsSyntaxFault text other → line ≡ other
+one_syntax_fault text line other f g =
+    elim (splits f.before g.before f.token g.token f.later g.later (sym f.tokens ∙ g.tokens)) [
+      | inl p ↦ absurd (f.none (begins_shorter (f.before ++ f.token ∷ []) p.0 (subst Begins p.1 g.begins)))
+      | inr q ↦ elim q [
+        | inl same ↦ sym f.here ∙ (ap (λ (t : Lexeme). t.line) same ∙ g.here)
+        | inr p ↦ absurd (g.none (begins_shorter (g.before ++ g.token ∷ []) p.0 (subst Begins p.1 f.begins)))
+      ]
+    ]

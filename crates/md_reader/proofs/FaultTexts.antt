@@ -1,22 +1,23 @@
 -- The cause of each refusal, and what is answered where there is one.
-use Rattle.std.proofs.Common.{◌≡◌, ◌≢◌, ℕ, List, [], ◌∷◌, Err, sym, ◌∙◌, subst, true, append_assoc, Result, Ok}
+use Rattle.std.proofs.Common.{◌≡◌, ◌≢◌, ℕ, List, [], ◌∷◌, Err, sym, ◌∙◌, subst, true, append_assoc, Result, Ok, Option, Some, None, refl}
 use Rattle.md_hlds.specs.declared.program.Program.{Program}
 use Rattle.md_hlds.specs.Listing.{Listing, listing_of}
 use Rattle.md_token.specs.declared.kind.Kind.TheVariants as kind
 use Rattle.md_token.specs.Token.{tokens_of}
 use Rattle.md_reader.specs.declared.refused.Refusal.{Refusal}
 use Rattle.md_reader.specs.declared.refused.Refusal.TheVariants as refusal
-use Rattle.md_reader.specs.Input.{Input, sees}
+use Rattle.md_reader.specs.Input.{Input, Outcome, sees}
 use Rattle.md_reader.specs.Rules as rule
 use Rattle.md_reader.specs.Faults.{IsSyntaxFault, IsLimitFault, IsAtFault}
-use Rattle.md_reader.specs.Reading.{HasCause, IsAnswer, IsFault, refused_of}
+use Rattle.md_reader.specs.Reading.{HasCause, IsAnswer, IsFault, IsFirstFault, refused_of, reading, outcome_of, without_duplicate}
+use Rattle.md_reader.specs.Duplicates.{duplicate}
 use Rattle.md_reader.specs.declared.refused.Refused.{Refused}
 use Rattle.md_reader.specs.declared.refused.Refused.TheVariants as refused
 use Rattle.md_reader.specs.Grammar as g
 use Rattle.md_reader.proofs.SoundPrograms.{reading_sound, reading_repeats}
 use Rattle.md_reader.proofs.Steady.{Stands}
 use Rattle.md_reader.proofs.SteadyPrograms.{program_steady}
-use Rattle.md_reader.proofs.FaultFirst.{syntax_fault, limit_fault}
+use Rattle.md_reader.proofs.FaultFirst.{syntax_fault, limit_fault, syntax_at_fault, one_syntax_fault}
 
 -- the cause of a refusal
 abbrev pub FaultIn : List ℕ → Refusal → Type 0
@@ -45,3 +46,29 @@ answer_fault (Err (refused.Duplicate second)) text line h f = let s = reading_re
 answer_fault (Err (refused.Syntax other)) text line h f = tt
 answer_fault (Err (refused.Limit other)) text line h f = tt
 answer_fault (Err refused.NoMemory) text line h f = tt
+
+said_line : (line other : ℕ) → ◌≡◌ {A = Result Listing Refused} (Err (refused.Syntax line)) (Err (refused.Syntax other)) → line ≡ other
+said_line line other e = cc
+
+never_syntax : (l : Listing) (d : Option ℕ) (line : ℕ) → without_duplicate l d ≡ Err (refused.Syntax line) → ⊥
+never_syntax l None line h = absurd (cc)
+never_syntax l (Some second) line h = absurd (cc)
+
+-- where the text is answered to be at fault for syntax, it is
+said_syntax : (text : List ℕ) (r : Outcome Listing) (line : ℕ) → rule.program (rule.start (tokens_of text)) ≡ r → outcome_of r ≡ Err (refused.Syntax line) → IsSyntaxFault text line
+said_syntax text (Err (refusal.Syntax place)) line e h = subst (IsSyntaxFault text) (said_line place.line line h) (syntax_fault text place e)
+said_syntax text (Err (refusal.Limit place)) line e h = absurd (cc)
+said_syntax text (Err refusal.NoMemory) line e h = absurd (cc)
+said_syntax text (Ok p) line e h = absurd (never_syntax p.0 (duplicate p.0) line h)
+
+reading_syntax : (text : List ℕ) (line : ℕ) → reading text ≡ Err (refused.Syntax line) → IsSyntaxFault text line
+unfolding reading
+reading_syntax text line h = said_syntax text (rule.program (rule.start (tokens_of text))) line refl h
+
+-- the first token at fault for syntax is answered, or a limit
+pub answer_first : (r : Result Program Refused) (text : List ℕ) (line : ℕ) → IsAnswer r text → IsSyntaxFault text line → IsFirstFault r line
+answer_first (Ok p) text line h f = answer_fault (Ok p) text line h (syntax_at_fault text line f)
+answer_first (Err (refused.Duplicate second)) text line h f = answer_fault (Err (refused.Duplicate second)) text line h (syntax_at_fault text line f)
+answer_first (Err (refused.Syntax other)) text line h f = one_syntax_fault text other line (reading_syntax text other (h (λ q. absurd (cc)))) f
+answer_first (Err (refused.Limit other)) text line h f = tt
+answer_first (Err refused.NoMemory) text line h f = tt

@@ -32,16 +32,16 @@ declare_rest h K q =
     (λ as'. sequel (Declared h q) (λ _. Declared h q) (λ (d : rule.Declaration). Declared h d.name) IsIs K K rule.declared_determinism _ (declared_determinisms (Declared h q) K)
     (λ d. given (Declared h q) (λ (d : rule.Declaration). Declared h d.name) K (record { name = q; args = as'; det = d }) (λ home vars s. s)))
 
-abbrev Named' : Parser rule.Declaration
-Named' = rule.declared_name >>= declares
+abbrev NamedRest : Parser rule.Declaration
+NamedRest = rule.declared_name >>= declares
 
-named_rest : (h : List ℕ) (K : Lexeme → Type 0) → Fills (Home h) (λ (d : rule.Declaration). Declared h d.name) Every K Named' (λ n. Named')
+named_rest : (h : List ℕ) (K : Lexeme → Type 0) → Fills (Home h) (λ (d : rule.Declaration). Declared h d.name) Every K NamedRest (λ n. NamedRest)
 named_rest h K = sequel (Home h) (Declared h) (λ (d : rule.Declaration). Declared h d.name) Every IsIs K rule.declared_name declares (declared_names h IsIs) (λ q. declare_rest h K q)
 
 declaration_at : (h : List ℕ) (K : Lexeme → Type 0) (i : Input) → kind_at i ≡ kind.Pred → Home h i.home i.vars → Law (λ (d : rule.Declaration). Declared h d.name) Never K (λ n. rule.declaration) i (rule.declaration i)
 unfolding rule.declaration
 declaration_at h K i e s =
-    bind_at (λ _. Home h) (λ (d : rule.Declaration). Declared h d.name) Never Every K (λ n. expect kind.Pred) (λ _ n. Named') i (expect kind.Pred i) (λ _. Named') (expect_at (Home h) Never Every kind.Pred i refl e s)
+    bind_at (λ _. Home h) (λ (d : rule.Declaration). Declared h d.name) Never Every K (λ n. expect kind.Pred) (λ _ n. NamedRest) i (expect kind.Pred i) (λ _. NamedRest) (expect_at (Home h) Never Every kind.Pred i refl e s)
     (λ x j r q. (named_rest h K).law j q) (λ x j q. (named_rest h K).fill j q)
 
 -- ---- heads
