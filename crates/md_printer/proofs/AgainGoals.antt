@@ -25,7 +25,7 @@ use Rattle.md_printer.specs.Layout.{Tokens}
 use Rattle.md_printer.specs.Printed as print
 use Rattle.md_printer.specs.Printed.{single}
 use Rattle.md_printer.specs.Lines.{task_on_line}
-use Rattle.md_printer.proofs.Onto.{onto, onto-append, at, Good}
+use Rattle.md_printer.proofs.Onto.{onto, onto-append, at, Good, greatest, most_bytes, known, few_at}
 use Rattle.md_printer.proofs.Moves.{ok_parts, holds, fails, Still, still_to, still_on, sign_still, expect_still, onward, Within, variable_facts, variable_onward, variables_listed, site_onward, operator_still, comparison_still, term_onward, pred_name_facts, pred_name_still}
 use Rattle.md_printer.proofs.Takes.{token_fine, sign_takes, expect_takes, token_line, variable_read, variable_name, variable_again, printable, pred_name_takes, site_again, positive_takes, negated_takes, literal_takes}
 use Rattle.md_printer.proofs.AgainTypes.{further_is, arguments_are}
@@ -74,7 +74,7 @@ variables_again vs k ct r before _ _ _ (g.Variables.variables xs i j (g.Enclosed
     let wo : Within o.vars vs = (onward o j (sign_still k o j sg)).names vs w in
     subst (λ (u : List ℕ). g.Variables k before xs (at n u i) (at n s j)) (sym (onto-append (print.variables vs xs) (ct ∷ []) s))
     (g.Variables.variables xs (at n (onto (print.variables vs xs) (ct ++ 32 ∷ s)) i) (at n s j)
-    (g.Enclosed.enclosed xs (at n (onto (print.variables vs xs) (ct ++ 32 ∷ s)) i) (at n (ct ++ 32 ∷ s) o) (at n s j) (listed_variables vs xs i o l a wo n (ct ++ 32 ∷ s)) few (sign_again k ct r o j sg n s))
+    (g.Enclosed.enclosed xs (at n (onto (print.variables vs xs) (ct ++ 32 ∷ s)) i) (at n (ct ++ 32 ∷ s) o) (at n s j) (listed_variables vs xs i o l a wo n (ct ++ 32 ∷ s)) (few_at (length xs) n (onto (print.variables vs xs) (ct ++ 32 ∷ s)) i i a few) (sign_again k ct r o j sg n s))
     new)
 
 pub variables_are : (vs : List (List ℕ)) (k : Kind) (before xs : List ℕ) (i j : Input) → g.Variables k before xs i j → print.variables_in_parentheses vs xs ≡ codes "(" ∷ closed_variables vs (codes ")") xs
@@ -133,7 +133,7 @@ record TermAgain (vs : List (List ℕ)) (x : ℕ) (t : Task) (i j : Input) : Typ
   same : (n : ℕ) → task_on_line n t ≡ t
   again : (n : ℕ) (s : List ℕ) → g.Term x t (at n (onto tokens s) i) (at n s j)
 
-number_again : (vs : List (List ℕ)) (x m : ℕ) (i j : Input) → nat_lt rule.greatest m ≡ false → Still i j → TermAgain vs x (Plain (Unifies x (term.Int (pos m)))) i j
+number_again : (vs : List (List ℕ)) (x m : ℕ) (i j : Input) → nat_lt greatest m ≡ false → Still i j → TermAgain vs x (Plain (Unifies x (term.Int (pos m)))) i j
 number_again vs x m i j small st = record {
   tokens = decimal m ∷ [];
   here = λ inner. refl;
@@ -144,12 +144,12 @@ number_again vs x m i j small st = record {
       (subst (λ (k : Input). Is (rule.positive x) (Plain (Unifies x (term.Int (pos m)))) (at n (decimal m ++ 32 ∷ s) i) k) (st.same n s) p.1);
 }
 
-positive_again : (vs : List (List ℕ)) (x : ℕ) (t : Task) (i j : Input) → Is (rule.positive x) t i j → TermAgain vs x t i j
+positive_again : (vs : List (List ℕ)) (x : ℕ) (t : Task) (i j : Input) → Good i → Is (rule.positive x) t i j → TermAgain vs x t i j
 unfolding rule.positive
-positive_again vs x t i j h =
-    let a = fails (nat_lt rule.greatest (number_of (token i).text)) _ _ _ h in
+positive_again vs x t i j good h =
+    let a = fails (nat_lt i.limits.integer (number_of (token i).text)) _ _ _ h in
     let b = ok_parts (Plain (Unifies x (term.Int (pos (number_of (token i).text))))) t (next i) j a.1 in
-    subst (λ (t : Task). TermAgain vs x t i j) b.0 (number_again vs x (number_of (token i).text) i j a.0 (still_to i j b.1))
+    subst (λ (t : Task). TermAgain vs x t i j) b.0 (number_again vs x (number_of (token i).text) i j (known (λ l. l.integer) i good (λ m. nat_lt m (number_of (token i).text) ≡ false) a.0) (still_to i j b.1))
 
 minus_by : (m : ℕ) (b : Bool) → b ≡ true → cond b (negsuc (suc m - 1)) (pos (0 - suc m)) ≡ negsuc m
 minus_by m true e = ap negsuc (omega arith)
@@ -158,7 +158,7 @@ minus_by m false e = absurd (cc)
 minus_suc : (m : ℕ) → rule.minus (suc m) ≡ negsuc m
 minus_suc m = minus_by m (nat_lt 0 (suc m)) (grind arith)
 
-minus_again : (vs : List (List ℕ)) (x m : ℕ) (i j k : Input) → Sign kind.Minus i j → nat_lt (suc rule.greatest) m ≡ false → Still j k → TermAgain vs x (Plain (Unifies x (term.Int (rule.minus m)))) i k
+minus_again : (vs : List (List ℕ)) (x m : ℕ) (i j k : Input) → Sign kind.Minus i j → nat_lt (suc greatest) m ≡ false → Still j k → TermAgain vs x (Plain (Unifies x (term.Int (rule.minus m)))) i k
 minus_again vs x zero i j k sg small st = number_again vs x 0 i k refl (still_on i j k (sign_still kind.Minus i j sg) st)
 minus_again vs x (suc m) i j k sg small st = record {
   tokens = codes "-" ∷ decimal (suc m) ∷ [];
@@ -171,15 +171,15 @@ minus_again vs x (suc m) i j k sg small st = record {
       (subst (λ (z : Input). Is (rule.negated x) t (at n (decimal (suc m) ++ 32 ∷ s) j) z) (st.same n s) (negated_takes x (suc m) small n s j));
 }
 
-negated_again : (vs : List (List ℕ)) (x : ℕ) (t : Task) (i j k : Input) → Sign kind.Minus i j → Is (rule.negated x) t j k → TermAgain vs x t i k
+negated_again : (vs : List (List ℕ)) (x : ℕ) (t : Task) (i j k : Input) → Good j → Sign kind.Minus i j → Is (rule.negated x) t j k → TermAgain vs x t i k
 unfolding rule.negated
-negated_again vs x t i j k sg h =
+negated_again vs x t i j k good sg h =
     let a = holds _ _ _ _ h in
-    let c = fails (nat_lt (suc rule.greatest) (number_of (token j).text)) _ _ _ a.1 in
+    let c = fails (nat_lt (suc j.limits.integer) (number_of (token j).text)) _ _ _ a.1 in
     let b = ok_parts (Plain (Unifies x (term.Int (rule.minus (number_of (token j).text))))) t (next j) k c.1 in
-    subst (λ (t : Task). TermAgain vs x t i k) b.0 (minus_again vs x (number_of (token j).text) i j k sg c.0 (still_to j k b.1))
+    subst (λ (t : Task). TermAgain vs x t i k) b.0 (minus_again vs x (number_of (token j).text) i j k sg (known (λ l. l.integer) j good (λ m. nat_lt (suc m) (number_of (token j).text) ≡ false) c.0) (still_to j k b.1))
 
-text_again : (vs : List (List ℕ)) (x : ℕ) (v w : List ℕ) (i j : Input) → Writes v w → nat_lt rule.most_bytes (length v) ≡ false → Still i j → TermAgain vs x (Plain (Unifies x (term.Str v))) i j
+text_again : (vs : List (List ℕ)) (x : ℕ) (v w : List ℕ) (i j : Input) → Writes v w → nat_lt most_bytes (length v) ≡ false → Still i j → TermAgain vs x (Plain (Unifies x (term.Str v))) i j
 text_again vs x v w i j o short st = record {
   tokens = print.quoted v ∷ [];
   here = λ inner. refl;
@@ -198,10 +198,10 @@ literal_again : (vs : List (List ℕ)) (x : ℕ) (t : Task) (i j : Input) → ki
 unfolding rule.literal
 literal_again vs x t i j k h good =
     let f = subst (λ (k : Kind). Fine k (token i).text) k (token_fine i good) in
-    let a = fails (nat_lt rule.most_bytes (length (string_value (token i).text))) _ _ _ h in
+    let a = fails (nat_lt i.limits.bytes (length (string_value (token i).text))) _ _ _ h in
     let b = ok_parts (Plain (Unifies x (term.Str (string_value (token i).text)))) t (next i) j a.1 in
     let o : Writes (string_value (token i).text) (inside (token i).text) = subst (λ (v : List ℕ). Writes v (inside (token i).text)) (sym (value_of f.0 (token i).text f.1)) f.1 in
-    subst (λ (t : Task). TermAgain vs x t i j) b.0 (text_again vs x (string_value (token i).text) (inside (token i).text) i j o a.0 (still_to i j b.1))
+    subst (λ (t : Task). TermAgain vs x t i j) b.0 (text_again vs x (string_value (token i).text) (inside (token i).text) i j o (known (λ l. l.bytes) i good (λ m. nat_lt m (length (string_value (token i).text)) ≡ false) a.0) (still_to i j b.1))
 
 term_again : (vs : List (List ℕ)) (x : ℕ) (t : Task) (i j : Input) → g.Term x t i j → Good i → Within j.vars vs → TermAgain vs x t i j
 term_again vs x _ _ _ (g.Term.same y i j v) a w = record {
@@ -226,8 +226,8 @@ term_again vs x _ _ _ (g.Term.arithmetic y z o i j k m v p q) a w =
           (operator_again o j k p n u1)
           (variable_again vs (x ∷ y ∷ []) z k m q gk w n s);
     }
-term_again vs x _ _ _ (g.Term.positive t i j e h) a w = positive_again vs x t i j h
-term_again vs x _ _ _ (g.Term.negative t i j k sg h) a w = negated_again vs x t i j k sg h
+term_again vs x _ _ _ (g.Term.positive t i j e h) a w = positive_again vs x t i j a h
+term_again vs x _ _ _ (g.Term.negative t i j k sg h) a w = negated_again vs x t i j k ((sign_still kind.Minus i j sg).good a) sg h
 term_again vs x _ _ _ (g.Term.literal t i j e h) a w = literal_again vs x t i j e h a
 term_again vs x _ _ _ (g.Term.application f ys i j k nm ar) a w = record {
   tokens = print.applied vs f ys;

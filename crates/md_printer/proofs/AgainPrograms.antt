@@ -13,7 +13,7 @@ use Rattle.md_token.specs.Token.{tokens_of}
 use Rattle.md_token.proofs.Spelled as spelled
 use Rattle.md_token.proofs.Spelled.{Reads, lexeme}
 use Rattle.md_token.proofs.SpelledTokens.{Fine, tokens_fine}
-use Rattle.md_reader.specs.Input.{Input, expect, word, variable, token, sees, next, end_clause, take_name, most}
+use Rattle.md_reader.specs.Input.{Input, expect, word, variable, token, sees, next, end_clause, take_name}
 use Rattle.md_reader.specs.Rules as rule
 use Rattle.md_reader.specs.Duplicates.{duplicate}
 use Rattle.md_reader.specs.Grammar as g
@@ -24,7 +24,7 @@ use Rattle.md_printer.specs.Layout.{Tokens, sentence}
 use Rattle.md_printer.specs.Printed as print
 use Rattle.md_printer.specs.Printed.{type_tokens, procedure_sentences, module_tokens, printed}
 use Rattle.md_printer.specs.Lines.{on_line, family_on_line, procedure_on_lines, unlined, SpellsUpToLines, IsSpelled}
-use Rattle.md_printer.proofs.Onto.{onto, onto-append, sentence_onto, at, Good, next_good, at_token}
+use Rattle.md_printer.proofs.Onto.{onto, onto-append, sentence_onto, at, Good, next_good, at_token, most, known, goals_at}
 use Rattle.md_printer.proofs.Moves.{ok_parts, holds, Still, still_on, sign_still, expect_still, word_still, this_name_still, Onward, onward, on_to, from_still, Within, variables_listed, conjunction_onward, type_declaration_still, pred_declaration_still, take_facts}
 use Rattle.md_printer.proofs.Takes.{same_itself, token_fine, expect_takes, end_takes, word_takes, token_line, IsPrintable, this_name_takes, end_clause_again}
 use Rattle.md_printer.proofs.AgainTypes.{type_again, type_rest, declaration_again, declaration_rest, declared_printable, same_home}
@@ -74,7 +74,7 @@ clause_good : (q : PredName) (arity : ℕ) (c : rule.Clause) (i j : Input) → g
 unfolding end_clause
 clause_good q arity _ _ _ (g.PredClause.pred_clause xs p vs i j k l m n o h hd d b e z) a =
     let gk : Good k = (head_onward arity xs j k hd).good ((this_name_still q i j h).good a) in
-    let gm : Good m = (conjunction_onward rule.most_open p l m b).good ((sign_still kind.Declare k l d).good gk) in
+    let gm : Good m = (conjunction_onward l.limits.goals p l m b).good ((sign_still kind.Declare k l d).good gk) in
     let gn : Good n = (sign_still kind.End m n e).good gm in
     subst Good (ok_parts n.vars vs (record n { vars = [] }) o z).1 gn
 
@@ -84,7 +84,7 @@ clause_again q arity _ _ _ (g.PredClause.pred_clause xs p vs i j k l m n o h hd 
     let ec = end_clause_again vs n o z in
     let wn : Within n.vars vs = record { more = []; whole = sym ec.0 ∙ append_none n.vars } in
     let wm : Within m.vars vs = (onward m n (sign_still kind.End m n e)).names vs wn in
-    let wl : Within l.vars vs = (conjunction_onward rule.most_open p l m b).names vs wm in
+    let wl : Within l.vars vs = (conjunction_onward l.limits.goals p l m b).names vs wm in
     let wk : Within k.vars vs = (onward k l (sign_still kind.Declare k l d)).names vs wl in
     let gj : Good j = (this_name_still q i j h).good a in
     let gl : Good l = (sign_still kind.Declare k l d).good ((head_onward arity xs j k hd).good gj) in
@@ -100,7 +100,7 @@ clause_again q arity _ _ _ (g.PredClause.pred_clause xs p vs i j k l m n o h hd 
     (subst (λ (y : Input). Is (rule.this_name q) tt start y) ((this_name_still q i j h).same w u4) (this_name_takes q i pr w u4))
     (head_again vs arity xs j k hd gj wk w u3)
     (sign_again kind.Declare (codes ":-") spelled.reads_declare k l d w u2)
-    (body_again vs rule.most_open p l m b rule.most_open (omega arith) gl wm w u1)
+    (body_again vs l.limits.goals p l m b (at w u2 l).limits.goals (goals_at w u2 l l gl) gl wm w u1)
     (end_again m n e w s)
     (ec.1 (w + 1) s)))
 
@@ -270,7 +270,7 @@ name_kind_reads _ t h f = absurd (cc)
 -- the name of a module, which its declaration gives
 record IsModule (m : List ℕ) (i j : Input) : Type 0 where
   allowed : (rule.is_name (token i).kind && not (bytes_eq m (codes "io"))) ≡ true
-  short : nat_lt most (length m) ≡ false
+  short : nat_lt i.limits.items (length m) ≡ false
   here : (token i).text ≡ m
   on : record (next i) { home = m } ≡ j
 
@@ -285,7 +285,7 @@ module_facts m i j h =
     let e : t ≡ m = f.1 ∙ c.0 in
     record {
       allowed = subst (λ (x : List ℕ). (rule.is_name (token i).kind && not (bytes_eq x (codes "io"))) ≡ true) e a.0;
-      short = subst (λ (x : List ℕ). nat_lt most (length x) ≡ false) e f.0;
+      short = subst (λ (x : List ℕ). nat_lt i.limits.items (length x) ≡ false) e f.0;
       here = e;
       on = ap (λ (x : List ℕ). record (next i) { home = x }) (sym e) ∙ ap (λ (y : Input). record y { home = t }) f.2 ∙ c.1;
     }
@@ -304,7 +304,7 @@ module_takes : (m : List ℕ) (i j : Input) → IsModule m i j → Good i → (n
 unfolding rule.module_name take_name token next at
 module_takes m i j f a n s =
     subst (λ (y : Input). Is rule.module_name m (at n (m ++ 32 ∷ s) i) (at n s y)) f.on
-    (subst (λ (y : Input). Is rule.module_name m y (at n s (record (next i) { home = m }))) (sym (at_token (token i).kind m (module_reads m i j f a) n s i)) (rw (f.allowed, f.short) refl))
+    (subst (λ (y : Input). Is rule.module_name m y (at n s (record (next i) { home = m }))) (sym (at_token (token i).kind m (module_reads m i j f a) n s i)) (rw (f.allowed, known (λ l. l.items) i a (λ k. nat_lt k (length m) ≡ false) f.short) refl))
 
 abbrev heading : ℕ → List ℕ → Listing
 heading line m = record { module_name = m; module_line = line; types = []; procedures = [] }
@@ -379,7 +379,7 @@ program_again _ _ _ (g.Program.program m line at' l i j k n o p e w mn z ds) a h
     })
 
 spelled_again : (text : List ℕ) (l : Listing) → Spells text l → SpellsUpToLines (printed l) l
-spelled_again text l q = program_again l (rule.start (tokens_of text)) q.end q.program (tokens_fine text) refl refl refl q.once
+spelled_again text l q = program_again l (rule.start (tokens_of text)) q.end q.program (tokens_fine text, refl) refl refl refl q.once
 
 -- what some text spells, up to line numbers, its printed text spells, up to line numbers
 pub round_trip : (l : Listing) → IsSpelled l → SpellsUpToLines (printed l) l

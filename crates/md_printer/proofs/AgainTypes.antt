@@ -11,7 +11,7 @@ use Rattle.md_token.specs.declared.kind.Kind.{Kind}
 use Rattle.md_token.specs.declared.kind.Kind.TheVariants as kind
 use Rattle.md_token.proofs.Spelled as spelled
 use Rattle.md_token.proofs.Spelled.{Reads}
-use Rattle.md_reader.specs.Input.{Input, name, most, token}
+use Rattle.md_reader.specs.Input.{Input, name, token}
 use Rattle.md_reader.specs.Rules as rule
 use Rattle.md_reader.specs.Grammar as g
 use Rattle.md_reader.specs.Grammar.{Is, Sign, Listed, Enclosed}
@@ -19,7 +19,7 @@ use Rattle.md_printer.specs.Layout.{Tokens, separated, further, arguments, in_pa
 use Rattle.md_printer.specs.Printed as print
 use Rattle.md_printer.specs.Printed.{single}
 use Rattle.md_printer.specs.Lines.{family_on_line}
-use Rattle.md_printer.proofs.Onto.{onto, onto-append, at, Good}
+use Rattle.md_printer.proofs.Onto.{onto, onto-append, at, Good, most, known, few_at}
 use Rattle.md_printer.proofs.Moves.{Still, sign_still, word_still, name_still, name_facts, sort_still, sort_facts, IsSort, mode_still, ho_mode_still, word_facts, type_name_name, functor_still, argument_still, declared_name_facts, declared_name_still, enclosed_still}
 use Rattle.md_printer.proofs.Takes.{IsHoMode, name_read, sign_takes, end_takes, name_takes, word_takes, sort_again, mode_takes, ho_mode_takes, ho_mode_facts, determinism_takes, type_name_takes, IsPrintable, printable, declared_name_takes}
 
@@ -57,7 +57,7 @@ enclosed_again item k ct tokens r each still _ _ _ (g.Enclosed.enclosed xs i j m
     subst (λ (u : List ℕ). Enclosed item k xs (at n u p) (at n s p)) (sym (onto-append (separated tokens (codes ",") xs) (ct ∷ []) s))
     (g.Enclosed.enclosed xs (at n (onto (separated tokens (codes ",") xs) (ct ++ 32 ∷ s)) p) (at n (ct ++ 32 ∷ s) p) (at n s p)
     (listed_again item kind.Comma (codes ",") tokens spelled.reads_comma each still xs i j l a n (ct ++ 32 ∷ s) p)
-    few
+    (few_at (length xs) n (onto (separated tokens (codes ",") xs) (ct ++ 32 ∷ s)) i p a few)
     (sign_takes k ct r n s p))
 
 pub arguments_are : {A : Type 0} (item : A → Input → Input → Type 0) (k : Kind) (tokens : A → Tokens) (xs : List A) (i j : Input) → Enclosed item k xs i j → arguments tokens xs ≡ codes "(" ∷ closed tokens (codes ")") xs
@@ -69,7 +69,7 @@ arguments_are item k tokens _ _ _ (g.Enclosed.enclosed _ a b m (g.Listed.also x 
 pub name_known : (f : List ℕ) (i j : Input) → Is name f i j → Good i → Reads kind.Name f × (nat_lt most (length f) ≡ false)
 name_known f i j h a =
     let n = name_facts f i j h in
-    (subst (Reads kind.Name) n.2 (name_read i a n.0), subst (λ (t : List ℕ). nat_lt most (length t) ≡ false) n.2 n.1)
+    (subst (Reads kind.Name) n.2 (name_read i a n.0), subst (λ (t : List ℕ). nat_lt most (length t) ≡ false) n.2 (known (λ l. l.items) i a (λ m. nat_lt m (length (token i).text) ≡ false) n.1))
 
 abbrev type_words : List Sort → Tokens
 type_words ts = closed (single print.type_word) (codes ")") ts

@@ -12,7 +12,7 @@ use Rattle.md_hlds.specs.Part.{Part, Task}
 use Rattle.md_hlds.specs.Listing.{Sort, number, text, world, named, Construct, Family}
 use Rattle.md_token.specs.declared.kind.Kind.{Kind}
 use Rattle.md_token.specs.declared.kind.Kind.TheVariants as kind
-use Rattle.md_reader.specs.Input.{Input, Parser, Outcome, and_then, expect, name, word, variable, site, token, sees, next, take_name, with_variable, place_of, most}
+use Rattle.md_reader.specs.Input.{Input, Parser, Outcome, and_then, expect, name, word, variable, site, token, sees, next, take_name, with_variable, place_of}
 use Rattle.md_reader.specs.Rules as rule
 use Rattle.md_reader.specs.Grammar as g
 use Rattle.md_reader.specs.Grammar.{Is, Sign, Listed, Enclosed}
@@ -65,14 +65,14 @@ pub expect_still : (k : Kind) (line : ℕ) (i j : Input) → Is (expect k) line 
 expect_still k line i j h = still_to i j (expect_next k line i j h)
 
 -- a name that is taken
-pub take_facts : (t f : List ℕ) (i j : Input) → Is (take_name t) f i j → (nat_lt most (length t) ≡ false) × (t ≡ f) × (next i ≡ j)
+pub take_facts : (t f : List ℕ) (i j : Input) → Is (take_name t) f i j → (nat_lt i.limits.items (length t) ≡ false) × (t ≡ f) × (next i ≡ j)
 unfolding take_name
 take_facts t f i j h =
-    let a = fails (nat_lt most (length t)) _ _ _ h in
+    let a = fails (nat_lt i.limits.items (length t)) _ _ _ h in
     let b = ok_parts t f (next i) j a.1 in
     (a.0, b.0, b.1)
 
-pub name_facts : (f : List ℕ) (i j : Input) → Is name f i j → (sees kind.Name i ≡ true) × (nat_lt most (length (token i).text) ≡ false) × ((token i).text ≡ f) × (next i ≡ j)
+pub name_facts : (f : List ℕ) (i j : Input) → Is name f i j → (sees kind.Name i ≡ true) × (nat_lt i.limits.items (length (token i).text) ≡ false) × ((token i).text ≡ f) × (next i ≡ j)
 unfolding name
 name_facts f i j h =
     let a = holds (sees kind.Name i) _ _ _ h in
@@ -117,7 +117,7 @@ pub data IsSort (t : List ℕ) (i j : Input) : Sort → Type 0 where
   int : next i ≡ j → IsSort t i j number
   string : next i ≡ j → IsSort t i j text
   io : next i ≡ j → IsSort t i j world
-  other : bytes_eq t (codes "int") ≡ false → bytes_eq t (codes "string") ≡ false → bytes_eq t (codes "io") ≡ false → nat_lt most (length t) ≡ false → next i ≡ j → IsSort t i j (named t)
+  other : bytes_eq t (codes "int") ≡ false → bytes_eq t (codes "string") ≡ false → bytes_eq t (codes "io") ≡ false → nat_lt i.limits.items (length t) ≡ false → next i ≡ j → IsSort t i j (named t)
 
 sort_word : (x t : Sort) (i j : Input) (w : List ℕ) → (next i ≡ j → IsSort w i j x) → ◌≡◌ {A = Outcome Sort} (Ok (x, next i)) (Ok (t, j)) → IsSort w i j t
 sort_word x t i j w f h = let a = ok_parts x t (next i) j h in subst (λ (t : Sort). IsSort w i j t) a.0 (f a.1)
@@ -164,14 +164,14 @@ sort_still t i j h = still_to i j (sort_next (token i).text t i j (sort_facts t 
 pub record IsName (q : PredName) (i j : Input) : Type 0 where
   pub written : rule.Written
   pub here : rule.written (token i) ≡ Some written
-  pub short : rule.is_long written ≡ false
+  pub short : rule.is_long i.limits.items written ≡ false
   pub meant : rule.meant i.home written ≡ q
   pub on : next i ≡ j
 
 written_facts : (o : Option rule.Written) (q : PredName) (i j : Input) → rule.written (token i) ≡ o → rule.take_written o i ≡ Ok (q, j) → IsName q i j
 written_facts None q i j e h = absurd (cc)
 written_facts (Some w) q i j e h =
-    let a = fails (rule.is_long w) _ _ _ h in
+    let a = fails (rule.is_long i.limits.items w) _ _ _ h in
     let b = ok_parts (rule.meant i.home w) q (next i) j a.1 in
     record { written = w; here = e; short = a.0; meant = b.0; on = b.1 }
 
@@ -185,7 +185,7 @@ declared_facts (Some w) q i j e h =
     elim (chosen_at (rule.is_io w.qualifier) _ _ i _ h) [
       | inl s ↦ absurd (let r = s.1 in cc)
       | inr s ↦ (
-          let a = fails (rule.is_long w) _ _ _ s.1 in
+          let a = fails (rule.is_long i.limits.items w) _ _ _ s.1 in
           let b = ok_parts (rule.meant i.home w) q (next i) j a.1 in
           (record { written = w; here = e; short = a.0; meant = b.0; on = b.1 }, s.0)
           )
@@ -286,7 +286,7 @@ from_still i j k a b = on_to i j k (onward i j a) b
 pub record IsVariable (seen : List ℕ) (x : ℕ) (i j : Input) : Type 0 where
   pub sort : sees kind.Variable i ≡ true
   pub new : list_any (λ y. y == place_of (token i).text i.vars) seen ≡ false
-  pub short : nat_lt most (length (token i).text) ≡ false
+  pub short : nat_lt i.limits.items (length (token i).text) ≡ false
   pub place : place_of (token i).text i.vars ≡ x
   pub on : record (next i) { vars = with_variable (token i).text i.vars } ≡ j
 
@@ -299,7 +299,7 @@ unfolding variable
 variable_facts seen x i j h =
     let a = fails (not (sees kind.Variable i)) _ _ _ h in
     let b = fails (list_any (λ y. y == place_of (token i).text i.vars) seen) _ _ _ a.1 in
-    let c = fails (nat_lt most (length (token i).text)) _ _ _ b.1 in
+    let c = fails (nat_lt i.limits.items (length (token i).text)) _ _ _ b.1 in
     let d = ok_parts (place_of (token i).text i.vars) x _ j c.1 in
     record { sort = not_false (sees kind.Variable i) a.0; new = b.0; short = c.0; place = d.0; on = d.1 }
 

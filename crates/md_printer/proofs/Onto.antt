@@ -1,11 +1,11 @@
 -- Tokens, each with a space, before a text; and the reader's input there.
-use Rattle.std.proofs.Common.{◌≡◌, ℕ, ◌+◌, List, [], ◌∷◌, ◌++◌, refl, ap, ◌∙◌, append_assoc, drop}
+use Rattle.std.proofs.Common.{◌≡◌, ℕ, ◌+◌, ◌≤◌, List, [], ◌∷◌, ◌++◌, refl, ap, ◌∙◌, append_assoc, drop, subst, arith, sym}
 use Rattle.md_token.specs.declared.kind.Kind.{Kind}
 use Rattle.md_token.specs.declared.kind.Kind.TheVariants as kind
 use Rattle.md_token.specs.Token.{Lexeme, lexemes}
 use Rattle.md_token.proofs.Spelled.{Reads, lexeme, token_read, at_end}
 use Rattle.md_token.proofs.SpelledTokens.{AllFine}
-use Rattle.md_reader.specs.Input.{Input, next}
+use Rattle.md_reader.specs.Input.{Input, Limits, standard, next}
 use Rattle.md_printer.specs.Layout.{Tokens, laid, sentence}
 
 abbrev pub onto : Tokens → List ℕ → List ℕ
@@ -28,9 +28,19 @@ pub sentence_onto : (ts : Tokens) (s : List ℕ) → sentence ts ++ s ≡ onto t
 unfolding sentence
 sentence_onto ts s = append_assoc (laid ts) (46 ∷ 10 ∷ []) s ∙ laid_onto ts (46 ∷ 10 ∷ s)
 
+-- the limits
+abbrev pub most : ℕ
+most = standard.items
+
+abbrev pub greatest : ℕ
+greatest = standard.integer
+
+abbrev pub most_bytes : ℕ
+most_bytes = standard.bytes
+
 -- an input with other tokens before it
 abbrev pub upon : List Lexeme → Input → Input
-upon ts i = record i { rest = ts }
+upon ts i = record i { rest = ts; limits = standard }
 
 -- an input at a text, on a line
 unfoldable pub at : (line : ℕ) → List ℕ → Input → Input
@@ -44,9 +54,9 @@ pub at_stop : (n : ℕ) (s : List ℕ) (i : Input) → at n (46 ∷ 10 ∷ s) i 
 unfolding at
 at_stop n s i = ap (λ (ts : List Lexeme). upon ts i) (at_end n s)
 
--- the bytes of the tokens that come are known
+-- the bytes of the tokens that come are known, and so are the limits
 abbrev pub Good : Input → Type 0
-Good i = AllFine i.rest
+Good i = AllFine i.rest × (i.limits ≡ standard)
 
 after : (ts : List Lexeme) → AllFine ts → AllFine (drop 1 ts)
 after [] g = g
@@ -54,4 +64,16 @@ after (t ∷ ts) g = g.1
 
 pub next_good : (i : Input) → Good i → Good (next i)
 unfolding next
-next_good i g = after i.rest g
+next_good i g = (after i.rest g.0, g.1)
+
+-- what holds by a limit there holds by that of the product
+pub known : (f : Limits → ℕ) (i : Input) → Good i → (P : ℕ → Type 0) → P (f i.limits) → P (f standard)
+known f i g P p = subst (λ (l : Limits). P (f l)) g.1 p
+
+pub few_at : (m n : ℕ) (s : List ℕ) (i j : Input) → Good i → m ≤ i.limits.items → m ≤ (at n s j).limits.items
+unfolding at
+few_at m n s i j g few = known (λ l. l.items) i g (λ k. m ≤ k) few
+
+pub goals_at : (n : ℕ) (s : List ℕ) (i j : Input) → Good i → i.limits.goals ≤ (at n s j).limits.goals
+unfolding at
+goals_at n s i j g = known (λ l. l.goals) i g (λ k. i.limits.goals ≤ k) (omega arith)

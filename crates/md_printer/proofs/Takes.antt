@@ -26,12 +26,12 @@ use Rattle.md_token.proofs.Spelled.{Reads, lexeme}
 use Rattle.md_token.proofs.SpelledWords.{prefix_of, drop_one_more, decimal_digits, reads_digits, number_of-decimal}
 use Rattle.md_token.proofs.SpelledTexts.{Writes, reads_text, value_of_text}
 use Rattle.md_token.proofs.SpelledTokens.{Fine, AllFine, IsQualified}
-use Rattle.md_reader.specs.Input.{Input, expect, name, word, variable, site, token, kind_at, sees, next, end_clause, take_name, with_variable, place_of, most, first}
+use Rattle.md_reader.specs.Input.{Input, expect, name, word, variable, site, token, kind_at, sees, next, end_clause, take_name, with_variable, place_of, first}
 use Rattle.md_reader.specs.Rules as rule
 use Rattle.md_reader.specs.Grammar as g
 use Rattle.md_reader.specs.Grammar.{Is, Sign}
 use Rattle.md_printer.specs.Printed as print
-use Rattle.md_printer.proofs.Onto.{at, upon, at_token, at_stop, Good}
+use Rattle.md_printer.proofs.Onto.{at, upon, at_token, at_stop, Good, most, greatest, most_bytes, known}
 use Rattle.md_printer.proofs.Moves.{ok_parts, IsSort, sort_facts, IsName, variable_facts, Within}
 
 -- ---- kinds
@@ -62,7 +62,7 @@ first_fine (t ∷ ts) a = a.0
 
 pub token_fine : (i : Input) → Good i → Fine (token i).kind (token i).text
 unfolding token
-token_fine i a = first_fine i.rest a
+token_fine i a = first_fine i.rest a.0
 
 pub name_read : (i : Input) → Good i → sees kind.Name i ≡ true → Reads kind.Name (token i).text
 unfolding sees
@@ -145,17 +145,17 @@ determinism_takes det.Failure n s i = along (λ (j : Input). Is rule.determinism
 
 -- ---- types
 
-sort_takes : (w : List ℕ) (t : Sort) (i j : Input) → IsSort w i j t → Reads kind.Name w → (n : ℕ) (s : List ℕ) (k : Input) → Is rule.sort t (at n (print.type_word t ++ 32 ∷ s) k) (at n s k)
+sort_takes : (w : List ℕ) (t : Sort) (i j : Input) → Good i → IsSort w i j t → Reads kind.Name w → (n : ℕ) (s : List ℕ) (k : Input) → Is rule.sort t (at n (print.type_word t ++ 32 ∷ s) k) (at n s k)
 unfolding rule.sort take_name sees token next at
-sort_takes w _ i j (IsSort.int e) r n s k = along (λ (m : Input). Is rule.sort number m (at n s k)) kind.Name (codes "int") spelled.reads_word_int n s k (rw (same_itself kind.Name) refl)
-sort_takes w _ i j (IsSort.string e) r n s k = along (λ (m : Input). Is rule.sort text m (at n s k)) kind.Name (codes "string") spelled.reads_word_string n s k (rw (same_itself kind.Name) refl)
-sort_takes w _ i j (IsSort.io e) r n s k = along (λ (m : Input). Is rule.sort world m (at n s k)) kind.Name (codes "io") spelled.reads_word_io n s k (rw (same_itself kind.Name) refl)
-sort_takes w _ i j (IsSort.other a b c d e) r n s k = along (λ (m : Input). Is rule.sort (named w) m (at n s k)) kind.Name w r n s k (rw (same_itself kind.Name, a, b, c, d) refl)
+sort_takes w _ i j good (IsSort.int e) r n s k = along (λ (m : Input). Is rule.sort number m (at n s k)) kind.Name (codes "int") spelled.reads_word_int n s k (rw (same_itself kind.Name) refl)
+sort_takes w _ i j good (IsSort.string e) r n s k = along (λ (m : Input). Is rule.sort text m (at n s k)) kind.Name (codes "string") spelled.reads_word_string n s k (rw (same_itself kind.Name) refl)
+sort_takes w _ i j good (IsSort.io e) r n s k = along (λ (m : Input). Is rule.sort world m (at n s k)) kind.Name (codes "io") spelled.reads_word_io n s k (rw (same_itself kind.Name) refl)
+sort_takes w _ i j good (IsSort.other a b c d e) r n s k = along (λ (m : Input). Is rule.sort (named w) m (at n s k)) kind.Name w r n s k (rw (same_itself kind.Name, a, b, c, known (λ l. l.items) i good (λ m. nat_lt m (length w) ≡ false) d) refl)
 
 pub sort_again : (t : Sort) (i j : Input) → Is rule.sort t i j → Good i → (n : ℕ) (s : List ℕ) (k : Input) → Is rule.sort t (at n (print.type_word t ++ 32 ∷ s) k) (at n s k)
 sort_again t i j h a n s k =
     let f = sort_facts t i j h in
-    sort_takes (token i).text t i j f.1 (name_read i a f.0) n s k
+    sort_takes (token i).text t i j a f.1 (name_read i a f.0) n s k
 
 pub type_name_takes : (t : List ℕ) → rule.is_own_type t ≡ true → Reads kind.Name t → nat_lt most (length t) ≡ false → (n : ℕ) (s : List ℕ) (i : Input) → Is rule.type_name t (at n (t ++ 32 ∷ s) i) (at n s i)
 unfolding rule.type_name name take_name sees token next at
@@ -171,14 +171,14 @@ pub record IsPrintable (home : List ℕ) (q : PredName) : Type 0 where
   pub sort : Kind
   pub reads : Reads sort (print.written_name q)
   pub back : rule.written_by (print.written_name q) sort ≡ Some (kept q)
-  pub short : rule.is_long (kept q) ≡ false
+  pub short : rule.is_long most (kept q) ≡ false
   pub meant : rule.away_from home q.qualifier ≡ q.qualifier
 
 or_false : (a b : Bool) → (a || b) ≡ false → (a ≡ false) × (b ≡ false)
 or_false true b h = absurd (cc)
 or_false false b h = (refl, h)
 
-plain_name : (home t : List ℕ) (q : PredName) → Reads kind.Name t → rule.is_long (record { qualifier = None; name = t }) ≡ false → record { qualifier = None; name = t } ≡ q → IsPrintable home q
+plain_name : (home t : List ℕ) (q : PredName) → Reads kind.Name t → rule.is_long most (record { qualifier = None; name = t }) ≡ false → record { qualifier = None; name = t } ≡ q → IsPrintable home q
 plain_name home t q r short e = subst (IsPrintable home) e (record { sort = kind.Name; reads = r; back = refl; short = short; meant = refl })
 
 -- a qualified token's two parts
@@ -191,7 +191,7 @@ parts_of_qualified t f =
 
 away : (home q f : List ℕ) (b : Bool) (p : PredName) → bytes_eq q home ≡ b → record { qualifier = cond b None (Some q); name = f } ≡ p
     → (t : List ℕ) → t ≡ q ++ 46 ∷ f → Reads kind.Qualified t → rule.qualified t ≡ Some (record { qualifier = Some q; name = f }) → Reads kind.Name f
-    → rule.is_long (record { qualifier = Some q; name = f }) ≡ false → IsPrintable home p
+    → rule.is_long most (record { qualifier = Some q; name = f }) ≡ false → IsPrintable home p
 away home q f true p e is t whole r back alone short = let o = or_false (nat_lt most (length f)) (nat_lt most (length q)) short in plain_name home f p alone (rw o.0 refl) is
 away home q f false p e is t whole r back alone short =
     subst (IsPrintable home) is (record {
@@ -206,7 +206,7 @@ chosen_some : {A : Type 0} (b : Bool) (x y : A) → cond b (Some x) None ≡ Som
 chosen_some true x y h = (refl, cc)
 chosen_some false x y h = absurd (cc)
 
-qualified_name : (home t : List ℕ) (w : rule.Written) (q : PredName) → IsQualified t → rule.qualified t ≡ Some w → rule.is_long w ≡ false → rule.meant home w ≡ q → IsPrintable home q
+qualified_name : (home t : List ℕ) (w : rule.Written) (q : PredName) → IsQualified t → rule.qualified t ≡ Some w → rule.is_long most w ≡ false → rule.meant home w ≡ q → IsPrintable home q
 unfolding rule.qualified
 qualified_name home t w q f h short e =
     let p = parts_of_qualified t f in
@@ -216,16 +216,16 @@ qualified_name home t w q f h short e =
     away home f.qualifier f.name (bytes_eq f.qualifier home) q refl (rw is at e) t f.whole f.reads (h ∙ ap Some is)
     (subst (λ (k : Kind). Reads k f.name) k f.alone) (rw is at short)
 
-printable_by : (k : Kind) (home t : List ℕ) (w : rule.Written) (q : PredName) → Fine k t → rule.written_by t k ≡ Some w → rule.is_long w ≡ false → rule.meant home w ≡ q → IsPrintable home q
+printable_by : (k : Kind) (home t : List ℕ) (w : rule.Written) (q : PredName) → Fine k t → rule.written_by t k ≡ Some w → rule.is_long most w ≡ false → rule.meant home w ≡ q → IsPrintable home q
 printable_by kind.Name home t w q f h short e =
     let is : record { qualifier = None; name = t } ≡ w = cc in
-    plain_name home t q f (subst (λ (w : rule.Written). rule.is_long w ≡ false) (sym is) short) (subst (λ (w : rule.Written). rule.meant home w ≡ q) (sym is) e)
+    plain_name home t q f (subst (λ (w : rule.Written). rule.is_long most w ≡ false) (sym is) short) (subst (λ (w : rule.Written). rule.meant home w ≡ q) (sym is) e)
 printable_by kind.Qualified home t w q f h short e = qualified_name home t w q f h short e
 printable_by _ home t w q f h short e = absurd (cc)
 
 pub printable : (q : PredName) (i j : Input) → IsName q i j → Good i → IsPrintable i.home q
 unfolding rule.written
-printable q i j f a = printable_by (token i).kind i.home (token i).text f.written q (token_fine i a) f.here f.short f.meant
+printable q i j f a = printable_by (token i).kind i.home (token i).text f.written q (token_fine i a) f.here (known (λ l. l.items) i a (λ m. rule.is_long m f.written ≡ false) f.short) f.meant
 
 pub pred_name_takes : (q : PredName) (i : Input) → IsPrintable i.home q → (n : ℕ) (s : List ℕ) → Is rule.pred_name q (at n (print.written_name q ++ 32 ∷ s) i) (at n s i)
 unfolding rule.pred_name rule.written token next at
@@ -286,7 +286,7 @@ variable_again vs seen x i j h a w n s =
     let f = variable_facts seen x i j h in
     let v : Within (with_variable (token i).text i.vars) vs = subst (λ (j : Input). Within j.vars vs) (sym f.on) w in
     let e : print.variable vs (place_of (token i).text i.vars) ≡ (token i).text = variable_name (token i).text i.vars vs v in
-    let r = takes_variable seen i f.sort f.new f.short a n s in
+    let r = takes_variable seen i f.sort f.new (known (λ l. l.items) i a (λ m. nat_lt m (length (token i).text) ≡ false) f.short) a n s in
     subst (λ (x : ℕ). Is (variable seen) x (at n (print.variable vs x ++ 32 ∷ s) i) (at n s j)) f.place
     (subst (λ (j : Input). Is (variable seen) (place_of (token i).text i.vars) (at n (print.variable vs (place_of (token i).text i.vars) ++ 32 ∷ s) i) (at n s j)) f.on
     (subst (λ (t : List ℕ). Is (variable seen) (place_of (token i).text i.vars) (at n (t ++ 32 ∷ s) i) (at n s (record (next i) { vars = with_variable (token i).text i.vars }))) (sym e) r))
@@ -307,7 +307,7 @@ end_clause_again vs i j h =
 
 -- ---- integers and strings
 
-pub positive_takes : (x m : ℕ) → nat_lt rule.greatest m ≡ false → (n : ℕ) (s : List ℕ) (i : Input) → (kind_at (at n (decimal m ++ 32 ∷ s) i) ≡ kind.Integer) × Is (rule.positive x) (Plain (Unifies x (term.Int (pos m)))) (at n (decimal m ++ 32 ∷ s) i) (at n s i)
+pub positive_takes : (x m : ℕ) → nat_lt greatest m ≡ false → (n : ℕ) (s : List ℕ) (i : Input) → (kind_at (at n (decimal m ++ 32 ∷ s) i) ≡ kind.Integer) × Is (rule.positive x) (Plain (Unifies x (term.Int (pos m)))) (at n (decimal m ++ 32 ∷ s) i) (at n s i)
 unfolding rule.positive token next at
 positive_takes x m small n s i =
     let l : m < 2 ^ 64 = grind arith in
@@ -317,7 +317,7 @@ positive_takes x m small n s i =
       along (λ (j : Input). Is (rule.positive x) (Plain (Unifies x (term.Int (pos m)))) j (at n s i)) kind.Integer (decimal m) r n s i (rw (e, small) refl),
     )
 
-pub negated_takes : (x m : ℕ) → nat_lt (suc rule.greatest) m ≡ false → (n : ℕ) (s : List ℕ) (i : Input) → Is (rule.negated x) (Plain (Unifies x (term.Int (rule.minus m)))) (at n (decimal m ++ 32 ∷ s) i) (at n s i)
+pub negated_takes : (x m : ℕ) → nat_lt (suc greatest) m ≡ false → (n : ℕ) (s : List ℕ) (i : Input) → Is (rule.negated x) (Plain (Unifies x (term.Int (rule.minus m)))) (at n (decimal m ++ 32 ∷ s) i) (at n s i)
 unfolding rule.negated sees token next at
 negated_takes x m small n s i =
     let l : m < 2 ^ 64 = grind arith in
@@ -358,7 +358,7 @@ writes_escaped _ _ Writes.none = Writes.none
 writes_escaped _ _ (Writes.plain b v w p q e r) = subst (λ (t : List ℕ). Writes (b ∷ v) (t ++ flat_map print.escaped v)) (sym (plain_is b p q e)) (Writes.plain b v (flat_map print.escaped v) p q e (writes_escaped v w r))
 writes_escaped _ _ (Writes.escape c v w h r) = subst (λ (t : List ℕ). Writes (meaning c ∷ v) (t ++ flat_map print.escaped v)) (sym (escape_is c h)) (Writes.escape c v (flat_map print.escaped v) h (writes_escaped v w r))
 
-pub literal_takes : (x : ℕ) (v w : List ℕ) → Writes v w → nat_lt rule.most_bytes (length v) ≡ false → (n : ℕ) (s : List ℕ) (i : Input) → (kind_at (at n (print.quoted v ++ 32 ∷ s) i) ≡ kind.Text) × Is (rule.literal x) (Plain (Unifies x (term.Str v))) (at n (print.quoted v ++ 32 ∷ s) i) (at n s i)
+pub literal_takes : (x : ℕ) (v w : List ℕ) → Writes v w → nat_lt most_bytes (length v) ≡ false → (n : ℕ) (s : List ℕ) (i : Input) → (kind_at (at n (print.quoted v ++ 32 ∷ s) i) ≡ kind.Text) × Is (rule.literal x) (Plain (Unifies x (term.Str v))) (at n (print.quoted v ++ 32 ∷ s) i) (at n s i)
 unfolding rule.literal token next at print.quoted
 literal_takes x v w o short n s i =
     let e = writes_escaped v w o in

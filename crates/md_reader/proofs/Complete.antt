@@ -7,7 +7,7 @@ use Rattle.md_hlds.specs.Listing.{Sort, Construct, Family}
 use Rattle.md_token.specs.declared.kind.Kind.{Kind}
 use Rattle.md_token.specs.declared.kind.Kind.TheVariants as kind
 use Rattle.md_token.specs.Kinds.{same_kind}
-use Rattle.md_reader.specs.Input.{Input, Parser, ◌>>=◌, ◌>>◌, pure, sees, eat, token, kind_at, expect, variable, most, turns, site}
+use Rattle.md_reader.specs.Input.{Input, Parser, ◌>>=◌, ◌>>◌, pure, sees, eat, token, kind_at, expect, variable, turns, site}
 use Rattle.md_reader.specs.Rules as rule
 use Rattle.md_reader.specs.Grammar as g
 use Rattle.md_reader.specs.Grammar.{Is, Sign, sign, Listed, last, also, Enclosed, enclosed, AreNew}
@@ -71,7 +71,7 @@ module _ {A : Type 0} (R : A → Input → Input → Type 0) (item : Parser A) (
 
 pub sorts_complete : (ts : List Sort) (i j : Input) → Enclosed (Is rule.sort) kind.Close ts i j → rule.sorts i ≡ Ok (ts, j)
 unfolding rule.sorts_from same_kind
-sorts_complete _ _ _ (enclosed ts i k j l few c) = listed_complete (Is rule.sort) rule.sort kind.Comma kind.Close refl (λ x i j m h _. h) rule.sorts_from (λ n found i. refl) most [] ts i k j l few c
+sorts_complete _ _ _ (enclosed ts i k j l few c) = listed_complete (Is rule.sort) rule.sort kind.Comma kind.Close refl (λ x i j m h _. h) rule.sorts_from (λ n found i. refl) i.limits.items [] ts i k j l few c
 
 functor_arguments_complete : (ts : List Sort) (i j : Input) → g.FunctorArguments ts i j → sees kind.Open j ≡ false → rule.functor_arguments i ≡ Ok (ts, j)
 unfolding rule.functor_arguments
@@ -111,7 +111,7 @@ variables_from_complete closing differ (suc n) seen found _ _ _ j (also x xs i k
     rw (variable_among seen x i k r new.0) (eats kind.Comma (rule.variables_from closing n (seen ++ x ∷ []) (found ++ x ∷ [])) (expect closing >> pure (found ++ x ∷ [])) k m s ∙ (variables_from_complete closing differ n (seen ++ x ∷ []) (found ++ x ∷ []) xs m o j rest more new.1 c ∙ ap (λ (ys : List ℕ). Ok (ys, j)) (append_assoc found (x ∷ []) xs)))
 
 pub variables_complete : (closing : Kind) → same_kind closing kind.Comma ≡ false → (seen xs : List ℕ) (i j : Input) → g.Variables closing seen xs i j → rule.variables closing seen i ≡ Ok (xs, j)
-variables_complete closing differ seen _ _ _ (g.Variables.variables xs i j (enclosed _ _ k _ l few c) new) = variables_from_complete closing differ most seen [] xs i k j l few new c
+variables_complete closing differ seen _ _ _ (g.Variables.variables xs i j (enclosed _ _ k _ l few c) new) = variables_from_complete closing differ i.limits.items seen [] xs i k j l few new c
 
 pub arguments_complete : (seen xs : List ℕ) (i j : Input) → g.Arguments seen xs i j → sees kind.Open j ≡ false → rule.arguments seen i ≡ Ok (xs, j)
 unfolding rule.arguments same_kind

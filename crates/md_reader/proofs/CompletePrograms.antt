@@ -8,7 +8,7 @@ use Rattle.md_hlds.specs.Part.{Part}
 use Rattle.md_hlds.specs.Listing.{Sort, Family, Listing}
 use Rattle.md_token.specs.declared.kind.Kind.TheVariants as kind
 use Rattle.md_token.specs.Kinds.{same_kind}
-use Rattle.md_reader.specs.Input.{Input, pure, sees, after, kind_at, variable, word, most}
+use Rattle.md_reader.specs.Input.{Input, pure, sees, after, kind_at, variable, word}
 use Rattle.md_reader.specs.Rules as rule
 use Rattle.md_reader.specs.Grammar as g
 use Rattle.md_reader.specs.Grammar.{Is, Sign, sign, Listed, last, also, Enclosed, enclosed, AreNew}
@@ -20,9 +20,9 @@ use Rattle.md_reader.proofs.CompleteGoals.{conjunction_complete}
 
 -- ---- predicates
 
-modes_complete : (ms : List Mode) (i j : Input) → Enclosed (Is rule.mode_word) kind.Close ms i j → rule.modes_from most [] i ≡ Ok (ms, j)
+modes_complete : (ms : List Mode) (i j : Input) → Enclosed (Is rule.mode_word) kind.Close ms i j → rule.modes_at_most i ≡ Ok (ms, j)
 unfolding rule.modes_from same_kind
-modes_complete _ _ _ (enclosed ms i k j l few c) = listed_complete (Is rule.mode_word) rule.mode_word kind.Comma kind.Close refl (λ x i j m h _. h) rule.modes_from (λ n found i. refl) most [] ms i k j l few c
+modes_complete _ _ _ (enclosed ms i k j l few c) = listed_complete (Is rule.mode_word) rule.mode_word kind.Comma kind.Close refl (λ x i j m h _. h) rule.modes_from (λ n found i. refl) i.limits.items [] ms i k j l few c
 
 inst_modes_complete : (ms : List Mode) (i j k m : Input) → Sign kind.Pred i j → Sign kind.Open j k → Enclosed (Is rule.mode_word) kind.Close ms k m → rule.inst_modes i ≡ Ok (ms, m)
 unfolding rule.inst_modes
@@ -44,14 +44,14 @@ argument_complete _ _ _ (g.Argument.plain t m i j k l s h w) =
 argument_complete _ _ _ (g.Argument.higher_order ts m ms d i j k l n o p a b e h w x) =
     rw (seen_sign kind.Pred i j a, ho_types_complete ts i j k l n a b e h, w, inst_complete ms d o p x) refl
 
-arguments_complete : (xs : List (Sort × Mode)) (i j : Input) → Enclosed g.Argument kind.Close xs i j → rule.arguments_from most [] i ≡ Ok (xs, j)
+arguments_complete : (xs : List (Sort × Mode)) (i j : Input) → Enclosed g.Argument kind.Close xs i j → rule.arguments_at_most i ≡ Ok (xs, j)
 unfolding rule.arguments_from same_kind
-arguments_complete _ _ _ (enclosed xs i k j l few c) = listed_complete g.Argument rule.argument kind.Comma kind.Close refl (λ x i j m h _. argument_complete x i j h) rule.arguments_from (λ n found i. refl) most [] xs i k j l few c
+arguments_complete _ _ _ (enclosed xs i k j l few c) = listed_complete g.Argument rule.argument kind.Comma kind.Close refl (λ x i j m h _. argument_complete x i j h) rule.arguments_from (λ n found i. refl) i.limits.items [] xs i k j l few c
 
 declared_arguments_complete : (xs : List (Sort × Mode)) (i j : Input) → g.DeclaredArguments xs i j → sees kind.Open j ≡ false → rule.declared_arguments i ≡ Ok (xs, j)
 unfolding rule.declared_arguments
-declared_arguments_complete _ _ _ (g.DeclaredArguments.none i) e = passes kind.Open (rule.arguments_from most []) (pure []) i e
-declared_arguments_complete _ _ _ (g.DeclaredArguments.some xs i j k s l) e = eats kind.Open (rule.arguments_from most []) (pure []) i j s ∙ arguments_complete xs j k l
+declared_arguments_complete _ _ _ (g.DeclaredArguments.none i) e = passes kind.Open rule.arguments_at_most (pure []) i e
+declared_arguments_complete _ _ _ (g.DeclaredArguments.some xs i j k s l) e = eats kind.Open rule.arguments_at_most (pure []) i j s ∙ arguments_complete xs j k l
 
 before_is : (xs : List (Sort × Mode)) (i j k : Input) → g.DeclaredArguments xs i j → Sign kind.Is j k → rule.declared_arguments i ≡ Ok (xs, j)
 unfolding same_kind
@@ -91,10 +91,10 @@ head_complete _ _ _ _ (g.Head.some xs i j k l s h new c) =
     let count : length xs ≡ suc (length xs - 1) = omega (arith, some) in
     subst (λ (n : ℕ). rule.head n i ≡ Ok (xs, l)) (sym count) (head_opened (length xs - 1) xs i j k l count s h new c)
 
-body_complete : (p : Part) (i j k m : Input) → Sign kind.Declare i j → g.Conjunction rule.most_open p j k → Sign kind.End k m → rule.body i ≡ Ok (p, m)
+body_complete : (p : Part) (i j k m : Input) → Sign kind.Declare i j → g.Conjunction j.limits.goals p j k → Sign kind.End k m → rule.body i ≡ Ok (p, m)
 unfolding rule.body
 body_complete p _ j k m (sign a i _ s) c z =
-    rw (s, conjunction_complete rule.most_open p j k c (rw (signed kind.End k m z).is refl)) (shut kind.End p k m z)
+    rw (s, conjunction_complete j.limits.goals p j k c (rw (signed kind.End k m z).is refl)) (shut kind.End p k m z)
 
 clause_complete : (q : PredName) (n : ℕ) (c : rule.Clause) (i j : Input) → g.PredClause q n c i j → rule.clause q n i ≡ Ok (c, j)
 unfolding rule.clause

@@ -9,7 +9,7 @@ use Rattle.md_hlds.specs.Part.{Task}
 use Rattle.md_hlds.specs.Listing.{Sort, Construct, Family}
 use Rattle.md_token.specs.declared.kind.Kind.{Kind}
 use Rattle.md_token.specs.declared.kind.Kind.TheVariants as kind
-use Rattle.md_reader.specs.Input.{Input, next, token, kind_at, expect, variable, name, word, most, turns, site}
+use Rattle.md_reader.specs.Input.{Input, next, token, kind_at, expect, variable, name, word, turns, site}
 use Rattle.md_reader.specs.Rules as rule
 use Rattle.md_reader.specs.Grammar as g
 use Rattle.md_reader.specs.Grammar.{Is, Sign, sign, Listed, last, also, Enclosed, enclosed, AreNew}
@@ -43,7 +43,7 @@ pub functor_arguments_sound : (ts : List Sort) (i j : Input) → rule.functor_ar
 unfolding rule.functor_arguments
 functor_arguments_sound ts i j h =
     elim (eaten kind.Open i _ _ _ h) [
-      | inl s ↦ g.FunctorArguments.some ts i (next i) j s.0 (enclosed_found (Is rule.sort) kind.Close ts (next i) j (sorts_found most [] ts (next i) j s.1))
+      | inl s ↦ g.FunctorArguments.some ts i (next i) j s.0 (enclosed_found (Is rule.sort) kind.Close ts (next i) j (sorts_found (next i).limits.items [] ts (next i) j s.1))
       | inr q ↦ nothing (λ ts. g.FunctorArguments ts i) [] ts i j q (g.FunctorArguments.none i)
     ]
 
@@ -95,7 +95,7 @@ variables_found closing (suc n) seen found xs i j h =
 
 pub variables_sound : (closing : Kind) (seen xs : List ℕ) (i j : Input) → rule.variables closing seen i ≡ Ok (xs, j) → g.Variables closing seen xs i j
 variables_sound closing seen xs i j h =
-    let f = variables_found closing most seen [] xs i j h in
+    let f = variables_found closing i.limits.items seen [] xs i j h in
     g.Variables.variables xs i j (enclosed_found (Is (variable [])) closing xs i j f.0) (subst (AreNew seen) (sym f.0.all) f.1)
 
 pub arguments_sound : (seen xs : List ℕ) (i j : Input) → rule.arguments seen i ≡ Ok (xs, j) → g.Arguments seen xs i j

@@ -7,7 +7,7 @@ use Rattle.md_hlds.specs.declared.goal.PredName.{PredName}
 use Rattle.md_hlds.specs.Part.{Part}
 use Rattle.md_hlds.specs.Listing.{Sort, closure, gathered_sorts, Procedure, Listing}
 use Rattle.md_token.specs.declared.kind.Kind.TheVariants as kind
-use Rattle.md_reader.specs.Input.{Input, Outcome, and_then, pure, limit, sees, next, after, token, expect, variable, word, most, turns, end_clause}
+use Rattle.md_reader.specs.Input.{Input, Outcome, and_then, pure, limit, sees, next, after, token, expect, variable, word, turns, end_clause}
 use Rattle.md_reader.specs.Rules as rule
 use Rattle.md_reader.specs.Grammar as g
 use Rattle.md_reader.specs.Grammar.{Is, Sign, sign, Listed, last, also, Enclosed, enclosed, AreNew}
@@ -31,7 +31,7 @@ inst_sound x i j h =
     let b = bind_ok (rule.inst_modes a.0.1) _ _ a.2 in
     let b1 = bind_ok (expect kind.Pred a.0.1) _ _ b.1 in
     let b2 = bind_ok (expect kind.Open b1.0.1) _ _ b1.2 in
-    let ms = enclosed_found (Is rule.mode_word) kind.Close b.0.0 b2.0.1 b.0.1 (modes_found most [] b.0.0 b2.0.1 b.0.1 b2.2) in
+    let ms = enclosed_found (Is rule.mode_word) kind.Close b.0.0 b2.0.1 b.0.1 (modes_found b2.0.1.limits.items [] b.0.0 b2.0.1 b.0.1 b2.2) in
     let c = bind_ok (expect kind.Is b.0.1) _ _ b.2 in
     let d = bind_ok (rule.determinism c.0.1) _ _ c.2 in
     let e = closed kind.Close (b.0.0, d.0.0) x d.0.1 j d.2 in
@@ -46,7 +46,7 @@ ho_argument_sound x i j h =
     let a2 = bind_ok (expect kind.Open a1.0.1) _ _ a1.2 in
     let a3 = bind_ok (rule.sorts a2.0.1) _ _ a2.2 in
     let a4 = closed kind.HasMode a3.0.0 a.0.0 a3.0.1 a.0.1 a3.2 in
-    let ts = enclosed_found (Is rule.sort) kind.Close a3.0.0 a2.0.1 a3.0.1 (sorts_found most [] a3.0.0 a2.0.1 a3.0.1 a3.1) in
+    let ts = enclosed_found (Is rule.sort) kind.Close a3.0.0 a2.0.1 a3.0.1 (sorts_found a2.0.1.limits.items [] a3.0.0 a2.0.1 a3.0.1 a3.1) in
     let b = bind_ok (rule.ho_mode a.0.1) _ _ a.2 in
     let c = made rule.inst (λ n. (closure (gathered_sorts a.0.0) n.0 n.1, b.0.0)) x b.0.1 j b.2 in
     subst (λ (x : Sort × Mode). g.Argument x i j) (sym c.2)
@@ -90,7 +90,7 @@ declared_arguments_sound : (xs : List (Sort × Mode)) (i j : Input) → rule.dec
 unfolding rule.declared_arguments
 declared_arguments_sound xs i j h =
     elim (eaten kind.Open i _ _ _ h) [
-      | inl s ↦ g.DeclaredArguments.some xs i (next i) j s.0 (enclosed_found g.Argument kind.Close xs (next i) j (arguments_found most [] xs (next i) j s.1))
+      | inl s ↦ g.DeclaredArguments.some xs i (next i) j s.0 (enclosed_found g.Argument kind.Close xs (next i) j (arguments_found (next i).limits.items [] xs (next i) j s.1))
       | inr q ↦ nothing (λ xs. g.DeclaredArguments xs i) [] xs i j q (g.DeclaredArguments.none i)
     ]
 
@@ -156,12 +156,12 @@ clause_sound q n c i j h =
     let b = bind_ok (rule.head n a.0.1) _ _ a.2 in
     let d = bind_ok (rule.body b.0.1) _ _ b.2 in
     let d1 = bind_ok (expect kind.Declare b.0.1) _ _ d.1 in
-    let d2 = bind_ok (rule.conjunction rule.most_open d1.0.1) _ _ d1.2 in
+    let d2 = bind_ok (rule.conjunction_at_most d1.0.1) _ _ d1.2 in
     let d3 = closed kind.End d2.0.0 d.0.0 d2.0.1 d.0.1 d2.2 in
     let e = made end_clause (λ vs. record { line = (token i).line; head = b.0.0; body = d.0.0; vars = vs }) c d.0.1 j d.2 in
     subst (λ (c : rule.Clause). g.PredClause q n c i j) (sym e.2)
     (subst (λ (p : Part). g.PredClause q n (record { line = (token i).line; head = b.0.0; body = p; vars = e.0 }) i j) (sym d3.1)
-    (g.PredClause.pred_clause b.0.0 d2.0.0 e.0 i a.0.1 b.0.1 d1.0.1 d2.0.1 d.0.1 j a.1 (head_sound n b.0.0 a.0.1 b.0.1 b.1) (sign_of kind.Declare d1.0.0 b.0.1 d1.0.1 d1.1) (conjunction_sound rule.most_open d2.0.0 d1.0.1 d2.0.1 d2.1) d3.0 e.1))
+    (g.PredClause.pred_clause b.0.0 d2.0.0 e.0 i a.0.1 b.0.1 d1.0.1 d2.0.1 d.0.1 j a.1 (head_sound n b.0.0 a.0.1 b.0.1 b.1) (sign_of kind.Declare d1.0.0 b.0.1 d1.0.1 d1.1) (conjunction_sound d1.0.1.limits.goals d2.0.0 d1.0.1 d2.0.1 d2.1) d3.0 e.1))
 
 -- ---- programs
 

@@ -9,7 +9,7 @@ use Rattle.md_token.specs.Token.{Lexeme}
 use Rattle.std.specs.Str.{bytes_eq}
 use Rattle.std.specs.Prelude.{codes}
 use Rattle.md_token.specs.declared.kind.Kind.{Kind}
-use Rattle.md_reader.specs.Input.{Input, Parser, ◌>>=◌, ◌>>◌, and_then, pure, refuse, limit, sees, token, expect, word, take_name, variable, end_clause, most}
+use Rattle.md_reader.specs.Input.{Input, Parser, ◌>>=◌, ◌>>◌, and_then, pure, refuse, limit, sees, token, expect, word, take_name, variable, end_clause}
 use Rattle.md_reader.specs.Rules as rule
 use Rattle.md_token.proofs.Ends.{is_final, is_end, is_empty}
 use Rattle.md_reader.proofs.Steady.{Same, Steady, Goes, goes_by, cut, bound, given, faulty, limited, tested, tested_by, token_cut, same_when, same_bind, by_token, passing, expected, excess, turned, begun}
@@ -55,7 +55,7 @@ module _ (d : ℕ) (more : List Lexeme) where
 
   inst_modes_steady : Stable rule.inst_modes
   unfolding rule.inst_modes
-  inst_modes_steady = bound d more (expect kind.Pred) _ (expected d more kind.Pred refl) (λ _. bound d more (expect kind.Open) _ (expected d more kind.Open refl) (λ _. modes_from_steady most []))
+  inst_modes_steady = bound d more (expect kind.Pred) _ (expected d more kind.Pred refl) (λ _. bound d more (expect kind.Open) _ (expected d more kind.Open refl) (λ _ j. modes_from_steady j.limits.items [] j))
 
   inst_steady : Stable rule.inst
   unfolding rule.inst
@@ -88,7 +88,7 @@ module _ (d : ℕ) (more : List Lexeme) where
 
   pub declared_arguments_steady : Stable rule.declared_arguments
   unfolding rule.declared_arguments
-  declared_arguments_steady = perhaps d more kind.Open refl (rule.arguments_from most []) (pure []) (arguments_from_steady most []) (given d more [])
+  declared_arguments_steady = perhaps d more kind.Open refl rule.arguments_at_most (pure []) (λ j. arguments_from_steady j.limits.items [] j) (given d more [])
 
   head_from_steady : (n : ℕ) (found : List ℕ) → Stable (rule.head_from n found)
   unfolding rule.head_from
@@ -110,7 +110,7 @@ module _ (d : ℕ) (more : List Lexeme) where
 
   body_steady : Stable rule.body
   unfolding rule.body
-  body_steady = bound d more (expect kind.Declare) _ (expected d more kind.Declare refl) (λ _. bound d more (rule.conjunction rule.most_open) _ (conjunction_steady d more rule.most_open) (λ g. ending d more kind.End refl g))
+  body_steady = bound d more (expect kind.Declare) _ (expected d more kind.Declare refl) (λ _. bound d more rule.conjunction_at_most _ (λ j. conjunction_steady d more j.limits.goals j) (λ g. ending d more kind.End refl g))
 
   pub clause_steady : (q : PredName) (arity : ℕ) → Stable (rule.clause q arity)
   unfolding rule.clause
@@ -130,7 +130,7 @@ module _ (d : ℕ) (more : List Lexeme) where
   unfolding rule.declared_family
   declared_family_steady l line = bound d more (rule.family line) _ (family_steady d more line) (λ t. given d more (rule.with_family l t))
 
-  declared_rest_steady : (l : Listing) (line : ℕ) → Stable (λ i. cond (sees kind.Pred i) (rule.declared_procedure l line i) (rule.declared_family l line i))
+  pub declared_rest_steady : (l : Listing) (line : ℕ) → Stable (λ i. cond (sees kind.Pred i) (rule.declared_procedure l line i) (rule.declared_family l line i))
   unfolding sees
   declared_rest_steady l line = by_token d more (λ t i. cond (same_kind t.kind kind.Pred) (rule.declared_procedure l line i) (rule.declared_family l line i)) (λ t i e. tested d more i.rest (same_kind t.kind kind.Pred) _ _ _ _ (declared_procedure_steady l line i) (declared_family_steady l line i))
 

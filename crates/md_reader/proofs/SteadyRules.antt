@@ -14,7 +14,7 @@ use Rattle.md_token.specs.declared.kind.Kind.TheVariants as kind
 use Rattle.md_token.specs.Kinds.{same_kind}
 use Rattle.md_token.specs.Token.{Lexeme}
 use Rattle.md_token.specs.Literal.{number_of, string_value}
-use Rattle.md_reader.specs.Input.{Input, Parser, ◌>>=◌, ◌>>◌, pure, refuse, limit, advance, eat, sees, next, token, kind_at, expect, word, name, take_name, variable, with_variable, place_of, site, end_clause, most}
+use Rattle.md_reader.specs.Input.{Input, Parser, ◌>>=◌, ◌>>◌, pure, refuse, limit, advance, eat, sees, next, token, kind_at, expect, word, name, take_name, variable, with_variable, place_of, site, end_clause}
 use Rattle.md_reader.specs.Rules as rule
 use Rattle.md_token.proofs.Ends.{is_final}
 use Rattle.md_reader.proofs.Steady.{Same, Steady, Goes, goes, goes_by, cut, same_bind, bound, given, faulty, limited, either, tested, tested_by, by_token, by_token_at, taking, naming, passing, eaten, expected, excess, turns_on, turned}
@@ -27,7 +27,7 @@ module _ (d : ℕ) (more : List Lexeme) where
 
   pub take_name_at : (text : List ℕ) (i : Input) → Goes i → Same d more i.rest (take_name text i) (take_name text (cut d more i))
   unfolding take_name
-  take_name_at text i g = tested d more i.rest (nat_lt most (length text)) _ _ _ _ (limited d more {A = List ℕ} i) (taking d more text i g)
+  take_name_at text i g = tested d more i.rest (nat_lt i.limits.items (length text)) _ _ _ _ (limited d more {A = List ℕ} i) (taking d more text i g)
 
   pub name_steady : Stable name
   unfolding name sees
@@ -45,9 +45,9 @@ module _ (d : ℕ) (more : List Lexeme) where
   denied true h = refl
   denied false h = absurd (cc)
 
-  variable_by : (seen : List ℕ) (vars : List (List ℕ)) → Stable (λ i. cond (not (sees kind.Variable i)) (refuse i) (cond (list_any (λ x. x == place_of (token i).text vars) seen) (refuse i) (cond (nat_lt most (length (token i).text)) (limit i) (Ok (place_of (token i).text vars, record (next i) { vars = with_variable (token i).text vars })))))
+  variable_by : (seen : List ℕ) (vars : List (List ℕ)) (most : ℕ) → Stable (λ i. cond (not (sees kind.Variable i)) (refuse i) (cond (list_any (λ x. x == place_of (token i).text vars) seen) (refuse i) (cond (nat_lt most (length (token i).text)) (limit i) (Ok (place_of (token i).text vars, record (next i) { vars = with_variable (token i).text vars })))))
   unfolding sees
-  variable_by seen vars =
+  variable_by seen vars most =
       by_token d more (λ t i. cond (not (same_kind t.kind kind.Variable)) (refuse i) (cond (list_any (λ x. x == place_of t.text vars) seen) (refuse i) (cond (nat_lt most (length t.text)) (limit i) (Ok (place_of t.text vars, record (next i) { vars = with_variable t.text vars })))))
       (λ t i e. tested_by d more i.rest (not (same_kind t.kind kind.Variable)) _ _ _ _ (λ _. faulty d more {A = ℕ} i)
       (λ s. tested d more i.rest (list_any (λ x. x == place_of t.text vars) seen) _ _ _ _ (faulty d more {A = ℕ} i)
@@ -55,7 +55,7 @@ module _ (d : ℕ) (more : List Lexeme) where
 
   pub variable_steady : (seen : List ℕ) → Stable (variable seen)
   unfolding variable
-  variable_steady seen i = variable_by seen i.vars i
+  variable_steady seen i = variable_by seen i.vars i.limits.items i
 
   pub site_steady : Stable site
   unfolding site
@@ -77,7 +77,7 @@ module _ (d : ℕ) (more : List Lexeme) where
 
   take_written_at : (o : Option rule.Written) (i : Input) → ((w : rule.Written) → o ≡ Some w → Goes i) → Same d more i.rest (rule.take_written o i) (rule.take_written o (cut d more i))
   take_written_at None i g = faulty d more i
-  take_written_at (Some w) i g = tested d more i.rest (rule.is_long w) _ _ _ _ (limited d more {A = PredName} i) (taking d more (rule.meant i.home w) i (g w refl))
+  take_written_at (Some w) i g = tested d more i.rest (rule.is_long i.limits.items w) _ _ _ _ (limited d more {A = PredName} i) (taking d more (rule.meant i.home w) i (g w refl))
 
   pub pred_name_steady : Stable rule.pred_name
   unfolding rule.pred_name
@@ -126,7 +126,7 @@ module _ (d : ℕ) (more : List Lexeme) where
   variables_from_steady closing f (suc n) seen found = going (variable seen) kind.Comma closing refl f (λ x. rule.variables_from closing n (seen ++ x ∷ []) (found ++ x ∷ [])) (λ x. found ++ x ∷ []) (variable_steady seen) (λ x. variables_from_steady closing f n (seen ++ x ∷ []) (found ++ x ∷ []))
 
   pub variables_steady : (closing : Kind) → is_final closing ≡ false → (seen : List ℕ) → Stable (rule.variables closing seen)
-  variables_steady closing f seen = variables_from_steady closing f most seen []
+  variables_steady closing f seen i = variables_from_steady closing f i.limits.items seen [] i
 
   pub arguments_steady : (seen : List ℕ) → Stable (rule.arguments seen)
   unfolding rule.arguments
@@ -150,10 +150,10 @@ module _ (d : ℕ) (more : List Lexeme) where
 
   positive_at : (x : ℕ) (i : Input) → Goes i → Same d more i.rest (rule.positive x i) (rule.positive x (cut d more i))
   unfolding rule.positive
-  positive_at x i g = by_token_at d more (λ t i. cond (nat_lt rule.greatest (number_of t.text)) (limit i) (Ok (Plain (Unifies x (term.Int (pos (number_of t.text)))), next i))) i (tested d more i.rest (nat_lt rule.greatest (number_of (token i).text)) _ _ _ _ (limited d more {A = Task} i) (taking d more (Plain (Unifies x (term.Int (pos (number_of (token i).text))))) i g))
+  positive_at x i g = by_token_at d more (λ t i. cond (nat_lt i.limits.integer (number_of t.text)) (limit i) (Ok (Plain (Unifies x (term.Int (pos (number_of t.text)))), next i))) i (tested d more i.rest (nat_lt i.limits.integer (number_of (token i).text)) _ _ _ _ (limited d more {A = Task} i) (taking d more (Plain (Unifies x (term.Int (pos (number_of (token i).text))))) i g))
 
   take_negative_at : (x n : ℕ) (i : Input) → Goes i → Same d more i.rest (rule.take_negative x n i) (rule.take_negative x n (cut d more i))
-  take_negative_at x n i g = tested d more i.rest (nat_lt (suc rule.greatest) n) _ _ _ _ (limited d more {A = Task} i) (taking d more (Plain (Unifies x (term.Int (rule.minus n)))) i g)
+  take_negative_at x n i g = tested d more i.rest (nat_lt (suc i.limits.integer) n) _ _ _ _ (limited d more {A = Task} i) (taking d more (Plain (Unifies x (term.Int (rule.minus n)))) i g)
 
   negated_steady : (x : ℕ) → Stable (rule.negated x)
   unfolding rule.negated sees
@@ -161,7 +161,7 @@ module _ (d : ℕ) (more : List Lexeme) where
 
   literal_at : (x : ℕ) (i : Input) → Goes i → Same d more i.rest (rule.literal x i) (rule.literal x (cut d more i))
   unfolding rule.literal
-  literal_at x i g = by_token_at d more (λ t i. cond (nat_lt rule.most_bytes (length (string_value t.text))) (limit i) (Ok (Plain (Unifies x (term.Str (string_value t.text))), next i))) i (tested d more i.rest (nat_lt rule.most_bytes (length (string_value (token i).text))) _ _ _ _ (limited d more {A = Task} i) (taking d more (Plain (Unifies x (term.Str (string_value (token i).text)))) i g))
+  literal_at x i g = by_token_at d more (λ t i. cond (nat_lt i.limits.bytes (length (string_value t.text))) (limit i) (Ok (Plain (Unifies x (term.Str (string_value t.text))), next i))) i (tested d more i.rest (nat_lt i.limits.bytes (length (string_value (token i).text))) _ _ _ _ (limited d more {A = Task} i) (taking d more (Plain (Unifies x (term.Str (string_value (token i).text)))) i g))
 
   application_steady : (x : ℕ) → Stable (rule.application x)
   unfolding rule.application
@@ -246,7 +246,7 @@ module _ (d : ℕ) (more : List Lexeme) where
   sorts_from_steady (suc n) found = going rule.sort kind.Comma kind.Close refl refl (λ t. rule.sorts_from n (found ++ t ∷ [])) (λ t. found ++ t ∷ []) sort_steady (λ t. sorts_from_steady n (found ++ t ∷ []))
 
   pub sorts_steady : Stable rule.sorts
-  sorts_steady = sorts_from_steady most []
+  sorts_steady i = sorts_from_steady i.limits.items [] i
 
   functor_arguments_steady : Stable rule.functor_arguments
   unfolding rule.functor_arguments

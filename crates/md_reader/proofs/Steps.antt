@@ -4,7 +4,7 @@ use Rattle.std.specs.List.{list_any}
 use Rattle.md_token.specs.declared.kind.Kind.{Kind}
 use Rattle.md_token.specs.declared.kind.Kind.TheVariants as kind
 use Rattle.md_token.specs.Kinds.{same_kind}
-use Rattle.md_reader.specs.Input.{Input, Parser, Outcome, and_then, pure, sees, next, after, token, expect, variable, place_of, most}
+use Rattle.md_reader.specs.Input.{Input, Parser, Outcome, and_then, pure, sees, next, after, token, expect, variable, place_of}
 use Rattle.md_reader.specs.Grammar.{Is, Sign, sign, Listed, last, also, Enclosed, enclosed}
 
 pub bind_ok : {A B : Type 0} (r : Outcome A) (f : A → Parser B) (y : B × Input) → and_then r f ≡ Ok y → (p : A × Input) × (r ≡ Ok p) × (f p.0 p.1 ≡ Ok y)
@@ -80,7 +80,7 @@ pub variable_new : (seen : List ℕ) (x : ℕ) (i j : Input) → variable seen i
 unfolding variable
 variable_new seen x i j h =
     let at = place_of (token i).text i.vars in
-    let p = past_three (not (sees kind.Variable i)) (list_any (λ y. y == at) seen) (nat_lt most (length (token i).text)) _ _ _ _ _ h in
+    let p = past_three (not (sees kind.Variable i)) (list_any (λ y. y == at) seen) (nat_lt i.limits.items (length (token i).text)) _ _ _ _ _ h in
     let e : at ≡ x = ok_value _ _ _ _ p.3 in
     (rw (p.0, p.2) p.3, rw (← e) p.1)
 
@@ -101,5 +101,5 @@ taken k i e = rw (e, same_itself k) refl
 pub sign_at : (k : Kind) (i : Input) → (token i).kind ≡ k → Sign k i (next i)
 sign_at k i e = sign (token i).line i (next i) (taken k i e)
 
-pub enclosed_found : {A : Type 0} (item : A → Input → Input → Type 0) (closing : Kind) (xs : List A) (i j : Input) → Found item kind.Comma closing most [] xs i j → Enclosed item closing xs i j
+pub enclosed_found : {A : Type 0} (item : A → Input → Input → Type 0) (closing : Kind) (xs : List A) (i j : Input) → Found item kind.Comma closing i.limits.items [] xs i j → Enclosed item closing xs i j
 enclosed_found {A} item closing xs i j f = subst (λ (ys : List A). Enclosed item closing ys i j) (sym f.all) (enclosed f.more i f.end j f.listed f.few f.close)

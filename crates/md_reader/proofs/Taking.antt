@@ -10,7 +10,7 @@ use Rattle.md_token.specs.declared.kind.Kind.{Kind}
 use Rattle.md_token.specs.declared.kind.Kind.TheVariants as kind
 use Rattle.md_token.specs.Kinds.{same_kind}
 use Rattle.md_reader.specs.declared.refused.Refusal.TheVariants as refusal
-use Rattle.md_reader.specs.Input.{Input, Parser, and_then, pure, refuse, sees, next, after, token, kind_at, expect, word, variable, place_of, place, most}
+use Rattle.md_reader.specs.Input.{Input, Parser, and_then, pure, refuse, sees, next, after, token, kind_at, expect, word, variable, place_of, place}
 use Rattle.md_reader.specs.Rules as rule
 use Rattle.md_reader.specs.Grammar.{Sign, sign}
 use Rattle.md_reader.proofs.Steps.{chosen, ok_input, ok_value, past_three}
@@ -93,7 +93,7 @@ turned false h = absurd (cc)
 pub variable_kind : (seen : List ℕ) (x : ℕ) (i j : Input) → variable seen i ≡ Ok (x, j) → kind_at i ≡ kind.Variable
 unfolding variable
 variable_kind seen x i j h =
-    let p = past_three (not (sees kind.Variable i)) (list_any (λ y. y == place_of (token i).text i.vars) seen) (nat_lt most (length (token i).text)) _ _ _ _ _ h in
+    let p = past_three (not (sees kind.Variable i)) (list_any (λ y. y == place_of (token i).text i.vars) seen) (nat_lt i.limits.items (length (token i).text)) _ _ _ _ _ h in
     kind_seen kind.Variable i (turned (sees kind.Variable i) p.0)
 
 pub sort_kind : (t : Sort) (i j : Input) → rule.sort i ≡ Ok (t, j) → kind_at i ≡ kind.Name
@@ -121,6 +121,6 @@ pred_kinds q i j h = let w = taken_written (rule.written (token i)) q i j h in w
 pub variable_among : (seen : List ℕ) (x : ℕ) (i j : Input) → variable [] i ≡ Ok (x, j) → list_any (λ y. y == x) seen ≡ false → variable seen i ≡ Ok (x, j)
 unfolding variable
 variable_among seen x i j h new =
-    let p = past_three (not (sees kind.Variable i)) false (nat_lt most (length (token i).text)) (refusal.Syntax (place i)) (refusal.Syntax (place i)) (refusal.Limit (place i)) _ _ h in
+    let p = past_three (not (sees kind.Variable i)) false (nat_lt i.limits.items (length (token i).text)) (refusal.Syntax (place i)) (refusal.Syntax (place i)) (refusal.Limit (place i)) _ _ h in
     let e : place_of (token i).text i.vars ≡ x = ok_value _ _ _ _ p.3 in
     rw (p.0, p.2, e, new) (rw e at p.3)

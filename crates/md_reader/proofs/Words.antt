@@ -74,7 +74,7 @@ none_step : (b a : Bool) (n m : ℕ) → (b || a) ≡ false → (a ≡ false →
 none_step true a n m h rest = absurd (cc)
 none_step false a n m h rest = let l = rest h in omega (arith, l)
 
-not_among : (x : List ℕ) (vs : List (List ℕ)) → list_any (bytes_eq x) vs ≡ false → place_of x vs ≡ length vs
+pub not_among : (x : List ℕ) (vs : List (List ℕ)) → list_any (bytes_eq x) vs ≡ false → place_of x vs ≡ length vs
 not_among x [] h = refl
 not_among x (v ∷ vs) h = none_step (bytes_eq x v) (list_any (bytes_eq x) vs) (place_of x vs) (length vs) h (not_among x vs)
 

@@ -15,7 +15,7 @@ use Rattle.md_reader.specs.Input as input
 use Rattle.md_reader.specs.Rules as rule
 use Rattle.md_reader.specs.Duplicates as twice
 use Rattle.md_reader.specs.Grammar.{Spells, Repeats}
-use Rattle.md_reader.specs.Faults.{IsAtFault}
+use Rattle.md_reader.specs.Faults.{IsSyntaxFault}
 use Rattle.md_reader.specs.Reading.{reading}
 use Rattle.md_reader.proofs.SoundPrograms.{reading_sound, reading_repeats}
 use Rattle.md_reader.proofs.FaultTexts.{at_fault}
@@ -66,6 +66,6 @@ pub repeats_a_type : Repeats (codes ":- module t.\n:- type a ---> b.\n:- type a 
 repeats_a_type = reading_repeats (codes ":- module t.\n:- type a ---> b.\n:- type a ---> c.") 3 twice_read
 
 -- a name where a declaration may begin
-pub a_name_is_at_fault : IsAtFault (codes ":- module t.\np") 2
+pub a_name_is_at_fault : IsSyntaxFault (codes ":- module t.\np") 2
 unfolding same_kind token.tokens_of token.front_at token.token_at token.name_at token.word_kind token.sign_at token.colon_at token.single_at input.token input.sees input.next input.expect input.take_name input.word rule.module_name rule.heading rule.declarations rule.declarations_from rule.program rule.declared input.place
 a_name_is_at_fault = at_fault (codes ":- module t.\np") (refusal.Syntax (record { line = 2; left = 2 })) refl

@@ -13,7 +13,7 @@ use Rattle.md_hlds.specs.Listing.{Sort, closure, gathered_sorts, Construct, Fami
 use Rattle.md_token.specs.declared.kind.Kind.{Kind}
 use Rattle.md_token.specs.declared.kind.Kind.TheVariants as kind
 use Rattle.md_token.specs.Token.{tokens_of}
-use Rattle.md_reader.specs.Input.{Input, Parser, expect, most, name, word, variable, site, token, kind_at, sees, end_clause}
+use Rattle.md_reader.specs.Input.{Input, Parser, expect, name, word, variable, site, token, kind_at, sees, end_clause}
 use Rattle.md_reader.specs.Rules as rule
 use Rattle.md_reader.specs.Duplicates.{duplicate}
 
@@ -32,7 +32,7 @@ pub data Listed {A : Type 0} (item : A → Input → Input → Type 0) (between 
 
 -- no more than a list may have, and the closing sign
 pub data Enclosed {A : Type 0} (item : A → Input → Input → Type 0) (closing : Kind) : List A → Input → Input → Type 0 where
-  enclosed : (xs : List A) (i j k : Input) → Listed item kind.Comma xs i j → length xs ≤ most → Sign closing j k → Enclosed item closing xs i k
+  enclosed : (xs : List A) (i j k : Input) → Listed item kind.Comma xs i j → length xs ≤ i.limits.items → Sign closing j k → Enclosed item closing xs i k
 
 -- ---- variables
 
@@ -154,7 +154,7 @@ pub data Head : (arity : ℕ) → List ℕ → Input → Input → Type 0 where
 
 -- the clause of a predicate of this name and arity
 pub data PredClause (q : PredName) (arity : ℕ) : rule.Clause → Input → Input → Type 0 where
-  pred_clause : (xs : List ℕ) (p : Part) (vs : List (List ℕ)) (i j k l m n o : Input) → Is (rule.this_name q) tt i j → Head arity xs j k → Sign kind.Declare k l → Conjunction rule.most_open p l m → Sign kind.End m n → Is end_clause vs n o → PredClause q arity (record { line = (token i).line; head = xs; body = p; vars = vs }) i o
+  pred_clause : (xs : List ℕ) (p : Part) (vs : List (List ℕ)) (i j k l m n o : Input) → Is (rule.this_name q) tt i j → Head arity xs j k → Sign kind.Declare k l → Conjunction l.limits.goals p l m → Sign kind.End m n → Is end_clause vs n o → PredClause q arity (record { line = (token i).line; head = xs; body = p; vars = vs }) i o
 
 -- ---- programs
 

@@ -11,6 +11,21 @@ use Rattle.md_reader.specs.declared.refused.Refusal.{Refusal}
 use Rattle.md_reader.specs.declared.refused.Refusal.TheVariants.{Syntax, Limit, NoMemory}
 use Rattle.md_reader.specs.declared.input.Input.{Input as Cursor}
 
+-- the greatest of what a program may have
+pub record Limits : Type 0 where
+  -- bytes of a name, and items of a list of arguments or variables
+  pub items : ℕ
+  -- goals that are open at a place
+  pub goals : ℕ
+  -- bytes of a string's value
+  pub bytes : ℕ
+  -- the greatest integer, of 64 bits with its sign
+  pub integer : ℕ
+
+-- the limits of the product
+abbrev pub standard : Limits
+standard = record { items = 255; goals = 200; bytes = 65535; integer = 9223372036854775807 }
+
 pub record Input : Type 0 where
   -- the tokens from the next one on
   pub rest : List Lexeme
@@ -20,9 +35,11 @@ pub record Input : Type 0 where
   pub vars : List (List ℕ)
   -- how many call sites there are so far
   pub sites : ℕ
+  -- the limits that hold
+  pub limits : Limits
 
 unfoldable pub input_of : Cursor → Input
-input_of c = record { rest = lexemes_of c.rest.now; home = c.home.now; vars = c.scope; sites = c.sites }
+input_of c = record { rest = lexemes_of c.rest.now; home = c.home.now; vars = c.scope; sites = c.sites; limits = standard }
 
 -- ---- the next token
 
@@ -100,13 +117,9 @@ turns i = length i.rest
 
 -- ---- names
 
--- the longest name, and the longest list of arguments or variables
-abbrev pub most : ℕ
-most = 255
-
 -- the next token, if its bytes are no more than a name may have
 unfoldable pub take_name : List ℕ → Parser (List ℕ)
-take_name text = λ i. if nat_lt most (length text) then limit i else Ok (text, next i)
+take_name text = λ i. if nat_lt i.limits.items (length text) then limit i else Ok (text, next i)
 
 -- a name of the program's own choice
 unfoldable pub name : Parser (List ℕ)
@@ -130,7 +143,7 @@ unfoldable pub variable : List ℕ → Parser ℕ
 variable seen = λ i.
     if not (sees kind.Variable i) then refuse i
     else if list_any (λ x. x == place_of (token i).text i.vars) seen then refuse i
-    else if nat_lt most (length (token i).text) then limit i
+    else if nat_lt i.limits.items (length (token i).text) then limit i
     else Ok (place_of (token i).text i.vars, record (next i) { vars = with_variable (token i).text i.vars })
 
 -- the names of the clause's variables, at its end

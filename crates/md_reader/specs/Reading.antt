@@ -10,7 +10,7 @@ use Rattle.md_reader.specs.declared.refused.Refused.TheVariants as refused
 use Rattle.md_reader.specs.Input.{Outcome}
 use Rattle.md_reader.specs.Rules.{program, start}
 use Rattle.md_reader.specs.Duplicates.{duplicate}
-use Rattle.md_reader.specs.Faults.{IsAtFault}
+use Rattle.md_reader.specs.Faults.{IsSyntaxFault, IsLimitFault}
 use Rattle.md_reader.specs.Grammar.{Repeats}
 
 abbrev pub refused_of : Refusal → Refused
@@ -52,9 +52,16 @@ IsFault (Ok p) = ⊥
 IsFault (Err (refused.Duplicate line)) = ⊥
 IsFault (Err e) = ⊤
 
+-- the answer is that a token is at fault, for syntax only in this line, unless memory is refused
+abbrev pub IsFirstFault : Result Program Refused → ℕ → Type 0
+IsFirstFault (Ok p) line = ⊥
+IsFirstFault (Err (refused.Duplicate second)) line = ⊥
+IsFirstFault (Err (refused.Syntax other)) line = other ≡ line
+IsFirstFault (Err e) line = ⊤
+
 -- why a refusal is answered
 abbrev pub HasCause : Refused → List ℕ → Type 0
 HasCause (refused.Duplicate line) text = Repeats text line
-HasCause (refused.Syntax line) text = IsAtFault text line
-HasCause (refused.Limit line) text = IsAtFault text line
+HasCause (refused.Syntax line) text = IsSyntaxFault text line
+HasCause (refused.Limit line) text = IsLimitFault text line
 HasCause refused.NoMemory text = ⊤

@@ -19,7 +19,7 @@ use Rattle.md_token.specs.declared.kind.Kind.TheVariants as kind
 use Rattle.md_token.specs.Kinds.{same_kind}
 use Rattle.md_token.specs.Token.{Lexeme, is_word_byte, word_kind}
 use Rattle.md_token.specs.Literal.{number_of, string_value}
-use Rattle.md_reader.specs.Input.{Input, Parser, ◌>>=◌, ◌>>◌, and_then, pure, refuse, limit, peek, advance, eat, expect, turns, most, take_name, name, word, variable, site, token, kind_at, sees, next, end_clause}
+use Rattle.md_reader.specs.Input.{Input, Parser, ◌>>=◌, ◌>>◌, and_then, pure, refuse, limit, peek, advance, eat, expect, turns, Limits, standard, take_name, name, word, variable, site, token, kind_at, sees, next, end_clause}
 
 -- ---- names of predicates
 
@@ -49,9 +49,9 @@ written_by text _ = None
 unfoldable pub written : Lexeme → Option Written
 written t = written_by t.text t.kind
 
--- a part of the name is too long
-abbrev pub is_long : Written → Bool
-is_long w = nat_lt most (length w.name) || nat_lt most (length (unwrap_or w.qualifier []))
+-- a part of the name has more bytes than this
+abbrev pub is_long : (most : ℕ) → Written → Bool
+is_long most w = nat_lt most (length w.name) || nat_lt most (length (unwrap_or w.qualifier []))
 
 -- M.p is p, where M is the program's own module
 abbrev pub away_from : (home : List ℕ) → Option (List ℕ) → Option (List ℕ)
@@ -63,7 +63,7 @@ meant home w = record { qualifier = away_from home w.qualifier; name = w.name }
 
 abbrev pub take_written : Option Written → Parser PredName
 take_written None = refuse
-take_written (Some w) = λ i. if is_long w then limit i else Ok (meant i.home w, next i)
+take_written (Some w) = λ i. if is_long i.limits.items w then limit i else Ok (meant i.home w, next i)
 
 -- the name of a predicate or a functor, which may be qualified
 unfoldable pub pred_name : Parser PredName
@@ -104,7 +104,7 @@ variables_from closing (suc n) seen found = do
 
 -- one or more variables, and the closing sign; none of them is among those seen
 abbrev pub variables : Kind → List ℕ → Parser (List ℕ)
-variables closing seen = variables_from closing most seen []
+variables closing seen = λ i. variables_from closing i.limits.items seen [] i
 
 -- the variable that stood before a list, if one did
 abbrev pub seen_before : Option ℕ → List ℕ
@@ -146,28 +146,21 @@ arithmetic x y (Some o) = do
   z ← variable (x ∷ y ∷ [])
   pure (Plain (Computes x y o z))
 
--- the greatest integer, of 64 bits with its sign
-abbrev pub greatest : ℕ
-greatest = 9223372036854775807
-
 unfoldable pub positive : ℕ → Parser Task
-positive x = λ i. let n = number_of (token i).text in if nat_lt greatest n then limit i else Ok (Plain (Unifies x (term.Int (pos n))), next i)
+positive x = λ i. let n = number_of (token i).text in if nat_lt i.limits.integer n then limit i else Ok (Plain (Unifies x (term.Int (pos n))), next i)
 
 abbrev pub minus : ℕ → ℤ
 minus n = pos 0 -ℤ pos n
 
 abbrev pub take_negative : ℕ → ℕ → Parser Task
-take_negative x n = λ i. if nat_lt (suc greatest) n then limit i else Ok (Plain (Unifies x (term.Int (minus n))), next i)
+take_negative x n = λ i. if nat_lt (suc i.limits.integer) n then limit i else Ok (Plain (Unifies x (term.Int (minus n))), next i)
 
 -- behind `-`
 unfoldable pub negated : ℕ → Parser Task
 negated x = λ i. if sees kind.Integer i then take_negative x (number_of (token i).text) i else refuse i
 
-abbrev pub most_bytes : ℕ
-most_bytes = 65535
-
 unfoldable pub literal : ℕ → Parser Task
-literal x = λ i. let value = string_value (token i).text in if nat_lt most_bytes (length value) then limit i else Ok (Plain (Unifies x (term.Str value)), next i)
+literal x = λ i. let value = string_value (token i).text in if nat_lt i.limits.bytes (length value) then limit i else Ok (Plain (Unifies x (term.Str value)), next i)
 
 unfoldable pub application : ℕ → Parser Task
 application x = do
@@ -403,7 +396,7 @@ sorts_from (suc n) found = do
   if more then sorts_from n (found ++ t ∷ []) else (do expect kind.Close; pure (found ++ t ∷ []))
 
 abbrev pub sorts : Parser (List Sort)
-sorts = sorts_from most []
+sorts = λ i. sorts_from i.limits.items [] i
 
 -- nothing, or types in parentheses
 unfoldable pub functor_arguments : Parser (List Sort)
@@ -491,11 +484,14 @@ modes_from (suc n) found = do
   more ← eat kind.Comma
   if more then modes_from n (found ++ m ∷ []) else (do expect kind.Close; pure (found ++ m ∷ []))
 
+abbrev pub modes_at_most : Parser (List Mode)
+modes_at_most = λ i. modes_from i.limits.items [] i
+
 unfoldable pub inst_modes : Parser (List Mode)
 inst_modes = do
   expect kind.Pred
   expect kind.Open
-  modes_from most []
+  modes_at_most
 
 -- `(pred(M1, ..) is D)`
 unfoldable pub inst : Parser (List Mode × Det)
@@ -543,11 +539,14 @@ arguments_from (suc n) found = do
   more ← eat kind.Comma
   if more then arguments_from n (found ++ a ∷ []) else (do expect kind.Close; pure (found ++ a ∷ []))
 
+abbrev pub arguments_at_most : Parser (List (Sort × Mode))
+arguments_at_most = λ i. arguments_from i.limits.items [] i
+
 -- nothing, or arguments in parentheses
 unfoldable pub declared_arguments : Parser (List (Sort × Mode))
 declared_arguments = do
   some ← eat kind.Open
-  if some then arguments_from most [] else pure []
+  if some then arguments_at_most else pure []
 
 -- the head's variables, n after the next one
 unfoldable pub head_from : (n : ℕ) → List ℕ → Parser (List ℕ)
@@ -565,10 +564,6 @@ head zero = pure []
 head (suc n) = do
   expect kind.Open
   head_from n []
-
--- how many goals may be open at a place
-abbrev pub most_open : ℕ
-most_open = 200
 
 pub record Declaration : Type 0 where
   pub name : PredName
@@ -598,11 +593,15 @@ pub record Clause : Type 0 where
   pub body : Part
   pub vars : List (List ℕ)
 
+-- a conjunction within which as many goals may be open as there may be
+abbrev pub conjunction_at_most : Parser Part
+conjunction_at_most = λ i. conjunction i.limits.goals i
+
 -- `:-`, a conjunction and the end sign
 unfoldable pub body : Parser Part
 body = do
   expect kind.Declare
-  g ← conjunction most_open
+  g ← conjunction_at_most
   expect kind.End
   pure g
 
@@ -692,5 +691,9 @@ program = do
   l ← heading
   declarations l
 
+-- the place before all tokens, where these limits hold
+abbrev pub start_within : Limits → List Lexeme → Input
+start_within limits ts = record { rest = ts; home = []; vars = []; sites = 0; limits = limits }
+
 abbrev pub start : List Lexeme → Input
-start ts = record { rest = ts; home = []; vars = []; sites = 0 }
+start ts = start_within standard ts

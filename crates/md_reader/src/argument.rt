@@ -12,7 +12,7 @@ use md_hlds::{Det, HoTy, Mode, Ty};
 use md_token::{Kind, is_word};
 
 /// Takes nothing, or arguments in parentheses.
-#[tactic(auto, unfolding(crate::specs::Rules::declared_arguments))]
+#[tactic(auto, unfolding(crate::specs::Rules::declared_arguments, crate::specs::Input::input_of))]
 pub(crate) fn declared_arguments(input: &mut Input<'_>) -> Result<Vec<(Ty, Mode)>, Refusal>
     ensures { Reads (λ args. args_of args.items) (spec.declared_arguments (input_of input.old)) result (input_of input.new) }
 {
@@ -107,7 +107,7 @@ fn inst(input: &mut Input<'_>) -> Result<(Vec<Mode>, Det), Refusal>
     Ok((modes, det))
 }
 
-#[tactic(auto, unfolding(crate::specs::Rules::inst_modes))]
+#[tactic(auto, unfolding(crate::specs::Rules::inst_modes, crate::specs::Input::input_of))]
 fn inst_modes(input: &mut Input<'_>) -> Result<Vec<Mode>, Refusal>
     ensures { Reads (λ modes. modes.items) (spec.inst_modes (input_of input.old)) result (input_of input.new) }
 {

@@ -132,7 +132,7 @@ impl<'a> Input<'a> {
     }
 
     /// Takes the next token, whose text is a name, if it is no longer than a name may be.
-    #[tactic(auto, unfolding(crate::specs::Input::take_name))]
+    #[tactic(auto, unfolding(crate::specs::Input::take_name, crate::specs::Input::input_of))]
     pub fn take_name(&mut self, text: &[u8]) -> Result<Name, Refusal>
         ensures { Reads (λ name. name) (spec.take_name text.now (input_of self.old)) result (input_of self.new) }
     {

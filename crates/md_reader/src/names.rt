@@ -2,7 +2,7 @@
 ghost use Rattle.std.specs.Prelude.{◌≡◌, drop, option_map, IfOk};
 ghost use Rattle.md_hlds.specs.Listing as listing;
 ghost use Rattle.md_token.specs.Token.{lexeme_of};
-ghost use Rattle.md_reader.specs.Input.{input_of, Reads};
+ghost use Rattle.md_reader.specs.Input.{input_of, standard, Reads};
 ghost use Rattle.md_reader.specs.Rules as spec;
 ghost use Rattle.md_reader.specs.Views.{written_of};
 
@@ -75,7 +75,7 @@ pub(crate) fn name_of(alloc: Global, bytes: &[u8]) -> Result<Name, NoMemory>
 
 /// Whether a part of a name is too long.
 pub(crate) fn is_long(written: Written<'_>) -> bool
-    ensures { result ≡ spec.is_long (written_of written.entry) }
+    ensures { result ≡ spec.is_long standard.items (written_of written.entry) }
 {
     match written.qualifier {
         None => written.name.len() > MOST,
@@ -115,6 +115,7 @@ pub(crate) fn pred_name(input: &mut Input<'_>) -> Result<PredName, Refusal>
     }
 }
 
+#[tactic(auto, unfolding(crate::specs::Input::input_of))]
 fn take_written(input: &mut Input<'_>, written: Written<'_>) -> Result<PredName, Refusal>
     ensures { Reads (λ name. name) (spec.take_written (Some (written_of written.entry)) (input_of input.old)) result (input_of input.new) }
 {

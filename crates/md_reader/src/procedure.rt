@@ -112,7 +112,7 @@ fn take_clause(input: &mut Input<'_>, name: &PredName, arity: usize) -> Result<C
 }
 
 /// Takes `:-`, a conjunction and the end sign.
-#[tactic(auto, unfolding(crate::specs::Rules::body))]
+#[tactic(auto, unfolding(crate::specs::Rules::body, crate::specs::Input::input_of))]
 fn body(input: &mut Input<'_>) -> Result<Goal, Refusal>
     ensures { Reads part_of (spec.body (input_of input.old)) result (input_of input.new) }
 {

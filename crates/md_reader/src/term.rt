@@ -63,7 +63,7 @@ fn operator(kind: Kind) -> Option<Op>
     }
 }
 
-#[tactic(auto, unfolding(crate::specs::Rules::positive))]
+#[tactic(auto, unfolding(crate::specs::Rules::positive, crate::specs::Input::input_of))]
 fn positive(input: &mut Input<'_>, x: u32) -> Result<GoalKind, Refusal>
     ensures { Reads task_of (spec.positive x (input_of input.old)) result (input_of input.new) }
 {
@@ -77,7 +77,7 @@ fn positive(input: &mut Input<'_>, x: u32) -> Result<GoalKind, Refusal>
 }
 
 /// Takes the integer behind a `-`.
-#[tactic(auto, unfolding(crate::specs::Rules::negated))]
+#[tactic(auto, unfolding(crate::specs::Rules::negated, crate::specs::Input::input_of))]
 fn negated(input: &mut Input<'_>, x: u32) -> Result<GoalKind, Refusal>
     ensures { Reads task_of (spec.negated x (input_of input.old)) result (input_of input.new) }
 {
@@ -104,7 +104,7 @@ fn minus(number: u64) -> i64
     0 - number as i64
 }
 
-#[tactic(auto, unfolding(crate::specs::Rules::literal))]
+#[tactic(auto, unfolding(crate::specs::Rules::literal, crate::specs::Input::input_of))]
 fn literal(input: &mut Input<'_>, x: u32) -> Result<GoalKind, Refusal>
     ensures { Reads task_of (spec.literal x (input_of input.old)) result (input_of input.new) }
 {

@@ -33,6 +33,7 @@ pub(crate) fn sort(input: &mut Input<'_>) -> Result<Ty, Refusal>
 }
 
 /// Takes one or more types, and `)`.
+#[tactic(auto, unfolding(crate::specs::Input::input_of))]
 pub(crate) fn sorts(input: &mut Input<'_>) -> Result<Vec<Ty>, Refusal>
     ensures { Reads (λ sorts. sorts_of sorts.items) (spec.sorts (input_of input.old)) result (input_of input.new) }
 {

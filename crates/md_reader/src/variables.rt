@@ -12,6 +12,7 @@ use md_token::Kind;
 use std::alloc::Global;
 
 /// Takes one or more variables and the closing sign. None of them is the one that stood before the list, if one did.
+#[tactic(auto, unfolding(crate::specs::Input::input_of))]
 pub(crate) fn variables(
     input: &mut Input<'_>,
     closing: Kind,
