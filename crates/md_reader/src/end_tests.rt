@@ -1,13 +1,11 @@
 // Texts that end too early, and what may stand at the end of a text.
 ghost use Rattle.std.specs.Prelude.{◌<◌, length};
 
-use crate::Refused;
 use crate::tests::{clause, reads, refuses};
+use crate::{Refused, read};
 use std::alloc::Global;
 use std::process::Abort;
 use std::test::Fail;
-
-const MODULE: &str = ":- module t .";
 
 const PLAIN_TYPE: &str = ":- type list ---> nil ; cons ( int , list ) ; text ( string ) .";
 
@@ -134,6 +132,43 @@ fn an_end_sign_may_be_the_last_byte(rt: HostRuntime) -> Result<(), Fail> {
         ":- module t .:- type a ---> b.",
     ] {
         refuses(&rt, rt.alloc(), text, Refused::Syntax(1));
+    }
+    Ok(())
+}
+
+/// Each front of a text is a program, or is at fault in its last line.
+fn fronts(rt: &impl Abort, alloc: Global, text: &str) -> Result<(), Fail> {
+    let mut front = Vec::new(alloc);
+    let mut line = 1u32;
+    for byte in text.as_bytes() {
+        front.push(*byte)?;
+        if *byte == b'\n' {
+            line = line.wrapping_add(1);
+        }
+        if front.len() >= 4_294_967_295 {
+            return Ok(());
+        }
+        if let Err(refused) = read(alloc, front.as_slice()) {
+            assert!(rt;
+                refused == Refused::Syntax(line),
+                "{text} up to line {line}"
+            );
+        }
+    }
+    Ok(())
+}
+
+#[test]
+fn a_text_that_is_cut_off_anywhere_is_at_fault_in_its_last_line(
+    rt: HostRuntime,
+) -> Result<(), Fail> {
+    for sentence in [PLAIN_TYPE, PLAIN, CLOSURES, GOALS, TERMS, NESTED] {
+        let mut text = String::from_str(rt.alloc(), ":- module t.\n")?;
+        for token in sentence.split_whitespace() {
+            text.push_str(token)?;
+            text.push_str(if token == "," { "\n" } else { " " })?;
+        }
+        fronts(&rt, rt.alloc(), text.as_str())?;
     }
     Ok(())
 }
