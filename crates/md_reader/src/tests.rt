@@ -50,9 +50,9 @@ const CODE: &str =
     ":- module t.\n:- pred main(io::di, io::uo) is det.\nmain(IO0, IO) :- IO = IO0.\n:- type colour ---> red ; green ; blue.\n:- pred code(colour::in, int::out) is det.\ncode(C, N) :- ( C = red, N = 1 ; C = green, N = 2 ).\n";
 
 /// What stands before a goal in the clause of `p`, whose goals begin in line 3.
-const CLAUSE: &str = ":- module t.\n:- pred p(int::in, int::in) is det.\np(X, Y) :- ";
+pub const CLAUSE: &str = ":- module t.\n:- pred p(int::in, int::in) is det.\np(X, Y) :- ";
 
-fn reads(rt: &impl Abort, alloc: Global, text: &str) {
+pub fn reads(rt: &impl Abort, alloc: Global, text: &str) {
     if text.len() >= 4_294_967_295 {
         return;
     }
@@ -60,7 +60,7 @@ fn reads(rt: &impl Abort, alloc: Global, text: &str) {
     assert!(rt; answer.is_ok(), "{text} is refused");
 }
 
-fn refuses(rt: &impl Abort, alloc: Global, text: &str, why: Refused) {
+pub fn refuses(rt: &impl Abort, alloc: Global, text: &str, why: Refused) {
     if text.len() >= 4_294_967_295 {
         return;
     }
@@ -71,7 +71,7 @@ fn refuses(rt: &impl Abort, alloc: Global, text: &str, why: Refused) {
 }
 
 /// The text of a clause with this body.
-fn clause(alloc: Global, body: &str) -> Result<String, Fail> {
+pub fn clause(alloc: Global, body: &str) -> Result<String, Fail> {
     let mut text = String::from_str(alloc, CLAUSE)?;
     text.push_str(body)?;
     text.push_str(".\n")?;
@@ -569,7 +569,7 @@ fn many_goals_and_long_comments_are_read(rt: HostRuntime) -> Result<(), Fail> {
 const LINES: &str = ":- module t.\n:- pred p is det.\np :- q,\n t.r,\n\n m.s.\n";
 
 /// The goals of the clause of a program's first predicate, which is a conjunction.
-fn goals(alloc: Global, text: &str) -> Result<Vec<Goal>, Fail> {
+pub fn goals(alloc: Global, text: &str) -> Result<Vec<Goal>, Fail> {
     if text.len() >= 4_294_967_295 {
         return Err("too long")?;
     }
