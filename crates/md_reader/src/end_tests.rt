@@ -23,7 +23,7 @@ const TERMS: &str =
 const NESTED: &str =
     ":- pred s is det . s :- ( true ) , ( true , fail ) , ( true ; fail , true ; X = 1 ) , ( true , fail -> q , r ; X = Y ) , not ( true , fail ) , some [ ] ( true ) , some [ X , Y ] ( q ( X ) , r ( Y ) ) .";
 
-/// What stands behind this sentence, up to the end of the text: nothing, or comments and white space alone.
+/// What may stand behind the last token: nothing, or white space or a comment without a line feed.
 const BEHIND: [&str; 6] = [
     "",
     "% a comment",
@@ -33,7 +33,7 @@ const BEHIND: [&str; 6] = [
     "%%\r",
 ];
 
-/// A sentence behind that of the module is taken, and each of its tokens but the last is followed by too few. Each token
+/// Behind the module's declaration this sentence is read, and each front of its tokens is refused at its end. Each token
 /// has a line of its own.
 fn ends(rt: &impl Abort, alloc: Global, sentence: &str) -> Result<(), Fail> {
     let mut text = String::from_str(alloc, ":- module t.\n")?;

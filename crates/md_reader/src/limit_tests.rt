@@ -25,7 +25,7 @@ fn variables(alloc: Global, count: usize) -> Result<String, Fail> {
     Ok(list)
 }
 
-/// What stands in the midst, between what stands before it and after it.
+/// These three texts as one.
 fn between(alloc: Global, before: &str, midst: &str, after: &str) -> Result<String, Fail> {
     let mut text = String::from_str(alloc, before)?;
     text.push_str(midst)?;
@@ -264,7 +264,7 @@ fn an_escape_is_one_byte_of_a_string(rt: HostRuntime) -> Result<(), Fail> {
     Ok(())
 }
 
-/// A goal within 200 open ones of one kind, up to which these begin them.
+/// A goal within 200 open ones, each of which begins and ends like this.
 fn nested(alloc: Global, opening: &str, goal: &str, closing: &str) -> Result<String, Fail> {
     let openings = opening.repeat(alloc, 200)?;
     let closings = closing.repeat(alloc, 200)?;
