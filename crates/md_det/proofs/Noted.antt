@@ -1,12 +1,11 @@
 -- What is read off the notes of the mode checks is what the definitions say: by induction on the goal, where the notes from
 -- the goal's number on begin with the goal's own.
 use Rattle.std.proofs.Common.{◌≡◌, refl, sym, ap, ◌∙◌, arith, ℕ, zero, suc, ◌+◌, Bool, true, false, cond, ◌&&◌, ◌||◌, List, [], ◌∷◌, ◌++◌, length, length-append, drop, Option, Some, None, slice_get, append_assoc}
-use Rattle.std.specs.Prelude.{is_none, is_some, nat_eq}
-use Rattle.std.specs.Str.{bytes_eq}
+use Rattle.std.specs.Prelude.{is_none, is_some}
 use Rattle.md_hlds.specs.declared.goal.Term.{Term}
 use Rattle.md_hlds.specs.declared.goal.Term.TheVariants.{Var, Int, Str, Name}
 use Rattle.md_hlds.specs.Part.{Simple, Succeeds, Fails, Unifies, Computes, Compares, WritesInt, WritesText, EndsLine, Part, At, Task, Plain, Invoke, Apply, Each, Either, Choose, Unless, Once, Parts, nothing, also}
-use Rattle.md_hlds.specs.Listing.{Sort, closure, Construct, Family, Procedure, Listing, has_construct, has_functor, is_functor, unqualified_functor}
+use Rattle.md_hlds.specs.Listing.{closure, Construct, Family, Procedure, Listing, is_functor, unqualified_functor}
 use Rattle.md_hlds.specs.Switch.{Key, FunctorKey, term_key, variable_key, goal_key, arm_key, keys_of, all_different, if_different, switch_on}
 use Rattle.md_binding.specs.Known.{Known, free, has, Knowledge, known_at, is_bound}
 use Rattle.md_names.specs.Named.{functor_found}

@@ -1,5 +1,5 @@
 -- The arms of a branch that were checked so far.
-use Rattle.std.proofs.Common.{◌≡◌, refl, sym, ap, ◌∙◌, subst, ℕ, Bool, true, false, List, [], ◌∷◌, ◌++◌, append-nil, Option, Some, None, Result, Ok, Err, IfOk}
+use Rattle.std.proofs.Common.{◌≡◌, refl, ap, subst, ℕ, Bool, true, false, List, [], ◌∷◌, ◌++◌, append-nil, Option, Some, None, Result, Ok, Err, IfOk}
 use Rattle.md_base.specs.declared.number.NoMemory.{NoMemory}
 use Rattle.md_modes.specs.declared.joined.Joined.{Joined}
 use Rattle.md_binding.specs.Known.{Knowledge}

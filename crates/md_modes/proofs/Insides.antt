@@ -1,19 +1,18 @@
 -- The code's view of a goal's variables.
-use Rattle.std.proofs.Common.{◌≡◌, ◌≢◌, refl, sym, ap, ◌∙◌, subst, arith, ℕ, zero, suc, ◌+◌, ◌<◌, Bool, true, false, cond, not, ◌||◌, nat_lt, List, [], ◌∷◌, ◌++◌, length, get_or, drop, slice_index, Option, Some, None, Result, Ok, Err}
+use Rattle.std.proofs.Common.{◌≡◌, refl, sym, ap, ◌∙◌, subst, arith, ℕ, zero, suc, ◌+◌, ◌<◌, Bool, cond, ◌||◌, List, [], ◌∷◌, ◌++◌, length, get_or, slice_index, Option, Result, Ok}
 use Rattle.md_hlds.specs.declared.goal.Goal.{Goal}
-use Rattle.md_hlds.specs.Part.{Part, Parts, Task, At, Plain, Invoke, Apply, Each, Either, Choose, Unless, Once, gathered, part_of, parts_of}
-use Rattle.md_hlds.specs.Listing.{Listing}
+use Rattle.md_hlds.specs.Part.{Part, Task, At, Plain, Invoke, Apply, Each, Either, Choose, Unless, Once, part_of}
 use Rattle.md_binding.specs.declared.fault.ModeFault.{ModeFault}
 use Rattle.md_binding.specs.Verdict.{Verdict}
-use Rattle.md_binding.specs.Known.{Known, Knowledge, known_at, times}
+use Rattle.md_binding.specs.Known.{Knowledge, known_at}
 use Rattle.md_binding.specs.Kinds.{knowledge_of}
 use Rattle.md_modes.specs.declared.clause.Clause.{Clause}
 use Rattle.md_modes.specs.declared.outside.View.{View}
 use Rattle.md_modes.specs.declared.joined.Joined.{Joined}
 use Rattle.md_modes.specs.Branches.{After, after, outside, binds_some, some_of, joined}
-use Rattle.md_modes.specs.Goals.{Scope, variables, task_variables, parts_variables, goal, task}
-use Rattle.md_modes.specs.Notes.{Note, Role, is_state, binds, names_state, known_after, newly_bound}
-use Rattle.md_modes.specs.Tally.{IsLocal, AreCounts, exceeds}
+use Rattle.md_modes.specs.Goals.{Scope, variables, task_variables, goal, task}
+use Rattle.md_modes.specs.Notes.{Note, Role, is_state, binds, names_state, known_after}
+use Rattle.md_modes.specs.Tally.{IsLocal, AreCounts}
 use Rattle.md_modes.specs.Views.{Leaves, AllLeave, seen, put_all, put_verdict, seen_ends, picked, some_state, names_seen}
 use Rattle.md_modes.specs.Joins.{occurs, Ends, Reaches}
 use Rattle.md_modes.specs.Clauses.{scope_at}

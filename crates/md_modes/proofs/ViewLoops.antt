@@ -1,9 +1,9 @@
 -- Views of variables, one variable after the other.
-use Rattle.std.proofs.Common.{◌≡◌, refl, sym, ap, ◌∙◌, arith, append_assoc, append-nil, add-one, ℕ, zero, suc, ◌+◌, ◌<◌, ◌≤◌, Bool, true, false, cond, ◌||◌, List, [], ◌∷◌, ◌++◌, length, length-append, drop, get_or, slice_index}
+use Rattle.std.proofs.Common.{◌≡◌, refl, sym, ap, ◌∙◌, arith, append_assoc, append-nil, add-one, ℕ, zero, suc, ◌+◌, ◌<◌, ◌≤◌, Bool, true, false, cond, ◌||◌, List, [], ◌∷◌, ◌++◌, length, drop, slice_index}
 use Rattle.md_binding.specs.declared.mark.Mark.{Mark}
 use Rattle.md_binding.specs.Known.{Known, Knowledge, known_at, put, is_newly_bound}
 use Rattle.md_binding.specs.Kinds.{known_of, knowledge_of}
-use Rattle.md_binding.proofs.Marks.{knowledge_of-append, length-knowledge_of}
+use Rattle.md_binding.proofs.Marks.{knowledge_of-append}
 use Rattle.md_modes.specs.Notes.{is_state}
 use Rattle.md_modes.specs.Views.{seen, put_all, picked, some_state}
 

@@ -1,6 +1,6 @@
 -- The printed text of a program is spelled by the grammar as that program, but for line numbers.
 use Rattle.std.specs.Prelude.{codes, nat_lt}
-use Rattle.std.proofs.Common.{◌≡◌, ℕ, ◌+◌, Bool, true, false, not, ◌&&◌, None, List, [], ◌∷◌, ◌++◌, length, map, refl, ap, sym, ◌∙◌, subst, arith, append_assoc}
+use Rattle.std.proofs.Common.{◌≡◌, ℕ, ◌+◌, Bool, true, false, not, ◌&&◌, None, List, [], ◌∷◌, ◌++◌, length, map, refl, ap, sym, ◌∙◌, subst, append_assoc}
 use Rattle.std.proofs.lemmas.List.{map-append}
 use Rattle.std.proofs.lemmas.Grind.{flat_map-append}
 use Rattle.std.specs.List.{flat_map}
@@ -24,7 +24,7 @@ use Rattle.md_printer.specs.Layout.{Tokens, sentence}
 use Rattle.md_printer.specs.Printed as print
 use Rattle.md_printer.specs.Printed.{type_tokens, procedure_sentences, module_tokens, printed}
 use Rattle.md_printer.specs.Lines.{on_line, family_on_line, procedure_on_lines, unlined, SpellsUpToLines, IsSpelled}
-use Rattle.md_printer.proofs.Onto.{onto, onto-append, sentence_onto, at, Good, next_good, at_token, most, known, goals_at}
+use Rattle.md_printer.proofs.Onto.{onto, onto-append, sentence_onto, at, Good, next_good, at_token, known, goals_at}
 use Rattle.md_printer.proofs.Moves.{ok_parts, holds, Still, still_on, sign_still, expect_still, word_still, this_name_still, Onward, onward, on_to, from_still, Within, variables_listed, conjunction_onward, type_declaration_still, pred_declaration_still, take_facts}
 use Rattle.md_printer.proofs.Takes.{same_itself, token_fine, expect_takes, end_takes, word_takes, token_line, IsPrintable, this_name_takes, end_clause_again}
 use Rattle.md_printer.proofs.AgainTypes.{type_again, type_rest, declaration_again, declaration_rest, declared_printable, same_home}

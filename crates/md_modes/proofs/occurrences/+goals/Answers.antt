@@ -1,7 +1,5 @@
-use Rattle.std.proofs.Common.{arith, ◌∙◌, ap, sym, ◌++◌}
-use Rattle.md_hlds.specs.Part.{part_of}
-use Rattle.md_modes.specs.Goals.{variables}
-use Rattle.md_modes.proofs.Listed.{listed_along, listed_after, listed-loop, listed-end, goals_variables, goals_variables-Conj, goals_variables-Disj, variables-If, some_variables}
+use Rattle.std.proofs.Common.{arith, ◌∙◌, ap, sym}
+use Rattle.md_modes.proofs.Listed.{listed_along, listed-loop, listed-end, goals_variables, goals_variables-Conj, goals_variables-Disj}
 use Rattle.md_modes.proofs.occurrences.+goals.Goals as goal
 
 pub add_goal-returns-in-Conj : goal.add_goal-returns-in-Conj

@@ -1,7 +1,7 @@
 use Rattle.std.proofs.Common.{refl, arith, ◌<◌, length}
 use Rattle.md_binding.specs.Kinds.{knowledge_of}
 use Rattle.md_binding.proofs.Marks.{length-knowledge_of, known_at-mark}
-use Rattle.md_modes.proofs.ViewLoops.{put-loop, put-skip, put-end}
+use Rattle.md_modes.proofs.ViewLoops.{put-loop, put-skip}
 use Rattle.md_modes.proofs.view.put_all.Goals.{then-number-view, else-number-view}
 use Rattle.md_modes.proofs.view.put_all.Goals as goal
 

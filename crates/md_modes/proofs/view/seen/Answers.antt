@@ -1,6 +1,6 @@
 use Rattle.std.proofs.Common.{refl, arith, length-append, [], ◌∷◌}
 use Rattle.md_binding.specs.Kinds.{knowledge_of}
-use Rattle.md_modes.proofs.ViewLoops.{seen-loop, seen-end}
+use Rattle.md_modes.proofs.ViewLoops.{seen-loop}
 use Rattle.md_modes.proofs.view.seen.Goals as goal
 
 pub loop-place-preserved : goal.loop-place-preserved

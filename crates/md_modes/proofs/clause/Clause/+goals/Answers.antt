@@ -1,13 +1,12 @@
-use Rattle.std.proofs.Common.{◌≡◌, ◌∙◌, refl, sym, ap, arith, subst, false, true, [], ◌∷◌, ◌++◌, List, Ok, Err, add-one, length}
+use Rattle.std.proofs.Common.{◌≡◌, ◌∙◌, refl, sym, ap, arith, subst, false, true, [], ◌∷◌, ◌++◌, List, Ok, Err, add-one}
 use Rattle.std.proofs.lemmas.Result.{err_from_is_err_and}
 use Rattle.md_hlds.specs.Part.{Either, part_of, parts_of, task_of, gathered}
 use Rattle.md_binding.specs.Known.{Knowledge}
 use Rattle.md_binding.specs.Kinds.{knowledge_of}
-use Rattle.md_modes.specs.Branches.{After, after, outside, binds_some, some_of, joined}
-use Rattle.md_modes.specs.Goals.{goal, task, each, arms, variables, parts_variables}
+use Rattle.md_modes.specs.Branches.{After, after, binds_some}
+use Rattle.md_modes.specs.Goals.{goal, task, each, arms, variables}
 use Rattle.md_modes.specs.Notes.{inner_notes, each_notes, arm_notes}
 use Rattle.md_modes.specs.Classes.{notes_told}
-use Rattle.md_modes.specs.Inside.{IsViewOf}
 use Rattle.md_modes.specs.Joins.{occurs, Ends}
 use Rattle.md_modes.specs.Views.{seen, put_all, seen_ends}
 use Rattle.md_modes.specs.Clauses.{scope_at}

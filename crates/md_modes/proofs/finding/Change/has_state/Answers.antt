@@ -1,8 +1,6 @@
-use Rattle.std.proofs.Common.{◌≡◌, ◌∙◌, ◌<◌, sym, arith, ◌||◌, length}
-use Rattle.md_binding.specs.Known.{known_at}
+use Rattle.std.proofs.Common.{◌≡◌, ◌∙◌, sym, arith, length}
 use Rattle.md_binding.specs.Kinds.{knowledge_of}
 use Rattle.md_binding.proofs.Marks.{length-knowledge_of}
-use Rattle.md_modes.specs.Notes.{is_state}
 use Rattle.md_modes.proofs.ViewLoops.{state-found, state-missed, state-end}
 use Rattle.md_modes.proofs.finding.Change.has_state.Goals as goal
 

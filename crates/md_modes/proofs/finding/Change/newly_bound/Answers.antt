@@ -1,4 +1,4 @@
-use Rattle.std.proofs.Common.{◌≡◌, ◌∙◌, sym, ap, arith, true, false, cond, [], ◌∷◌, ◌++◌, append-nil, length, slice_index}
+use Rattle.std.proofs.Common.{◌≡◌, ◌∙◌, sym, ap, arith, cond, [], ◌∷◌, ◌++◌, append-nil, length, slice_index}
 use Rattle.md_binding.specs.Known.{known_at, is_newly_bound}
 use Rattle.md_binding.specs.Kinds.{knowledge_of}
 use Rattle.md_binding.proofs.Marks.{length-knowledge_of}

@@ -1,4 +1,4 @@
-use Rattle.std.proofs.Common.{refl, arith, take}
+use Rattle.std.proofs.Common.{refl, take}
 use Rattle.md_modes.proofs.Locals.{all_no_less, local-step}
 use Rattle.md_modes.proofs.local.Local.grouped.Goals as goal
 

@@ -1,4 +1,4 @@
-use Rattle.std.proofs.Common.{◌≡◌, ◌∙◌, sym, ap}
+use Rattle.std.proofs.Common.{◌∙◌, ap}
 use Rattle.md_hlds.specs.Listing.{listing_of}
 use Rattle.md_hlds.specs.declared.program.Program.{Program}
 use Rattle.md_modes.specs.Notes.{program_notes}

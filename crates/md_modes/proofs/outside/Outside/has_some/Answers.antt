@@ -1,4 +1,4 @@
-use Rattle.std.proofs.Common.{◌≡◌, ◌∙◌, ◌≤◌, sym, arith, false, get_or}
+use Rattle.std.proofs.Common.{◌≡◌, ◌∙◌, sym, false, get_or}
 use Rattle.md_modes.specs.Branches.{outside}
 use Rattle.md_modes.proofs.Listed.{some-missed, not-less}
 use Rattle.md_modes.proofs.outside.Outside.has_some.Goals as goal
