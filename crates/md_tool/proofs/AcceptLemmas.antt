@@ -1,5 +1,5 @@
 -- From the faults of a program to those of its text.
-use Rattle.std.proofs.Common.{◌≡◌, ◌≢◌, refl, ap, sym, subst, inl, inr, ℕ, List, Option, None, Some}
+use Rattle.std.proofs.Common.{◌≡◌, ◌≢◌, refl, ap, sym, subst, inl, inr, ℕ, List, None, Some}
 use Rattle.std.specs.Prelude.{Result, Ok, Err, MatchResult}
 use Rattle.md_hlds.specs.declared.program.Program.{Program}
 use Rattle.md_hlds.specs.Listing.{Listing, listing_of}
@@ -16,7 +16,7 @@ use Rattle.md_det.specs.Faults.{det_fault}
 use Rattle.md_tool.specs.declared.fault.Fault.{Fault}
 use Rattle.md_tool.specs.declared.fault.Fault.TheVariants.{Usage, Read, TooLong, NotBuilt, OutOfSteps, Write, NoMemory}
 use Rattle.md_tool.specs.declared.fault.Fault.TheVariants.{Refused as RefusedAt}
-use Rattle.md_tool.specs.Accepted.{Accepted, Accepts, IsAccepted, IsUnread, HasModeFault, HasDetFault, HasFaultOfModes, HasFaultOfDeterminism, ProgramHas, TextFault, refusal_of, modes_refusal, determinism_refusal}
+use Rattle.md_tool.specs.Accepted.{Accepts, IsAccepted, HasModeFault, HasDetFault, HasFaultOfModes, HasFaultOfDeterminism, ProgramHas, TextFault, refusal_of, modes_refusal, determinism_refusal}
 
 -- ---- a text that isn't read
 

@@ -1,13 +1,12 @@
 -- A command on a file that ends before it has a program.
-use Rattle.std.proofs.Common.{◌≡◌, refl, sym, subst, inl, inr, ℕ, List, Bool, Option}
+use Rattle.std.proofs.Common.{refl, sym, subst, inl, inr, ℕ, List, Bool, Option}
 use Rattle.std.specs.Prelude.{Result, Ok, Err}
-use Rattle.md_base.specs.Outside.{added, PartAdded}
 use Rattle.md_base.specs.Files.{Files}
 use Rattle.md_hlds.specs.Listing.{Listing}
 use Rattle.md_tool.specs.declared.fault.Fault.{Fault}
 use Rattle.md_tool.specs.declared.fault.Fault.TheVariants.{Usage, Read, TooLong, Refused, NotBuilt, OutOfSteps, Write, NoMemory}
 use Rattle.md_tool.specs.Accepted.{Accepts, TextFault}
-use Rattle.md_tool.specs.Due.{IsText, ReadFails, IsRefused, RunEnds, CheckEnds, WriteEnds, check_output}
+use Rattle.md_tool.specs.Due.{IsText, ReadFails, RunEnds, CheckEnds, WriteEnds, check_output}
 
 -- the file isn't read
 pub run_unread : (held : Option Files) (file : List ℕ) (before : Option (List ℕ)) (reads writes : Type 0) (fault : Fault)

@@ -10,8 +10,8 @@ use Rattle.md_machine.specs.Ran.{IsRunOf, says_finished}
 use Rattle.md_machine.specs.declared.execute.Ran.{Ran}
 use Rattle.md_tool.specs.declared.fault.Fault.{Fault}
 use Rattle.md_tool.specs.declared.fault.Fault.TheVariants.{Usage, Read, TooLong, Refused, NotBuilt, OutOfSteps, Write, NoMemory}
-use Rattle.md_tool.specs.Accepted.{Accepted, Accepts, TextFault}
-use Rattle.md_tool.specs.Due.{budget, ProgramRuns, ProgramFault, IsText, IsRefused, Runs, IsOther, HasRun, HasRunInPart, ShowEnds, RunEnds}
+use Rattle.md_tool.specs.Accepted.{Accepts}
+use Rattle.md_tool.specs.Due.{budget, ProgramRuns, ProgramFault, IsText, Runs, HasRun, HasRunInPart, ShowEnds, RunEnds}
 
 -- an accepted text whose program was run
 pub record TextRuns (text : List ℕ) (ran : Ran) : Type 0 where

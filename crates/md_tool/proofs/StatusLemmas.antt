@@ -1,15 +1,15 @@
 -- What a status says, from what a whole call came to.
-use Rattle.std.proofs.Common.{◌≡◌, ◌∙◌, refl, ap, sym, subst, inl, inr, ◌⊎◌, ℕ, List, length, take, ◌≤◌, take_all, arith, Bool, true, false, Option, None, Some}
+use Rattle.std.proofs.Common.{◌≡◌, ◌∙◌, ap, sym, subst, inl, inr, ◌⊎◌, ℕ, List, length, take_all, arith, Bool, false, Option, None, Some}
 use Rattle.std.specs.Prelude.{Result, Ok, Err}
 use Rattle.md_base.specs.Outside.{added, PartAdded}
 use Rattle.md_base.specs.Files.{Files}
 use Rattle.md_tool.specs.declared.fault.Fault.{Fault}
 use Rattle.md_tool.specs.declared.fault.Fault.TheVariants.{Usage, Read, TooLong, Refused, NotBuilt, OutOfSteps, Write, NoMemory}
 use Rattle.md_tool.specs.Form.{Asked, Run, Check}
-use Rattle.md_tool.specs.Due.{output_of, check_output, HasRun, HasRunInPart, HasChecked, HasCheckedInPart, RunEnds, CheckEnds}
+use Rattle.md_tool.specs.Due.{output_of, HasRun, HasRunInPart, RunEnds, CheckEnds}
 use Rattle.md_tool.specs.Fault.{status_of}
-use Rattle.md_tool.specs.Told.{Tells, CommandEnds, EndIsTold, TopEnds, named}
-use Rattle.md_tool.specs.Meaning.{RefusedText, LongerText, AtLine, MeansUsage, MeansRun, MeansCheck, Means}
+use Rattle.md_tool.specs.Told.{CommandEnds, EndIsTold, TopEnds, named}
+use Rattle.md_tool.specs.Meaning.{LongerText, AtLine, MeansUsage, MeansRun, MeansCheck, Means}
 
 -- all of a piece is a part of it
 all_added : (piece : List ℕ) (before now : Option (List ℕ)) → now ≡ added piece before → PartAdded piece before now

@@ -1,12 +1,12 @@
 -- What a whole call comes to.
 use Rattle.std.proofs.Common.{◌≡◌, refl, sym, subst, inl, inr, ℕ, List, [], Bool, Option, None, Some}
-use Rattle.std.specs.Prelude.{Result, Ok, Err}
+use Rattle.std.specs.Prelude.{Result, Err}
 use Rattle.md_base.specs.Files.{Files}
 use Rattle.md_tool.specs.declared.fault.Fault.{Fault}
 use Rattle.md_tool.specs.declared.fault.Fault.TheVariants.{Usage, NoMemory}
 use Rattle.md_tool.specs.Form.{Asked, Run, Check}
 use Rattle.md_tool.specs.Due.{RunEnds, CheckEnds}
-use Rattle.md_tool.specs.Told.{Tells, EndIsTold, CommandEnds, TopEnds, named}
+use Rattle.md_tool.specs.Told.{Tells, EndIsTold, CommandEnds, TopEnds}
 
 -- no command was asked for, and that was told
 pub usage_told : (asked : Option Asked) (held : Option Files) (out err err' : Option (List ℕ)) (reads outs errs : Type 0) (status : ℕ)

@@ -1,11 +1,11 @@
 -- Words, one after the other.
 use Rattle.std.specs.Cmp.Lexicographic.{pointwise}
 use Rattle.std.proofs.lemmas.List.{append_assoc}
-use Rattle.std.proofs.Common.{◌≡◌, refl, ap, ◌∙◌, sym, arith, ◌&&◌, nat_eq, ℕ, suc, List, [], ◌∷◌, ◌++◌, length, Bool, true, false, Option, None, Some, Bor, get_or}
+use Rattle.std.proofs.Common.{◌≡◌, refl, ap, ◌∙◌, sym, arith, ◌&&◌, nat_eq, ℕ, List, [], ◌∷◌, ◌++◌, length, true, false, Option, None, Some, Bor, get_or}
 use Rattle.std.specs.Prelude.{codes}
 use Rattle.std.specs.Str.{bytes_eq}
-use Rattle.md_tool.specs.Form.{Split, Asked, split, is_option, only, print_of, run_of, with_option, with_other}
-use Rattle.md_tool.specs.Words.{texts, rest_of, before, text_told}
+use Rattle.md_tool.specs.Form.{Split, is_option, only, print_of, run_of, with_option, with_other}
+use Rattle.md_tool.specs.Words.{texts, rest_of, before}
 
 pub texts-append : (ws : List (Bor (List ℕ))) (w : Bor (List ℕ)) → texts (ws ++ w ∷ []) ≡ texts ws ++ w.now ∷ []
 texts-append [] w = refl

@@ -1,5 +1,5 @@
 -- Which texts are accepted as programs, and why others aren't.
-use Rattle.std.specs.Prelude.{ℕ, ◌≡◌, ◌≢◌, ◌⊎◌, List, Option, None, Some, Result, Ok, Err}
+use Rattle.std.specs.Prelude.{ℕ, ◌≡◌, ◌⊎◌, List, None, Some, Ok, Err}
 use Rattle.md_hlds.specs.declared.program.Program.{Program}
 use Rattle.md_hlds.specs.Listing.{Listing, listing_of}
 use Rattle.md_reader.specs.declared.refused.Refused.{Refused}

@@ -13,7 +13,7 @@ use Rattle.md_machine.specs.declared.execute.End.TheVariants.{OutOfSteps as RanO
 use Rattle.md_machine.specs.declared.execute.Ran.{Ran}
 use Rattle.md_tool.specs.declared.fault.Fault.{Fault}
 use Rattle.md_tool.specs.declared.fault.Fault.TheVariants.{Usage, Read, TooLong, Refused, NotBuilt, OutOfSteps, Write, NoMemory}
-use Rattle.md_tool.specs.Accepted.{Accepted, NotAccepted, TextFault}
+use Rattle.md_tool.specs.Accepted.{Accepted, NotAccepted}
 
 -- the budget of a run
 abbrev pub budget : ℕ

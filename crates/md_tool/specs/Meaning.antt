@@ -1,7 +1,6 @@
 -- What each exit status says.
 use Rattle.std.specs.Prelude.{ℕ, ◌≡◌, ◌⊎◌, Bool, true, false, ◌||◌, ◌==◌, List, Option, None, Some}
 use Rattle.md_base.specs.Files.{Files, FileIsLonger}
-use Rattle.md_tool.specs.declared.fault.Fault.{Fault}
 use Rattle.md_tool.specs.declared.fault.Fault.TheVariants.{Refused}
 use Rattle.md_tool.specs.declared.fault.Why.{Why}
 use Rattle.md_tool.specs.Form.{Asked, Run, Check}

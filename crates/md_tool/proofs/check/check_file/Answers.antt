@@ -1,4 +1,4 @@
-use Rattle.std.proofs.Common.{subst, sym, ◌≡◌, List, ℕ}
+use Rattle.std.proofs.Common.{subst, sym}
 use Rattle.md_base.specs.Outside.{Rose}
 use Rattle.md_hlds.specs.declared.program.Program.{Program}
 use Rattle.md_hlds.specs.Listing.{listing_of}

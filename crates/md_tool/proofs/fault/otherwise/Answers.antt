@@ -1,6 +1,6 @@
-use Rattle.std.proofs.Common.{◌≡◌, ◌∙◌, sym, ap, subst, IfOk, ℕ, List}
+use Rattle.std.proofs.Common.{◌≡◌, ◌∙◌, ap, subst, IfOk, ℕ, List}
 use Rattle.std.specs.Prelude.{string_bytes}
-use Rattle.md_tool.specs.Fault.{place_line, text_of, word_of, declared_text}
+use Rattle.md_tool.specs.Fault.{place_line, word_of, declared_text}
 use Rattle.md_tool.proofs.fault.otherwise.Goals as goal
 
 pub returns : goal.returns

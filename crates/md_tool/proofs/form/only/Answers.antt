@@ -1,4 +1,4 @@
-use Rattle.std.proofs.Common.{◌≡◌, sym, arith}
+use Rattle.std.proofs.Common.{sym, arith}
 use Rattle.md_tool.proofs.WordLemmas.{not_only}
 use Rattle.md_tool.proofs.form.only.Goals as goal
 

@@ -1,4 +1,4 @@
-use Rattle.std.proofs.Common.{◌≡◌, ◌∙◌, sym, ap, ℕ, ◌==◌}
+use Rattle.std.proofs.Common.{◌∙◌, sym, ap, ℕ, ◌==◌}
 use Rattle.md_tool.specs.Words.{text_told}
 use Rattle.md_tool.proofs.WordLemmas.{no_print}
 use Rattle.md_tool.proofs.form.printing.Goals as goal

@@ -1,4 +1,4 @@
-use Rattle.std.proofs.Common.{◌≡◌, ◌∙◌, sym, ap, ℕ, ◌==◌}
+use Rattle.std.proofs.Common.{◌∙◌, sym, ap, ℕ, ◌==◌}
 use Rattle.md_tool.specs.Form.{only}
 use Rattle.md_tool.specs.Words.{texts}
 use Rattle.md_tool.proofs.WordLemmas.{no_run}

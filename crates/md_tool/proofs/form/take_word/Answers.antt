@@ -1,6 +1,5 @@
-use Rattle.std.proofs.Common.{◌≡◌, ◌∙◌, sym, ap, refl, ℕ, List, ◌∷◌, Bool, true}
-use Rattle.std.specs.Prelude.{codes}
-use Rattle.md_tool.specs.Form.{Split, split, with_option, with_other}
+use Rattle.std.proofs.Common.{◌∙◌, sym, ap, refl, ◌∷◌, Bool, true}
+use Rattle.md_tool.specs.Form.{split}
 use Rattle.md_tool.specs.Words.{texts, rest_of, before}
 use Rattle.md_tool.proofs.WordLemmas.{texts-append, other_taken, option_taken, rest_option, rest_other, taken, unequal}
 use Rattle.md_tool.proofs.form.take_word.Goals as goal
