@@ -1,23 +1,45 @@
 -- The arms of a branch that were checked so far.
-use Rattle.std.proofs.Common.{◌≡◌, refl, ap, subst, ℕ, Bool, true, false, List, [], ◌∷◌, ◌++◌, append-nil, Option, Some, None, Result, Ok, Err, IfOk}
+use Rattle.std.proofs.Common.{Bool, Err, IfOk, List, None, Ok, Option, Result, Some, [], ap, append-nil, false, length, not, refl, slice_index, subst, sym, true, ℕ, ◌&&◌, ◌++◌, ◌<◌, ◌||◌, ◌∙◌, ◌∷◌, ◌≡◌, ◌≢◌}
 use Rattle.md_base.specs.declared.number.NoMemory.{NoMemory}
 use Rattle.md_modes.specs.declared.joined.Joined.{Joined}
-use Rattle.md_binding.specs.Known.{Knowledge}
-use Rattle.md_modes.specs.Branches.{After, after, reachable, joined}
+use Rattle.md_modes.specs.declared.end.End.{End}
+use Rattle.md_modes.specs.declared.joined.Shared.{Shared}
+use Rattle.md_modes.specs.declared.outside.View.{View}
+use Rattle.md_binding.specs.Common.{is_alike}
+use Rattle.md_binding.specs.Known.{Knowledge, known_at, is_bound, times}
+use Rattle.md_binding.specs.Kinds.{knowledge_of}
+use Rattle.md_modes.specs.Branches.{After, after, reachable, joined, in_common, all_have, some_unlike, some_of, clash}
+use Rattle.md_modes.specs.Shares.{numbers, commons, kept, begun, lost, gained, some_clash}
 use Rattle.md_modes.specs.Views.{seen, put_verdict, seen_ends, Leaves, AllLeave}
-use Rattle.md_modes.specs.Joins.{Joins, IsJoin, Ends}
-use Rattle.md_modes.proofs.JoinLemmas.{reachable-more}
+use Rattle.md_modes.specs.Joins.{Joins, IsJoin, IsArm, IsEnd, Ends, end_of}
+use Rattle.md_modes.proofs.JoinLemmas.{reachable-more, all_have-more, some_unlike-more}
 use Rattle.md_modes.proofs.Leaving.{leaves_self}
-use Rattle.md_modes.proofs.Views.{restored}
+use Rattle.md_modes.proofs.Views.{restored, length-seen, known_at-seen}
+use Rattle.md_modes.proofs.Sharing.{commons_is, kept_shares, shares_along, begun_shares, differ_by, clash_by}
 
-pub begun : (p : ℕ → Bool) (s q : Knowledge) (j : Joined) (rs : List Knowledge) → Joins p s j q [] → IsJoin p s None rs → IsJoin p s (Some j) (rs ++ q ∷ [])
-begun p s q j [] h n = h
-begun p s q j (r ∷ rs) h n = absurd n
+pub first_arm : (p : ℕ → Bool) (s q : Knowledge) (j : Joined) (rs : List Knowledge) → Joins p s j q [] → IsJoin p s None rs → IsJoin p s (Some j) (rs ++ q ∷ [])
+first_arm p s q j [] h n = h
+first_arm p s q j (r ∷ rs) h n = absurd n
 
-pub begun_ok : (p : ℕ → Bool) (s q : Knowledge) (r : Result Joined NoMemory) → IfOk r (λ j. (p : ℕ → Bool) → (s : Knowledge) → Joins p s j q [])
-    → IfOk r (λ more. (rs : List Knowledge) → IsJoin p s None rs → IsJoin p s (Some more) (rs ++ q ∷ []))
-begun_ok p s q (Ok j) h = λ rs n. begun p s q j rs (h p s) n
-begun_ok p s q (Err e) h = tt
+-- the first arm
+pub begun_ok : (p : ℕ → Bool) (e : End) (m : Knowledge) (r : Result Joined NoMemory) → m ≡ end_of e
+    → IfOk r (λ j. (p : ℕ → Bool) → (s : Knowledge) → length m ≡ length s → Joins p s j m [])
+    → IfOk r (λ more. (s : Knowledge) → (rs : List Knowledge) → IsEnd e s → IsJoin p (knowledge_of e.view.before.now) None rs
+    → IsJoin p (knowledge_of e.view.before.now) (Some more) (rs ++ end_of e ∷ []))
+begun_ok p e m (Ok j) is h =
+    λ s rs arm n.
+    let places = e.view.outside.local.now.places.items in
+    let size : length m ≡ length (knowledge_of e.view.before.now) =
+    ap length is ∙ (length-seen places (knowledge_of e.marks.now) ∙ (sym (length-seen places s) ∙ sym (ap length arm.before))) in
+    rw (← is) (first_arm p (knowledge_of e.view.before.now) m j rs (h p (knowledge_of e.view.before.now) size) n)
+begun_ok p e m (Err x) is h = tt
+
+-- another arm
+pub added_ok : (p : ℕ → Bool) (e : End) (old new : Joined) (s : Knowledge) (rs : List Knowledge)
+    → ((r : Knowledge) → (qs : List Knowledge) → Joins p (knowledge_of e.view.before.now) old r qs → Joins p (knowledge_of e.view.before.now) new r (qs ++ end_of e ∷ []))
+    → IsJoin p (knowledge_of e.view.before.now) (Some old) rs → IsJoin p (knowledge_of e.view.before.now) (Some new) (rs ++ end_of e ∷ [])
+added_ok p e old new s [] h j = absurd j
+added_ok p e old new s (r ∷ rs) h j = h r rs j
 
 -- an arm whose end isn't reachable
 pub ends_skip : (p : ℕ → Bool) (s : Knowledge) (j : Option Joined) (ends : List After) (q : Knowledge) (reach : Bool) → reach ≡ false → Ends p s j ends → Ends p s j (ends ++ after q reach ∷ [])
@@ -52,3 +74,66 @@ none_reachable p s j ends e h = none_by p s (reachable ends) (subst (λ (k : Opt
 pub no_end : (l : ℕ) (p : ℕ → Bool) (xs : List ℕ) (s b : Knowledge) (j : Option Joined) (ends : List After) → j ≡ None → Ends p b j ends → b ≡ seen xs s
     → put_verdict xs s (joined l p b ends) ≡ Ok (after s false)
 no_end l p xs s b j ends e h is = rw (none_reachable p b j ends e h, is, restored xs s s (leaves_self xs s)) refl
+
+-- ---- what the code keeps of the arms
+
+pub joins_begun : (p : ℕ → Bool) (s r : Knowledge) (j : Joined) → knowledge_of j.first.items ≡ r → length r ≡ length s → knowledge_of j.common.items ≡ r → j.shared.items ≡ begun 0 r → j.differ ≡ false
+    → Joins p s j r []
+joins_begun p s r j first size common shared differ = record {
+  first = first;
+  size = size;
+  common = common;
+  shares = rw shared (begun_shares r);
+  differ = differ;
+}
+
+pub joins_added : (p : ℕ → Bool) (s r q : Knowledge) (qs : List Knowledge) (j i : Joined) (a b : Bool) → Joins p s j r qs
+    → knowledge_of i.first.items ≡ knowledge_of j.first.items
+    → knowledge_of i.common.items ≡ commons (knowledge_of j.common.items) q j.shared.items
+    → i.shared.items ≡ kept (knowledge_of j.first.items) (knowledge_of j.common.items) q j.shared.items
+    → i.differ ≡ (j.differ || (b || a))
+    → a ≡ some_of (lost p s (knowledge_of j.common.items) q) (numbers j.shared.items)
+    → (b ≡ true → (x : ℕ) × (x < length s) × (gained p s (knowledge_of j.first.items) q x ≡ true))
+    → ((x : ℕ) → x < length s → gained p s (knowledge_of j.first.items) q x ≡ true → b ≡ true)
+    → Joins p s i r (qs ++ q ∷ [])
+joins_added p s r q qs j i a b h first common shared differ loses sound complete = record {
+  first = first ∙ h.first;
+  size = h.size;
+  common = common ∙ (ap (λ c. commons c q j.shared.items) h.common ∙ (commons_is (all_have r qs) q j.shared.items h.shares.all ∙ sym (all_have-more r q qs)));
+  shares =
+      rw (shared, h.first, h.common)
+      (shares_along (in_common (all_have r qs) q) (all_have r (qs ++ q ∷ [])) (λ x. some_unlike (known_at r x) x qs || not (is_alike (known_at r x) (known_at q x)))
+      (λ x. some_unlike (known_at r x) x (qs ++ q ∷ [])) (kept r (all_have r qs) q j.shared.items) (sym (all_have-more r q qs)) (λ x. sym (some_unlike-more (known_at r x) x q qs))
+      (kept_shares r (all_have r qs) q j.shared.items (λ x. some_unlike (known_at r x) x qs) h.shares));
+  differ =
+      differ ∙ differ_by p s r q qs (λ x. some_unlike (known_at r x) x qs) j.shared.items a b j.differ h.size h.shares h.differ
+      (loses ∙ ap (λ c. some_of (lost p s c q) (numbers j.shared.items)) h.common)
+      (subst (λ (k : Knowledge). b ≡ true → (x : ℕ) × (x < length s) × (gained p s k q x ≡ true)) h.first sound)
+      (subst (λ (k : Knowledge). (x : ℕ) → x < length s → gained p s k q x ≡ true → b ≡ true) h.first complete);
+}
+
+pub clash_told : (p : ℕ → Bool) (s : Knowledge) (j : Joined) (r : Knowledge) (qs : List Knowledge) (c : Knowledge) (es : List Shared) → Joins p s j r qs
+    → c ≡ knowledge_of j.common.items → es ≡ j.shared.items → clash s (all_have r qs) r qs ≡ some_clash s c es
+clash_told p s j r qs c es h is_c is_es = clash_by s r qs j.shared.items h.shares ∙ sym (rw (is_c, is_es, h.common) refl)
+
+-- what an arm binds is a variable of its own
+and_two : (a b c : Bool) → (a && (not b && c)) ≡ true → (b ≡ false) × (c ≡ true)
+and_two true false true e = (refl, refl)
+and_two true false false e = absurd (cc)
+and_two true true c e = absurd (cc)
+and_two false b c e = absurd (cc)
+
+and_end : (a b : Bool) → (not a && b) ≡ true → b ≡ true
+and_end true b e = absurd (cc)
+and_end false b e = e
+
+pub touched : (p : ℕ → Bool) (view : View) (own : List ℕ) (s m r : Knowledge) (x : ℕ) → IsArm view own s m → x < length view.outside.local.now.places.items
+    → gained p (knowledge_of view.before.now) r (seen view.outside.local.now.places.items m) x ≡ true → times (slice_index view.outside.local.now.places.items x) own ≢ 0
+touched p view own s m r x arm lt e = λ none.
+    let xs = view.outside.local.now.places.items in
+    let parts = and_two (p x) (is_bound (known_at (knowledge_of view.before.now) x)) _ e in
+    let bound = and_end (is_bound (known_at r x)) (is_bound (known_at (seen xs m) x)) parts.1 in
+    let same : known_at (seen xs m) x ≡ known_at (seen xs s) x = known_at-seen xs m x lt ∙ (arm.leaves.same (slice_index xs x) none ∙ sym (known_at-seen xs s x lt)) in
+    let before : is_bound (known_at (seen xs s) x) ≡ false = rw (← arm.before) parts.0 in
+    let after' : is_bound (known_at (seen xs s) x) ≡ true = rw (← same) bound in
+    absurd (cc)

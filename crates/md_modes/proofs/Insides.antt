@@ -14,7 +14,7 @@ use Rattle.md_modes.specs.Goals.{Scope, variables, task_variables, goal, task}
 use Rattle.md_modes.specs.Notes.{Note, Role, is_state, binds, names_state, known_after}
 use Rattle.md_modes.specs.Tally.{IsLocal, AreCounts}
 use Rattle.md_modes.specs.Views.{Leaves, AllLeave, seen, put_all, put_verdict, seen_ends, picked, some_state, names_seen}
-use Rattle.md_modes.specs.Joins.{occurs, Ends, Reaches}
+use Rattle.md_modes.specs.Joins.{occurs, Ends, IsArm, Reaches}
 use Rattle.md_modes.specs.Clauses.{scope_at}
 use Rattle.md_modes.specs.Inside.{IsViewOf, AreAmong}
 use Rattle.md_modes.proofs.Counts.{times-append}
@@ -48,6 +48,17 @@ views_leave k view vars s c d p t a b h first second is then' =
 pub put_back : (k : Clause) (view : View) (vars : List ℕ) (s r now : Knowledge) → IsViewOf k view vars s → Leaves (places_of view) s r
     → now ≡ put_all (places_of view) (knowledge_of view.before.now) r → now ≡ s
 put_back k view vars s r now h leaves is = is ∙ (ap (λ ks. put_all (places_of view) ks r) h.before ∙ restored (places_of view) s r leaves)
+
+-- the variables of an arm, of which what was known before is put back
+pub put_own : (own : List ℕ) (s r b now : Knowledge) → b ≡ seen own s → Leaves own s r → now ≡ put_all own b r → now ≡ s
+put_own own s r b now before leaves is = is ∙ (ap (λ ks. put_all own ks r) before ∙ restored own s r leaves)
+
+-- an arm leaves alone all but its own variables
+pub own_leaves : (own counts : List ℕ) (s : Knowledge) (c : Scope) (p : Part) (a : After) → IsLocal own counts (variables p) → goal c p s ≡ Ok a → Leaves own s a.known
+own_leaves own counts s c p a h is = leaves_among (variables p) own s a.known (λ x e. h.all x e) (goal_leaves c p s a is)
+
+pub is_arm : (k : Clause) (view : View) (vars own : List ℕ) (s r : Knowledge) → IsViewOf k view vars s → Leaves own s r → IsArm view own s r
+is_arm k view vars own s r h leaves = record { before = h.before; rising = h.local.rising; leaves = leaves }
 
 -- ---- variables among others
 

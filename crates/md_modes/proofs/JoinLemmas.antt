@@ -1,13 +1,9 @@
 -- One arm more.
-use Rattle.std.proofs.Common.{◌≡◌, refl, sym, ap, ◌∙◌, ℕ, Bool, true, false, not, ◌||◌, ◌&&◌, List, [], ◌∷◌, ◌++◌, cond, length, get_or}
+use Rattle.std.proofs.Common.{◌≡◌, refl, ap, ◌∙◌, ℕ, Bool, true, false, not, ◌||◌, List, [], ◌∷◌, ◌++◌, cond}
 use Rattle.std.proofs.Math.Bool.{or-false}
-use Rattle.md_modes.specs.declared.joined.Joined.{Joined}
-use Rattle.md_binding.specs.Known.{Known, Knowledge, known_at, is_newly_bound, some_below}
-use Rattle.md_binding.specs.Kinds.{knowledge_of}
-use Rattle.md_modes.specs.Joins.{Joins}
-use Rattle.md_modes.proofs.Below.{some_below-same}
+use Rattle.md_binding.specs.Known.{Known, Knowledge, known_at}
 use Rattle.md_binding.specs.Common.{is_alike}
-use Rattle.md_modes.specs.Branches.{After, in_common, all_have, some_unlike, differ, some_differ, reachable, clash}
+use Rattle.md_modes.specs.Branches.{After, in_common, all_have, some_unlike, differ, some_differ, reachable}
 
 or_again : (a b c : Bool) → (a || (b || c)) ≡ ((a || b) || c)
 or_again true b c = refl
@@ -35,29 +31,3 @@ chosen false k rs qs ts e = e
 pub reachable-more : (a : After) (ends : List After) → reachable (ends ++ a ∷ []) ≡ reachable ends ++ reachable (a ∷ [])
 reachable-more a [] = refl
 reachable-more a (e ∷ ends) = chosen e.reach e.known (reachable (ends ++ a ∷ [])) (reachable ends) (reachable (a ∷ [])) (reachable-more a ends)
-
-pub joins_more : (p : ℕ → Bool) (s : Knowledge) (j i : Joined) (r : Knowledge) (qs : List Knowledge) (q : Knowledge) → Joins p s j r qs
-    → knowledge_of i.first.items ≡ knowledge_of j.first.items
-    → knowledge_of i.common.items ≡ in_common (knowledge_of j.common.items) q
-    → length i.unlike.items ≡ length j.unlike.items → length i.first.items ≡ length j.first.items
-    → ((x : ℕ) → get_or i.unlike.items x false ≡ (get_or j.unlike.items x false || not (is_alike (known_at (knowledge_of j.first.items) x) (known_at q x))))
-    → i.differ ≡ (j.differ || differ p s (knowledge_of j.first.items) q)
-    → Joins p s i r (qs ++ q ∷ [])
-joins_more p s j i r qs q h first common unlikes firsts noted parted = record {
-  first = first ∙ h.first;
-  common = common ∙ ap (λ k. in_common k q) h.common ∙ sym (all_have-more r q qs);
-  room = unlikes ∙ h.room ∙ sym firsts;
-  unlike = λ x. noted x ∙ rw (h.first, h.unlike x) (sym (some_unlike-more (known_at r x) x q qs));
-  differ = parted ∙ rw (h.first, h.differ) (sym (some_differ-more p s r q qs));
-}
-
--- whether the arms clash, by what is kept of them
-pub clash_is : (p : ℕ → Bool) (s : Knowledge) (j : Joined) (r : Knowledge) (qs : List Knowledge) → Joins p s j r qs
-    → clash s (all_have r qs) r qs
-    ≡ some_below (length (knowledge_of j.common.items)) (λ x. is_newly_bound (known_at s x) (known_at (knowledge_of j.common.items) x) && get_or j.unlike.items x false)
-clash_is p s j r qs h =
-    rw (← h.common)
-    (some_below-same (length (knowledge_of j.common.items))
-    (λ x. is_newly_bound (known_at s x) (known_at (knowledge_of j.common.items) x) && some_unlike (known_at r x) x qs)
-    (λ x. is_newly_bound (known_at s x) (known_at (knowledge_of j.common.items) x) && get_or j.unlike.items x false)
-    (λ x. ap (λ b. is_newly_bound (known_at s x) (known_at (knowledge_of j.common.items) x) && b) (sym (h.unlike x))))

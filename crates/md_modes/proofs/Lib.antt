@@ -4,8 +4,6 @@ pub mod Listed
 pub mod Locals
 pub mod ViewLoops
 pub mod Below
-pub mod Common
-pub mod Noted
 pub mod JoinLemmas
 pub mod ArmLemmas
 pub mod GoalLemmas
@@ -16,4 +14,6 @@ pub mod KnownLemmas
 pub mod Leaving
 pub mod Frames
 pub mod Views
+pub mod ShareLoops
+pub mod Sharing
 pub mod Insides

@@ -39,7 +39,7 @@ rising-more n (y ∷ xs) x h le less =
 pub times_self : (x : ℕ) → times x (x ∷ []) ≡ 1
 times_self x = rw (eq-eqb x x refl) refl
 
-apart_cond : (x y : ℕ) (n : ℕ) → x ≢ y → cond (nat_eq x y) (suc n) n ≡ n
+pub apart_cond : (x y : ℕ) (n : ℕ) → x ≢ y → cond (nat_eq x y) (suc n) n ≡ n
 apart_cond x y n ne = elim (cases_eq x y) [
   | inl same ↦ absurd (ne same)
   | inr other ↦ grind (arith, other)
@@ -194,7 +194,7 @@ added_new places counts vars x e h bound = new_place places counts vars x h (all
 pub nothing_local : (places counts : List ℕ) → places ≡ [] → counts ≡ [] → IsLocal places counts []
 nothing_local places counts e f = rw (e, f) (record { rising = tt; room = refl; counted = λ i lt. absurd (omega (arith, lt)); all = λ x h. refl; only = λ x h. refl })
 
-take-more : (xs : List ℕ) (i : ℕ) → i < length xs → take (suc i) xs ≡ take i xs ++ slice_index xs i ∷ []
+pub take-more : (xs : List ℕ) (i : ℕ) → i < length xs → take (suc i) xs ≡ take i xs ++ slice_index xs i ∷ []
 take-more [] i lt = absurd (omega (arith, lt))
 take-more (x ∷ xs) zero lt = refl
 take-more (x ∷ xs) (suc i) lt = ap (λ ys. x ∷ ys) (take-more xs i (omega (arith, lt)))
@@ -272,3 +272,32 @@ not_found places counts vars x r i is found h =
       | inl less ↦ let below = ends.1 j less in absurd (omega (arith, below, same))
       | inr more ↦ let above = ends.2 j more lt in absurd (omega (arith, above, same))
     ])))
+
+same_number : (xs : List ℕ) (i j : ℕ) → Rising 0 xs → i < length xs → j < length xs → slice_index xs i ≡ slice_index xs j → i ≡ j
+same_number xs i j h lt lt' same = elim (cases_lt i j) [
+  | inl less ↦ let apart = rising-less 0 xs i j h less lt' in absurd (omega (arith, apart, same))
+  | inr more ↦ elim (cases_eq i j) [
+    | inl e ↦ e
+    | inr ne ↦ let apart = rising-less 0 xs j i h (omega (arith, more, ne)) lt in absurd (omega (arith, apart, same))
+  ]
+]
+
+-- a search finds the number of what stands there
+pub number_found : (places : List ℕ) (y x : ℕ) (r : Result ℕ ℕ) (i : ℕ) → r ≡ Ok i → IsBinarySearchResult (λ z. nat_cmp z y) places r → Rising 0 places
+    → x < length places → slice_index places x ≡ y → i ≡ x
+number_found places y x r i is found h lt there =
+    let ends = subst (λ (q : Result ℕ ℕ). MatchResult q (λ i. (i < length places) × (get_or places i 0 ≡ y))
+    (λ i. (i ≤ length places) × ((k : ℕ) → k < i → get_or places k 0 < y) × ((k : ℕ) → i ≤ k → k < length places → y < get_or places k 0)))
+    is (searched places y r found (rising-sorted places h)) in
+    same_number places i x h ends.0 lt (ends.1 ∙ sym there)
+
+pub number_missed : (places : List ℕ) (y x : ℕ) (r : Result ℕ ℕ) (i : ℕ) → r ≡ Err i → IsBinarySearchResult (λ z. nat_cmp z y) places r → Rising 0 places
+    → x < length places → slice_index places x ≡ y → ⊥
+number_missed places y x r i is found h lt there =
+    let ends = subst (λ (q : Result ℕ ℕ). MatchResult q (λ i. (i < length places) × (get_or places i 0 ≡ y))
+    (λ i. (i ≤ length places) × ((k : ℕ) → k < i → get_or places k 0 < y) × ((k : ℕ) → i ≤ k → k < length places → y < get_or places k 0)))
+    is (searched places y r found (rising-sorted places h)) in
+    elim (cases_lt x i) [
+      | inl less ↦ let below = ends.1 x less in absurd (omega (arith, below, there))
+      | inr more ↦ let above = ends.2 x more lt in absurd (omega (arith, above, there))
+    ]

@@ -36,18 +36,18 @@ restored (x ∷ xs) s r h = restored xs s (put r x (known_at s x)) (record { siz
 
 -- ---- some place has a property
 
-same_tests : (a b : Bool) → (a ≡ true → b ≡ true) → (b ≡ true → a ≡ true) → a ≡ b
+pub same_tests : (a b : Bool) → (a ≡ true → b ≡ true) → (b ≡ true → a ≡ true) → a ≡ b
 same_tests true b f g = sym (f refl)
 same_tests false true f g = g refl
 same_tests false false f g = refl
 
-abbrev Witness : ℕ → (ℕ → Bool) → Type 0
+abbrev pub Witness : ℕ → (ℕ → Bool) → Type 0
 Witness n p = (i : ℕ) × (i < n) × (p i ≡ true)
 
 later_witness : (n : ℕ) (p : ℕ → Bool) → Witness n p → Witness (suc n) p
 later_witness n p w = (w.0, omega (arith, w.1), w.2)
 
-some_below-witness : (n : ℕ) (p : ℕ → Bool) → some_below n p ≡ true → Witness n p
+pub some_below-witness : (n : ℕ) (p : ℕ → Bool) → some_below n p ≡ true → Witness n p
 some_below-witness zero p e = absurd (cc)
 some_below-witness (suc n) p e = ⊎_elim
     (λ (below : some_below n p ≡ true). later_witness n p (some_below-witness n p below))
@@ -272,7 +272,7 @@ newly_seen xs s r rising h = newly_rest 0 xs s r s r h.size (rest_whole s) (rest
 
 -- ---- some variable of a list has a property
 
-some_of-found : (f : ℕ → Bool) (xs : List ℕ) (x : ℕ) → (times x xs ≡ 0 → ⊥) → f x ≡ true → some_of f xs ≡ true
+pub some_of-found : (f : ℕ → Bool) (xs : List ℕ) (x : ℕ) → (times x xs ≡ 0 → ⊥) → f x ≡ true → some_of f xs ≡ true
 some_of-found f [] x some e = absurd (some refl)
 some_of-found f (y ∷ ys) x some e = ⊎_elim
     (λ (same : x ≡ y). or_left (f y) (some_of f ys) (ap f (sym same) ∙ e))
@@ -280,7 +280,7 @@ some_of-found f (y ∷ ys) x some e = ⊎_elim
     (cases_eq x y)
 
 -- a variable of a list has the property
-abbrev Member : (ℕ → Bool) → List ℕ → Type 0
+abbrev pub Member : (ℕ → Bool) → List ℕ → Type 0
 Member f xs = (x : ℕ) × (times x xs ≡ 0 → ⊥) × (f x ≡ true)
 
 member_first : (f : ℕ → Bool) (y : ℕ) (ys : List ℕ) → f y ≡ true → Member f (y ∷ ys)
@@ -289,7 +289,7 @@ member_first f y ys e = (y, (λ none. not_first y y ys none refl), e)
 member_rest : (f : ℕ → Bool) (y : ℕ) (ys : List ℕ) → Member f ys → Member f (y ∷ ys)
 member_rest f y ys m = (m.0, (λ none. m.1 (not_in_rest m.0 y ys none)), m.2)
 
-some_of-member : (f : ℕ → Bool) (xs : List ℕ) → some_of f xs ≡ true → Member f xs
+pub some_of-member : (f : ℕ → Bool) (xs : List ℕ) → some_of f xs ≡ true → Member f xs
 some_of-member f [] e = absurd (cc)
 some_of-member f (y ∷ ys) e = ⊎_elim
     (λ (first : f y ≡ true). member_first f y ys first)

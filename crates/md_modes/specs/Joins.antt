@@ -1,16 +1,20 @@
 -- The arms of a branch that were checked so far, as the code keeps them.
-use Rattle.std.specs.Prelude.{◌≡◌, ◌≢◌, ⊤, ℕ, Bool, true, false, List, [], ◌∷◌, length, get_or, Option, Some, None, Result, Ok, Err, Vec}
+use Rattle.std.specs.Prelude.{◌≡◌, ◌≢◌, ⊤, ℕ, Bool, true, List, [], ◌∷◌, length, Option, Some, None, Result, Ok, Err, Vec}
 use Rattle.md_binding.specs.declared.fault.ModeFault.{ModeFault}
 use Rattle.md_binding.specs.declared.fault.ModeFault.TheVariants.{NoMemory}
 use Rattle.std.specs.declared.alloc.Global.{Global}
 use Rattle.md_binding.specs.declared.mark.Mark.{Mark}
 use Rattle.md_modes.specs.declared.joined.Joined.{Joined}
 use Rattle.md_modes.specs.declared.outside.Outside.{Outside}
+use Rattle.md_modes.specs.declared.outside.View.{View}
+use Rattle.md_modes.specs.declared.end.End.{End}
 use Rattle.md_binding.specs.Verdict.{Verdict}
 use Rattle.md_binding.specs.Known.{Knowledge, known_at}
 use Rattle.md_modes.specs.Branches.{After, after, all_have, some_unlike, some_differ, reachable}
 use Rattle.md_binding.specs.Kinds.{knowledge_of}
 use Rattle.md_modes.specs.Tally.{exceeds}
+use Rattle.md_modes.specs.Views.{Rising, seen, Leaves}
+use Rattle.md_modes.specs.Shares.{Shares}
 
 -- the variable of this number among those of a goal occurs outside it
 abbrev pub occurs : Outside → ℕ → Bool
@@ -19,9 +23,9 @@ occurs o i = exceeds o.all.now o.local.now.places.items o.local.now.counts.items
 -- of arms that began with `s`, the first ends with `r` and the others with `qs`
 pub record Joins (p : ℕ → Bool) (s : Knowledge) (j : Joined) (r : Knowledge) (qs : List Knowledge) : Type 0 where
   pub first : knowledge_of j.first.items ≡ r
+  pub size : length r ≡ length s
   pub common : knowledge_of j.common.items ≡ all_have r qs
-  pub room : length j.unlike.items ≡ length j.first.items
-  pub unlike : (x : ℕ) → get_or j.unlike.items x false ≡ some_unlike (known_at r x) x qs
+  pub shares : Shares (all_have r qs) (λ x. some_unlike (known_at r x) x qs) j.shared.items
   pub differ : j.differ ≡ some_differ p s r qs
 
 abbrev pub IsJoin : (ℕ → Bool) → Knowledge → Option Joined → List Knowledge → Type 0
@@ -32,6 +36,19 @@ IsJoin p s j rs = ⊥
 -- the arms that were checked so far, which began with `s`, end so
 pub record Ends (p : ℕ → Bool) (s : Knowledge) (j : Option Joined) (ends : List After) : Type 0 where
   pub joined : IsJoin p s j (reachable ends)
+
+-- an arm with these variables ends with `r`, and all began with `s`; the view is of the branch's variables
+pub record IsArm (view : View) (own : List ℕ) (s r : Knowledge) : Type 0 where
+  pub before : knowledge_of view.before.now ≡ seen view.outside.local.now.places.items s
+  pub rising : Rising 0 view.outside.local.now.places.items
+  pub leaves : Leaves own s r
+
+-- what is known of the branch's variables at the end of an arm
+abbrev pub end_of : End → Knowledge
+end_of e = seen e.view.outside.local.now.places.items (knowledge_of e.marks.now)
+
+abbrev pub IsEnd : End → Knowledge → Type 0
+IsEnd e s = IsArm e.view e.own.now s (knowledge_of e.marks.now)
 
 -- whether the place after a goal is reachable, and what is known there, are those of the definition, unless memory is refused
 abbrev pub Reaches : Result Bool ModeFault → Knowledge → Verdict After → Type 0

@@ -5,6 +5,7 @@ pub mod Modes
 pub mod Notes
 pub mod Views
 pub mod Tally
+pub mod Shares
 pub mod Joins
 pub mod Clauses
 pub mod Classes

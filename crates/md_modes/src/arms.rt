@@ -5,8 +5,9 @@ ghost use Rattle.md_modes.specs.Branches.{After, after};
 ghost use Rattle.md_modes.specs.Branches as spec;
 ghost use Rattle.md_binding.specs.Kinds.{knowledge_of};
 ghost use Rattle.md_modes.specs.Views as views;
-ghost use Rattle.md_modes.specs.Joins.{IsJoin, Ends, Reaches, occurs};
+ghost use Rattle.md_modes.specs.Joins.{IsJoin, Ends, IsArm, IsEnd, Reaches, end_of, occurs};
 
+use crate::end::End;
 use crate::joined::Joined;
 use crate::outside::View;
 use crate::view::{put_all, seen};
@@ -14,45 +15,61 @@ use md_base::NoMemory;
 use md_binding::{Mark, ModeFault};
 use std::alloc::Global;
 
-/// One arm more, and what the arms so far whose ends are reachable have in common. Afterwards what is known of the branch's
-/// variables is what was known before it.
+/// The variables of an arm of a branch, and what was known of them before the branch.
+#[derive(Clone, Copy)]
+pub struct Own<'a, 'b> {
+    pub places: &'b [u32],
+    pub before: &'b [Mark<'a>],
+}
+
+/// One arm more, and what the arms so far whose ends are reachable have in common. Afterwards what is known of the arm's
+/// variables is what was known before the branch.
 pub fn add_arm<'a>(
     alloc: Global,
     view: View<'a, '_>,
+    own: Own<'a, '_>,
     joined: Option<Joined<'a>>,
     marks: &mut Vec<Mark<'a>>,
     reach: bool,
 ) -> Result<Option<Joined<'a>>, NoMemory>
     ensures marks { OnOk result (knowledge_of marks.new.items
-        ≡ views.put_all view.entry.outside.local.now.places.items (knowledge_of view.entry.before.now) (knowledge_of marks.old.items)) }
-    ensures ends { IfOk result (λ more. (ends : List After) → Ends (occurs view.entry.outside) (knowledge_of view.entry.before.now) joined.entry ends
+        ≡ views.put_all own.entry.places.now (knowledge_of own.entry.before.now) (knowledge_of marks.old.items)) }
+    ensures ends { IfOk result (λ more. (s : Knowledge) → (ends : List After) → IsArm view.entry own.entry.places.now s (knowledge_of marks.old.items)
+        → Ends (occurs view.entry.outside) (knowledge_of view.entry.before.now) joined.entry ends
         → Ends (occurs view.entry.outside) (knowledge_of view.entry.before.now) more
         (ends ++ after (views.seen view.entry.outside.local.now.places.items (knowledge_of marks.old.items)) reach ∷ [])) }
 {
-    let places = view.outside.local.places.as_slice();
-    let end = seen(alloc, places, marks)?;
-    put_all(marks, places, view.before);
     if !reach {
+        put_all(marks, own.places, own.before);
         return Ok(joined);
     }
-    let joined = one_more(alloc, view, joined, end)?;
-    Ok(Some(joined))
+    let end = End {
+        view,
+        own: own.places,
+        marks,
+    };
+    let more = one_more(alloc, end, joined)?;
+    put_all(marks, own.places, own.before);
+    Ok(Some(more))
 }
 
 /// One arm more whose end is reachable.
 fn one_more<'a>(
     alloc: Global,
-    view: View<'a, '_>,
+    end: End<'a, '_>,
     joined: Option<Joined<'a>>,
-    end: Vec<Mark<'a>>,
 ) -> Result<Joined<'a>, NoMemory>
-    ensures { IfOk result (λ more. (rs : List Knowledge) → IsJoin (occurs view.entry.outside) (knowledge_of view.entry.before.now) joined.entry rs
-        → IsJoin (occurs view.entry.outside) (knowledge_of view.entry.before.now) (Some more) (rs ++ knowledge_of end.entry.items ∷ [])) }
+    ensures { IfOk result (λ more. (s : Knowledge) → (rs : List Knowledge) → IsEnd end.entry s
+        → IsJoin (occurs end.entry.view.outside) (knowledge_of end.entry.view.before.now) joined.entry rs
+        → IsJoin (occurs end.entry.view.outside) (knowledge_of end.entry.view.before.now) (Some more) (rs ++ end_of end.entry ∷ [])) }
 {
     match joined {
-        None => Joined::new(alloc, end),
+        None => {
+            let marks = seen(alloc, &end.view.outside.local.places, end.marks)?;
+            Joined::new(alloc, marks)
+        }
         Some(mut joined) => {
-            joined.add(view, &end);
+            joined.add(alloc, end)?;
             Ok(joined)
         }
     }

@@ -10,7 +10,7 @@ ghost use Rattle.md_modes.specs.Inside.{IsViewOf, AreAmong, inside};
 ghost use Rattle.md_modes.specs.Clauses.{scope_at};
 ghost use Rattle.md_binding.specs.Kinds.{knowledge_of};
 
-use crate::arms::{add_arm, end_arms};
+use crate::arms::{Own, add_arm, end_arms};
 use crate::class::Note;
 use crate::clause::Clause;
 use crate::finding::{Change, class_of};
@@ -89,9 +89,13 @@ impl<'a, 'b> Clause<'a, 'b> {
             GoalKind::If(condition, then, otherwise) => {
                 self.check_condition(alloc, marks, view, goal.line, condition, notes)?;
                 let reach = self.check(alloc, marks, strict, then, notes)?;
-                let joined = add_arm(alloc, view, None, marks, reach)?;
+                let own = Own {
+                    places: &view.outside.local.places,
+                    before: view.before,
+                };
+                let joined = add_arm(alloc, view, own, None, marks, reach)?;
                 let reach = self.check(alloc, marks, strict, otherwise, notes)?;
-                let joined = add_arm(alloc, view, joined, marks, reach)?;
+                let joined = add_arm(alloc, view, own, joined, marks, reach)?;
                 end_arms(view, joined, marks, goal.line)
             }
             GoalKind::Not(inner) => self.check_inside(alloc, marks, view, at, &[], inner, notes),
@@ -143,8 +147,14 @@ impl<'a, 'b> Clause<'a, 'b> {
     {
         let mut joined = None;
         for goal in goals {
+            let local = Local::new(alloc, &goal.kind)?;
+            let before = seen(alloc, &local.places, marks)?;
             let reach = self.check(alloc, marks, at.strict, goal, notes)?;
-            joined = add_arm(alloc, view, joined, marks, reach)?;
+            let own = Own {
+                places: &local.places,
+                before: &before,
+            };
+            joined = add_arm(alloc, view, own, joined, marks, reach)?;
         }
         end_arms(view, joined, marks, at.line)
     }

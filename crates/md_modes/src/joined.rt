@@ -1,15 +1,23 @@
 // What several arms of a branch have in common.
-ghost use Rattle.std.specs.Prelude.{◌≡◌, ℕ, Bool, List, [], ◌∷◌, ◌++◌, ◌&&◌, ◌||◌, not, false, length, get_or, IfOk, OnOk};
-ghost use Rattle.md_binding.specs.Known.{Knowledge, known_at, is_newly_bound, some_below};
-ghost use Rattle.md_modes.specs.Branches.{in_common, joined_ends};
-ghost use Rattle.md_binding.specs.Common.{is_alike};
-ghost use Rattle.md_binding.specs.Kinds.{knowledge_of};
-ghost use Rattle.md_modes.specs.Joins.{Joins, IsJoined, occurs};
+ghost use Rattle.std.specs.Prelude.{◌≡◌, ℕ, Bool, List, [], ◌∷◌, ◌++◌, ◌||◌, length, IfOk, OnOk};
+ghost use Rattle.md_binding.specs.Known.{Knowledge, put};
+ghost use Rattle.md_modes.specs.Branches.{joined_ends};
+ghost use Rattle.md_binding.specs.Kinds.{known_of, knowledge_of};
+ghost use Rattle.md_modes.specs.Joins.{Joins, IsJoined, IsEnd, end_of, occurs};
+ghost use Rattle.md_modes.specs.Shares as spec;
 
-use crate::outside::{View, differ};
+use crate::end::End;
 use md_base::NoMemory;
 use md_binding::{Mark, ModeFault, mark_in};
 use std::alloc::Global;
+
+/// A variable that all arms so far bind, by its number among those of the branch.
+#[derive(Clone, Copy, Debug)]
+pub struct Shared {
+    pub number: usize,
+    /// Whether some arm binds it with another type than the first.
+    pub unlike: bool,
+}
 
 /// Arms whose ends are reachable.
 #[derive(Drop)]
@@ -18,8 +26,8 @@ pub struct Joined<'a> {
     pub first: Vec<Mark<'a>>,
     /// What all have in common.
     pub common: Vec<Mark<'a>>,
-    /// Whether some arm binds the variable with another type than the first.
-    pub unlike: Vec<bool>,
+    /// The variables that all bind.
+    pub shared: Vec<Shared>,
     /// Whether an arm binds a variable that occurs outside the branch and the first doesn't, or the other way round.
     pub differ: bool,
 }
@@ -27,25 +35,28 @@ pub struct Joined<'a> {
 impl<'a> Joined<'a> {
     /// One arm, at the end of which this is known.
     pub fn new(alloc: Global, marks: Vec<Mark<'a>>) -> Result<Joined<'a>, NoMemory>
-        ensures { IfOk result (λ joined. (p : ℕ → Bool) → (s : Knowledge) → Joins p s joined (knowledge_of marks.entry.items) []) }
+        ensures { IfOk result (λ joined. (p : ℕ → Bool) → (s : Knowledge) → length (knowledge_of marks.entry.items) ≡ length s
+            → Joins p s joined (knowledge_of marks.entry.items) []) }
     {
         Ok(Joined {
             common: Vec::from_slice(alloc, &marks)?,
-            unlike: none_of(alloc, marks.len())?,
+            shared: begun(alloc, &marks)?,
             first: marks,
             differ: false,
         })
     }
 
-    /// One arm more; all began with what was known before.
-    pub fn add(&mut self, view: View<'a, '_>, marks: &[Mark<'a>])
-        ensures { (r : Knowledge) → (qs : List Knowledge)
-            → Joins (occurs view.entry.outside) (knowledge_of view.entry.before.now) self.old r qs
-            → Joins (occurs view.entry.outside) (knowledge_of view.entry.before.now) self.new r (qs ++ knowledge_of marks.now ∷ []) }
+    /// One arm more. Takes time for the variables of the arm, and for those that all arms so far bind.
+    pub fn add(&mut self, alloc: Global, end: End<'a, '_>) -> Result<(), NoMemory>
+        ensures { OnOk result ((s r : Knowledge) → (qs : List Knowledge) → IsEnd end.entry s
+            → Joins (occurs end.entry.view.outside) (knowledge_of end.entry.view.before.now) self.old r qs
+            → Joins (occurs end.entry.view.outside) (knowledge_of end.entry.view.before.now) self.new r (qs ++ end_of end.entry ∷ [])) }
     {
-        self.differ = self.differ || differ(view.outside, view.before, &self.first, marks);
-        note_unlike(&mut self.unlike, &self.first, marks);
-        keep_common(&mut self.common, marks);
+        let gains = end.gains(&self.first);
+        let loses = end.loses(&self.common, &self.shared);
+        self.differ = either(self.differ, either(gains, loses));
+        self.shared = keep(alloc, &self.first, &mut self.common, &self.shared, end)?;
+        Ok(())
     }
 
     /// What is known after the arms, which began with what was known before.
@@ -56,62 +67,83 @@ impl<'a> Joined<'a> {
         if self.differ {
             return Err(ModeFault::BranchBinds(line));
         }
-        if clashes(before, &self.common, &self.unlike) {
+        if clashes(before, &self.common, &self.shared) {
             return Err(ModeFault::TypeClash(line));
         }
         Ok(self.common)
     }
 }
 
-/// So many variables, of which none is noted.
-fn none_of(alloc: Global, count: usize) -> Result<Vec<bool>, NoMemory>
-    ensures len { IfOk result (λ unlike. length unlike.items ≡ count) }
-    ensures none { IfOk result (λ unlike. (x : ℕ) → get_or unlike.items x false ≡ false) }
+fn either(first: bool, second: bool) -> bool
+    ensures { result ≡ (first || second) }
 {
-    let mut unlike = Vec::with_capacity(alloc, count)?;
-    for _turn in 0..count {
-        unlike.push(false)?;
-    }
-    Ok(unlike)
+    first || second
 }
 
-/// Notes the variables that an arm binds with another type than the first.
-fn note_unlike(unlike: &mut Vec<bool>, first: &[Mark<'_>], marks: &[Mark<'_>])
-    ensures len { length unlike.new.items ≡ length unlike.old.items }
-    ensures noted { length unlike.old.items ≡ length first.now → (x : ℕ) → get_or unlike.new.items x false ≡ (get_or unlike.old.items x false || not (is_alike (known_at (knowledge_of first.now) x) (known_at (knowledge_of marks.now) x))) }
+/// The variables that the first arm binds.
+fn begun(alloc: Global, marks: &[Mark<'_>]) -> Result<Vec<Shared>, NoMemory>
+    ensures { IfOk result (λ shared. shared.items ≡ spec.begun 0 (knowledge_of marks.now)) }
 {
-    for place in 0..unlike.len() {
-        if !mark_in(first, place).is_alike(mark_in(marks, place)) {
-            unlike[place] = true;
+    let mut shared = Vec::new(alloc);
+    for number in 0..marks.len() {
+        if mark_in(marks, number).is_bound() {
+            shared.push(Shared {
+                number,
+                unlike: false,
+            })?;
         }
     }
+    Ok(shared)
 }
 
-/// Keeps what an arm has in common with those before.
-fn keep_common<'a>(common: &mut Vec<Mark<'a>>, marks: &[Mark<'a>])
-    ensures { knowledge_of common.new.items ≡ in_common (knowledge_of common.old.items) (knowledge_of marks.now) }
+/// Keeps of what the arms so far have in common what one arm more has too, and gives the variables that it binds too.
+fn keep<'a>(
+    alloc: Global,
+    first: &[Mark<'a>],
+    common: &mut Vec<Mark<'a>>,
+    shared: &[Shared],
+    end: End<'a, '_>,
+) -> Result<Vec<Shared>, NoMemory>
+    ensures common { OnOk result (knowledge_of common.new.items ≡ spec.commons (knowledge_of common.old.items) (end_of end.entry) shared.now) }
+    ensures kept { IfOk result (λ kept. kept.items ≡ spec.kept (knowledge_of first.now) (knowledge_of common.old.items) (end_of end.entry) shared.now) }
 {
-    for place in 0..common.len() {
-        common[place] = common[place].common(mark_in(marks, place));
+    let mut kept = Vec::new(alloc);
+    for variable in shared {
+        let number = variable.number;
+        let last = end.mark(number);
+        let mark = mark_in(common, number).common(last);
+        set_mark_in(common, number, mark);
+        if mark.is_bound() {
+            let is_unlike = !mark_in(first, number).is_alike(last);
+            kept.push(Shared {
+                number,
+                unlike: either(variable.unlike, is_unlike),
+            })?;
+        }
+    }
+    Ok(kept)
+}
+
+/// Sets what is known of the variable of a number; past the end it does nothing.
+fn set_mark_in<'a>(marks: &mut Vec<Mark<'a>>, number: usize, mark: Mark<'a>)
+    ensures { knowledge_of marks.new.items ≡ put (knowledge_of marks.old.items) number (known_of mark.entry) }
+{
+    if number < marks.len() {
+        marks[number] = mark;
     }
 }
 
-/// Whether a variable that is free before and that all arms bind is noted.
-fn clashes(before: &[Mark<'_>], common: &[Mark<'_>], unlike: &[bool]) -> bool
-    ensures { result ≡ some_below (length (knowledge_of common.now)) (λ x. is_newly_bound (known_at (knowledge_of before.now) x) (known_at (knowledge_of common.now) x) && get_or unlike.now x false) }
+/// Whether a variable is free before, and all arms bind it, but not with one type.
+fn clashes(before: &[Mark<'_>], common: &[Mark<'_>], shared: &[Shared]) -> bool
+    ensures { result ≡ spec.some_clash (knowledge_of before.now) (knowledge_of common.now) shared.now }
 {
-    for place in 0..common.len() {
-        if Mark::is_newly_bound(mark_in(before, place), mark_in(common, place))
-            && is_noted(unlike, place)
+    for variable in shared {
+        let number = variable.number;
+        if Mark::is_newly_bound(mark_in(before, number), mark_in(common, number))
+            && variable.unlike
         {
             return true;
         }
     }
     false
-}
-
-fn is_noted(unlike: &[bool], place: usize) -> bool
-    ensures { result ≡ get_or unlike.now place false }
-{
-    place < unlike.len() && unlike[place]
 }

@@ -8,6 +8,7 @@ mod class;
 mod clause;
 mod copies;
 mod declarations;
+mod end;
 mod ends;
 mod finding;
 mod goals;

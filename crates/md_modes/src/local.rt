@@ -1,9 +1,10 @@
 // The variables of one goal.
-ghost use Rattle.std.specs.Prelude.{◌≡◌, ℕ, List, [], ◌∷◌, ◌++◌, IfOk, OnOk};
+ghost use Rattle.std.specs.Prelude.{◌≡◌, ◌<◌, ℕ, List, [], ◌∷◌, ◌++◌, length, slice_index, IfOk, OnOk};
 ghost use Rattle.std.specs.List.Sorted.{IsNonDecreasing};
 ghost use Rattle.md_hlds.specs.Part.{task_of};
 ghost use Rattle.md_binding.specs.Known.{times};
 ghost use Rattle.md_modes.specs.Goals.{task_variables};
+ghost use Rattle.md_modes.specs.Views.{Rising};
 ghost use Rattle.md_modes.specs.Tally.{IsLocal, IsNoLess, ends_with, count_last};
 
 use crate::occurrences::variables_of;
@@ -55,6 +56,16 @@ impl Local {
         self.places.push(place)?;
         self.counts.push(1)?;
         Ok(())
+    }
+
+    /// The number of a variable among those of the goal, from 0; past their end, where it isn't one of them.
+    pub fn number_of(&self, place: u32) -> usize
+        ensures { Rising 0 self.now.places.items → (x : ℕ) → x < length self.now.places.items → slice_index self.now.places.items x ≡ place → result ≡ x }
+    {
+        match self.places.binary_search(&place) {
+            Ok(number) => number,
+            Err(_) => self.places.len(),
+        }
     }
 
     /// How often a variable occurs in the goal.

@@ -1,6 +1,6 @@
 // The variables that occur outside a goal, and what a branch may bind.
 ghost use Rattle.std.specs.Prelude.{◌≡◌, ℕ, List, slice_index};
-ghost use Rattle.md_modes.specs.Branches.{binds_some, differ, some_of, outside};
+ghost use Rattle.md_modes.specs.Branches.{binds_some, some_of, outside};
 ghost use Rattle.md_modes.specs.Tally.{AreCounts, IsLocal};
 ghost use Rattle.md_modes.specs.Joins.{occurs};
 ghost use Rattle.md_binding.specs.Kinds.{knowledge_of};
@@ -64,26 +64,6 @@ pub fn binds_some(outside: Outside<'_>, before: &[Mark<'_>], after: &[Mark<'_>])
     for number in 0..before.len() {
         if outside.has(number)
             && Mark::is_newly_bound(mark_in(before, number), mark_in(after, number))
-        {
-            return true;
-        }
-    }
-    false
-}
-
-/// Whether a variable that occurs outside is free before, and bound by one of two arms and not by the other.
-pub fn differ(
-    outside: Outside<'_>,
-    before: &[Mark<'_>],
-    first: &[Mark<'_>],
-    other: &[Mark<'_>],
-) -> bool
-    ensures { result ≡ differ (occurs outside.entry) (knowledge_of before.now) (knowledge_of first.now) (knowledge_of other.now) }
-{
-    for number in 0..before.len() {
-        if outside.has(number)
-            && !mark_in(before, number).is_bound()
-            && mark_in(first, number).disagree(mark_in(other, number))
         {
             return true;
         }

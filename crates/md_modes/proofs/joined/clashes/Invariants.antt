@@ -1,7 +1,8 @@
-use Rattle.std.proofs.Common.{◌≡◌, false, ◌&&◌, get_or}
-use Rattle.md_binding.specs.Known.{known_at, is_newly_bound, some_below}
+use Rattle.std.proofs.Common.{◌≡◌, drop}
 use Rattle.md_binding.specs.Kinds.{knowledge_of}
+use Rattle.md_modes.specs.Shares.{some_clash}
 use Rattle.md_modes.proofs.joined.clashes.Given as goal
 
-abbrev pub invariant-loop-place : goal.invariant-loop-place
-invariant-loop-place l = some_below l.place (λ x. is_newly_bound (known_at (knowledge_of l.before) x) (known_at (knowledge_of l.common) x) && get_or l.unlike x false) ≡ false
+abbrev pub invariant-loop-variable : goal.invariant-loop-variable
+invariant-loop-variable l =
+    some_clash (knowledge_of l.before) (knowledge_of l.common) l.shared ≡ some_clash (knowledge_of l.before) (knowledge_of l.common) (drop l.variable-index l.shared)

@@ -8,12 +8,12 @@ use Rattle.md_modes.specs.Goals.{goal, task, each, arms, variables}
 use Rattle.md_modes.specs.Notes.{inner_notes, each_notes, arm_notes}
 use Rattle.md_modes.specs.Classes.{notes_told}
 use Rattle.md_modes.specs.Joins.{occurs, Ends}
-use Rattle.md_modes.specs.Views.{seen, put_all, seen_ends}
+use Rattle.md_modes.specs.Views.{seen, put_all, seen_ends, Leaves}
 use Rattle.md_modes.specs.Clauses.{scope_at}
 use Rattle.md_modes.proofs.ArmLemmas.{no_ends, seen_ends-more, all_leave-more}
 use Rattle.md_modes.proofs.Choices.{reaches_along, conj_is, disj_is, choose_is, three_variables, inside_ok, inside_by, inside_binds, condition_fault, then_fault, else_fault, choose_joined, once_fault, once_outside, once_right}
 use Rattle.md_modes.proofs.GoalLemmas.{arms-begin, arms-more, arms-fault, either_fault, arms-end}
-use Rattle.md_modes.proofs.Insides.{places_of, view_leaves, views_leave, put_back, among_first, among_others, among_itself, among_second, among_third, among_goals, binds_by, branch_end, own_note, view_counts, view_along, ends_seen, ends_viewed, reaches_from}
+use Rattle.md_modes.proofs.Insides.{places_of, view_leaves, views_leave, put_back, put_own, own_leaves, is_arm, among_first, among_others, among_itself, among_second, among_third, among_goals, binds_by, branch_end, own_note, view_counts, view_along, ends_seen, ends_viewed, reaches_from}
 use Rattle.md_modes.proofs.Listed.{goals_variables, goals_variables-Disj, variables-If}
 use Rattle.md_modes.proofs.Notings.{within_notes, goal_notes, notes_along, each_notes_is, arm_notes_is, arms-loop, arms-loop-end, choice_notes, choice_notes_is, always}
 use Rattle.md_modes.proofs.clause.Clause.+goals.Goals as goals
@@ -53,7 +53,7 @@ check_arms-returns-in_err-reach-clause-reaches t c view =
     let scope = scope_at c.args.self.now c.args.at.strict in
     let s = knowledge_of c.args.marks.now.items in
     let inv = c.loop-goal.invariant view in
-    let told = err_from_is_err_and c.from_residual.result c.from_residual.ensures.1 in
+    let told = err_from_is_err_and c.from_residual-in_err-reach.result c.from_residual-in_err-reach.ensures.1 in
     rw (told.1, told.2)
     (λ ne.
     either_fault scope c.args.at.line (gathered (parts_of c.args.goals.now)) s c.in_err-reach.field-0.0
@@ -76,16 +76,21 @@ check_arms-loop-goal-preserved t c h =
     let p = occurs view.outside in
     let found : goal scope (part_of g) s ≡ Ok a = rw (← inv.known) c.in_ok-reach.ensures.reaches in
     let leaves = view_leaves k view vars s scope (part_of g) a h (among_goals gs i g c.loop-goal-test.true c.goal-item.is) found in
+    let own = c.deref-in-loop-goal-2.result.now in
+    let same : own ≡ c.in_ok-local.local.places.items = c.deref-in-loop-goal-2.ensures.value in
+    let before : knowledge_of c.deref-in-loop-goal-3.result.now ≡ seen own s =
+    ap knowledge_of c.deref-in-loop-goal-3.ensures.value ∙ (c.in_ok-before.ensures.known ∙ rw (c.deref.ensures.value, c.deref-in-loop-goal.ensures.value, inv.known, same) refl) in
+    let alone : Leaves own s r = rw same (own_leaves c.in_ok-local.local.places.items c.in_ok-local.local.counts.items s scope (part_of g) a c.in_ok-local.ensures found) in
     let ends = seen_ends (places_of view) inv.ends in
     record {
       ends = inv.ends ++ a ∷ [];
       are_ends =
           subst (λ (es : List After). Ends p (seen (places_of view) s) c.in_ok-joined.joined es) (sym (seen_ends-more (places_of view) inv.ends a))
           (ends_seen k view vars s p c.in_ok-joined.joined _ h
-          (c.in_ok-joined.ensures.ends ends (ends_viewed k view vars s p c.loop-goal.joined ends h inv.are_ends)));
+          (c.in_ok-joined.ensures.ends s ends (is_arm k view vars own s r h alone) (ends_viewed k view vars s p c.loop-goal.joined ends h inv.are_ends)));
       leave = all_leave-more (places_of view) s inv.ends a inv.leave leaves;
       rest = inv.rest ∙ rw add-one (arms-more scope gs i g s a inv.ends c.loop-goal-test.true c.goal-item.is found);
-      known = put_back k view vars s r (knowledge_of c.add_arm.new.marks.items) h leaves c.in_ok-joined.ensures.marks;
+      known = put_own own s r (knowledge_of c.deref-in-loop-goal-3.result.now) (knowledge_of c.add_arm.new.marks.items) before alone c.in_ok-joined.ensures.marks;
       noted = arms-loop scope gs i g s (notes_told c.loop-goal.notes.items) (notes_told c.check.new.notes.items) _ c.loop-goal-test.true c.goal-item.is
           (rw (← inv.known) c.in_ok-reach.ensures.notes) inv.noted;
     }
@@ -227,22 +232,26 @@ check_kind-returns-in_err-reach-in-If-2-clause-reaches t c =
     let s = knowledge_of c.args.marks.now.items in
     let g = c.deref.result.now in
     let h = c.deref-in-If.result.now in
-    let j = c.deref-in-If-2.result.now in
+    let j = c.deref-in-If-3.result.now in
     let p = part_of g in
     let t' = part_of h in
     let e = part_of j in
     let vars = three_variables p t' e in
     let view = view_along k c.args.view _ vars s
-    (variables-If kind c.in-If.condition c.in-If.then c.in-If.otherwise g h j c.in-If.is c.deref.ensures c.deref-in-If.ensures c.deref-in-If-2.ensures) c.requires.view in
+    (variables-If kind c.in-If.condition c.in-If.then c.in-If.otherwise g h j c.in-If.is c.deref.ensures c.deref-in-If.ensures c.deref-in-If-3.ensures) c.requires.view in
     let a = after (knowledge_of c.check_condition.new.marks.items) c.in_ok-check_condition-in-If.field-0 in
     let first = c.in_ok-check_condition-in-If.ensures.reaches vars view (among_first _ _) in
     let b = after (knowledge_of c.check.new.marks.items) c.in_ok-reach-in-If.reach in
     let then' : goal scope t' a.known ≡ Ok b = c.in_ok-reach-in-If.ensures.reaches in
     let leaves = views_leave k c.args.view vars s (scope_at k true) scope p t' a b view (among_first _ _) (among_second p t' e) (inside_ok (scope_at k true) l vars p s a first) then' in
-    let back = put_back k c.args.view vars s b.known (knowledge_of c.add_arm.new.marks.items) view leaves c.in_ok-joined-in-If.ensures.marks in
+    let own = c.deref-in-If-2.result.now in
+    let same : own ≡ places_of c.args.view = c.deref-in-If-2.ensures.value in
+    let before : knowledge_of c.args.view.before.now ≡ seen own s = view.before ∙ rw same refl in
+    let alone : Leaves own s b.known = rw same leaves in
+    let back = put_own own s b.known (knowledge_of c.args.view.before.now) (knowledge_of c.add_arm.new.marks.items) before alone c.in_ok-joined-in-If.ensures.marks in
     let told = err_from_is_err_and c.from_residual-in_err-reach-in-If-2.result c.from_residual-in_err-reach-in-If-2.ensures.1 in
     rw (told.1, told.2)
-    (λ ne. choose_is scope l kind c.in-If.condition c.in-If.then c.in-If.otherwise g h j s c.in-If.is c.deref.ensures c.deref-in-If.ensures c.deref-in-If-2.ensures
+    (λ ne. choose_is scope l kind c.in-If.condition c.in-If.then c.in-If.otherwise g h j s c.in-If.is c.deref.ensures c.deref-in-If.ensures c.deref-in-If-3.ensures
     ∙ else_fault scope l p t' e s a b _ first then' (rw (← back) (c.in_err-reach-in-If-2.ensures.reaches ne)))
 
 pub check_kind-returns-in-Conj-clause-reaches : goals.check_kind-returns-in-Conj-clause-reaches
@@ -289,28 +298,34 @@ check_kind-returns-in_ok-joined-in-If-2-clause-reaches t c =
     let s = knowledge_of c.args.marks.now.items in
     let g = c.deref.result.now in
     let h = c.deref-in-If.result.now in
-    let j = c.deref-in-If-2.result.now in
+    let j = c.deref-in-If-3.result.now in
     let p = part_of g in
     let t' = part_of h in
     let e = part_of j in
     let vars = three_variables p t' e in
     let view = view_along k c.args.view _ vars s
-    (variables-If kind c.in-If.condition c.in-If.then c.in-If.otherwise g h j c.in-If.is c.deref.ensures c.deref-in-If.ensures c.deref-in-If-2.ensures) c.requires.view in
+    (variables-If kind c.in-If.condition c.in-If.then c.in-If.otherwise g h j c.in-If.is c.deref.ensures c.deref-in-If.ensures c.deref-in-If-3.ensures) c.requires.view in
     let a = after (knowledge_of c.check_condition.new.marks.items) c.in_ok-check_condition-in-If.field-0 in
     let first = c.in_ok-check_condition-in-If.ensures.reaches vars view (among_first _ _) in
     let b = after (knowledge_of c.check.new.marks.items) c.in_ok-reach-in-If.reach in
     let then' : goal scope t' a.known ≡ Ok b = c.in_ok-reach-in-If.ensures.reaches in
     let leaves = views_leave k c.args.view vars s (scope_at k true) scope p t' a b view (among_first _ _) (among_second p t' e) (inside_ok (scope_at k true) l vars p s a first) then' in
-    let back = put_back k c.args.view vars s b.known (knowledge_of c.add_arm.new.marks.items) view leaves c.in_ok-joined-in-If.ensures.marks in
+    let own = c.deref-in-If-2.result.now in
+    let same : own ≡ places_of c.args.view = c.deref-in-If-2.ensures.value in
+    let before : knowledge_of c.args.view.before.now ≡ seen own s = view.before ∙ rw same refl in
+    let alone : Leaves own s b.known = rw same leaves in
+    let back = put_own own s b.known (knowledge_of c.args.view.before.now) (knowledge_of c.add_arm.new.marks.items) before alone c.in_ok-joined-in-If.ensures.marks in
     let d = after (knowledge_of c.check-in-If.new.marks.items) c.in_ok-reach-in-If-2.reach in
     let else' : goal scope e s ≡ Ok d = rw (← back) c.in_ok-reach-in-If-2.ensures.reaches in
     let leaves' = view_leaves k c.args.view vars s scope e d view (among_third p t' e) else' in
-    let back' = put_back k c.args.view vars s d.known (knowledge_of c.add_arm-in-If.new.marks.items) view leaves' c.in_ok-joined-in-If-2.ensures.marks in
+    let alone' : Leaves own s d.known = rw same leaves' in
+    let back' = put_own own s d.known (knowledge_of c.args.view.before.now) (knowledge_of c.add_arm-in-If.new.marks.items) before alone' c.in_ok-joined-in-If-2.ensures.marks in
     let ends = seen_ends (places_of c.args.view) (b ∷ d ∷ []) in
-    let two = c.in_ok-joined-in-If-2.ensures.ends _ (c.in_ok-joined-in-If.ensures.ends [] (no_ends _ _)) in
+    let two = c.in_ok-joined-in-If-2.ensures.ends s _ (is_arm k c.args.view vars own s d.known view alone')
+    (c.in_ok-joined-in-If.ensures.ends s [] (is_arm k c.args.view vars own s b.known view alone) (no_ends _ _)) in
     let now = knowledge_of c.end_arms.new.marks.items in
     branch_end k c.args.view vars s now c.args.strict l (b ∷ d ∷ []) c.end_arms.result _ view (leaves, (leaves', tt))
-    (choose_is scope l kind c.in-If.condition c.in-If.then c.in-If.otherwise g h j s c.in-If.is c.deref.ensures c.deref-in-If.ensures c.deref-in-If-2.ensures
+    (choose_is scope l kind c.in-If.condition c.in-If.then c.in-If.otherwise g h j s c.in-If.is c.deref.ensures c.deref-in-If.ensures c.deref-in-If-3.ensures
     ∙ choose_joined scope l p t' e s a b d first then' else')
     (reaches_from c.end_arms.result now (knowledge_of c.add_arm-in-If.new.marks.items) s (places_of c.args.view) _ back'
     (c.end_arms.ensures (occurs c.args.view.outside) ends two (view.before ∙ ap (seen (places_of c.args.view)) (sym back'))))
@@ -324,20 +339,24 @@ check_kind-returns-in_ok-joined-in-If-2-clause-notes t c =
     let s = knowledge_of c.args.marks.now.items in
     let g = c.deref.result.now in
     let h = c.deref-in-If.result.now in
-    let j = c.deref-in-If-2.result.now in
+    let j = c.deref-in-If-3.result.now in
     let p = part_of g in
     let t' = part_of h in
     let e = part_of j in
     let vars = three_variables p t' e in
     let view = view_along k c.args.view _ vars s
-    (variables-If kind c.in-If.condition c.in-If.then c.in-If.otherwise g h j c.in-If.is c.deref.ensures c.deref-in-If.ensures c.deref-in-If-2.ensures) c.requires.view in
+    (variables-If kind c.in-If.condition c.in-If.then c.in-If.otherwise g h j c.in-If.is c.deref.ensures c.deref-in-If.ensures c.deref-in-If-3.ensures) c.requires.view in
     let a = after (knowledge_of c.check_condition.new.marks.items) c.in_ok-check_condition-in-If.field-0 in
     let found = inside_ok (scope_at k true) l vars p s a (c.in_ok-check_condition-in-If.ensures.reaches vars view (among_first _ _)) in
     let b = after (knowledge_of c.check.new.marks.items) c.in_ok-reach-in-If.reach in
     let leaves = views_leave k c.args.view vars s (scope_at k true) scope p t' a b view (among_first _ _) (among_second p t' e) found c.in_ok-reach-in-If.ensures.reaches in
-    let back = put_back k c.args.view vars s b.known (knowledge_of c.add_arm.new.marks.items) view leaves c.in_ok-joined-in-If.ensures.marks in
+    let own = c.deref-in-If-2.result.now in
+    let same : own ≡ places_of c.args.view = c.deref-in-If-2.ensures.value in
+    let before : knowledge_of c.args.view.before.now ≡ seen own s = view.before ∙ rw same refl in
+    let alone : Leaves own s b.known = rw same leaves in
+    let back = put_own own s b.known (knowledge_of c.args.view.before.now) (knowledge_of c.add_arm.new.marks.items) before alone c.in_ok-joined-in-If.ensures.marks in
     always c.end_arms.result
     (choice_notes scope (scope_at k true) p t' e s a _ _ _ (notes_told c.check-in-If.new.notes.items) found
     c.in_ok-check_condition-in-If.ensures.notes c.in_ok-reach-in-If.ensures.notes (rw (← back) c.in_ok-reach-in-If-2.ensures.notes)
     ∙ ap (λ ns. notes_told c.args.notes.now.items ++ ns)
-    (sym (choice_notes_is scope kind c.in-If.condition c.in-If.then c.in-If.otherwise g h j s c.in-If.is c.deref.ensures c.deref-in-If.ensures c.deref-in-If-2.ensures)))
+    (sym (choice_notes_is scope kind c.in-If.condition c.in-If.then c.in-If.otherwise g h j s c.in-If.is c.deref.ensures c.deref-in-If.ensures c.deref-in-If-3.ensures)))

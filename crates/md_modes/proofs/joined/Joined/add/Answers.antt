@@ -1,21 +1,31 @@
-use Rattle.std.proofs.Common.{◌≡◌, refl, ◌||◌}
-use Rattle.md_modes.specs.Branches.{differ}
-use Rattle.md_modes.specs.Joins.{occurs}
+use Rattle.std.proofs.Common.{◌≡◌, ◌∙◌, refl, sym, ap, subst, arith, true, ◌<◌, ◌||◌, length}
+use Rattle.md_binding.specs.Known.{Knowledge}
 use Rattle.md_binding.specs.Kinds.{knowledge_of}
-use Rattle.md_modes.proofs.JoinLemmas.{joins_more}
-use Rattle.md_modes.proofs.joined.Joined.add.Goals.{then-self, else-self}
+use Rattle.md_modes.specs.Joins.{occurs, end_of}
+use Rattle.md_modes.specs.Shares.{commons, gained}
+use Rattle.md_modes.proofs.ArmLemmas.{joins_added, touched}
+use Rattle.md_modes.proofs.Views.{length-seen}
 use Rattle.md_modes.proofs.joined.Joined.add.Goals as goal
 
 pub returns : goal.returns
-returns c r qs h =
-    let p = occurs c.args.view.outside in
-    let s = knowledge_of c.args.view.before.now in
-    let q = knowledge_of c.args.marks.now in
+returns c s r qs arm h =
+    let end = c.args.end in
+    let view = end.view in
+    let p = occurs view.outside in
+    let b = knowledge_of view.before.now in
+    let q = end_of end in
     let j = c.args.self.now in
-    let parted : c.if-self.self ≡ (j.differ || differ p s (knowledge_of j.first.items) q) = elim c.if-self.branch [
-      | then-self w ↦ rw (w.self-is, w.if-self.true) refl
-      | else-self w ↦ rw (w.self-is, w.if-self.false, ← w.deref.ensures.value) w.differ-self.ensures
-    ] in
-    joins_more p s j _ r qs q h refl c.keep_common.ensures c.note_unlike.ensures.len refl
-    (λ x. rw (← c.deref-2.ensures.value) (c.note_unlike.ensures.noted (rw c.deref-2.ensures.value h.room) x))
-    parted
+    let places = view.outside.local.now.places.items in
+    let m = knowledge_of end.marks.now in
+    let size : length b ≡ length places = ap length arm.before ∙ length-seen places s in
+    let first : knowledge_of c.deref.result.now ≡ knowledge_of j.first.items = ap knowledge_of c.deref.ensures.value in
+    joins_added p b r q qs j _ c.loses-loses.result c.gains-gains.result h refl
+    (c.in_ok-self.ensures.common ∙ ap (commons (knowledge_of j.common.items) q) c.deref-5.ensures.value)
+    (c.in_ok-self.ensures.kept ∙ rw (c.deref-4.ensures.value, c.deref-5.ensures.value) refl)
+    (c.either-self.ensures ∙ ap (λ x. j.differ || x) c.either.ensures)
+    (c.loses-loses.ensures ∙ rw (c.deref-2.ensures.value, c.deref-3.ensures.value) refl)
+    (λ e. let w = c.gains-gains.ensures.sound e in (w.0, omega (arith, w.1, size), subst (λ (k : Knowledge). gained p b k q w.0 ≡ true) first w.2))
+    (λ x lt e.
+    let inside : x < length places = omega (arith, lt, size) in
+    c.gains-gains.ensures.complete arm.rising x inside (touched p view end.own.now s m (knowledge_of j.first.items) x arm inside e)
+    (subst (λ (k : Knowledge). gained p b k q x ≡ true) (sym first) e))

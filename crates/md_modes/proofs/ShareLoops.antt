@@ -1,0 +1,142 @@
+-- The variables that arms share, one after the other.
+use Rattle.std.proofs.Common.{◌≡◌, ◌≢◌, refl, sym, ap, ◌∙◌, subst, arith, append_assoc, append-nil, add-one, ℕ, zero, suc, ◌+◌, ◌<◌, ◌≤◌, Bool, true, false, cond, ◌||◌, ◌&&◌, List, [], ◌∷◌, ◌++◌, length, take, drop, get_or, slice_index, inl, inr}
+use Rattle.std.proofs.lemmas.Bool.{cases_eq, cases_lt}
+use Rattle.md_modes.specs.declared.joined.Shared.{Shared}
+use Rattle.md_binding.specs.Known.{Knowledge, known_at, put, is_bound, is_newly_bound, times}
+use Rattle.md_modes.specs.Branches.{some_of}
+use Rattle.md_modes.specs.Shares.{numbers, common_at, commons, compared, kept, begun, gained, some_clash}
+use Rattle.md_modes.specs.Views.{seen}
+use Rattle.md_modes.proofs.Counts.{times-append}
+use Rattle.md_modes.proofs.KnownLemmas.{known_at-outside}
+use Rattle.md_modes.proofs.Locals.{take-more, times_other}
+use Rattle.md_modes.proofs.Views.{length-seen}
+
+none_left : {A : Type 0} (xs : List A) (i : ℕ) → length xs ≤ i → drop i xs ≡ []
+none_left [] zero le = refl
+none_left [] (suc i) le = refl
+none_left (x ∷ xs) zero le = absurd (omega (arith, le))
+none_left (x ∷ xs) (suc i) le = none_left xs i (omega (arith, le))
+
+next : (es : List Shared) (i : ℕ) (e : Shared) → i < length es → e ≡ get_or es i e → drop i es ≡ e ∷ drop (suc i) es
+next [] i e lt is = absurd (omega (arith, lt))
+next (f ∷ es) zero e lt is = rw is refl
+next (f ∷ es) (suc i) e lt is = next es i e (omega (arith, lt)) is
+
+-- ---- those that the first arm binds
+
+begun-here : (b : Bool) (e : Shared) (es : List Shared) → cond b (e ∷ es) es ≡ cond b (e ∷ []) [] ++ es
+begun-here true e es = refl
+begun-here false e es = refl
+
+begun-more : (n i : ℕ) (r : Knowledge) → i < length r
+    → begun n (drop i r) ≡ cond (is_bound (known_at r i)) (record { number = n; unlike = false } ∷ []) [] ++ begun (suc n) (drop (suc i) r)
+begun-more n i [] lt = absurd (omega (arith, lt))
+begun-more n zero (k ∷ r) lt = begun-here (is_bound k) (record { number = n; unlike = false }) (begun (suc n) r)
+begun-more n (suc i) (k ∷ r) lt = begun-more n i r (omega (arith, lt))
+
+pub begun-loop : (now more whole : List Shared) (r : Knowledge) (i : ℕ) → i < length r → more ≡ now ++ cond (is_bound (known_at r i)) (record { number = i; unlike = false } ∷ []) []
+    → now ++ begun i (drop i r) ≡ whole → more ++ begun (i + 1) (drop (i + 1) r) ≡ whole
+begun-loop now more whole r i lt is so_far =
+    rw (is, add-one)
+    (append_assoc now (cond (is_bound (known_at r i)) (record { number = i; unlike = false } ∷ []) []) (begun (suc i) (drop (suc i) r))
+    ∙ (ap (λ es. now ++ es) (sym (begun-more i i r lt)) ∙ so_far))
+
+pub begun-end : (now whole : List Shared) (r : Knowledge) (i : ℕ) → length r ≤ i → now ++ begun i (drop i r) ≡ whole → now ≡ whole
+begun-end now whole r i le so_far = sym (append-nil now) ∙ (sym (ap (λ ks. now ++ begun i ks) (none_left r i le)) ∙ so_far)
+
+-- ---- those that one arm more binds too
+
+pub commons-loop : (c d q whole : Knowledge) (es : List Shared) (i : ℕ) (e : Shared) → i < length es → e ≡ get_or es i e → d ≡ put c e.number (common_at c q e.number)
+    → commons c q (drop i es) ≡ whole → commons d q (drop (i + 1) es) ≡ whole
+commons-loop c d q whole es i e lt is is_d so_far = rw (is_d, add-one) (sym (ap (commons c q) (next es i e lt is)) ∙ so_far)
+
+pub commons-end : (c q whole : Knowledge) (es : List Shared) (i : ℕ) → length es ≤ i → commons c q (drop i es) ≡ whole → c ≡ whole
+commons-end c q whole es i le so_far = sym (ap (commons c q) (none_left es i le)) ∙ so_far
+
+pub kept-loop : (r c d q : Knowledge) (now more whole es : List Shared) (i : ℕ) (e : Shared) → i < length es → e ≡ get_or es i e → d ≡ put c e.number (common_at c q e.number)
+    → more ≡ now ++ cond (is_bound (common_at c q e.number)) (compared r q e ∷ []) []
+    → now ++ kept r c q (drop i es) ≡ whole → more ++ kept r d q (drop (i + 1) es) ≡ whole
+kept-loop r c d q now more whole es i e lt is is_d is_more so_far =
+    let rest = kept r (put c e.number (common_at c q e.number)) q (drop (suc i) es) in
+    rw (is_more, is_d, add-one)
+    (append_assoc now (cond (is_bound (common_at c q e.number)) (compared r q e ∷ []) []) rest
+    ∙ (ap (λ fs. now ++ fs) (sym (begun-here (is_bound (common_at c q e.number)) (compared r q e) rest) ∙ sym (ap (kept r c q) (next es i e lt is))) ∙ so_far))
+
+pub kept-end : (r c q : Knowledge) (now whole es : List Shared) (i : ℕ) → length es ≤ i → now ++ kept r c q (drop i es) ≡ whole → now ≡ whole
+kept-end r c q now whole es i le so_far = sym (append-nil now) ∙ (sym (ap (λ fs. now ++ kept r c q fs) (none_left es i le)) ∙ so_far)
+
+-- ---- those that one arm more doesn't bind
+
+pub lost-found : (f : ℕ → Bool) (es : List Shared) (i : ℕ) (e : Shared) → i < length es → e ≡ get_or es i e → f e.number ≡ true
+    → some_of f (numbers es) ≡ some_of f (numbers (drop i es)) → true ≡ some_of f (numbers es)
+lost-found f es i e lt is hit so_far =
+    sym (so_far ∙ (ap (λ fs. some_of f (numbers fs)) (next es i e lt is) ∙ ap (λ b. b || some_of f (numbers (drop (suc i) es))) hit))
+
+pub lost-missed : (f : ℕ → Bool) (es : List Shared) (i : ℕ) (e : Shared) → i < length es → e ≡ get_or es i e → f e.number ≡ false
+    → some_of f (numbers es) ≡ some_of f (numbers (drop i es)) → some_of f (numbers es) ≡ some_of f (numbers (drop (i + 1) es))
+lost-missed f es i e lt is miss so_far =
+    so_far ∙ (ap (λ fs. some_of f (numbers fs)) (next es i e lt is) ∙ (ap (λ b. b || some_of f (numbers (drop (suc i) es))) miss ∙ rw add-one refl))
+
+pub lost-end : (f : ℕ → Bool) (es : List Shared) (i : ℕ) → length es ≤ i → some_of f (numbers es) ≡ some_of f (numbers (drop i es)) → false ≡ some_of f (numbers es)
+lost-end f es i le so_far = sym (so_far ∙ ap (λ fs. some_of f (numbers fs)) (none_left es i le))
+
+-- ---- those that arms bind with different types
+
+pub clash-found : (s c : Knowledge) (es : List Shared) (i : ℕ) (e : Shared) → i < length es → e ≡ get_or es i e
+    → (is_newly_bound (known_at s e.number) (known_at c e.number) && e.unlike) ≡ true
+    → some_clash s c es ≡ some_clash s c (drop i es) → true ≡ some_clash s c es
+clash-found s c es i e lt is hit so_far =
+    sym (so_far ∙ (ap (some_clash s c) (next es i e lt is) ∙ ap (λ b. b || some_clash s c (drop (suc i) es)) hit))
+
+pub clash-missed : (s c : Knowledge) (es : List Shared) (i : ℕ) (e : Shared) → i < length es → e ≡ get_or es i e
+    → (is_newly_bound (known_at s e.number) (known_at c e.number) && e.unlike) ≡ false
+    → some_clash s c es ≡ some_clash s c (drop i es) → some_clash s c es ≡ some_clash s c (drop (i + 1) es)
+clash-missed s c es i e lt is miss so_far =
+    so_far ∙ (ap (some_clash s c) (next es i e lt is) ∙ (ap (λ b. b || some_clash s c (drop (suc i) es)) miss ∙ rw add-one refl))
+
+pub clash-end : (s c : Knowledge) (es : List Shared) (i : ℕ) → length es ≤ i → some_clash s c es ≡ some_clash s c (drop i es) → false ≡ some_clash s c es
+clash-end s c es i le so_far = sym (so_far ∙ ap (some_clash s c) (none_left es i le))
+
+-- ---- those that one arm more binds and the first doesn't
+
+and_last : (a b c d : Bool) → (a && (b && (c && d))) ≡ true → d ≡ true
+and_last true true true true e = refl
+and_last true true true false e = absurd (cc)
+and_last true true false d e = absurd (cc)
+and_last true false c d e = absurd (cc)
+and_last false b c d e = absurd (cc)
+
+unbound_past : (xs : List ℕ) (m : Knowledge) (x : ℕ) → length xs ≤ x → is_bound (known_at (seen xs m) x) ≡ false
+unbound_past xs m x le = rw (known_at-outside (seen xs m) x (omega (arith, le, length-seen xs m))) refl
+
+pub gained-inside : (p : ℕ → Bool) (s r m : Knowledge) (xs : List ℕ) (x : ℕ) → gained p s r (seen xs m) x ≡ true → x < length xs
+gained-inside p s r m xs x e = elim (cases_lt x (length xs)) [
+  | inl lt ↦ lt
+  | inr le ↦
+      let bound = and_last (p x) _ _ (is_bound (known_at (seen xs m) x)) e in
+      let unbound = unbound_past xs m x le in
+      absurd (cc)
+]
+
+in_more : (x y : ℕ) (own : List ℕ) (i : ℕ) → i < length own → y ≡ slice_index own i → x ≢ y → times x (take (i + 1) own) ≢ 0 → times x (take i own) ≢ 0
+in_more x y own i lt is other some none =
+    some (rw (add-one, take-more own i lt, ← is) (times-append x (take i own) (y ∷ []) ∙ (let last = times_other x y other in omega (arith, none, last))))
+
+pub gained-missed : (g : ℕ → Bool) (xs own : List ℕ) (i y n : ℕ) → i < length own → y ≡ slice_index own i → ((x : ℕ) → x < length xs → slice_index xs x ≡ y → n ≡ x) → g n ≡ false
+    → ((x : ℕ) → x < length xs → times (slice_index xs x) (take i own) ≢ 0 → g x ≡ false)
+    → (x : ℕ) → x < length xs → times (slice_index xs x) (take (i + 1) own) ≢ 0 → g x ≡ false
+gained-missed g xs own i y n lt is number miss so_far x inside some = elim (cases_eq (slice_index xs x) y) [
+  | inl same ↦ ap g (sym (number x inside same)) ∙ miss
+  | inr other ↦ so_far x inside (in_more (slice_index xs x) y own i lt is other some)
+]
+
+take_all : (xs : List ℕ) (i : ℕ) → length xs ≤ i → take i xs ≡ xs
+take_all [] zero le = refl
+take_all [] (suc i) le = refl
+take_all (x ∷ xs) zero le = absurd (omega (arith, le))
+take_all (x ∷ xs) (suc i) le = ap (λ ys. x ∷ ys) (take_all xs i (omega (arith, le)))
+
+pub gained-end : (g : ℕ → Bool) (xs own : List ℕ) (i : ℕ) → length own ≤ i → ((x : ℕ) → x < length xs → times (slice_index xs x) (take i own) ≢ 0 → g x ≡ false)
+    → (x : ℕ) → x < length xs → times (slice_index xs x) own ≢ 0 → g x ≡ true → false ≡ true
+gained-end g xs own i le none x inside some e =
+    sym (none x inside (subst (λ ys. times (slice_index xs x) ys ≢ 0) (sym (take_all own i le)) some)) ∙ e
