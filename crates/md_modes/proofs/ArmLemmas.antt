@@ -1,21 +1,23 @@
 -- The arms of a branch that were checked so far.
-use Rattle.std.proofs.Common.{Bool, Err, IfOk, List, None, Ok, Option, Result, Some, [], ap, append-nil, false, length, not, refl, slice_index, subst, sym, true, ℕ, ◌&&◌, ◌++◌, ◌<◌, ◌||◌, ◌∙◌, ◌∷◌, ◌≡◌, ◌≢◌}
+use Rattle.std.proofs.Common.{Bool, Err, IfOk, List, None, Ok, Option, Result, Some, [], ap, append-nil, arith, false, inl, inr, length, not, refl, slice_index, subst, sym, true, ℕ, ◌&&◌, ◌++◌, ◌<◌, ◌||◌, ◌∙◌, ◌∷◌, ◌≡◌, ◌≢◌, ◌⊎◌}
 use Rattle.md_base.specs.declared.number.NoMemory.{NoMemory}
 use Rattle.md_modes.specs.declared.joined.Joined.{Joined}
 use Rattle.md_modes.specs.declared.end.End.{End}
 use Rattle.md_modes.specs.declared.joined.Shared.{Shared}
 use Rattle.md_modes.specs.declared.outside.View.{View}
 use Rattle.md_binding.specs.Common.{is_alike}
-use Rattle.md_binding.specs.Known.{Knowledge, known_at, is_bound, times}
+use Rattle.md_binding.specs.Known.{Knowledge, known_at, put, is_bound, times}
 use Rattle.md_binding.specs.Kinds.{knowledge_of}
 use Rattle.md_modes.specs.Branches.{After, after, reachable, joined, in_common, all_have, some_unlike, some_of, clash}
-use Rattle.md_modes.specs.Shares.{numbers, commons, kept, begun, lost, gained, some_clash}
+use Rattle.md_modes.specs.Shares.{numbers, common_at, commons, kept, begun, lost, gained, some_clash}
 use Rattle.md_modes.specs.Views.{seen, put_verdict, seen_ends, Leaves, AllLeave}
-use Rattle.md_modes.specs.Joins.{Joins, IsJoin, IsArm, IsEnd, Ends, end_of}
+use Rattle.md_modes.specs.Joins.{Joins, IsJoin, IsArm, IsEnd, IsSettled, Ends, end_of}
 use Rattle.md_modes.proofs.JoinLemmas.{reachable-more, all_have-more, some_unlike-more}
+use Rattle.std.proofs.lemmas.Bool.{cases_eq}
+use Rattle.md_modes.proofs.KnownLemmas.{length-put, length-in_common}
 use Rattle.md_modes.proofs.Leaving.{leaves_self}
 use Rattle.md_modes.proofs.Views.{restored, length-seen, known_at-seen}
-use Rattle.md_modes.proofs.Sharing.{commons_is, kept_shares, shares_along, begun_shares, differ_by, clash_by}
+use Rattle.md_modes.proofs.Sharing.{settled_is, kept_shares, shares_along, begun_shares, differ_by, clash_by}
 
 pub first_arm : (p : ℕ → Bool) (s q : Knowledge) (j : Joined) (rs : List Knowledge) → Joins p s j q [] → IsJoin p s None rs → IsJoin p s (Some j) (rs ++ q ∷ [])
 first_arm p s q j [] h n = h
@@ -23,7 +25,7 @@ first_arm p s q j (r ∷ rs) h n = absurd n
 
 -- the first arm
 pub begun_ok : (p : ℕ → Bool) (e : End) (m : Knowledge) (r : Result Joined NoMemory) → m ≡ end_of e
-    → IfOk r (λ j. (p : ℕ → Bool) → (s : Knowledge) → length m ≡ length s → Joins p s j m [])
+    → IfOk r (λ j. (p : ℕ → Bool) → length m ≡ length (knowledge_of e.view.before.now) → Joins p (knowledge_of e.view.before.now) j m [])
     → IfOk r (λ more. (s : Knowledge) → (rs : List Knowledge) → IsEnd e s → IsJoin p (knowledge_of e.view.before.now) None rs
     → IsJoin p (knowledge_of e.view.before.now) (Some more) (rs ++ end_of e ∷ []))
 begun_ok p e m (Ok j) is h =
@@ -31,7 +33,7 @@ begun_ok p e m (Ok j) is h =
     let places = e.view.outside.local.now.places.items in
     let size : length m ≡ length (knowledge_of e.view.before.now) =
     ap length is ∙ (length-seen places (knowledge_of e.marks.now) ∙ (sym (length-seen places s) ∙ sym (ap length arm.before))) in
-    rw (← is) (first_arm p (knowledge_of e.view.before.now) m j rs (h p (knowledge_of e.view.before.now) size) n)
+    rw (← is) (first_arm p (knowledge_of e.view.before.now) m j rs (h p size) n)
 begun_ok p e m (Err x) is h = tt
 
 -- another arm
@@ -77,19 +79,19 @@ no_end l p xs s b j ends e h is = rw (none_reachable p b j ends e h, is, restore
 
 -- ---- what the code keeps of the arms
 
-pub joins_begun : (p : ℕ → Bool) (s r : Knowledge) (j : Joined) → knowledge_of j.first.items ≡ r → length r ≡ length s → knowledge_of j.common.items ≡ r → j.shared.items ≡ begun 0 r → j.differ ≡ false
+pub joins_begun : (p : ℕ → Bool) (s r : Knowledge) (j : Joined) → knowledge_of j.first.items ≡ r → length r ≡ length s → knowledge_of j.common.items ≡ r → j.shared.items ≡ begun 0 s r → j.differ ≡ false
     → Joins p s j r []
 joins_begun p s r j first size common shared differ = record {
   first = first;
   size = size;
   common = common;
-  shares = rw shared (begun_shares r);
+  shares = rw shared (begun_shares s r);
   differ = differ;
 }
 
 pub joins_added : (p : ℕ → Bool) (s r q : Knowledge) (qs : List Knowledge) (j i : Joined) (a b : Bool) → Joins p s j r qs
     → knowledge_of i.first.items ≡ knowledge_of j.first.items
-    → knowledge_of i.common.items ≡ commons (knowledge_of j.common.items) q j.shared.items
+    → knowledge_of i.common.items ≡ in_common (knowledge_of j.common.items) q
     → i.shared.items ≡ kept (knowledge_of j.first.items) (knowledge_of j.common.items) q j.shared.items
     → i.differ ≡ (j.differ || (b || a))
     → a ≡ some_of (lost p s (knowledge_of j.common.items) q) (numbers j.shared.items)
@@ -99,18 +101,52 @@ pub joins_added : (p : ℕ → Bool) (s r q : Knowledge) (qs : List Knowledge) (
 joins_added p s r q qs j i a b h first common shared differ loses sound complete = record {
   first = first ∙ h.first;
   size = h.size;
-  common = common ∙ (ap (λ c. commons c q j.shared.items) h.common ∙ (commons_is (all_have r qs) q j.shared.items h.shares.all ∙ sym (all_have-more r q qs)));
+  common = common ∙ (ap (λ c. in_common c q) h.common ∙ sym (all_have-more r q qs));
   shares =
       rw (shared, h.first, h.common)
-      (shares_along (in_common (all_have r qs) q) (all_have r (qs ++ q ∷ [])) (λ x. some_unlike (known_at r x) x qs || not (is_alike (known_at r x) (known_at q x)))
+      (shares_along s (in_common (all_have r qs) q) (all_have r (qs ++ q ∷ [])) (λ x. some_unlike (known_at r x) x qs || not (is_alike (known_at r x) (known_at q x)))
       (λ x. some_unlike (known_at r x) x (qs ++ q ∷ [])) (kept r (all_have r qs) q j.shared.items) (sym (all_have-more r q qs)) (λ x. sym (some_unlike-more (known_at r x) x q qs))
-      (kept_shares r (all_have r qs) q j.shared.items (λ x. some_unlike (known_at r x) x qs) h.shares));
+      (kept_shares s r (all_have r qs) q j.shared.items (λ x. some_unlike (known_at r x) x qs) h.shares));
   differ =
       differ ∙ differ_by p s r q qs (λ x. some_unlike (known_at r x) x qs) j.shared.items a b j.differ h.size h.shares h.differ
       (loses ∙ ap (λ c. some_of (lost p s c q) (numbers j.shared.items)) h.common)
       (subst (λ (k : Knowledge). b ≡ true → (x : ℕ) × (x < length s) × (gained p s k q x ≡ true)) h.first sound)
       (subst (λ (k : Knowledge). (x : ℕ) → x < length s → gained p s k q x ≡ true → b ≡ true) h.first complete);
 }
+
+length-commons : (c q : Knowledge) (es : List Shared) → length (commons c q es) ≡ length c
+length-commons c q [] = refl
+length-commons c q (e ∷ es) = length-commons (put c e.number (common_at c q e.number)) q es ∙ length-put c e.number (common_at c q e.number)
+
+length-all_have : (r : Knowledge) (qs : List Knowledge) → length (all_have r qs) ≡ length r
+length-all_have r [] = refl
+length-all_have r (q ∷ qs) = length-all_have (in_common r q) qs ∙ length-in_common r q
+
+-- what was compared at the shared variables, and then at those of the arm, is what all have in common
+settled_by : (e : End) (s c d : Knowledge) (x : ℕ) → Leaves e.own.now s (knowledge_of e.marks.now) → x < length e.view.outside.local.now.places.items
+    → IsSettled e c d e.own.now x
+    → (known_at d x ≡ common_at c (end_of e) x) ⊎ ((known_at d x ≡ known_at c x) × (known_at (end_of e) x ≡ known_at (seen e.view.outside.local.now.places.items s) x))
+settled_by e s c d x leaves inside h =
+    let xs = e.view.outside.local.now.places.items in
+    elim (cases_eq (times (slice_index xs x) e.own.now) 0) [
+      | inl none ↦ inr (h.elsewhere none, known_at-seen xs (knowledge_of e.marks.now) x inside ∙ (leaves.same (slice_index xs x) none ∙ sym (known_at-seen xs s x inside)))
+      | inr some ↦ inl (h.here some)
+    ]
+
+pub joins_common : (p : ℕ → Bool) (e : End) (s r : Knowledge) (qs : List Knowledge) (j : Joined) (m d : Knowledge) → IsEnd e s → Joins p (knowledge_of e.view.before.now) j r qs
+    → m ≡ commons (knowledge_of j.common.items) (end_of e) j.shared.items → length d ≡ length m
+    → (length m ≡ length e.view.outside.local.now.places.items → (x : ℕ) → x < length e.view.outside.local.now.places.items → IsSettled e m d e.own.now x)
+    → d ≡ in_common (knowledge_of j.common.items) (end_of e)
+joins_common p e s r qs j m d arm h is size settled =
+    let xs = e.view.outside.local.now.places.items in
+    let c = knowledge_of j.common.items in
+    let kept_size : length m ≡ length c = ap length is ∙ length-commons c (end_of e) j.shared.items in
+    let whole : length c ≡ length xs = ap length h.common ∙ (length-all_have r qs ∙ (h.size ∙ (ap length arm.before ∙ length-seen xs s))) in
+    settled_is (knowledge_of e.view.before.now) c (end_of e) d j.shared.items (size ∙ kept_size)
+    (λ x lt.
+    let inside : x < length xs = omega (arith, lt, whole) in
+    rw (← is, arm.before) (settled_by e s m d x arm.leaves inside (settled (kept_size ∙ whole) x inside)))
+    (rw h.common h.shares.all)
 
 pub clash_told : (p : ℕ → Bool) (s : Knowledge) (j : Joined) (r : Knowledge) (qs : List Knowledge) (c : Knowledge) (es : List Shared) → Joins p s j r qs
     → c ≡ knowledge_of j.common.items → es ≡ j.shared.items → clash s (all_have r qs) r qs ≡ some_clash s c es

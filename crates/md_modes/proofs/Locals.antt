@@ -291,6 +291,13 @@ number_found places y x r i is found h lt there =
     is (searched places y r found (rising-sorted places h)) in
     same_number places i x h ends.0 lt (ends.1 ∙ sym there)
 
+pub number_there : (places : List ℕ) (y : ℕ) (r : Result ℕ ℕ) (i : ℕ) → r ≡ Ok i → IsBinarySearchResult (λ z. nat_cmp z y) places r → Rising 0 places → slice_index places i ≡ y
+number_there places y r i is found h =
+    let ends = subst (λ (q : Result ℕ ℕ). MatchResult q (λ i. (i < length places) × (get_or places i 0 ≡ y))
+    (λ i. (i ≤ length places) × ((k : ℕ) → k < i → get_or places k 0 < y) × ((k : ℕ) → i ≤ k → k < length places → y < get_or places k 0)))
+    is (searched places y r found (rising-sorted places h)) in
+    ends.1
+
 pub number_missed : (places : List ℕ) (y x : ℕ) (r : Result ℕ ℕ) (i : ℕ) → r ≡ Err i → IsBinarySearchResult (λ z. nat_cmp z y) places r → Rising 0 places
     → x < length places → slice_index places x ≡ y → ⊥
 number_missed places y x r i is found h lt there =

@@ -1,14 +1,17 @@
 -- The variables that arms share, one after the other.
-use Rattle.std.proofs.Common.{◌≡◌, ◌≢◌, refl, sym, ap, ◌∙◌, subst, arith, append_assoc, append-nil, add-one, ℕ, zero, suc, ◌+◌, ◌<◌, ◌≤◌, Bool, true, false, cond, ◌||◌, ◌&&◌, List, [], ◌∷◌, ◌++◌, length, take, drop, get_or, slice_index, inl, inr}
+use Rattle.std.proofs.Common.{◌≡◌, ◌≢◌, refl, sym, ap, ◌∙◌, subst, arith, append_assoc, append-nil, add-one, ℕ, zero, suc, ◌+◌, ◌<◌, ◌≤◌, Bool, true, false, cond, ◌||◌, ◌&&◌, List, [], ◌∷◌, ◌++◌, length, take, drop, get_or, slice_index, inl, inr, ◌⊎◌}
 use Rattle.std.proofs.lemmas.Bool.{cases_eq, cases_lt}
 use Rattle.md_modes.specs.declared.joined.Shared.{Shared}
-use Rattle.md_binding.specs.Known.{Knowledge, known_at, put, is_bound, is_newly_bound, times}
+use Rattle.md_binding.specs.Known.{Known, free, has, Knowledge, known_at, put, is_bound, is_newly_bound, times}
 use Rattle.md_modes.specs.Branches.{some_of}
-use Rattle.md_modes.specs.Shares.{numbers, common_at, commons, compared, kept, begun, gained, some_clash}
+use Rattle.md_modes.specs.Shares.{unsettled, numbers, common_at, commons, compared, kept, begun, gained, some_clash}
 use Rattle.md_modes.specs.Views.{seen}
 use Rattle.md_modes.proofs.Counts.{times-append}
-use Rattle.md_modes.proofs.KnownLemmas.{known_at-outside}
-use Rattle.md_modes.proofs.Locals.{take-more, times_other}
+use Rattle.md_binding.specs.Common.{common}
+use Rattle.md_modes.specs.declared.end.End.{End}
+use Rattle.md_modes.specs.Joins.{IsSettled, end_of}
+use Rattle.md_modes.proofs.KnownLemmas.{known_at-outside, known_at-put, known_at-put_other}
+use Rattle.md_modes.proofs.Locals.{take-more, times_self, times_other}
 use Rattle.md_modes.proofs.Views.{length-seen}
 
 none_left : {A : Type 0} (xs : List A) (i : ℕ) → length xs ≤ i → drop i xs ≡ []
@@ -28,21 +31,37 @@ begun-here : (b : Bool) (e : Shared) (es : List Shared) → cond b (e ∷ es) es
 begun-here true e es = refl
 begun-here false e es = refl
 
-begun-more : (n i : ℕ) (r : Knowledge) → i < length r
-    → begun n (drop i r) ≡ cond (is_bound (known_at r i)) (record { number = n; unlike = false } ∷ []) [] ++ begun (suc n) (drop (suc i) r)
-begun-more n i [] lt = absurd (omega (arith, lt))
-begun-more n zero (k ∷ r) lt = begun-here (is_bound k) (record { number = n; unlike = false }) (begun (suc n) r)
-begun-more n (suc i) (k ∷ r) lt = begun-more n i r (omega (arith, lt))
+unsettled_past : (b : Known) → unsettled b free ≡ false
+unsettled_past free = refl
+unsettled_past (has t used) = refl
 
-pub begun-loop : (now more whole : List Shared) (r : Knowledge) (i : ℕ) → i < length r → more ≡ now ++ cond (is_bound (known_at r i)) (record { number = i; unlike = false } ∷ []) []
-    → now ++ begun i (drop i r) ≡ whole → more ++ begun (i + 1) (drop (i + 1) r) ≡ whole
-begun-loop now more whole r i lt is so_far =
+begun-unbound : (n i : ℕ) (r : Knowledge) → i < length r
+    → begun n [] (drop i r) ≡ cond (unsettled free (known_at r i)) (record { number = n; unlike = false } ∷ []) [] ++ begun (suc n) [] (drop (suc i) r)
+begun-unbound n i [] lt = absurd (omega (arith, lt))
+begun-unbound n zero (k ∷ r) lt = begun-here (unsettled free k) (record { number = n; unlike = false }) (begun (suc n) [] r)
+begun-unbound n (suc i) (k ∷ r) lt = begun-unbound n i r (omega (arith, lt))
+
+begun-more : (n i : ℕ) (s r : Knowledge) → i < length r
+    → begun n (drop i s) (drop i r) ≡ cond (unsettled (known_at s i) (known_at r i)) (record { number = n; unlike = false } ∷ []) [] ++ begun (suc n) (drop (suc i) s) (drop (suc i) r)
+begun-more n i s [] lt = absurd (omega (arith, lt))
+begun-more n zero [] (k ∷ r) lt = begun-here (unsettled free k) (record { number = n; unlike = false }) (begun (suc n) [] r)
+begun-more n zero (b ∷ s) (k ∷ r) lt = begun-here (unsettled b k) (record { number = n; unlike = false }) (begun (suc n) s r)
+begun-more n (suc i) [] (k ∷ r) lt = begun-unbound n i r (omega (arith, lt))
+begun-more n (suc i) (b ∷ s) (k ∷ r) lt = begun-more n i s r (omega (arith, lt))
+
+pub begun-loop : (now more whole : List Shared) (s r : Knowledge) (i : ℕ) → i < length r
+    → more ≡ now ++ cond (unsettled (known_at s i) (known_at r i)) (record { number = i; unlike = false } ∷ []) []
+    → now ++ begun i (drop i s) (drop i r) ≡ whole → more ++ begun (i + 1) (drop (i + 1) s) (drop (i + 1) r) ≡ whole
+begun-loop now more whole s r i lt is so_far =
     rw (is, add-one)
-    (append_assoc now (cond (is_bound (known_at r i)) (record { number = i; unlike = false } ∷ []) []) (begun (suc i) (drop (suc i) r))
-    ∙ (ap (λ es. now ++ es) (sym (begun-more i i r lt)) ∙ so_far))
+    (append_assoc now (cond (unsettled (known_at s i) (known_at r i)) (record { number = i; unlike = false } ∷ []) []) (begun (suc i) (drop (suc i) s) (drop (suc i) r))
+    ∙ (ap (λ es. now ++ es) (sym (begun-more i i s r lt)) ∙ so_far))
 
-pub begun-end : (now whole : List Shared) (r : Knowledge) (i : ℕ) → length r ≤ i → now ++ begun i (drop i r) ≡ whole → now ≡ whole
-begun-end now whole r i le so_far = sym (append-nil now) ∙ (sym (ap (λ ks. now ++ begun i ks) (none_left r i le)) ∙ so_far)
+begun-none : (n : ℕ) (s : Knowledge) → begun n s [] ≡ []
+begun-none n s = refl
+
+pub begun-end : (now whole : List Shared) (s r : Knowledge) (i : ℕ) → length r ≤ i → now ++ begun i (drop i s) (drop i r) ≡ whole → now ≡ whole
+begun-end now whole s r i le so_far = sym (append-nil now) ∙ (sym (ap (λ ks. now ++ begun i (drop i s) ks) (none_left r i le)) ∙ so_far)
 
 -- ---- those that one arm more binds too
 
@@ -140,3 +159,60 @@ pub gained-end : (g : ℕ → Bool) (xs own : List ℕ) (i : ℕ) → length own
     → (x : ℕ) → x < length xs → times (slice_index xs x) own ≢ 0 → g x ≡ true → false ≡ true
 gained-end g xs own i le none x inside some e =
     sym (none x inside (subst (λ ys. times (slice_index xs x) ys ≢ 0) (sym (take_all own i le)) some)) ∙ e
+
+-- ---- the variables of one arm more
+
+twice : (a b : Bool) → ((a || b) || b) ≡ (a || b)
+twice true b = refl
+twice false true = refl
+twice false false = refl
+
+settled_again : (k j : Known) → common (common k j) j ≡ common k j
+settled_again free j = refl
+settled_again (has t used) free = refl
+settled_again (has t used) (has u spent) = ap (has t) (twice used spent)
+
+pub settled-none : (e : End) (c : Knowledge) (x : ℕ) → IsSettled e c c [] x
+settled-none e c x = record { here = λ some. absurd (some refl); elsewhere = λ none. refl }
+
+-- what is known after one variable more was compared
+compared_here : (c now q : Knowledge) (x : ℕ) → x < length now → (known_at now x ≡ common_at c q x) ⊎ (known_at now x ≡ known_at c x)
+    → known_at (put now x (common_at now q x)) x ≡ common_at c q x
+compared_here c now q x lt h = known_at-put now x (common_at now q x) lt ∙ elim h [
+  | inl is ↦ ap (λ k. common k (known_at q x)) is ∙ settled_again (known_at c x) (known_at q x)
+  | inr is ↦ ap (λ k. common k (known_at q x)) is
+]
+
+either_way : (e : End) (c now : Knowledge) (own : List ℕ) (x : ℕ) → IsSettled e c now own x → (known_at now x ≡ common_at c (end_of e) x) ⊎ (known_at now x ≡ known_at c x)
+either_way e c now own x h = elim (cases_eq (times (slice_index e.view.outside.local.now.places.items x) own) 0) [
+  | inl none ↦ inr (h.elsewhere none)
+  | inr some ↦ inl (h.here some)
+]
+
+pub settled-more : (e : End) (c now d : Knowledge) (own : List ℕ) (i y n x : ℕ) → i < length own → y ≡ slice_index own i
+    → length now ≡ length e.view.outside.local.now.places.items → x < length e.view.outside.local.now.places.items
+    → (slice_index e.view.outside.local.now.places.items x ≡ y → n ≡ x)
+    → (n < length e.view.outside.local.now.places.items → slice_index e.view.outside.local.now.places.items n ≡ y)
+    → d ≡ put now n (common_at now (end_of e) n)
+    → IsSettled e c now (take i own) x → IsSettled e c d (take (i + 1) own) x
+settled-more e c now d own i y n x lt is size inside found there is_d h =
+    let xs = e.view.outside.local.now.places.items in
+    let v = slice_index xs x in
+    let more : times v (take (i + 1) own) ≡ times v (take i own) + times v (y ∷ []) = rw (add-one, take-more own i lt, ← is) (times-append v (take i own) (y ∷ [])) in
+    elim (cases_eq v y) [
+      | inl same ↦
+          let now_here : known_at d x ≡ common_at c (end_of e) x = rw (is_d, found same) (compared_here c now (end_of e) x (omega (arith, inside, size)) (either_way e c now (take i own) x h)) in
+          let one : times v (y ∷ []) ≡ 1 = rw same (times_self y) in
+          record { here = λ some. now_here; elsewhere = λ none. absurd (omega (arith, none, more, one)) }
+      | inr other ↦
+          let apart : x ≡ n → ⊥ = λ (e' : x ≡ n). other (ap (slice_index xs) e' ∙ there (subst (λ m. m < length xs) e' inside)) in
+          let same : known_at d x ≡ known_at now x = rw is_d (known_at-put_other now n x (common_at now (end_of e) n) apart) in
+          let none_here = times_other v y other in
+          record {
+            here = λ some. same ∙ h.here (λ none. some (omega (arith, none, more, none_here)));
+            elsewhere = λ none. same ∙ h.elsewhere (omega (arith, none, more, none_here));
+          }
+    ]
+
+pub settled-end : (e : End) (c d : Knowledge) (own : List ℕ) (i x : ℕ) → length own ≤ i → IsSettled e c d (take i own) x → IsSettled e c d own x
+settled-end e c d own i x le h = subst (λ ys. IsSettled e c d ys x) (take_all own i le) h

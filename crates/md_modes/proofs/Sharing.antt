@@ -1,11 +1,11 @@
--- What arms have in common, by the variables that all of them bind.
+-- What arms have in common, by the variables that need a look at each arm.
 use Rattle.std.proofs.Common.{◌≡◌, refl, sym, ap, ◌∙◌, arith, ℕ, zero, suc, ◌+◌, ◌<◌, ◌≤◌, Bool, true, false, not, ◌&&◌, ◌||◌, ◌⊎◌, inl, inr, ⊎_elim, cond, List, [], ◌∷◌, ◌++◌, length}
 use Rattle.std.proofs.lemmas.Bool.{cases_eq, cases_lt, true≢false, or_cases, or_left, or_right, or_parts, and_parts, and_from, false_from_ne_true}
 use Rattle.md_binding.specs.Known.{Known, free, has, Knowledge, known_at, put, is_bound, is_newly_bound, times}
 use Rattle.md_binding.specs.Common.{disagree, common, is_alike}
 use Rattle.md_modes.specs.declared.joined.Shared.{Shared}
 use Rattle.md_modes.specs.Branches.{some_of, differ, some_differ, in_common, all_have, some_unlike, clash}
-use Rattle.md_modes.specs.Shares.{numbers, common_at, commons, compared, kept, begun, AllRight, Shares, lost, gained, some_clash}
+use Rattle.md_modes.specs.Shares.{numbers, common_at, commons, compared, kept, unsettled, begun, AllRight, Shares, lost, gained, some_clash}
 use Rattle.md_modes.proofs.Below.{some_below-found}
 use Rattle.md_modes.proofs.JoinLemmas.{some_differ-more}
 use Rattle.md_modes.proofs.KnownLemmas.{length-put, known_at-put, known_at-put_other, known_at-outside, same_knowledge, length-in_common, known_at-in_common, not_first, not_in, not_in_rest}
@@ -44,36 +44,98 @@ narrowed_common c q n x = ⊎_elim
     (λ (other : x ≡ n → ⊥). ap (λ (k : Known). common k (known_at q x)) (narrowed_other c q n x other))
     (cases_eq x n)
 
-in_common-narrowed : (c q : Knowledge) (n : ℕ) → in_common (narrowed c q n) q ≡ in_common c q
-in_common-narrowed c q n =
-    same_knowledge (in_common (narrowed c q n) q) (in_common c q)
-    (length-in_common (narrowed c q n) q ∙ length-put c n (common_at c q n) ∙ sym (length-in_common c q))
-    (λ x. known_at-in_common (narrowed c q n) q x ∙ narrowed_common c q n x ∙ sym (known_at-in_common c q x))
-
 -- ---- all variables compared
 
--- what isn't among the variables has nothing to be compared
-abbrev Compared : (c q : Knowledge) → List ℕ → Type 0
-Compared c q ns = (x : ℕ) → times x ns ≡ 0 → known_at c x ≡ common_at c q x
+commons_common : (c q : Knowledge) (es : List Shared) (x : ℕ) → common_at (commons c q es) q x ≡ common_at c q x
+commons_common c q [] x = refl
+commons_common c q (e ∷ es) x = commons_common (narrowed c q e.number) q es x ∙ narrowed_common c q e.number x
 
-compared_first : (c q : Knowledge) (n : ℕ) (ns : List ℕ) → Compared c q (n ∷ ns) → Compared (narrowed c q n) q ns
-compared_first c q n ns h x none = ⊎_elim
-    (λ (same : x ≡ n). rw same (narrowed_here c q n))
-    (λ (other : x ≡ n → ⊥). narrowed_other c q n x other ∙ h x (not_in x n ns other none))
-    (cases_eq x n)
-    ∙ sym (narrowed_common c q n x)
+-- a variable was compared, or it is none of these and what is known of it stays
+abbrev Looked : (c q : Knowledge) → List Shared → ℕ → Type 0
+Looked c q es x = (known_at (commons c q es) x ≡ common_at c q x) ⊎ ((times x (numbers es) ≡ 0) × (known_at (commons c q es) x ≡ known_at c x))
 
-commons_by : (c q : Knowledge) (es : List Shared) → Compared c q (numbers es) → commons c q es ≡ in_common c q
-commons_by c q [] h = same_knowledge c (in_common c q) (sym (length-in_common c q)) (λ x. h x refl ∙ sym (known_at-in_common c q x))
-commons_by c q (e ∷ es) h =
-    commons_by (narrowed c q e.number) q es (compared_first c q e.number (numbers es) h) ∙ in_common-narrowed c q e.number
+looked_first : (c q : Knowledge) (e : Shared) (es : List Shared) (x : ℕ) → times x (numbers es) ≡ 0
+    → known_at (commons (narrowed c q e.number) q es) x ≡ known_at (narrowed c q e.number) x → Looked c q (e ∷ es) x
+looked_first c q e es x none stays = ⊎_elim
+    (λ (same : x ≡ e.number). inl (stays ∙ rw same (narrowed_here c q e.number)))
+    (λ (other : x ≡ e.number → ⊥). inr (not_in x e.number (numbers es) other none, stays ∙ narrowed_other c q e.number x other))
+    (cases_eq x e.number)
 
-unbound_common : (k j : Known) → (is_bound k ≡ true → ⊥) → k ≡ common k j
-unbound_common free j h = refl
-unbound_common (has t used) j h = absurd (h refl)
+looked : (c q : Knowledge) (es : List Shared) (x : ℕ) → Looked c q es x
+looked c q [] x = inr (refl, refl)
+looked c q (e ∷ es) x = ⊎_elim
+    (λ (here : known_at (commons (narrowed c q e.number) q es) x ≡ common_at (narrowed c q e.number) q x). inl (here ∙ narrowed_common c q e.number x))
+    (λ (rest : (times x (numbers es) ≡ 0) × (known_at (commons (narrowed c q e.number) q es) x ≡ known_at (narrowed c q e.number) x)). looked_first c q e es x rest.0 rest.1)
+    (looked (narrowed c q e.number) q es x)
 
-pub commons_is : (c q : Knowledge) (es : List Shared) → ((x : ℕ) → is_bound (known_at c x) ≡ true → times x (numbers es) ≡ 0 → ⊥) → commons c q es ≡ in_common c q
-commons_is c q es h = commons_by c q es (λ x none. unbound_common (known_at c x) (known_at q x) (λ e. h x e none))
+-- ---- variables that need no look
+
+settled_either : (a b : Bool) → (b && not a) ≡ false → (a || b) ≡ a
+settled_either true b e = refl
+settled_either false false e = refl
+settled_either false true e = absurd (true≢false e)
+
+settled_common : (b k : Known) → unsettled b k ≡ false → common k b ≡ k
+settled_common free free e = refl
+settled_common (has u spent) free e = refl
+settled_common free (has t used) e = absurd (true≢false e)
+settled_common (has u spent) (has t used) e = ap (has t) (settled_either used spent e)
+
+settled_free : (b : Known) → unsettled b free ≡ false
+settled_free free = refl
+settled_free (has u spent) = refl
+
+unsettled_bound : (b k : Known) → unsettled b k ≡ true → is_bound k ≡ true
+unsettled_bound b free e = absurd (true≢false (sym e ∙ settled_free b))
+unsettled_bound b (has t used) e = refl
+
+unsettled_both : (c a b : Bool) → (c && not (a || b)) ≡ true → (c && not a) ≡ true
+unsettled_both c false b e = and_from c true (and_parts c (not b) e).0 refl
+unsettled_both c true b e = e
+
+-- what needs a look after one arm more needed one before
+unsettled_common : (b k j : Known) → unsettled b (common k j) ≡ true → unsettled b k ≡ true
+unsettled_common b free j e = e
+unsettled_common b (has t used) free e = absurd (true≢false (sym e ∙ settled_free b))
+unsettled_common free (has t used) (has u spent) e = refl
+unsettled_common (has v over) (has t used) (has u spent) e = unsettled_both over used spent e
+
+newly_unsettled : (b k : Known) → not (is_bound b) ≡ true → is_bound k ≡ true → unsettled b k ≡ true
+newly_unsettled b free e f = absurd (true≢false (sym f))
+newly_unsettled free (has t used) e f = refl
+newly_unsettled (has u spent) (has t used) e f = absurd (true≢false (sym e))
+
+-- an arm left this variable alone
+left_alone : (s c q : Knowledge) (es : List Shared) (x : ℕ) → known_at q x ≡ known_at s x
+    → (unsettled (known_at s x) (known_at c x) ≡ true → times x (numbers es) ≡ 0 → ⊥) → known_at (commons c q es) x ≡ common_at c q x
+left_alone s c q es x alone h = ⊎_elim
+    (λ (here : known_at (commons c q es) x ≡ common_at c q x). here)
+    (λ (rest : (times x (numbers es) ≡ 0) × (known_at (commons c q es) x ≡ known_at c x)).
+    rest.1
+    ∙ sym (settled_common (known_at s x) (known_at c x) (false_from_ne_true (unsettled (known_at s x) (known_at c x)) (λ e. h e rest.0)))
+    ∙ ap (common (known_at c x)) (sym alone))
+    (looked c q es x)
+
+-- what is known of a variable at the end is what the arms have in common at it, or nothing had to be done
+abbrev Settled : (s c q d : Knowledge) → List Shared → ℕ → Type 0
+Settled s c q d es x = (known_at d x ≡ common_at (commons c q es) q x) ⊎ ((known_at d x ≡ known_at (commons c q es) x) × (known_at q x ≡ known_at s x))
+
+settled_at : (s c q d : Knowledge) (es : List Shared) (x : ℕ) → Settled s c q d es x
+    → (unsettled (known_at s x) (known_at c x) ≡ true → times x (numbers es) ≡ 0 → ⊥) → known_at d x ≡ common_at c q x
+settled_at s c q d es x told h = ⊎_elim
+    (λ (here : known_at d x ≡ common_at (commons c q es) q x). here ∙ commons_common c q es x)
+    (λ (rest : (known_at d x ≡ known_at (commons c q es) x) × (known_at q x ≡ known_at s x)). rest.0 ∙ left_alone s c q es x rest.1 h)
+    told
+
+pub settled_is : (s c q d : Knowledge) (es : List Shared) → length d ≡ length c
+    → ((x : ℕ) → x < length c → (known_at d x ≡ common_at (commons c q es) q x) ⊎ ((known_at d x ≡ known_at (commons c q es) x) × (known_at q x ≡ known_at s x)))
+    → ((x : ℕ) → unsettled (known_at s x) (known_at c x) ≡ true → times x (numbers es) ≡ 0 → ⊥)
+    → d ≡ in_common c q
+settled_is s c q d es size told h = same_knowledge d (in_common c q) (size ∙ sym (length-in_common c q)) (λ x. ⊎_elim
+    (λ (lt : suc x ≤ length c). settled_at s c q d es x (told x lt) (h x) ∙ sym (known_at-in_common c q x))
+    (λ (le : length c ≤ x).
+    known_at-outside d x (omega (arith, le, size)) ∙ sym (known_at-outside (in_common c q) x (omega (arith, le, length-in_common c q))))
+    (cases_lt x (length c)))
 
 -- ---- the variables that one arm more binds too
 
@@ -117,12 +179,13 @@ all_right-kept r c q (e ∷ es) u h =
     (ap (λ b. b || not (is_alike (known_at r e.number) (known_at q e.number))) h.0)
     (all_right-kept r (narrowed c q e.number) q es u h.1)
 
-pub kept_shares : (r c q : Knowledge) (es : List Shared) (u : ℕ → Bool) → Shares c u es
-    → Shares (in_common c q) (λ x. u x || not (is_alike (known_at r x) (known_at q x))) (kept r c q es)
-kept_shares r c q es u h = record {
+pub kept_shares : (s r c q : Knowledge) (es : List Shared) (u : ℕ → Bool) → Shares s c u es
+    → Shares s (in_common c q) (λ x. u x || not (is_alike (known_at r x) (known_at q x))) (kept r c q es)
+kept_shares s r c q es u h = record {
   all = λ x e none.
-      let bound : is_bound (common_at c q x) ≡ true = ap is_bound (sym (known_at-in_common c q x)) ∙ e in
-      h.all x (bound_common (known_at c x) (known_at q x) bound) (all_kept r c q es x bound none);
+      let now : unsettled (known_at s x) (common_at c q x) ≡ true = ap (unsettled (known_at s x)) (sym (known_at-in_common c q x)) ∙ e in
+      let bound : is_bound (common_at c q x) ≡ true = unsettled_bound (known_at s x) (common_at c q x) now in
+      h.all x (unsettled_common (known_at s x) (known_at c x) (known_at q x) now) (all_kept r c q es x bound none);
   right = all_right-kept r c q es u h.right;
 }
 
@@ -132,26 +195,31 @@ right_along : (u v : ℕ → Bool) (es : List Shared) → ((x : ℕ) → u x ≡
 right_along u v [] same h = tt
 right_along u v (e ∷ es) same h = (h.0 ∙ same e.number, right_along u v es same h.1)
 
-pub shares_along : (c d : Knowledge) (u v : ℕ → Bool) (es : List Shared) → c ≡ d → ((x : ℕ) → u x ≡ v x) → Shares c u es → Shares d v es
-shares_along c d u v es known same h = record {
-  all = λ x e none. h.all x (ap (λ (k : Knowledge). is_bound (known_at k x)) known ∙ e) none;
+pub shares_along : (s c d : Knowledge) (u v : ℕ → Bool) (es : List Shared) → c ≡ d → ((x : ℕ) → u x ≡ v x) → Shares s c u es → Shares s d v es
+shares_along s c d u v es known same h = record {
+  all = λ x e none. h.all x (ap (λ (k : Knowledge). unsettled (known_at s x) (known_at k x)) known ∙ e) none;
   right = right_along u v es same h.right;
 }
 
--- ---- the variables that the first arm binds
+-- ---- those that the first arm binds and that need a look
 
-all_begun : (n : ℕ) (r : Knowledge) (i x : ℕ) → x ≡ n + i → is_bound (known_at r i) ≡ true → times x (numbers (begun n r)) ≡ 0 → ⊥
-all_begun n [] i x at e none = true≢false (sym e)
-all_begun n (k ∷ r) zero x at e none = first_kept (is_bound k) x (record { number = n; unlike = false }) (begun (suc n) r) e (omega (arith, at)) none
-all_begun n (k ∷ r) (suc i) x at e none =
-    all_begun (suc n) r i x (omega (arith, at)) e (not_in_kept (is_bound k) x (record { number = n; unlike = false }) (begun (suc n) r) none)
+all_begun : (n : ℕ) (s r : Knowledge) (i x : ℕ) → x ≡ n + i → unsettled (known_at s i) (known_at r i) ≡ true → times x (numbers (begun n s r)) ≡ 0 → ⊥
+all_begun n s [] i x at e none = true≢false (sym e ∙ settled_free (known_at s i))
+all_begun n [] (k ∷ r) zero x at e none = first_kept (unsettled free k) x (record { number = n; unlike = false }) (begun (suc n) [] r) e (omega (arith, at)) none
+all_begun n [] (k ∷ r) (suc i) x at e none =
+    all_begun (suc n) [] r i x (omega (arith, at)) e (not_in_kept (unsettled free k) x (record { number = n; unlike = false }) (begun (suc n) [] r) none)
+all_begun n (b ∷ s) (k ∷ r) zero x at e none = first_kept (unsettled b k) x (record { number = n; unlike = false }) (begun (suc n) s r) e (omega (arith, at)) none
+all_begun n (b ∷ s) (k ∷ r) (suc i) x at e none =
+    all_begun (suc n) s r i x (omega (arith, at)) e (not_in_kept (unsettled b k) x (record { number = n; unlike = false }) (begun (suc n) s r) none)
 
-right_begun : (n : ℕ) (r : Knowledge) → AllRight (λ x. false) (begun n r)
-right_begun n [] = tt
-right_begun n (k ∷ r) = right_kept (is_bound k) (λ x. false) (record { number = n; unlike = false }) (begun (suc n) r) refl (right_begun (suc n) r)
+right_begun : (n : ℕ) (s r : Knowledge) → AllRight (λ x. false) (begun n s r)
+right_begun n [] [] = tt
+right_begun n (b ∷ s) [] = tt
+right_begun n [] (k ∷ r) = right_kept (unsettled free k) (λ x. false) (record { number = n; unlike = false }) (begun (suc n) [] r) refl (right_begun (suc n) [] r)
+right_begun n (b ∷ s) (k ∷ r) = right_kept (unsettled b k) (λ x. false) (record { number = n; unlike = false }) (begun (suc n) s r) refl (right_begun (suc n) s r)
 
-pub begun_shares : (r : Knowledge) → Shares r (λ x. false) (begun 0 r)
-begun_shares r = record { all = λ x e none. all_begun 0 r x x (omega arith) e none; right = right_begun 0 r }
+pub begun_shares : (s r : Knowledge) → Shares s r (λ x. false) (begun 0 s r)
+begun_shares s r = record { all = λ x e none. all_begun 0 s r x x (omega arith) e none; right = right_begun 0 s r }
 
 -- ---- one arm binds a variable and another doesn't
 
@@ -246,13 +314,13 @@ gained_differs p s r q w =
     differs_at p s r q x w.1 h.0 (gains (known_at r x) (known_at q x) h.1)
 
 -- where they differ, a variable is gained or lost
-differ_found : (p : ℕ → Bool) (s r q : Knowledge) (qs : List Knowledge) (u : ℕ → Bool) (es : List Shared) (a b : Bool) → Shares (all_have r qs) u es
+differ_found : (p : ℕ → Bool) (s r q : Knowledge) (qs : List Knowledge) (u : ℕ → Bool) (es : List Shared) (a b : Bool) → Shares s (all_have r qs) u es
     → some_differ p s r qs ≡ false → a ≡ some_of (lost p s (all_have r qs) q) (numbers es)
     → ((x : ℕ) → x < length s → gained p s r q x ≡ true → b ≡ true)
     → Witness (length s) (λ x. p x && (not (is_bound (known_at s x)) && disagree (known_at r x) (known_at q x))) → (b || a) ≡ true
 differ_found p s r q qs u es a b shares none lose gain w = ⊎_elim
     (λ (g : (not (is_bound k) && is_bound j) ≡ true). or_left b a (gain x w.1 (watched_and p s x (not (is_bound k) && is_bound j) h.0 g)))
-    (λ (l : (is_bound k ≡ true) × (not (is_bound j) ≡ true)). or_right b a (lose ∙ some_of-found (lost p s (all_have r qs) q) (numbers es) x (λ absent. shares.all x (bound l.0) absent) (losing l)))
+    (λ (l : (is_bound k ≡ true) × (not (is_bound j) ≡ true)). or_right b a (lose ∙ some_of-found (lost p s (all_have r qs) q) (numbers es) x (λ absent. shares.all x (newly_unsettled (known_at s x) (known_at (all_have r qs) x) h.0.1 (bound l.0)) absent) (losing l)))
     (apart k j h.1)
   where
     x : ℕ
@@ -275,7 +343,7 @@ differ_found p s r q qs u es a b shares none lose gain w = ⊎_elim
         watched_and p s x (is_bound (known_at (all_have r qs) x) && not (is_bound j)) h.0
         (and_from (is_bound (known_at (all_have r qs) x)) (not (is_bound j)) (bound l.0) l.1)
 
-pub differ_by : (p : ℕ → Bool) (s r q : Knowledge) (qs : List Knowledge) (u : ℕ → Bool) (es : List Shared) (a b d : Bool) → length r ≡ length s → Shares (all_have r qs) u es
+pub differ_by : (p : ℕ → Bool) (s r q : Knowledge) (qs : List Knowledge) (u : ℕ → Bool) (es : List Shared) (a b d : Bool) → length r ≡ length s → Shares s (all_have r qs) u es
     → d ≡ some_differ p s r qs
     → a ≡ some_of (lost p s (all_have r qs) q) (numbers es)
     → (b ≡ true → (x : ℕ) × (x < length s) × (gained p s r q x ≡ true))
@@ -303,6 +371,11 @@ differ_by p s r q qs u es a b d size shares before lose find gain =
 
 newly_now : (k j : Known) → is_newly_bound k j ≡ true → is_bound j ≡ true
 newly_now k j e = (and_parts (not (is_bound k)) (is_bound j) e).1
+
+new_unsettled : (k j : Known) → is_newly_bound k j ≡ true → unsettled k j ≡ true
+new_unsettled k j e =
+    let parts : (not (is_bound k) ≡ true) × (is_bound j ≡ true) = and_parts (not (is_bound k)) (is_bound j) e in
+    newly_unsettled k j parts.0 parts.1
 
 -- a variable that is free before and bound in all arms, and of which u is told
 abbrev Clashing : (s c : Knowledge) → (ℕ → Bool) → Type 0
@@ -334,7 +407,7 @@ clash_witness s c u (f ∷ es) h e = ⊎_elim
     (λ (rest : some_clash s c es ≡ true). clash_witness s c u es h.1 rest)
     (or_cases (is_newly_bound (known_at s f.number) (known_at c f.number) && f.unlike) (some_clash s c es) e)
 
-pub clash_by : (s r : Knowledge) (qs : List Knowledge) (es : List Shared) → Shares (all_have r qs) (λ x. some_unlike (known_at r x) x qs) es
+pub clash_by : (s r : Knowledge) (qs : List Knowledge) (es : List Shared) → Shares s (all_have r qs) (λ x. some_unlike (known_at r x) x qs) es
     → clash s (all_have r qs) r qs ≡ some_clash s (all_have r qs) es
 clash_by s r qs es h = same_tests (clash s c r qs) (some_clash s c es)
     (λ e. down (some_below-witness (length c) test e))
@@ -353,7 +426,7 @@ clash_by s r qs es h = same_tests (clash s c r qs) (some_clash s c es)
     down w =
         let x : ℕ = w.0 in
         let parts : (is_newly_bound (known_at s x) (known_at c x) ≡ true) × (u x ≡ true) = and_parts (is_newly_bound (known_at s x) (known_at c x)) (u x) w.2 in
-        clash_found s c u es x h.right (λ none. h.all x (newly_now (known_at s x) (known_at c x) parts.0) none) parts.0 parts.1
+        clash_found s c u es x h.right (λ none. h.all x (new_unsettled (known_at s x) (known_at c x) parts.0) none) parts.0 parts.1
 
     up : Clashing s c u → clash s c r qs ≡ true
     up w =

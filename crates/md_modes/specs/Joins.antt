@@ -1,5 +1,5 @@
 -- The arms of a branch that were checked so far, as the code keeps them.
-use Rattle.std.specs.Prelude.{◌≡◌, ◌≢◌, ⊤, ℕ, Bool, true, List, [], ◌∷◌, length, Option, Some, None, Result, Ok, Err, Vec}
+use Rattle.std.specs.Prelude.{◌≡◌, ◌≢◌, ⊤, ℕ, Bool, true, List, [], ◌∷◌, length, slice_index, Option, Some, None, Result, Ok, Err, Vec}
 use Rattle.md_binding.specs.declared.fault.ModeFault.{ModeFault}
 use Rattle.md_binding.specs.declared.fault.ModeFault.TheVariants.{NoMemory}
 use Rattle.std.specs.declared.alloc.Global.{Global}
@@ -9,12 +9,12 @@ use Rattle.md_modes.specs.declared.outside.Outside.{Outside}
 use Rattle.md_modes.specs.declared.outside.View.{View}
 use Rattle.md_modes.specs.declared.end.End.{End}
 use Rattle.md_binding.specs.Verdict.{Verdict}
-use Rattle.md_binding.specs.Known.{Knowledge, known_at}
+use Rattle.md_binding.specs.Known.{Knowledge, known_at, times}
 use Rattle.md_modes.specs.Branches.{After, after, all_have, some_unlike, some_differ, reachable}
 use Rattle.md_binding.specs.Kinds.{knowledge_of}
 use Rattle.md_modes.specs.Tally.{exceeds}
 use Rattle.md_modes.specs.Views.{Rising, seen, Leaves}
-use Rattle.md_modes.specs.Shares.{Shares}
+use Rattle.md_modes.specs.Shares.{Shares, common_at}
 
 -- the variable of this number among those of a goal occurs outside it
 abbrev pub occurs : Outside → ℕ → Bool
@@ -25,7 +25,7 @@ pub record Joins (p : ℕ → Bool) (s : Knowledge) (j : Joined) (r : Knowledge)
   pub first : knowledge_of j.first.items ≡ r
   pub size : length r ≡ length s
   pub common : knowledge_of j.common.items ≡ all_have r qs
-  pub shares : Shares (all_have r qs) (λ x. some_unlike (known_at r x) x qs) j.shared.items
+  pub shares : Shares s (all_have r qs) (λ x. some_unlike (known_at r x) x qs) j.shared.items
   pub differ : j.differ ≡ some_differ p s r qs
 
 abbrev pub IsJoin : (ℕ → Bool) → Knowledge → Option Joined → List Knowledge → Type 0
@@ -46,6 +46,11 @@ pub record IsArm (view : View) (own : List ℕ) (s r : Knowledge) : Type 0 where
 -- what is known of the branch's variables at the end of an arm
 abbrev pub end_of : End → Knowledge
 end_of e = seen e.view.outside.local.now.places.items (knowledge_of e.marks.now)
+
+-- at a variable of the arm is what the arms so far and the arm have in common, at another what they have without it
+pub record IsSettled (e : End) (c d : Knowledge) (own : List ℕ) (x : ℕ) : Type 0 where
+  pub here : times (slice_index e.view.outside.local.now.places.items x) own ≢ 0 → known_at d x ≡ common_at c (end_of e) x
+  pub elsewhere : times (slice_index e.view.outside.local.now.places.items x) own ≡ 0 → known_at d x ≡ known_at c x
 
 abbrev pub IsEnd : End → Knowledge → Type 0
 IsEnd e s = IsArm e.view e.own.now s (knowledge_of e.marks.now)

@@ -1,6 +1,6 @@
--- The variables that all arms so far bind, as the code keeps them.
+-- The variables that need a look at each arm, as the code keeps them.
 use Rattle.std.specs.Prelude.{◌≡◌, ⊤, ℕ, suc, Bool, true, false, not, ◌&&◌, ◌||◌, List, [], ◌∷◌, cond}
-use Rattle.md_binding.specs.Known.{Known, Knowledge, known_at, put, is_bound, is_newly_bound, times}
+use Rattle.md_binding.specs.Known.{Known, free, has, Knowledge, known_at, put, is_bound, is_newly_bound, times}
 use Rattle.md_binding.specs.Common.{common, is_alike}
 use Rattle.md_modes.specs.declared.joined.Shared.{Shared}
 
@@ -28,19 +28,26 @@ kept r c q (e ∷ es) =
     cond (is_bound (common_at c q e.number)) (compared r q e ∷ kept r (put c e.number (common_at c q e.number)) q es)
     (kept r (put c e.number (common_at c q e.number)) q es)
 
--- those that the first arm binds, counted on from n
-abbrev pub begun : ℕ → Knowledge → List Shared
-begun n [] = []
-begun n (k ∷ r) = cond (is_bound k) (record { number = n; unlike = false } ∷ begun (suc n) r) (begun (suc n) r)
+-- an arm that leaves a variable alone changes what the others have in common at it
+abbrev pub unsettled : (before shared : Known) → Bool
+unsettled free (has t used) = true
+unsettled (has u spent) (has t used) = spent && not used
+unsettled b free = false
+
+-- those that the first arm binds and that need a look at each other arm, counted on from n
+abbrev pub begun : ℕ → (before first : Knowledge) → List Shared
+begun n s [] = []
+begun n [] (k ∷ r) = cond (unsettled free k) (record { number = n; unlike = false } ∷ begun (suc n) [] r) (begun (suc n) [] r)
+begun n (b ∷ s) (k ∷ r) = cond (unsettled b k) (record { number = n; unlike = false } ∷ begun (suc n) s r) (begun (suc n) s r)
 
 -- each tells whether some arm binds it with another type than the first
 abbrev pub AllRight : (ℕ → Bool) → List Shared → Type 0
 AllRight u [] = ⊤
 AllRight u (e ∷ es) = (e.unlike ≡ u e.number) × AllRight u es
 
--- they are all that the arms have in common, and tell of each what u does
-pub record Shares (c : Knowledge) (u : ℕ → Bool) (es : List Shared) : Type 0 where
-  pub all : (x : ℕ) → is_bound (known_at c x) ≡ true → times x (numbers es) ≡ 0 → ⊥
+-- they are all that need a look, and tell of each what u does
+pub record Shares (s c : Knowledge) (u : ℕ → Bool) (es : List Shared) : Type 0 where
+  pub all : (x : ℕ) → unsettled (known_at s x) (known_at c x) ≡ true → times x (numbers es) ≡ 0 → ⊥
   pub right : AllRight u es
 
 -- a variable with the property, free before, is bound in all arms so far, and not in one arm more

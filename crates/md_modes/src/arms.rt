@@ -66,7 +66,7 @@ fn one_more<'a>(
     match joined {
         None => {
             let marks = seen(alloc, &end.view.outside.local.places, end.marks)?;
-            Joined::new(alloc, marks)
+            Joined::new(alloc, end.view.before, marks)
         }
         Some(mut joined) => {
             joined.add(alloc, end)?;

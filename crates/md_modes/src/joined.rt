@@ -1,10 +1,11 @@
 // What several arms of a branch have in common.
-ghost use Rattle.std.specs.Prelude.{◌≡◌, ℕ, Bool, List, [], ◌∷◌, ◌++◌, ◌||◌, length, IfOk, OnOk};
+ghost use Rattle.std.specs.Prelude.{◌≡◌, ◌<◌, ℕ, Bool, List, [], ◌∷◌, ◌++◌, ◌||◌, length, IfOk, OnOk};
 ghost use Rattle.md_binding.specs.Known.{Knowledge, put};
 ghost use Rattle.md_modes.specs.Branches.{joined_ends};
 ghost use Rattle.md_binding.specs.Kinds.{known_of, knowledge_of};
-ghost use Rattle.md_modes.specs.Joins.{Joins, IsJoined, IsEnd, end_of, occurs};
+ghost use Rattle.md_modes.specs.Joins.{Joins, IsJoined, IsEnd, IsSettled, end_of, occurs};
 ghost use Rattle.md_modes.specs.Shares as spec;
+ghost use Rattle.md_modes.specs.Views.{Rising};
 
 use crate::end::End;
 use md_base::NoMemory;
@@ -26,27 +27,32 @@ pub struct Joined<'a> {
     pub first: Vec<Mark<'a>>,
     /// What all have in common.
     pub common: Vec<Mark<'a>>,
-    /// The variables that all bind.
+    /// The variables at which an arm that leaves them alone changes what all have in common: those that were free before
+    /// the branch, and that all bind.
     pub shared: Vec<Shared>,
     /// Whether an arm binds a variable that occurs outside the branch and the first doesn't, or the other way round.
     pub differ: bool,
 }
 
 impl<'a> Joined<'a> {
-    /// One arm, at the end of which this is known.
-    pub fn new(alloc: Global, marks: Vec<Mark<'a>>) -> Result<Joined<'a>, NoMemory>
-        ensures { IfOk result (λ joined. (p : ℕ → Bool) → (s : Knowledge) → length (knowledge_of marks.entry.items) ≡ length s
-            → Joins p s joined (knowledge_of marks.entry.items) []) }
+    /// One arm, which began with what was known before the branch, and at the end of which this is known.
+    pub fn new(
+        alloc: Global,
+        before: &[Mark<'a>],
+        marks: Vec<Mark<'a>>,
+    ) -> Result<Joined<'a>, NoMemory>
+        ensures { IfOk result (λ joined. (p : ℕ → Bool) → length (knowledge_of marks.entry.items) ≡ length (knowledge_of before.now)
+            → Joins p (knowledge_of before.now) joined (knowledge_of marks.entry.items) []) }
     {
         Ok(Joined {
             common: Vec::from_slice(alloc, &marks)?,
-            shared: begun(alloc, &marks)?,
+            shared: begun(alloc, before, &marks)?,
             first: marks,
             differ: false,
         })
     }
 
-    /// One arm more. Takes time for the variables of the arm, and for those that all arms so far bind.
+    /// One arm more. Takes time for the variables of the arm, and for those that were free and that all arms so far bind.
     pub fn add(&mut self, alloc: Global, end: End<'a, '_>) -> Result<(), NoMemory>
         ensures { OnOk result ((s r : Knowledge) → (qs : List Knowledge) → IsEnd end.entry s
             → Joins (occurs end.entry.view.outside) (knowledge_of end.entry.view.before.now) self.old r qs
@@ -56,6 +62,7 @@ impl<'a> Joined<'a> {
         let loses = end.loses(&self.common, &self.shared);
         self.differ = either(self.differ, either(gains, loses));
         self.shared = keep(alloc, &self.first, &mut self.common, &self.shared, end)?;
+        settle(&mut self.common, end);
         Ok(())
     }
 
@@ -80,13 +87,26 @@ fn either(first: bool, second: bool) -> bool
     first || second
 }
 
-/// The variables that the first arm binds.
-fn begun(alloc: Global, marks: &[Mark<'_>]) -> Result<Vec<Shared>, NoMemory>
-    ensures { IfOk result (λ shared. shared.items ≡ spec.begun 0 (knowledge_of marks.now)) }
+/// Whether an arm that leaves a variable alone changes what the others have in common at it.
+fn is_unsettled(before: Mark<'_>, common: Mark<'_>) -> bool
+    ensures { result ≡ spec.unsettled (known_of before.entry) (known_of common.entry) }
+{
+    match common {
+        Mark::Free => false,
+        Mark::Bound(_, used) => match before {
+            Mark::Free => true,
+            Mark::Bound(_, spent) => spent && !used,
+        },
+    }
+}
+
+/// The variables that the first arm binds and that need a look at each other arm.
+fn begun(alloc: Global, before: &[Mark<'_>], marks: &[Mark<'_>]) -> Result<Vec<Shared>, NoMemory>
+    ensures { IfOk result (λ shared. shared.items ≡ spec.begun 0 (knowledge_of before.now) (knowledge_of marks.now)) }
 {
     let mut shared = Vec::new(alloc);
     for number in 0..marks.len() {
-        if mark_in(marks, number).is_bound() {
+        if is_unsettled(mark_in(before, number), mark_in(marks, number)) {
             shared.push(Shared {
                 number,
                 unlike: false,
@@ -122,6 +142,20 @@ fn keep<'a>(
         }
     }
     Ok(kept)
+}
+
+/// Keeps of what the arms so far have in common at the variables of one arm more what that arm has too.
+fn settle<'a>(common: &mut Vec<Mark<'a>>, end: End<'a, '_>)
+    ensures size { length (knowledge_of common.new.items) ≡ length (knowledge_of common.old.items) }
+    ensures settled { Rising 0 end.entry.view.outside.local.now.places.items → length (knowledge_of common.old.items) ≡ length end.entry.view.outside.local.now.places.items
+        → (x : ℕ) → x < length end.entry.view.outside.local.now.places.items
+        → IsSettled end.entry (knowledge_of common.old.items) (knowledge_of common.new.items) end.entry.own.now x }
+{
+    for place in end.own {
+        let number = end.view.outside.local.number_of(*place);
+        let mark = mark_in(common, number).common(end.mark(number));
+        set_mark_in(common, number, mark);
+    }
 }
 
 /// Sets what is known of the variable of a number; past the end it does nothing.

@@ -60,7 +60,8 @@ impl Local {
 
     /// The number of a variable among those of the goal, from 0; past their end, where it isn't one of them.
     pub fn number_of(&self, place: u32) -> usize
-        ensures { Rising 0 self.now.places.items → (x : ℕ) → x < length self.now.places.items → slice_index self.now.places.items x ≡ place → result ≡ x }
+        ensures found { Rising 0 self.now.places.items → (x : ℕ) → x < length self.now.places.items → slice_index self.now.places.items x ≡ place → result ≡ x }
+        ensures there { Rising 0 self.now.places.items → result < length self.now.places.items → slice_index self.now.places.items result ≡ place }
     {
         match self.places.binary_search(&place) {
             Ok(number) => number,

@@ -20,4 +20,4 @@ loop-place-preserved c rising =
     let self = c.args.self in
     gained-missed (gained (occurs self.view.outside) (knowledge_of self.view.before.now) (knowledge_of c.args.first.now) (end_of self))
     self.view.outside.local.now.places.items self.own.now c.loop-place.place-index _ c.number_of-number.result c.loop-place-test.true refl
-    (c.number_of-number.ensures rising) (sym c.is_gained.ensures ∙ c.if-is_gained.false) (c.loop-place.invariant rising)
+    (c.number_of-number.ensures.found rising) (sym c.is_gained.ensures ∙ c.if-is_gained.false) (c.loop-place.invariant rising)

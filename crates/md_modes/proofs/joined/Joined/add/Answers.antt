@@ -3,7 +3,7 @@ use Rattle.md_binding.specs.Known.{Knowledge}
 use Rattle.md_binding.specs.Kinds.{knowledge_of}
 use Rattle.md_modes.specs.Joins.{occurs, end_of}
 use Rattle.md_modes.specs.Shares.{commons, gained}
-use Rattle.md_modes.proofs.ArmLemmas.{joins_added, touched}
+use Rattle.md_modes.proofs.ArmLemmas.{joins_added, joins_common, touched}
 use Rattle.md_modes.proofs.Views.{length-seen}
 use Rattle.md_modes.proofs.joined.Joined.add.Goals as goal
 
@@ -20,7 +20,8 @@ returns c s r qs arm h =
     let size : length b ≡ length places = ap length arm.before ∙ length-seen places s in
     let first : knowledge_of c.deref.result.now ≡ knowledge_of j.first.items = ap knowledge_of c.deref.ensures.value in
     joins_added p b r q qs j _ c.loses-loses.result c.gains-gains.result h refl
-    (c.in_ok-self.ensures.common ∙ ap (commons (knowledge_of j.common.items) q) c.deref-5.ensures.value)
+    (joins_common p end s r qs j _ _ arm h
+    (c.in_ok-self.ensures.common ∙ ap (commons (knowledge_of j.common.items) q) c.deref-5.ensures.value) c.settle.ensures.size (c.settle.ensures.settled arm.rising))
     (c.in_ok-self.ensures.kept ∙ rw (c.deref-4.ensures.value, c.deref-5.ensures.value) refl)
     (c.either-self.ensures ∙ ap (λ x. j.differ || x) c.either.ensures)
     (c.loses-loses.ensures ∙ rw (c.deref-2.ensures.value, c.deref-3.ensures.value) refl)
