@@ -30,3 +30,9 @@ pub mod Taking
 pub mod Turns
 pub mod Words
 pub mod Worked
+pub mod Within
+pub mod WithinTokens
+pub mod WithinNames
+pub mod WithinLists
+pub mod WithinGoals
+pub mod WithinPredicates

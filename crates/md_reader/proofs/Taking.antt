@@ -86,7 +86,7 @@ word_behind w line i j h =
 pub word_kind : (w : List ℕ) (line : ℕ) (i j : Input) → word w i ≡ Ok (line, j) → kind_at i ≡ kind.Name
 word_kind w line i j h = (word_behind w line i j h).is
 
-turned : (b : Bool) → not b ≡ false → b ≡ true
+pub turned : (b : Bool) → not b ≡ false → b ≡ true
 turned true h = refl
 turned false h = absurd (cc)
 

@@ -1,4 +1,5 @@
 pub mod Duplicates
+pub mod Excess
 pub mod Faults
 pub mod Grammar
 pub mod Input
