@@ -1,14 +1,16 @@
 -- The token at which a text is refused: a program begins with the tokens before it, or with it too, but none with it.
-use Rattle.std.proofs.Common.{◌⊎◌, ◌≡◌, ℕ, suc, ◌+◌, ◌-◌, ◌≤◌, ◌<◌, List, [], ◌∷◌, ◌++◌, length, take, drop, refl, inl, inr, Ok, Err, sym, ap, ◌∙◌, arith, subst, append_assoc, length-append}
+use Rattle.std.proofs.Common.{◌⊎◌, ◌≡◌, ℕ, suc, ◌+◌, ◌-◌, ◌≤◌, ◌<◌, List, [], ◌∷◌, ◌++◌, length, take, drop, refl, inl, inr, Ok, Err, sym, ap, ◌∙◌, arith, subst, append_assoc, length-append, true}
 use Rattle.md_hlds.specs.Listing.{Listing}
 use Rattle.md_token.specs.Token.{Lexeme, tokens_of}
-use Rattle.md_token.proofs.Ends.{HasEnd, tokens_end}
+use Rattle.md_token.specs.declared.kind.Kind.TheVariants as kind
+use Rattle.md_token.proofs.Ends.{HasEnd, is_final, tokens_end}
 use Rattle.md_reader.specs.declared.refused.Place.{Place}
 use Rattle.md_reader.specs.declared.refused.Refusal.{Refusal}
 use Rattle.md_reader.specs.declared.refused.Refusal.TheVariants.{Syntax, Limit, NoMemory}
-use Rattle.md_reader.specs.Input.{Input, Limits, standard, Outcome, first}
+use Rattle.md_reader.specs.Input.{Input, Limits, standard, Outcome, first, sees, token}
 use Rattle.md_reader.specs.Rules as rule
 use Rattle.md_reader.specs.Grammar.{Program}
+use Rattle.md_reader.specs.Excess.{Point, beginning, behind, past, Exceeds, AreWithin}
 use Rattle.md_reader.specs.Faults.{the_end, BeginsWithin, Begins, IsSyntaxFault, IsLimitFault, TextBegins, IsAtFault}
 use Rattle.md_reader.proofs.Steady.{Stands, FaultAt, Agree, cut, recut, at}
 use Rattle.md_reader.proofs.SteadyPrograms.{program_steady}
@@ -16,6 +18,11 @@ use Rattle.md_reader.proofs.SoundPrograms.{program_sound}
 use Rattle.md_reader.proofs.CompleteTexts.{program_complete}
 use Rattle.md_reader.proofs.Fills.{all, upon, Or, Every, Done, Took, Broke, Over, Law}
 use Rattle.md_reader.proofs.FillsPrograms.{Top, IsStop, whole_program, program_is, program_law, ended_some, left_behind}
+use Rattle.md_reader.proofs.Taking.{kind_seen}
+use Rattle.md_reader.proofs.Within as kept
+use Rattle.md_reader.proofs.WithinTokens.{sign_within, any}
+use Rattle.md_reader.proofs.WithinPredicates as named
+use Rattle.md_token.proofs.Proper.{tokens_proper, tokens_last}
 
 -- ---- the end behind tokens
 
@@ -110,6 +117,37 @@ some_left ts (t ∷ later) e r h here = (t, later, refl)
 line_of : (us : List Lexeme) (place : Place) (t : Lexeme) (later : List Lexeme) → place ≡ at us → us ≡ t ∷ later → t.line ≡ place.line
 line_of us place t later here e = sym (ap (λ (p : Place). p.line) here ∙ ap (λ (vs : List Lexeme). (first vs).line) e)
 
+-- ---- what the tokens before it are within
+
+-- the last tokens of a list are as many, and so are those before them
+same_split : (a b c d : List Lexeme) → a ++ b ≡ c ++ d → length b ≡ length d → (a ≡ c) × (b ≡ d)
+same_split [] b [] d e l = (refl, e)
+same_split [] b (u ∷ c) d e l = absurd (let m = ap length e in let n = length-append c d in omega (arith, l, m, n))
+same_split (t ∷ a) b [] d e l = absurd (let m = ap length e in let n = length-append a b in omega (arith, l, m, n))
+same_split (t ∷ a) b (u ∷ c) d e l =
+    let head : t ≡ u = ap first e in
+    let p = same_split a b c d (ap (drop 1) e) l in
+    (rw (head, p.0) refl, p.1)
+
+-- what a reader of the whole text does
+kept_by : (text : List ℕ) (r : Outcome Listing) → rule.program (rule.start (tokens_of text)) ≡ r → kept.Case (λ _. named.Top) beginning (rule.start (tokens_of text)) r
+kept_by text r e =
+    let good : kept.Good (rule.start (tokens_of text)) = record { limits = refl; proper = tokens_proper text; home = omega arith } in
+    subst (kept.Case (λ _. named.Top) beginning (rule.start (tokens_of text))) e (named.program_keeps (rule.start (tokens_of text)) beginning good named.begins_top)
+
+-- two stops at one place
+same_stop : (ts front rest before later : List Lexeme) (t : Lexeme) (place : Place) → ts ≡ front ++ rest → place ≡ at rest → ts ≡ before ++ t ∷ later → place ≡ at (t ∷ later) → (front ≡ before) × (rest ≡ t ∷ later)
+same_stop ts front rest before later t place e h f g =
+    same_split front rest before (t ∷ later) (sym e ∙ f) (ap (λ (p : Place). p.left) (sym h ∙ g))
+
+kept_before : (text : List ℕ) (place : Place) (before later : List Lexeme) (t : Lexeme) → kept.Broke beginning (rule.start (tokens_of text)) place → tokens_of text ≡ before ++ t ∷ later → place ≡ at (t ∷ later) → AreWithin standard beginning before
+kept_before text place before later t w e h = subst (AreWithin standard beginning) (same_stop (tokens_of text) w.front w.rest before later t place w.whole w.here e h).0 w.within
+
+over_there : (text : List ℕ) (place : Place) (before later : List Lexeme) (t : Lexeme) → kept.Over beginning (rule.start (tokens_of text)) place → tokens_of text ≡ before ++ t ∷ later → place ≡ at (t ∷ later) → Exceeds standard (past beginning before) t
+over_there text place before later t w e h =
+    let p = same_stop (tokens_of text) w.broke.front w.broke.rest before later t place w.broke.whole w.broke.here e h in
+    subst (λ (u : Lexeme). Exceeds standard (past beginning before) u) (ap first p.1) (subst (λ (ts : List Lexeme). Exceeds standard (past beginning ts) (first w.broke.rest)) p.0 w.exceeds)
+
 pub syntax_fault : (text : List ℕ) (place : Place) → rule.program (rule.start (tokens_of text)) ≡ Err (Syntax place) → IsSyntaxFault text place.line
 syntax_fault text place r =
     let i : Input = rule.start (tokens_of text) in
@@ -123,6 +161,7 @@ syntax_fault text place r =
       tokens = w.whole ∙ ap (λ (vs : List Lexeme). w.front ++ vs) s.2;
       here = line_of w.rest place s.0 s.1 w.here s.2;
       begins = begun (tokens_of text) w.front w.fill w.done;
+      within = kept_before text place w.front s.1 s.0 (kept_by text (Err (Syntax place)) r) (w.whole ∙ ap (λ (vs : List Lexeme). w.front ++ vs) s.2) (w.here ∙ ap at s.2);
       none = none_begins (tokens_of text) place w s.0 s.1 s.2;
     }
 
@@ -141,7 +180,8 @@ limit_fault text place r =
       tokens = whole;
       here = line_of w.rest place s.0 s.1 w.here s.2;
       begins = begun (tokens_of text) (w.front ++ s.0 ∷ []) w.fill (subst (λ (ts : List Lexeme). Done (λ _. Top) (Or Every i) IsStop (λ n. whole_program) i ts) (sym (append_assoc w.front (s.0 ∷ []) w.fill)) done);
-      none = λ b. stops (tokens_of text) (Limit place) w.front s.0 s.1 (b.later ++ the_end ∷ []) b.listing b.end r whole (w.here ∙ ap at s.2) (read_at standard (w.front ++ s.0 ∷ []) b);
+      within = kept_before text place w.front s.1 s.0 (kept_by text (Err (Limit place)) r).broke whole (w.here ∙ ap at s.2);
+      exceeds = over_there text place w.front s.1 s.0 (kept_by text (Err (Limit place)) r) whole (w.here ∙ ap at s.2);
     }
 
 -- ---- the tokens of a text that is a program's
@@ -163,12 +203,9 @@ text_begins ts b =
     let s = program_sound b.listing (rule.start (up_to_end ts b.later)) (cut 0 (the_end ∷ []) b.end) moved in
     record { later = b.later; listing = b.listing; end = cut 0 (the_end ∷ []) b.end; program = s.0; whole = s.1 }
 
--- a token at fault for syntax or for a limit is at fault
+-- a token at fault for syntax is at fault
 pub syntax_at_fault : (text : List ℕ) (line : ℕ) → IsSyntaxFault text line → IsAtFault text line
 syntax_at_fault text line f = record { before = f.before; token = f.token; later = f.later; tokens = f.tokens; here = f.here; none = λ b. f.none (record { limits = standard; within = text_begins (f.before ++ f.token ∷ []) b }) }
-
-pub limit_at_fault : (text : List ℕ) (line : ℕ) → IsLimitFault text line → IsAtFault text line
-limit_at_fault text line f = record { before = f.before; token = f.token; later = f.later; tokens = f.tokens; here = f.here; none = λ b. f.none (text_begins (f.before ++ f.token ∷ []) b) }
 
 -- ---- there is one such token
 
@@ -187,8 +224,8 @@ begins_shorter ts us b =
     }
 
 -- of two tokens of a list one stands before the other, or they are one
-splits : (a b : List Lexeme) (t u : Lexeme) (x y : List Lexeme) → a ++ t ∷ x ≡ b ++ u ∷ y → ((c : List Lexeme) × (b ≡ (a ++ t ∷ []) ++ c)) ⊎ ((t ≡ u) ⊎ ((c : List Lexeme) × (a ≡ (b ++ u ∷ []) ++ c)))
-splits [] [] t u x y e = inr (inl (ap first e))
+splits : (a b : List Lexeme) (t u : Lexeme) (x y : List Lexeme) → a ++ t ∷ x ≡ b ++ u ∷ y → ((c : List Lexeme) × (b ≡ (a ++ t ∷ []) ++ c)) ⊎ (((a ≡ b) × (t ≡ u)) ⊎ ((c : List Lexeme) × (a ≡ (b ++ u ∷ []) ++ c)))
+splits [] [] t u x y e = inr (inl (refl, ap first e))
 splits [] (v ∷ b) t u x y e = inl (b, ap (λ (w : Lexeme). w ∷ b) (sym (ap first e)))
 splits (w ∷ a) [] t u x y e = inr (inr (a, ap (λ (v : Lexeme). v ∷ a) (ap first e)))
 splits (w ∷ a) (v ∷ b) t u x y e =
@@ -196,17 +233,67 @@ splits (w ∷ a) (v ∷ b) t u x y e =
     elim (splits a b t u x y (ap (drop 1) e)) [
       | inl p ↦ inl (p.0, rw (head, p.1) refl)
       | inr q ↦ elim q [
-        | inl same ↦ inr (inl same)
+        | inl same ↦ inr (inl (rw (head, same.0) refl, same.1))
         | inr p ↦ inr (inr (p.0, rw (head, p.1) refl))
       ]
     ]
+
+same_line : (t u : Lexeme) (line other : ℕ) → t.line ≡ line → u.line ≡ other → t ≡ u → line ≡ other
+same_line t u line other e f same = sym e ∙ (ap (λ (w : Lexeme). w.line) same ∙ f)
 
 pub one_syntax_fault : (text : List ℕ) (line other : ℕ) → IsSyntaxFault text line → IsSyntaxFault text other → line ≡ other
 one_syntax_fault text line other f g =
     elim (splits f.before g.before f.token g.token f.later g.later (sym f.tokens ∙ g.tokens)) [
       | inl p ↦ absurd (f.none (begins_shorter (f.before ++ f.token ∷ []) p.0 (subst Begins p.1 g.begins)))
       | inr q ↦ elim q [
-        | inl same ↦ sym f.here ∙ (ap (λ (t : Lexeme). t.line) same ∙ g.here)
+        | inl same ↦ same_line f.token g.token line other f.here g.here same.1
         | inr p ↦ absurd (g.none (begins_shorter (g.before ++ g.token ∷ []) p.0 (subst Begins p.1 f.begins)))
       ]
     ]
+
+-- a token that is among others which are within the limits is so too
+pub within_at : (s : Point) (before later : List Lexeme) (t : Lexeme) → AreWithin standard s ((before ++ t ∷ []) ++ later) → Exceeds standard (past s before) t → ⊥
+within_at s [] later t h e = h.0 e
+within_at s (u ∷ before) later t h e = within_at (behind u.kind s) before later t h.1 e
+
+pub one_limit_fault : (text : List ℕ) (line other : ℕ) → IsLimitFault text line → IsLimitFault text other → line ≡ other
+one_limit_fault text line other f g =
+    elim (splits f.before g.before f.token g.token f.later g.later (sym f.tokens ∙ g.tokens)) [
+      | inl p ↦ absurd (within_at beginning f.before p.0 f.token (subst (AreWithin standard beginning) p.1 g.within) f.exceeds)
+      | inr q ↦ elim q [
+        | inl same ↦ same_line f.token g.token line other f.here g.here same.1
+        | inr p ↦ absurd (within_at beginning g.before p.0 g.token (subst (AreWithin standard beginning) p.1 f.within) g.exceeds)
+      ]
+    ]
+
+-- the first token at fault is at fault for syntax or for a limit, not for both
+pub one_kind_of_fault : (text : List ℕ) (line other : ℕ) → IsSyntaxFault text line → IsLimitFault text other → ⊥
+one_kind_of_fault text line other f g =
+    elim (splits f.before g.before f.token g.token f.later g.later (sym f.tokens ∙ g.tokens)) [
+      | inl p ↦ f.none (begins_shorter (f.before ++ f.token ∷ []) (p.0 ++ g.token ∷ []) (subst Begins (ap (λ (ts : List Lexeme). ts ++ g.token ∷ []) p.1 ∙ append_assoc (f.before ++ f.token ∷ []) p.0 (g.token ∷ [])) g.begins))
+      | inr q ↦ elim q [
+        | inl same ↦ f.none (subst Begins (rw (same.0, same.1) refl) g.begins)
+        | inr p ↦ within_at beginning g.before p.0 g.token (subst (AreWithin standard beginning) p.1 f.within) g.exceeds
+      ]
+    ]
+
+-- ---- the tokens of a program are within the limits
+
+pub accepted_within : (text : List ℕ) (l : Listing) (end : Input) → rule.program (rule.start (tokens_of text)) ≡ Ok (l, end) → sees kind.Stop end ≡ true → AreWithin standard beginning (tokens_of text)
+unfolding token
+accepted_within text l end r seen =
+    let w = kept_by text (Ok (l, end)) r in
+    let stop : (first end.rest).kind ≡ kind.Stop = kind_seen kind.Stop end seen in
+    let some : 0 < length end.rest = ended_some end.rest (left_behind rule.program (program_steady 0 []) l (rule.start (tokens_of text)) end r (tokens_end text)) in
+    let split : end.rest ≡ first end.rest ∷ drop 1 end.rest = some_first end.rest some in
+    let whole : tokens_of text ≡ w.front ++ first end.rest ∷ drop 1 end.rest = w.whole ∙ ap (λ (ts : List Lexeme). w.front ++ ts) split in
+    let last : drop 1 end.rest ≡ [] = tokens_last text w.front (drop 1 end.rest) (first end.rest) whole (ap is_final stop) in
+    let all : tokens_of text ≡ w.front ++ first end.rest ∷ [] = whole ∙ ap (λ (ts : List Lexeme). w.front ++ first end.rest ∷ ts) last in
+    subst (AreWithin standard beginning) (sym all) (kept.within_append beginning w.front (first end.rest ∷ []) w.within (sign_within kind.Stop any [] refl (past beginning w.front) (first end.rest) w.post stop, tt))
+  where
+    some_first : (ts : List Lexeme) → 0 < length ts → ts ≡ first ts ∷ drop 1 ts
+    some_first [] h = absurd (omega (arith, h))
+    some_first (t ∷ ts) h = refl
+
+pub no_limit_fault : (text : List ℕ) (line : ℕ) → AreWithin standard beginning (tokens_of text) → IsLimitFault text line → ⊥
+no_limit_fault text line w f = within_at beginning f.before f.later f.token (subst (AreWithin standard beginning) (f.tokens ∙ sym (append_assoc f.before (f.token ∷ []) f.later)) w) f.exceeds

@@ -1,15 +1,18 @@
 -- The cause of each refusal, and what is answered where there is one.
-use Rattle.std.proofs.Common.{◌≡◌, ◌≢◌, ℕ, List, [], ◌∷◌, Err, sym, ◌∙◌, subst, true, append_assoc, Result, Ok, Option, Some, None, refl}
+use Rattle.std.proofs.Common.{◌≡◌, ◌≢◌, ℕ, List, [], ◌∷◌, Err, sym, ◌∙◌, subst, true, append_assoc, Result, Ok, Option, Some, None, refl, ap}
 use Rattle.md_hlds.specs.declared.program.Program.{Program}
 use Rattle.md_hlds.specs.Listing.{Listing, listing_of}
 use Rattle.md_token.specs.declared.kind.Kind.TheVariants as kind
 use Rattle.md_token.specs.Token.{tokens_of}
 use Rattle.md_reader.specs.declared.refused.Refusal.{Refusal}
 use Rattle.md_reader.specs.declared.refused.Refusal.TheVariants as refusal
-use Rattle.md_reader.specs.Input.{Input, Outcome, sees}
+use Rattle.md_token.proofs.Ends.{tokens_end}
+use Rattle.md_reader.specs.Input.{Input, Outcome, standard, sees}
+use Rattle.md_reader.specs.Excess.{beginning, AreWithin}
+use Rattle.md_reader.proofs.CompleteTexts.{program_complete}
 use Rattle.md_reader.specs.Rules as rule
 use Rattle.md_reader.specs.Faults.{IsSyntaxFault, IsLimitFault, IsAtFault}
-use Rattle.md_reader.specs.Reading.{HasCause, IsAnswer, IsFault, IsFirstFault, refused_of, reading, outcome_of, without_duplicate}
+use Rattle.md_reader.specs.Reading.{HasCause, IsAnswer, IsFault, IsRefusedAs, refused_of, reading, outcome_of, without_duplicate}
 use Rattle.md_reader.specs.Duplicates.{duplicate}
 use Rattle.md_reader.specs.declared.refused.Refused.{Refused}
 use Rattle.md_reader.specs.declared.refused.Refused.TheVariants as refused
@@ -17,7 +20,7 @@ use Rattle.md_reader.specs.Grammar as g
 use Rattle.md_reader.proofs.SoundPrograms.{reading_sound, reading_repeats}
 use Rattle.md_reader.proofs.Steady.{Stands}
 use Rattle.md_reader.proofs.SteadyPrograms.{program_steady}
-use Rattle.md_reader.proofs.FaultFirst.{syntax_fault, limit_fault, syntax_at_fault, one_syntax_fault}
+use Rattle.md_reader.proofs.FaultFirst.{syntax_fault, limit_fault, syntax_at_fault, one_syntax_fault, one_limit_fault, one_kind_of_fault, accepted_within, no_limit_fault}
 
 -- the cause of a refusal
 abbrev pub FaultIn : List ℕ → Refusal → Type 0
@@ -50,25 +53,54 @@ answer_fault (Err refused.NoMemory) text line h f = tt
 said_line : (line other : ℕ) → ◌≡◌ {A = Result Listing Refused} (Err (refused.Syntax line)) (Err (refused.Syntax other)) → line ≡ other
 said_line line other e = cc
 
+said_limit : (line other : ℕ) → ◌≡◌ {A = Result Listing Refused} (Err (refused.Limit line)) (Err (refused.Limit other)) → line ≡ other
+said_limit line other e = cc
+
 never_syntax : (l : Listing) (d : Option ℕ) (line : ℕ) → without_duplicate l d ≡ Err (refused.Syntax line) → ⊥
 never_syntax l None line h = absurd (cc)
 never_syntax l (Some second) line h = absurd (cc)
 
--- where the text is answered to be at fault for syntax, it is
-said_syntax : (text : List ℕ) (r : Outcome Listing) (line : ℕ) → rule.program (rule.start (tokens_of text)) ≡ r → outcome_of r ≡ Err (refused.Syntax line) → IsSyntaxFault text line
-said_syntax text (Err (refusal.Syntax place)) line e h = subst (IsSyntaxFault text) (said_line place.line line h) (syntax_fault text place e)
-said_syntax text (Err (refusal.Limit place)) line e h = absurd (cc)
-said_syntax text (Err refusal.NoMemory) line e h = absurd (cc)
-said_syntax text (Ok p) line e h = absurd (never_syntax p.0 (duplicate p.0) line h)
+never_limit : (l : Listing) (d : Option ℕ) (line : ℕ) → without_duplicate l d ≡ Err (refused.Limit line) → ⊥
+never_limit l None line h = absurd (cc)
+never_limit l (Some second) line h = absurd (cc)
+
+-- where the text is answered to be at fault for syntax or for a limit, it is
+syntax_said : (text : List ℕ) (r : Outcome Listing) (line : ℕ) → rule.program (rule.start (tokens_of text)) ≡ r → outcome_of r ≡ Err (refused.Syntax line) → IsSyntaxFault text line
+syntax_said text (Err (refusal.Syntax place)) line e h = subst (IsSyntaxFault text) (said_line place.line line h) (syntax_fault text place e)
+syntax_said text (Err (refusal.Limit place)) line e h = absurd (cc)
+syntax_said text (Err refusal.NoMemory) line e h = absurd (cc)
+syntax_said text (Ok p) line e h = absurd (never_syntax p.0 (duplicate p.0) line h)
+
+limit_said : (text : List ℕ) (r : Outcome Listing) (line : ℕ) → rule.program (rule.start (tokens_of text)) ≡ r → outcome_of r ≡ Err (refused.Limit line) → IsLimitFault text line
+limit_said text (Err (refusal.Limit place)) line e h = subst (IsLimitFault text) (said_limit place.line line h) (limit_fault text place e)
+limit_said text (Err (refusal.Syntax place)) line e h = absurd (cc)
+limit_said text (Err refusal.NoMemory) line e h = absurd (cc)
+limit_said text (Ok p) line e h = absurd (never_limit p.0 (duplicate p.0) line h)
 
 reading_syntax : (text : List ℕ) (line : ℕ) → reading text ≡ Err (refused.Syntax line) → IsSyntaxFault text line
 unfolding reading
-reading_syntax text line h = said_syntax text (rule.program (rule.start (tokens_of text))) line refl h
+reading_syntax text line h = syntax_said text (rule.program (rule.start (tokens_of text))) line refl h
 
--- the first token at fault for syntax is answered, or a limit
-pub answer_first : (r : Result Program Refused) (text : List ℕ) (line : ℕ) → IsAnswer r text → IsSyntaxFault text line → IsFirstFault r line
-answer_first (Ok p) text line h f = answer_fault (Ok p) text line h (syntax_at_fault text line f)
-answer_first (Err (refused.Duplicate second)) text line h f = answer_fault (Err (refused.Duplicate second)) text line h (syntax_at_fault text line f)
-answer_first (Err (refused.Syntax other)) text line h f = one_syntax_fault text other line (reading_syntax text other (h (λ q. absurd (cc)))) f
-answer_first (Err (refused.Limit other)) text line h f = tt
-answer_first (Err refused.NoMemory) text line h f = tt
+pub reading_limit : (text : List ℕ) (line : ℕ) → reading text ≡ Err (refused.Limit line) → IsLimitFault text line
+unfolding reading
+reading_limit text line h = limit_said text (rule.program (rule.start (tokens_of text))) line refl h
+
+-- ---- the first token at fault is answered
+
+pub answer_syntax : (r : Result Program Refused) (text : List ℕ) (line : ℕ) → IsAnswer r text → IsSyntaxFault text line → IsRefusedAs r (refused.Syntax line)
+answer_syntax (Ok p) text line h f = answer_fault (Ok p) text line h (syntax_at_fault text line f)
+answer_syntax (Err (refused.Duplicate second)) text line h f = absurd (answer_fault (Err (refused.Duplicate second)) text line h (syntax_at_fault text line f))
+answer_syntax (Err (refused.Syntax other)) text line h f = λ n. ap refused.Syntax (one_syntax_fault text other line (reading_syntax text other (h n)) f)
+answer_syntax (Err (refused.Limit other)) text line h f = λ n. absurd (one_kind_of_fault text line other f (reading_limit text other (h n)))
+answer_syntax (Err refused.NoMemory) text line h f = λ n. absurd (n refl)
+
+-- the tokens of a program are within the limits
+pub program_within : (text : List ℕ) (l : Listing) (end : Input) → g.Program l (rule.start (tokens_of text)) end → sees kind.Stop end ≡ true → AreWithin standard beginning (tokens_of text)
+program_within text l end p w = accepted_within text l end (program_complete l (rule.start (tokens_of text)) end p (tokens_end text) w) w
+
+pub answer_limit : (r : Result Program Refused) (text : List ℕ) (line : ℕ) → IsAnswer r text → IsLimitFault text line → IsRefusedAs r (refused.Limit line)
+answer_limit (Ok p) text line h f = let s = reading_sound text (listing_of p) h in no_limit_fault text line (program_within text (listing_of p) s.end s.program s.whole) f
+answer_limit (Err (refused.Duplicate second)) text line h f = λ n. absurd (let s = reading_repeats text second (h n) in no_limit_fault text line (program_within text s.listing s.end s.program s.whole) f)
+answer_limit (Err (refused.Syntax other)) text line h f = λ n. absurd (one_kind_of_fault text other line (reading_syntax text other (h n)) f)
+answer_limit (Err (refused.Limit other)) text line h f = λ n. ap refused.Limit (one_limit_fault text other line (reading_limit text other (h n)) f)
+answer_limit (Err refused.NoMemory) text line h f = λ n. absurd (n refl)

@@ -6,6 +6,7 @@ use Rattle.md_token.specs.declared.kind.Kind.{Kind}
 use Rattle.md_token.specs.declared.kind.Kind.TheVariants as kind
 use Rattle.md_token.specs.Token.{Lexeme, word_kind}
 use Rattle.md_token.proofs.Ends.{is_final}
+use Rattle.md_token.proofs.Proper.{AreProper}
 use Rattle.md_reader.specs.declared.refused.Place.{Place}
 use Rattle.md_reader.specs.declared.refused.Refusal.TheVariants.{Syntax, Limit, NoMemory}
 use Rattle.md_reader.specs.Input.{Input, Parser, Outcome, ◌>>=◌, ◌>>◌, and_then, pure, refuse, peek, advance, eat, expect, standard, first, place, token, kind_at, sees, next, after}
@@ -13,26 +14,7 @@ use Rattle.md_reader.specs.Excess.{Point, Exceeds, AreWithin, behind, past}
 use Rattle.md_reader.proofs.Steady.{at}
 use Rattle.md_reader.proofs.Taking.{kind_seen}
 
--- ---- tokens as texts have them
-
-abbrev pub is_reserved : Kind → Bool
-is_reserved kind.True = true
-is_reserved kind.Fail = true
-is_reserved kind.Not = true
-is_reserved kind.Some = true
-is_reserved kind.Call = true
-is_reserved kind.Is = true
-is_reserved kind.Pred = true
-is_reserved _ = false
-
-pub record IsProper (t : Lexeme) : Type 0 where
-  -- what begins with a lower-case letter is a name
-  pub word : is_ascii_lowercase (slice_index t.text 0) ≡ true → (t.kind ≡ kind.Qualified) ⊎ (t.kind ≡ word_kind t.text)
-  pub reserved : is_reserved t.kind ≡ true → length t.text ≤ 4
-
-abbrev pub AreProper : List Lexeme → Type 0
-AreProper [] = ⊤
-AreProper (t ∷ ts) = IsProper t × AreProper ts
+-- ---- places
 
 -- a place in a text, under the limits of the product
 pub record Good (i : Input) : Type 0 where

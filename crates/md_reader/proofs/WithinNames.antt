@@ -25,7 +25,8 @@ use Rattle.md_reader.specs.Rules as rule
 use Rattle.md_reader.specs.Excess.{opens_list, IsTooLong, name as long_name, variable as long_variable, qualifier as long_qualifier, qualified as long_qualified, string as long_string, positive as great, negative as small}
 use Rattle.md_reader.proofs.Steps.{chosen}
 use Rattle.md_reader.proofs.Taking.{kind_seen, turned}
-use Rattle.md_reader.proofs.Within.{IsProper, is_reserved, AreProper, Good, good_next}
+use Rattle.md_token.proofs.Proper.{IsProper, is_reserved, AreProper}
+use Rattle.md_reader.proofs.Within.{Good, good_next}
 use Rattle.md_reader.proofs.WithinTokens.{any, is_minus, unsigned, Fits, flat, Single, Solo, One, solo_by, is_less, is_most, standing, items_at, named_solo, name_one}
 
 -- ---- words

@@ -19,7 +19,7 @@ use Rattle.md_reader.specs.Input.{Input, Parser, Outcome, and_then, refuse, limi
 use Rattle.md_reader.specs.Rules as rule
 use Rattle.md_reader.specs.Excess.{Opened, AGoal, AList, Point, opens_list, opened, open_behind, behind, IsTooLong, name as long_name, variable as long_variable, qualifier as long_qualifier, qualified as long_qualified, string as long_string, positive as great, negative as small, has_commas, goals, Exceeds, long, item, goal}
 use Rattle.md_reader.proofs.Taking.{kind_seen}
-use Rattle.md_reader.proofs.Within.{IsProper, Good, good_next, State, Case, Keeps, Step, Broke, Over, broke_here, over_here, taken, wider}
+use Rattle.md_reader.proofs.Within.{Good, good_next, State, Case, Keeps, Step, Broke, Over, broke_here, over_here, taken, wider}
 
 -- ---- places by the last token, and what is open there
 

@@ -6,6 +6,7 @@ use Rattle.md_token.specs.Token.{Lexeme, tokens_of}
 use Rattle.md_reader.specs.Input.{Input, Limits, standard, sees}
 use Rattle.md_reader.specs.Rules.{start, start_within}
 use Rattle.md_reader.specs.Grammar.{Program}
+use Rattle.md_reader.specs.Excess.{beginning, past, Exceeds, AreWithin}
 
 -- ---- what a program begins with
 
@@ -29,8 +30,8 @@ pub record Begins (ts : List Lexeme) : Type 0 where
 
 -- ---- the token at fault
 
--- The first token at fault for syntax stands in this line: a program begins with the tokens before it, and none, whatever
--- its limits, with those up to and with it.
+-- The first token at fault is at fault for syntax, and stands in this line: a program begins with the tokens before it,
+-- none of which has more than the limits allow, and no program, whatever its limits, begins with those up to and with it.
 pub record IsSyntaxFault (text : List ℕ) (line : ℕ) : Type 0 where
   pub before : List Lexeme
   pub token : Lexeme
@@ -38,10 +39,11 @@ pub record IsSyntaxFault (text : List ℕ) (line : ℕ) : Type 0 where
   pub tokens : tokens_of text ≡ before ++ token ∷ later
   pub here : token.line ≡ line
   pub begins : Begins before
+  pub within : AreWithin standard beginning before
   pub none : Begins (before ++ token ∷ []) → ⊥
 
--- A token at fault for a limit stands in this line: a program begins with the tokens up to and with it, but none within
--- the limits of the product.
+-- The first token at fault is at fault for a limit, and stands in this line: a program begins with the tokens up to and
+-- with it, and it has more than the limits of the product allow, but none of those before it has.
 pub record IsLimitFault (text : List ℕ) (line : ℕ) : Type 0 where
   pub before : List Lexeme
   pub token : Lexeme
@@ -49,7 +51,8 @@ pub record IsLimitFault (text : List ℕ) (line : ℕ) : Type 0 where
   pub tokens : tokens_of text ≡ before ++ token ∷ later
   pub here : token.line ≡ line
   pub begins : Begins (before ++ token ∷ [])
-  pub none : BeginsWithin standard (before ++ token ∷ []) → ⊥
+  pub within : AreWithin standard beginning before
+  pub exceeds : Exceeds standard (past beginning before) token
 
 -- ---- the same of the tokens of texts
 

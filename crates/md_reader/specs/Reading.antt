@@ -52,13 +52,6 @@ IsFault (Ok p) = ⊥
 IsFault (Err (refused.Duplicate line)) = ⊥
 IsFault (Err e) = ⊤
 
--- the answer is that a token is at fault, for syntax only in this line, unless memory is refused
-abbrev pub IsFirstFault : Result Program Refused → ℕ → Type 0
-IsFirstFault (Ok p) line = ⊥
-IsFirstFault (Err (refused.Duplicate second)) line = ⊥
-IsFirstFault (Err (refused.Syntax other)) line = other ≡ line
-IsFirstFault (Err e) line = ⊤
-
 -- why a refusal is answered
 abbrev pub HasCause : Refused → List ℕ → Type 0
 HasCause (refused.Duplicate line) text = Repeats text line

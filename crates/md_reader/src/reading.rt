@@ -2,11 +2,11 @@
 ghost use Rattle.std.specs.Prelude.{◌≡◌, ◌<◌, ℕ, IfErr, IfOk, length};
 ghost use Rattle.md_token.specs.Token.{lexemes_of};
 ghost use Rattle.md_hlds.specs.Listing.{Listing, listing_of};
-ghost use Rattle.md_reader.specs.Faults.{IsAtFault, IsSyntaxFault};
+ghost use Rattle.md_reader.specs.Faults.{IsAtFault, IsLimitFault, IsSyntaxFault};
 ghost use Rattle.md_reader.specs.Grammar.{Repeats, Spells};
 ghost use Rattle.md_reader.specs.Input.{input_of};
 ghost use Rattle.md_reader.specs.Rules.{start};
-ghost use Rattle.md_reader.specs.Reading.{HasCause, IsAnswer, IsFault, IsFirstFault, IsRead, IsRefusedAs, refused_of};
+ghost use Rattle.md_reader.specs.Reading.{HasCause, IsAnswer, IsFault, IsRead, IsRefusedAs, refused_of};
 ghost use Rattle.md_reader.specs.declared.refused.Refused.TheVariants as refusals;
 
 use crate::duplicates::duplicate;
@@ -29,7 +29,8 @@ pub fn read(alloc: Global, text: &[u8]) -> Result<Program, Refused>
     ensures cause { IfErr result (λ refused. HasCause refused text.now) }
     ensures repeated { (line : ℕ) → Repeats text.now line → IsRefusedAs result (refusals.Duplicate line) }
     ensures fault { (line : ℕ) → IsAtFault text.now line → IsFault result }
-    ensures first { (line : ℕ) → IsSyntaxFault text.now line → IsFirstFault result line }
+    ensures syntax { (line : ℕ) → IsSyntaxFault text.now line → IsRefusedAs result (refusals.Syntax line) }
+    ensures limit { (line : ℕ) → IsLimitFault text.now line → IsRefusedAs result (refusals.Limit line) }
     ensures answer { IsAnswer result text.now }
 {
     let tokens = tokens(alloc, text)?;

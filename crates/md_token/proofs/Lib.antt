@@ -1,5 +1,6 @@
 pub mod Ends
 pub mod Literals
+pub mod Proper
 pub mod Scans
 pub mod Spelled
 pub mod SpelledTexts

@@ -9,7 +9,7 @@ use Rattle.md_reader.specs.Duplicates.{duplicate}
 use Rattle.md_reader.specs.Reading.{reading, refused_of, IsAnswer}
 use Rattle.md_reader.proofs.CompleteTexts.{answer_read, answer_repeated}
 use Rattle.md_reader.proofs.SoundPrograms.{reading_sound, reading_repeats}
-use Rattle.md_reader.proofs.FaultTexts.{fault_cause, answer_fault, answer_first}
+use Rattle.md_reader.proofs.FaultTexts.{fault_cause, answer_fault, answer_syntax, answer_limit}
 use Rattle.md_reader.proofs.reading.read.Goals as goal
 
 -- the other clauses follow from what is answered
@@ -26,7 +26,8 @@ returns-in-Err c =
       cause = rw c.refused.ensures (fault_cause c.in-Err.refusal c.args.text.now (λ m. rw e at (c.in-Err.ensures m)));
       repeated = λ line s. answer_repeated (Err c.refused.result) c.args.text.now line answer s;
       fault = λ line f. answer_fault (Err c.refused.result) c.args.text.now line answer f;
-      first = λ line f. answer_first (Err c.refused.result) c.args.text.now line answer f;
+      syntax = λ line f. answer_syntax (Err c.refused.result) c.args.text.now line answer f;
+      limit = λ line f. answer_limit (Err c.refused.result) c.args.text.now line answer f;
       answer = answer;
     }
 
@@ -42,7 +43,8 @@ returns-in-None c =
       cause = tt;
       repeated = λ line s. answer_repeated (Ok c.in-Ok.program) c.args.text.now line read s;
       fault = λ line f. answer_fault (Ok c.in-Ok.program) c.args.text.now line read f;
-      first = λ line f. answer_first (Ok c.in-Ok.program) c.args.text.now line read f;
+      syntax = λ line f. answer_syntax (Ok c.in-Ok.program) c.args.text.now line read f;
+      limit = λ line f. answer_limit (Ok c.in-Ok.program) c.args.text.now line read f;
       answer = read;
     }
 
@@ -58,6 +60,7 @@ returns c =
       cause = reading_repeats c.args.text.now c.in-Some.line read;
       repeated = λ line s. answer_repeated (Err (refused.Duplicate c.in-Some.line)) c.args.text.now line (λ _. read) s;
       fault = λ line f. answer_fault (Err (refused.Duplicate c.in-Some.line)) c.args.text.now line (λ _. read) f;
-      first = λ line f. answer_first (Err (refused.Duplicate c.in-Some.line)) c.args.text.now line (λ _. read) f;
+      syntax = λ line f. answer_syntax (Err (refused.Duplicate c.in-Some.line)) c.args.text.now line (λ _. read) f;
+      limit = λ line f. answer_limit (Err (refused.Duplicate c.in-Some.line)) c.args.text.now line (λ _. read) f;
       answer = λ _. read;
     }
