@@ -1,10 +1,7 @@
 -- None of the tokens that a rule takes has more than the limits allow, and where it refuses one for a limit, that one has.
-use Rattle.std.proofs.Common.{◌≡◌, ℕ, ◌≤◌, ◌<◌, List, [], ◌∷◌, ◌++◌, length, drop, refl, Bool, true, false, cond, ◌&&◌, ◌⊎◌, inl, inr, Ok, Err, sym, ap, ◌∙◌, subst, append_assoc}
-use Rattle.std.specs.Prelude.{⊤, slice_index}
-use Rattle.std.specs.Char.{is_ascii_lowercase}
+use Rattle.std.proofs.Common.{◌≡◌, ℕ, ◌≤◌, List, [], ◌∷◌, ◌++◌, length, drop, refl, Bool, true, false, cond, Ok, Err, sym, ap, ◌∙◌, subst, append_assoc}
 use Rattle.md_token.specs.declared.kind.Kind.{Kind}
-use Rattle.md_token.specs.declared.kind.Kind.TheVariants as kind
-use Rattle.md_token.specs.Token.{Lexeme, word_kind}
+use Rattle.md_token.specs.Token.{Lexeme}
 use Rattle.md_token.proofs.Ends.{is_final}
 use Rattle.md_token.proofs.Proper.{AreProper}
 use Rattle.md_reader.specs.declared.refused.Place.{Place}

@@ -1,17 +1,16 @@
 -- Rules keep within the limits: goals.
-use Rattle.std.proofs.Common.{◌≡◌, ℕ, zero, suc, ◌+◌, ◌≤◌, List, [], ◌∷◌, ◌++◌, length, refl, Bool, true, false, cond, ◌&&◌, Ok, Err, sym, ap, ◌∙◌, arith, subst}
+use Rattle.std.proofs.Common.{◌≡◌, ℕ, zero, suc, ◌+◌, List, [], ◌∷◌, ◌++◌, length, refl, Bool, true, false, ap, arith}
 use Rattle.md_hlds.specs.Part.{Part, At, Task, Plain, Succeeds, Fails, Either, Choose, Unless, Once, gathered}
 use Rattle.md_token.specs.declared.kind.Kind.{Kind}
 use Rattle.md_token.specs.declared.kind.Kind.TheVariants as kind
-use Rattle.md_token.specs.Token.{Lexeme}
 use Rattle.md_token.proofs.Ends.{is_final}
 use Rattle.md_reader.specs.Input.{Input, Parser, ◌>>=◌, ◌>>◌, pure, refuse, limit, standard, token, kind_at, sees, expect}
 use Rattle.md_reader.specs.Rules as rule
-use Rattle.md_reader.specs.Excess.{Opened, AGoal, AList, Point, opens_list, open_behind, with_comma, has_commas, goals, Exceeds, goal}
+use Rattle.md_reader.specs.Excess.{Opened, AGoal, AList, Point, opens_list, open_behind, with_comma, has_commas, goals, goal}
 use Rattle.md_reader.proofs.Taking.{kind_seen}
 use Rattle.md_reader.proofs.Within.{Good, Case, Keeps, Step, bound, given, faulty, faulty_at, over_here, either_by, expected, passed, perhaps, then, ending}
-use Rattle.md_reader.proofs.WithinTokens.{any, starts, is_comma, is_full, Sits, unexceeded, short, mute, sign_step, list_step, open_fits}
-use Rattle.md_reader.proofs.WithinLists.{sits_any, and_false, flat_step, quantified_keeps, relation_keeps, call_keeps, closure_call_keeps}
+use Rattle.md_reader.proofs.WithinTokens.{any, starts, is_comma, Sits, unexceeded, short, mute, sign_step, open_fits}
+use Rattle.md_reader.proofs.WithinLists.{sits_any, flat_step, quantified_keeps, relation_keeps, call_keeps, closure_call_keeps}
 
 -- no list is open directly
 abbrev pub is_list : List Opened → Bool

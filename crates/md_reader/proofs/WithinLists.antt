@@ -1,5 +1,5 @@
 -- Rules keep within the limits: lists of variables and types, terms, calls and relations.
-use Rattle.std.proofs.Common.{◌≡◌, ℕ, zero, suc, ◌+◌, ◌≤◌, List, [], ◌∷◌, ◌++◌, length, refl, Bool, true, false, cond, ◌&&◌, Option, Some, None, Ok, sym, ap, ◌∙◌, arith, subst, ◌==◌}
+use Rattle.std.proofs.Common.{◌≡◌, ℕ, zero, suc, ◌+◌, ◌≤◌, List, [], ◌∷◌, ◌++◌, length, refl, Bool, true, false, cond, ◌&&◌, Option, Some, None, sym, ap, ◌∙◌, arith, subst, ◌==◌}
 use Rattle.std.specs.Prelude.{⊤, codes}
 use Rattle.md_hlds.specs.declared.goal.PredName.{PredName}
 use Rattle.md_hlds.specs.declared.goal.Op.{Op}
@@ -10,11 +10,11 @@ use Rattle.md_hlds.specs.Listing.{Sort, Construct}
 use Rattle.md_token.specs.declared.kind.Kind.{Kind}
 use Rattle.md_token.specs.declared.kind.Kind.TheVariants as kind
 use Rattle.md_token.proofs.Ends.{is_final}
-use Rattle.md_reader.specs.Input.{Input, Limits, Parser, Outcome, ◌>>=◌, ◌>>◌, and_then, pure, refuse, limit, standard, token, kind_at, eat, expect, name, word, variable, site}
+use Rattle.md_reader.specs.Input.{Input, Limits, Parser, Outcome, ◌>>=◌, ◌>>◌, pure, standard, kind_at, eat, expect, name, word, variable, site}
 use Rattle.md_reader.specs.Rules as rule
-use Rattle.md_reader.specs.Excess.{Opened, AList, Point, opens_list, open_behind, has_commas}
-use Rattle.md_reader.proofs.Within.{Good, State, Case, Keeps, Step, bound, given, given_at, faulty, faulty_at, peeked, wider, case_wider, bound_at, expected, passed, perhaps, then, ending}
-use Rattle.md_reader.proofs.WithinTokens.{any, unsigned, is_minus, is_comma, is_full, Sits, mute, sign_within, sign_step, list_step, Solo, One, solo_at, one, only, IsFull, excess, name_one}
+use Rattle.md_reader.specs.Excess.{Opened, AList, Point, opens_list, open_behind}
+use Rattle.md_reader.proofs.Within.{Good, State, Case, Keeps, Step, bound, given, given_at, faulty, faulty_at, case_wider, passed, perhaps, then, ending}
+use Rattle.md_reader.proofs.WithinTokens.{any, unsigned, is_minus, is_comma, is_full, Sits, mute, sign_within, sign_step, list_step, Solo, solo_at, only, IsFull, excess, name_one}
 use Rattle.md_reader.proofs.WithinNames.{NameFits, word_one, variable_one, pred_name_one, positive_solo, negated_one, literal_solo, sort_one, type_name_one}
 
 -- ---- lists

@@ -1,5 +1,5 @@
 -- Rules keep within the limits: names, variables, integers, strings and words.
-use Rattle.std.proofs.Common.{◌≡◌, ◌≢◌, ℕ, suc, ◌≤◌, ◌<◌, List, [], ◌∷◌, length, take, drop, refl, Bool, true, false, cond, not, ◌&&◌, ◌||◌, inl, inr, ◌⊎◌, Option, Some, None, Ok, Err, sym, ap, ◌∙◌, arith, subst, nat_lt, ◌==◌, ◌+◌, length-take, length-drop}
+use Rattle.std.proofs.Common.{◌≡◌, ◌≢◌, ℕ, suc, ◌≤◌, ◌<◌, List, [], ◌∷◌, length, refl, Bool, true, false, cond, not, ◌&&◌, ◌||◌, inl, inr, ◌⊎◌, Option, Some, None, Ok, Err, sym, ap, ◌∙◌, arith, subst, nat_lt, ◌==◌, ◌+◌, length-take, length-drop}
 use Rattle.std.specs.Prelude.{⊤, codes, slice_index, unwrap_or}
 use Rattle.std.specs.Char.{is_ascii_lowercase}
 use Rattle.std.specs.List.{list_any, prefix_len}
@@ -19,7 +19,7 @@ use Rattle.md_token.specs.Kinds.{same_kind}
 use Rattle.md_token.specs.Token.{Lexeme, word_kind, is_word_byte}
 use Rattle.md_token.specs.Literal.{number_of, string_value}
 use Rattle.std.specs.Prelude.{pos}
-use Rattle.md_reader.specs.Input.{Input, Parser, Outcome, ◌>>=◌, ◌>>◌, and_then, pure, refuse, advance, limit, standard, first, token, kind_at, sees, next, take_name, name, word, variable, with_variable, place_of}
+use Rattle.md_reader.specs.Input.{Input, Outcome, ◌>>=◌, ◌>>◌, and_then, pure, refuse, advance, limit, standard, first, token, kind_at, sees, next, take_name, name, word, variable, with_variable, place_of}
 use Rattle.md_reader.specs.declared.refused.Refusal.TheVariants.{Syntax, Limit, NoMemory}
 use Rattle.md_reader.specs.Rules as rule
 use Rattle.md_reader.specs.Excess.{opens_list, IsTooLong, name as long_name, variable as long_variable, qualifier as long_qualifier, qualified as long_qualified, string as long_string, positive as great, negative as small}

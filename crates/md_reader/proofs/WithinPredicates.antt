@@ -1,5 +1,5 @@
 -- Rules keep within the limits: predicates and programs.
-use Rattle.std.proofs.Common.{◌≡◌, ℕ, zero, suc, ◌+◌, ◌≤◌, ◌<◌, List, [], ◌∷◌, ◌++◌, length, refl, Bool, true, false, cond, ◌&&◌, Ok, Err, sym, ap, ◌∙◌, arith, subst, length-append, ◌==◌}
+use Rattle.std.proofs.Common.{◌≡◌, ℕ, zero, suc, ◌+◌, ◌≤◌, ◌<◌, List, [], ◌∷◌, ◌++◌, length, refl, Bool, false, Ok, sym, ap, arith, subst, length-append, ◌==◌}
 use Rattle.std.specs.Prelude.{⊤, codes}
 use Rattle.md_hlds.specs.declared.types.Mode.{Mode}
 use Rattle.md_hlds.specs.declared.types.Det.{Det}
@@ -7,13 +7,13 @@ use Rattle.md_hlds.specs.declared.goal.PredName.{PredName}
 use Rattle.md_hlds.specs.Listing.{Sort, closure, gathered_sorts, Listing}
 use Rattle.md_token.specs.declared.kind.Kind.{Kind}
 use Rattle.md_token.specs.declared.kind.Kind.TheVariants as kind
-use Rattle.md_reader.specs.Input.{Input, Limits, Parser, ◌>>=◌, ◌>>◌, and_then, pure, refuse, limit, standard, token, kind_at, sees, expect, word, variable, peek, end_clause}
+use Rattle.md_reader.specs.Input.{Limits, ◌>>=◌, and_then, pure, limit, standard, sees, word, variable, peek, end_clause}
 use Rattle.md_reader.specs.Rules as rule
-use Rattle.md_reader.specs.Excess.{Opened, AList, Point, beginning, opens_list, open_behind, item}
-use Rattle.md_reader.proofs.Within.{Good, Case, Keeps, Step, bound, given, given_at, faulty, over_here, either_by, peeked, wider, expected, perhaps, then, ending}
-use Rattle.md_reader.proofs.WithinTokens.{any, starts, is_comma, Sits, list_step, sign_step, one, only, IsFull, excess}
+use Rattle.md_reader.specs.Excess.{Opened, AList, Point, beginning, opens_list, item}
+use Rattle.md_reader.proofs.Within.{Case, Keeps, Step, bound, given, given_at, faulty, over_here, either_by, peeked, wider, perhaps, then, ending}
+use Rattle.md_reader.proofs.WithinTokens.{any, starts, Sits, list_step, sign_step, one, only, IsFull, excess}
 use Rattle.md_reader.proofs.WithinNames.{NameFits, mode_one, ho_mode_one, determinism_one, declared_name_one, this_name_one, sort_one, word_one, module_one}
-use Rattle.md_reader.proofs.WithinLists.{Turn, other_number, and_false, turn_full, turn_sits, first_turn, listed, at_most, close_step, variable_keeps, sorts_keep, sort_keeps, sits_any, flat_step, family_keeps}
+use Rattle.md_reader.proofs.WithinLists.{Turn, turn_full, first_turn, listed, at_most, close_step, variable_keeps, sorts_keep, sort_keeps, sits_any, flat_step, family_keeps}
 use Rattle.md_reader.proofs.WithinGoals.{conjunction_keeps}
 
 mode_keeps : (o : List Opened) → Keeps (Sits any o) rule.mode_word (λ _. Sits opens_list o)

@@ -1,23 +1,15 @@
 -- Rules keep within the limits: those that take one token.
-use Rattle.std.proofs.Common.{◌≡◌, ◌≢◌, ℕ, suc, ◌≤◌, ◌<◌, List, [], ◌∷◌, length, take, drop, refl, Bool, true, false, cond, not, ◌&&◌, ◌||◌, inl, inr, ◌⊎◌, Option, Some, None, Ok, Err, sym, ap, ◌∙◌, arith, subst, nat_lt, ◌==◌, length-take, length-drop}
-use Rattle.std.specs.Prelude.{⊤, codes, slice_index, unwrap_or}
-use Rattle.std.specs.Char.{is_ascii_lowercase}
-use Rattle.std.specs.List.{list_any, prefix_len}
-use Rattle.std.specs.Str.{bytes_eq}
-use Rattle.std.proofs.lemmas.Slice.Eq.{bytes_eq-Decides}
-use Rattle.md_hlds.specs.declared.types.Mode.{Mode}
-use Rattle.md_hlds.specs.declared.types.Det.{Det}
-use Rattle.md_hlds.specs.declared.goal.PredName.{PredName}
+use Rattle.std.proofs.Common.{◌≡◌, ◌≢◌, ℕ, suc, ◌≤◌, ◌<◌, List, ◌∷◌, length, refl, Bool, true, false, cond, not, ◌&&◌, Ok, Err, sym, ap, ◌∙◌, arith, subst, nat_lt}
+use Rattle.std.specs.Prelude.{⊤}
 use Rattle.md_token.specs.declared.kind.Kind.{Kind}
 use Rattle.md_token.specs.declared.kind.Kind.TheVariants as kind
-use Rattle.md_token.specs.Kinds.{same_kind}
-use Rattle.md_token.specs.Token.{Lexeme, word_kind, is_word_byte}
+use Rattle.md_token.specs.Token.{Lexeme}
 use Rattle.md_token.specs.Literal.{number_of, string_value}
 use Rattle.md_token.proofs.Ends.{is_final}
 use Rattle.md_reader.specs.declared.refused.Refusal.TheVariants.{Syntax, Limit, NoMemory}
-use Rattle.md_reader.specs.Input.{Input, Parser, Outcome, and_then, refuse, limit, standard, token, kind_at, place, sees, next, take_name, name, word, variable, place_of}
+use Rattle.md_reader.specs.Input.{Input, Parser, Outcome, and_then, refuse, limit, standard, token, kind_at, place, sees, next, take_name, name}
 use Rattle.md_reader.specs.Rules as rule
-use Rattle.md_reader.specs.Excess.{Opened, AGoal, AList, Point, opens_list, opened, open_behind, behind, IsTooLong, name as long_name, variable as long_variable, qualifier as long_qualifier, qualified as long_qualified, string as long_string, positive as great, negative as small, has_commas, goals, Exceeds, long, item, goal}
+use Rattle.md_reader.specs.Excess.{Opened, AList, Point, opens_list, open_behind, IsTooLong, name as long_name, variable as long_variable, qualifier as long_qualifier, qualified as long_qualified, string as long_string, positive as great, negative as small, has_commas, goals, Exceeds, long, item, goal}
 use Rattle.md_reader.proofs.Taking.{kind_seen}
 use Rattle.md_reader.proofs.Within.{Good, good_next, State, Case, Keeps, Step, Broke, Over, broke_here, over_here, taken, wider}
 

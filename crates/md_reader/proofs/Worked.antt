@@ -1,21 +1,25 @@
 -- Definitions computed on small texts: what each spells, or its fault, was worked out by hand from the grammar, and `refl`
 -- says that the rules give it.
-use Rattle.std.proofs.Common.{◌≡◌, refl, [], ◌∷◌, Ok, Err, None, negsuc}
+use Rattle.std.proofs.Common.{◌≡◌, refl, take, arith, [], ◌∷◌, Ok, Err, None, negsuc}
 use Rattle.std.specs.Prelude.{codes}
 use Rattle.md_hlds.specs.declared.types.Det.TheVariants.{Det as One}
 use Rattle.md_hlds.specs.declared.goal.Term.TheVariants.{Int}
 use Rattle.md_hlds.specs.Part.{At, Plain, Unifies, Invoke, Each, gathered}
 use Rattle.md_hlds.specs.Listing.{Listing}
+use Rattle.md_token.specs.declared.kind.Kind.TheVariants as kind
 use Rattle.md_token.specs.Kinds.{same_kind}
+use Rattle.md_token.specs.Token.{Lexeme, tokens_of}
 use Rattle.md_token.specs.Token as token
 use Rattle.md_token.specs.Literal as number
 use Rattle.md_reader.specs.declared.refused.Refusal.TheVariants as refusal
 use Rattle.md_reader.specs.declared.refused.Refused.TheVariants as refused
 use Rattle.md_reader.specs.Input as input
+use Rattle.md_reader.specs.Input.{Limits}
 use Rattle.md_reader.specs.Rules as rule
 use Rattle.md_reader.specs.Duplicates as twice
 use Rattle.md_reader.specs.Grammar.{Spells, Repeats}
-use Rattle.md_reader.specs.Faults.{IsSyntaxFault}
+use Rattle.md_reader.specs.Excess.{AGoal, AList, beginning, past, negative, Exceeds, long, item, goal}
+use Rattle.md_reader.specs.Faults.{IsSyntaxFault, IsLimitFault}
 use Rattle.md_reader.specs.Reading.{reading}
 use Rattle.md_reader.proofs.SoundPrograms.{reading_sound, reading_repeats}
 use Rattle.md_reader.proofs.FaultTexts.{at_fault}
@@ -69,3 +73,40 @@ repeats_a_type = reading_repeats (codes ":- module t.\n:- type a ---> b.\n:- typ
 pub a_name_is_at_fault : IsSyntaxFault (codes ":- module t.\np") 2
 unfolding same_kind token.tokens_of token.front_at token.token_at token.name_at token.word_kind token.sign_at token.colon_at token.single_at input.token input.sees input.next input.expect input.take_name input.word rule.module_name rule.heading rule.declarations rule.declarations_from rule.program rule.declared input.place
 a_name_is_at_fault = at_fault (codes ":- module t.\np") (refusal.Syntax (record { line = 2; left = 2 })) refl
+
+-- an integer past the greatest one
+pub an_integer_is_at_fault : IsLimitFault (codes ":- module t.\n:- pred p is det.\np :-\nX = 9223372036854775808.") 4
+unfolding reading same_kind token.tokens_of token.front_at token.token_at token.name_at token.word_kind token.sign_at token.colon_at token.single_at input.token input.sees input.next input.expect input.take_name input.word rule.module_name rule.heading rule.declarations rule.declarations_from rule.program twice.duplicate twice.second_family twice.second_construct twice.second_procedure token.variable_at token.dash_at number.number_of number.meaning input.after input.name input.variable input.with_variable input.end_clause input.site input.place rule.qualified rule.written rule.pred_name rule.declared_name rule.this_name rule.variables_from rule.arguments rule.negated rule.second rule.application rule.call rule.relation rule.unit rule.units_from rule.units rule.conjunction rule.within rule.determinism rule.declared_arguments rule.head rule.declared_determinism rule.declaration rule.body rule.clause rule.procedure_from rule.procedure rule.with_procedure rule.declared_procedure rule.declared rule.open_goal rule.group rule.positive
+an_integer_is_at_fault = at_fault (codes ":- module t.\n:- pred p is det.\np :-\nX = 9223372036854775808.") (refusal.Limit (record { line = 4; left = 3 })) refl
+
+-- ---- what is open behind tokens
+
+-- a list with two commas, in a goal, in a goal
+pub a_list_is_open : past beginning (take 11 (tokens_of (codes "p :- not ( ( q(X, Y, Z"))) ≡ record { last = kind.Comma; around = AList 2 ∷ AGoal ∷ AGoal ∷ [] }
+unfolding same_kind token.tokens_of token.front_at token.token_at token.name_at token.word_kind token.sign_at token.colon_at token.single_at token.variable_at token.dash_at
+a_list_is_open = refl
+
+-- behind `in` a list of modes is open, and the goal's commas are none of a list's
+pub modes_are_open : past beginning (take 7 (tokens_of (codes "in(pred(in, out"))) ≡ record { last = kind.Name; around = AList 1 ∷ AList 0 ∷ [] }
+unfolding same_kind token.tokens_of token.front_at token.token_at token.name_at token.word_kind token.sign_at token.colon_at token.single_at token.variable_at token.dash_at
+modes_are_open = refl
+
+pub no_list_is_open : past beginning (take 8 (tokens_of (codes "p :- ( q(X), r"))) ≡ record { last = kind.Comma; around = AGoal ∷ [] }
+unfolding same_kind token.tokens_of token.front_at token.token_at token.name_at token.word_kind token.sign_at token.colon_at token.single_at token.variable_at token.dash_at
+no_list_is_open = refl
+
+-- two items, one goal, two bytes, and integers up to 5
+abbrev few : Limits
+few = record { items = 2; goals = 1; bytes = 2; integer = 5 }
+
+pub the_third_item_is_too_many : (t : Lexeme) → Exceeds few (past beginning (take 8 (tokens_of (codes "p :- q(X, Y, Z")))) t
+unfolding same_kind token.tokens_of token.front_at token.token_at token.name_at token.word_kind token.sign_at token.colon_at token.single_at token.variable_at token.dash_at
+the_third_item_is_too_many t = item refl refl
+
+pub the_second_goal_is_too_many : Exceeds few (past beginning (take 4 (tokens_of (codes "p :- not ( ( q")))) (record { kind = kind.Open; text = codes "("; line = 1 })
+unfolding same_kind token.tokens_of token.front_at token.token_at token.name_at token.word_kind token.sign_at token.colon_at token.single_at token.variable_at token.dash_at
+the_second_goal_is_too_many = goal refl refl (omega arith)
+
+pub minus_seven_is_too_small : Exceeds few (past beginning (take 3 (tokens_of (codes "X = -7")))) (record { kind = kind.Integer; text = codes "7"; line = 1 })
+unfolding same_kind token.tokens_of token.front_at token.token_at token.name_at token.word_kind token.sign_at token.colon_at token.single_at token.variable_at token.dash_at number.number_of
+minus_seven_is_too_small = long (negative refl refl (omega arith))
