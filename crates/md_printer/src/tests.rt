@@ -101,6 +101,12 @@ fn prints_the_queens_and_reads_them_again(rt: HostRuntime) -> Result<(), Fail> {
 }
 
 #[test]
+fn prints_each_construct_and_reads_it_again(rt: HostRuntime) -> Result<(), Fail> {
+    prints(&rt, rt.alloc(), of::TOUR, of::TOUR_PRINTED)?;
+    Ok(())
+}
+
+#[test]
 fn programs_of_plain_goals_stay_the_same(rt: HostRuntime) -> Result<(), Fail> {
     stays_the_same(&rt, rt.alloc(), of::A)?;
     stays_the_same(&rt, rt.alloc(), of::HELLO)?;

@@ -44,16 +44,16 @@ unfolding word
 word_one w c is_word few i last g h =
     solo_by c (λ (_ : ℕ). ⊤) last i (sees kind.Name i && bytes_eq (token i).text w) (Ok ((token i).line, next i)) (refuse i)
     (λ e.
-        let p = both_true _ _ e in
-        let k = kind_seen kind.Name i p.0 in
-        let l : length (token i).text ≤ standard.items = subst (λ (x : List ℕ). length x ≤ standard.items) (sym (same_text (token i).text w p.1)) few in
-        record {
-          is = (ap flat k, ap c k ∙ is_word);
-          fits = subst (λ (k : Kind). Fits k last (token i).text) (sym k) l;
-          value = tt;
-          rest = refl;
-          good = good_next i g;
-        })
+    let p = both_true _ _ e in
+    let k = kind_seen kind.Name i p.0 in
+    let l : length (token i).text ≤ standard.items = subst (λ (x : List ℕ). length x ≤ standard.items) (sym (same_text (token i).text w p.1)) few in
+    record {
+      is = (ap flat k, ap c k ∙ is_word);
+      fits = subst (λ (k : Kind). Fits k last (token i).text) (sym k) l;
+      value = tt;
+      rest = refl;
+      good = good_next i g;
+    })
     (λ e. refl)
 
 -- ---- variables
@@ -69,19 +69,19 @@ variable_one seen i last g h =
     (λ e. solo_by any (λ (_ : ℕ). ⊤) last i (list_any (λ x. x == place) seen) (refuse i) (cond (nat_lt i.limits.items n) (limit i) read)
     (λ f. refl)
     (λ f.
-        let k = kind_seen kind.Variable i (turned (sees kind.Variable i) e) in
-        solo_by any (λ (_ : ℕ). ⊤) last i (nat_lt i.limits.items n) (limit i) read
-        (λ l. (refl, long_variable k (is_less standard.items n (standing (λ j. j.limits.items) i true n standard.items (items_at i g) l))))
-        (λ l.
-            let most : n ≤ standard.items = is_most standard.items n (standing (λ j. j.limits.items) i false n standard.items (items_at i g) l) in
-            let m = good_next i g in
-            record {
-              is = (ap flat k, refl);
-              fits = subst (λ (k : Kind). Fits k last (token i).text) (sym k) most;
-              value = tt;
-              rest = refl;
-              good = record { limits = m.limits; proper = m.proper; home = m.home };
-            })))
+    let k = kind_seen kind.Variable i (turned (sees kind.Variable i) e) in
+    solo_by any (λ (_ : ℕ). ⊤) last i (nat_lt i.limits.items n) (limit i) read
+    (λ l. (refl, long_variable k (is_less standard.items n (standing (λ j. j.limits.items) i true n standard.items (items_at i g) l))))
+    (λ l.
+    let most : n ≤ standard.items = is_most standard.items n (standing (λ j. j.limits.items) i false n standard.items (items_at i g) l) in
+    let m = good_next i g in
+    record {
+      is = (ap flat k, refl);
+      fits = subst (λ (k : Kind). Fits k last (token i).text) (sym k) most;
+      value = tt;
+      rest = refl;
+      good = record { limits = m.limits; proper = m.proper; home = m.home };
+    })))
 
 -- ---- names of predicates
 
@@ -171,9 +171,9 @@ take_written_solo (Some w) i last g e =
     solo_by opens_list NameFits last i (rule.is_long i.limits.items w) (limit i) (Ok (rule.meant i.home w, next i))
     (λ h. (refl, written_long (token i) (kind_at i) last w refl e (is_long_one w (sym most ∙ h))))
     (λ h.
-        let n = neither_true _ _ (sym most ∙ h) in
-        let f : WrittenFits w = (is_most standard.items (length w.name) n.0, is_most standard.items (length (unwrap_or w.qualifier [])) n.1) in
-        written_single NameFits (rule.meant i.home w) i last w g e f (f.0, away_fits i.home w.qualifier f.1))
+    let n = neither_true _ _ (sym most ∙ h) in
+    let f : WrittenFits w = (is_most standard.items (length w.name) n.0, is_most standard.items (length (unwrap_or w.qualifier [])) n.1) in
+    written_single NameFits (rule.meant i.home w) i last w g e f (f.0, away_fits i.home w.qualifier f.1))
 
 pub pred_name_one : One any opens_list NameFits rule.pred_name
 unfolding rule.pred_name
@@ -213,8 +213,8 @@ same_solo q f None i last g e = refl
 same_solo q f (Some w) i last g e =
     solo_by opens_list (λ (_ : Unit {0}). ⊤) last i (rule.same_name (rule.meant i.home w) q) (Ok (tt, next i)) (refuse i)
     (λ h.
-        let p = both_true _ _ h in
-        written_single (λ (_ : Unit {0}). ⊤) tt i last w g e (same_length w.name q.name p.1 f.0, meant_fits i.home w.qualifier q.qualifier p.0 g.home f.1) tt)
+    let p = both_true _ _ h in
+    written_single (λ (_ : Unit {0}). ⊤) tt i last w g e (same_length w.name q.name p.1 f.0, meant_fits i.home w.qualifier q.qualifier p.0 g.home f.1) tt)
     (λ h. refl)
 
 pub this_name_one : (q : PredName) → NameFits q → One any opens_list (λ (_ : Unit {0}). ⊤) (rule.this_name q)
@@ -236,14 +236,14 @@ positive_solo x i last g u k =
     solo_by any (λ (_ : Task). ⊤) last i (nat_lt i.limits.integer n) (limit i) (Ok (Plain (Unifies x (term.Int (pos n))), next i))
     (λ h. (refl, great k (no_minus last u) (is_less standard.integer n (standing (λ j. j.limits.integer) i true n standard.integer (integer_at i g) h))))
     (λ h.
-        let most : n ≤ standard.integer = is_most standard.integer n (standing (λ j. j.limits.integer) i false n standard.integer (integer_at i g) h) in
-        record {
-          is = (ap flat k, refl);
-          fits = subst (λ (k : Kind). Fits k last (token i).text) (sym k) ((λ m. most), (λ m. absurd (no_minus last u m)));
-          value = tt;
-          rest = refl;
-          good = good_next i g;
-        })
+    let most : n ≤ standard.integer = is_most standard.integer n (standing (λ j. j.limits.integer) i false n standard.integer (integer_at i g) h) in
+    record {
+      is = (ap flat k, refl);
+      fits = subst (λ (k : Kind). Fits k last (token i).text) (sym k) ((λ m. most), (λ m. absurd (no_minus last u m)));
+      value = tt;
+      rest = refl;
+      good = good_next i g;
+    })
 
 minus_only : (last : Kind) → is_minus last ≡ true → last ≡ kind.Minus
 minus_only kind.Minus e = refl
@@ -255,14 +255,14 @@ negative_solo x i last g m k =
     solo_by any (λ (_ : Task). ⊤) last i (nat_lt (suc i.limits.integer) n) (limit i) (Ok (Plain (Unifies x (term.Int (rule.minus n))), next i))
     (λ h. (refl, small k m (is_less (suc standard.integer) n (standing (λ j. suc j.limits.integer) i true n (suc standard.integer) (ap suc (integer_at i g)) h))))
     (λ h.
-        let most : n ≤ suc standard.integer = is_most (suc standard.integer) n (standing (λ j. suc j.limits.integer) i false n (suc standard.integer) (ap suc (integer_at i g)) h) in
-        record {
-          is = (ap flat k, refl);
-          fits = subst (λ (k : Kind). Fits k last (token i).text) (sym k) ((λ d. absurd (d m)), (λ d. most));
-          value = tt;
-          rest = refl;
-          good = good_next i g;
-        })
+    let most : n ≤ suc standard.integer = is_most (suc standard.integer) n (standing (λ j. suc j.limits.integer) i false n (suc standard.integer) (ap suc (integer_at i g)) h) in
+    record {
+      is = (ap flat k, refl);
+      fits = subst (λ (k : Kind). Fits k last (token i).text) (sym k) ((λ d. absurd (d m)), (λ d. most));
+      value = tt;
+      rest = refl;
+      good = good_next i g;
+    })
 
 pub negated_one : (x : ℕ) → One is_minus any (λ (_ : Task). ⊤) (rule.negated x)
 unfolding rule.negated
@@ -279,14 +279,14 @@ literal_solo x i last g k =
     solo_by any (λ (_ : Task). ⊤) last i (nat_lt i.limits.bytes n) (limit i) (Ok (Plain (Unifies x (term.Str (string_value (token i).text))), next i))
     (λ h. (refl, long_string k (is_less standard.bytes n (standing (λ j. j.limits.bytes) i true n standard.bytes bytes h))))
     (λ h.
-        let most : n ≤ standard.bytes = is_most standard.bytes n (standing (λ j. j.limits.bytes) i false n standard.bytes bytes h) in
-        record {
-          is = (ap flat k, refl);
-          fits = subst (λ (k : Kind). Fits k last (token i).text) (sym k) most;
-          value = tt;
-          rest = refl;
-          good = good_next i g;
-        })
+    let most : n ≤ standard.bytes = is_most standard.bytes n (standing (λ j. j.limits.bytes) i false n standard.bytes bytes h) in
+    record {
+      is = (ap flat k, refl);
+      fits = subst (λ (k : Kind). Fits k last (token i).text) (sym k) most;
+      value = tt;
+      rest = refl;
+      good = good_next i g;
+    })
 
 -- ---- words by their bytes
 
@@ -309,6 +309,7 @@ qualified_fits text l = (part_fits, rest_fits)
   where
     part_fits : length (rule.qualifier_part text) ≤ standard.items
     part_fits = let n = length-take (prefix_len is_word_byte text) text in omega (arith, n, l)
+
     rest_fits : length (rule.name_part text) ≤ standard.items
     rest_fits = let n = length-drop (prefix_len is_word_byte text + 1) text in omega (arith, n, l)
 

@@ -223,14 +223,14 @@ named_solo c named i last g e =
     solo_by c (λ (x : List ℕ). length x ≤ standard.items) last i (nat_lt i.limits.items n) (limit i) (Ok ((token i).text, next i))
     (λ h. (refl, long_name e (is_less standard.items n (standing (λ j. j.limits.items) i true n standard.items (items_at i g) h))))
     (λ h.
-        let most : n ≤ standard.items = is_most standard.items n (standing (λ j. j.limits.items) i false n standard.items (items_at i g) h) in
-        record {
-          is = (ap flat e, ap c e ∙ named);
-          fits = subst (λ (k : Kind). Fits k last (token i).text) (sym e) most;
-          value = most;
-          rest = refl;
-          good = good_next i g;
-        })
+    let most : n ≤ standard.items = is_most standard.items n (standing (λ j. j.limits.items) i false n standard.items (items_at i g) h) in
+    record {
+      is = (ap flat e, ap c e ∙ named);
+      fits = subst (λ (k : Kind). Fits k last (token i).text) (sym e) most;
+      value = most;
+      rest = refl;
+      good = good_next i g;
+    })
 
 pub name_one : (c : Kind → Bool) → c kind.Name ≡ true → One any c (λ (x : List ℕ). length x ≤ standard.items) name
 unfolding name

@@ -17,7 +17,9 @@ mod term;
 mod types;
 mod variables;
 
-pub use laws::{a_program_is_within_the_limits, a_text_has_one_first_fault, a_text_spells_one_program};
+pub use laws::{
+    a_program_is_within_the_limits, a_text_has_one_first_fault, a_text_spells_one_program,
+};
 pub use reading::read;
 pub use refused::Refused;
 

@@ -153,6 +153,7 @@ even_next b bytes p lower e = (λ h. absurd (let q = sym h ∙ lower in cc), λ 
     neither_odd : (x y : Bool) → (x || y) ≡ false → x ≡ true → ⊥
     neither_odd true y e h = absurd (cc)
     neither_odd false y e h = absurd (cc)
+
     other_odd : (x y : Bool) → (x || y) ≡ false → y ≡ false
     other_odd true y e = absurd (cc)
     other_odd false y e = e

@@ -6,7 +6,7 @@ use Rattle.md_hlds.specs.Listing.{Listing, listing_of}
 use Rattle.md_reader.specs.declared.refused.Refused.{Refused}
 use Rattle.md_reader.specs.declared.refused.Refused.TheVariants as refused
 use Rattle.md_reader.specs.Grammar.{Spells}
-use Rattle.md_reader.specs.Reading.{reading}
+use Rattle.md_reader.specs.Reading.{reading, HasCause}
 use Rattle.md_binding.specs.declared.fault.ModeFault.{ModeFault}
 use Rattle.md_binding.specs.declared.fault.ModeFault.TheVariants as modes
 use Rattle.md_modes.specs.Modes.{mode_fault}
@@ -20,11 +20,11 @@ use Rattle.md_tool.specs.Accepted.{Accepts, IsAccepted, HasModeFault, HasDetFaul
 
 -- ---- a text that isn't read
 
-pub text_refused : (text : List ℕ) (e : Refused) → (e ≢ refused.NoMemory → reading text ≡ Err e) → TextFault text (refusal_of e)
-text_refused text (refused.Syntax line) answer = inl (record { refusal = refused.Syntax line; is_refused = answer (λ same. cc); told = refl })
-text_refused text (refused.Limit line) answer = inl (record { refusal = refused.Limit line; is_refused = answer (λ same. cc); told = refl })
-text_refused text (refused.Duplicate line) answer = inl (record { refusal = refused.Duplicate line; is_refused = answer (λ same. cc); told = refl })
-text_refused text refused.NoMemory answer = tt
+pub text_refused : (text : List ℕ) (e : Refused) → HasCause e text → (e ≢ refused.NoMemory → reading text ≡ Err e) → TextFault text (refusal_of e)
+text_refused text (refused.Syntax line) cause answer = inl (record { refusal = refused.Syntax line; cause = cause; is_refused = answer (λ same. cc); told = refl })
+text_refused text (refused.Limit line) cause answer = inl (record { refusal = refused.Limit line; cause = cause; is_refused = answer (λ same. cc); told = refl })
+text_refused text (refused.Duplicate line) cause answer = inl (record { refusal = refused.Duplicate line; cause = cause; is_refused = answer (λ same. cc); told = refl })
+text_refused text refused.NoMemory cause answer = tt
 
 -- ---- a program with a fault
 

@@ -5,7 +5,7 @@ use Rattle.md_hlds.specs.Listing.{Listing, listing_of}
 use Rattle.md_reader.specs.declared.refused.Refused.{Refused}
 use Rattle.md_reader.specs.declared.refused.Refused.TheVariants as refused
 use Rattle.md_reader.specs.Grammar.{Spells}
-use Rattle.md_reader.specs.Reading.{reading}
+use Rattle.md_reader.specs.Reading.{reading, HasCause}
 use Rattle.md_binding.specs.declared.fault.ModeFault.{ModeFault}
 use Rattle.md_binding.specs.declared.fault.ModeFault.TheVariants as modes
 use Rattle.md_modes.specs.Modes.{mode_fault}
@@ -54,9 +54,11 @@ determinism_refusal determinism.NoMemory = NoMemory
 
 -- ---- why a text isn't accepted: the first of its faults
 
--- it spells no program, passes a limit, or declares something twice
+-- It has a first token at fault, for syntax or for a limit, or it declares something twice, each by the grammar alone. The
+-- rules of the language refuse it so too.
 pub record IsUnread (text : List ℕ) (fault : Fault) : Type 0 where
   pub refusal : Refused
+  pub cause : HasCause refusal text
   pub is_refused : reading text ≡ Err refusal
   pub told : fault ≡ refusal_of refusal
 
