@@ -106,6 +106,8 @@ fn predicates_are_found_by_name_and_module(rt: HostRuntime) -> Result<(), Fail> 
     assert_eq!(rt; place_of_predicate(&names, &plain), Some((2, 8)));
     let of_another_module = called(alloc, Some(b"b"), b"p")?;
     assert_eq!(rt; place_of_predicate(&names, &of_another_module), None);
+    let undeclared = called(alloc, None, b"r")?;
+    assert_eq!(rt; place_of_predicate(&names, &undeclared), None);
     Ok(())
 }
 
