@@ -1,12 +1,11 @@
 -- The code's types and marks as the definitions see them.
-use Rattle.std.specs.Prelude.{◌≡◌, ◌≢◌, List, [], ◌∷◌, Result, Ok, Err}
+use Rattle.std.specs.Prelude.{◌≡◌, List, [], ◌∷◌, Result, Ok, Err}
 use Rattle.md_hlds.specs.Listing.{Sort, number, text, world, named, closure, gathered_sorts, sorts_of, args_of}
 use Rattle.md_binding.specs.declared.kind.Kind.{Kind}
 use Rattle.md_binding.specs.declared.kind.Kind.TheVariants.{Number, Text, World, Named, Closure, Open}
 use Rattle.md_binding.specs.declared.mark.Mark.{Mark}
 use Rattle.md_binding.specs.declared.mark.Mark.TheVariants.{Free, Bound}
 use Rattle.md_binding.specs.declared.fault.ModeFault.{ModeFault}
-use Rattle.md_binding.specs.declared.fault.ModeFault.TheVariants.{NoMemory}
 use Rattle.md_binding.specs.Verdict.{Verdict}
 use Rattle.md_binding.specs.Known.{Known, free, has, Knowledge}
 use Rattle.md_binding.specs.Simple.{left_open}
@@ -28,12 +27,12 @@ abbrev pub knowledge_of : List Mark → Knowledge
 knowledge_of [] = []
 knowledge_of (m ∷ ms) = known_of m ∷ knowledge_of ms
 
--- what is known after a check and its verdict are those of the definition, unless memory is refused
+-- what is known after a check and its verdict are those of the definition; no memory is asked for
 abbrev pub Leads : Result (Unit {0}) ModeFault → Knowledge → Verdict Knowledge → Type 0
 Leads (Ok u) s v = v ≡ Ok s
-Leads (Err e) s v = e ≢ NoMemory → v ≡ Err e
+Leads (Err e) s v = v ≡ Err e
 
 -- the same of a check that finds no more than whether there is a fault
 abbrev pub Finds : Result (Unit {0}) ModeFault → Verdict (Unit {0}) → Type 0
 Finds (Ok u) v = v ≡ Ok tt
-Finds (Err e) v = e ≢ NoMemory → v ≡ Err e
+Finds (Err e) v = v ≡ Err e

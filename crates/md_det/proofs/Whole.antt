@@ -98,11 +98,11 @@ past_all n zero (p ∷ ps) le = absurd (omega (arith, le))
 past_all n (suc i) (p ∷ ps) le = past_all n i ps (omega (arith, le))
 
 -- an accepted program has a main, so the search for it doesn't end without one
-pub main_missed : (s : Listing) (ps : List Pred) (n i m : ℕ) → mode_fault s ≡ None → main_of s ≡ main_from n (procedures_of (drop i ps)) → length ps ≤ i → main_of s ≡ Some m
-main_missed s ps n i m accepted e le =
+pub main_missed : (s : Listing) (ps : List Pred) (n i : ℕ) → mode_fault s ≡ None → main_of s ≡ main_from n (procedures_of (drop i ps)) → length ps ≤ i → ⊥
+main_missed s ps n i accepted e le =
     let none : has_main s.procedures ≡ false = some_main 0 s.procedures (e ∙ past_all n i ps le) in
     let some = has_main_accepted s accepted in
-    absurd (cc)
+    cc
 
 -- ---- a fault that is handed on
 

@@ -1,5 +1,5 @@
 -- The code's view of a goal's variables.
-use Rattle.std.proofs.Common.{◌≡◌, refl, sym, ap, ◌∙◌, subst, arith, ℕ, zero, suc, ◌+◌, ◌<◌, Bool, cond, ◌||◌, List, [], ◌∷◌, ◌++◌, length, get_or, slice_index, Option, Result, Ok}
+use Rattle.std.proofs.Common.{◌≡◌, refl, sym, ap, ◌∙◌, subst, arith, ℕ, zero, suc, ◌+◌, ◌<◌, Bool, cond, ◌||◌, List, [], ◌∷◌, ◌++◌, length, get_or, slice_index, Option, Result, Ok, Err}
 use Rattle.md_hlds.specs.declared.goal.Goal.{Goal}
 use Rattle.md_hlds.specs.Part.{Part, Task, At, Plain, Invoke, Apply, Each, Either, Choose, Unless, Once, part_of}
 use Rattle.md_binding.specs.declared.fault.ModeFault.{ModeFault}
@@ -14,7 +14,7 @@ use Rattle.md_modes.specs.Goals.{Scope, variables, task_variables, goal, task}
 use Rattle.md_modes.specs.Notes.{Note, Role, is_state, binds, names_state, known_after}
 use Rattle.md_modes.specs.Tally.{IsLocal, AreCounts}
 use Rattle.md_modes.specs.Views.{Leaves, AllLeave, seen, put_all, put_verdict, seen_ends, picked, some_state, names_seen}
-use Rattle.md_modes.specs.Joins.{occurs, Ends, IsArm, Reaches}
+use Rattle.md_modes.specs.Joins.{occurs, Ends, IsArm, Reaches, ReachesExactly}
 use Rattle.md_modes.specs.Clauses.{scope_at}
 use Rattle.md_modes.specs.Inside.{IsViewOf, AreAmong}
 use Rattle.md_modes.proofs.Counts.{times-append}
@@ -94,16 +94,21 @@ binds_by k view vars s r strict b h leaves e =
     binds_seen (places_of view) s r (outside (scope_at k strict).all vars) (occurs view.outside) (occurs_is k view vars s strict h) leaves
     ∙ (ap (λ ks. binds_some (occurs view.outside) ks (seen (places_of view) r)) (sym h.before) ∙ e)
 
+-- what is so exactly is so unless memory is refused
+unless_refused : (r : Result Bool ModeFault) (now : Knowledge) (v : Verdict After) → ReachesExactly r now v → Reaches r now v
+unless_refused (Ok reach) now v h = h
+unless_refused (Err e) now v h = λ _. h
+
 -- the code's end of a branch is that of the definition
 pub branch_end : (k : Clause) (view : View) (vars : List ℕ) (s now : Knowledge) (strict : Bool) (l : ℕ) (ends : List After) (r : Result Bool ModeFault) (v : Verdict After)
     → IsViewOf k view vars s → AllLeave (places_of view) s ends → v ≡ joined l (outside (scope_at k strict).all vars) s ends
-    → Reaches r now (put_verdict (places_of view) s (joined l (occurs view.outside) (knowledge_of view.before.now) (seen_ends (places_of view) ends)))
+    → ReachesExactly r now (put_verdict (places_of view) s (joined l (occurs view.outside) (knowledge_of view.before.now) (seen_ends (places_of view) ends)))
     → Reaches r now v
 branch_end k view vars s now strict l ends r v h leave is e =
     let whole : v ≡ put_verdict (places_of view) s (joined l (occurs view.outside) (seen (places_of view) s) (seen_ends (places_of view) ends)) =
     is ∙ joined_seen l (places_of view) s ends (outside (scope_at k strict).all vars) (occurs view.outside) h.local.rising (occurs_is k view vars s strict h) leave in
-    subst (λ (w : Verdict After). Reaches r now w)
-    (ap (λ ks. put_verdict (places_of view) s (joined l (occurs view.outside) ks (seen_ends (places_of view) ends))) h.before ∙ sym whole) e
+    unless_refused r now v (subst (λ (w : Verdict After). ReachesExactly r now w)
+    (ap (λ ks. put_verdict (places_of view) s (joined l (occurs view.outside) ks (seen_ends (places_of view) ends))) h.before ∙ sym whole) e)
 
 -- ---- a goal's own note
 
@@ -151,5 +156,5 @@ pub ends_viewed : (k : Clause) (view : View) (vars : List ℕ) (s : Knowledge) (
 ends_viewed k view vars s p j ends h e = subst (λ (b : Knowledge). Ends p b j ends) (sym h.before) e
 
 -- what is known at the end of a branch, where what is known before it has been put back
-pub reaches_from : (r : Result Bool ModeFault) (now b s : Knowledge) (xs : List ℕ) (v : Verdict After) → b ≡ s → Reaches r now (put_verdict xs b v) → Reaches r now (put_verdict xs s v)
-reaches_from r now b s xs v e h = subst (λ (k : Knowledge). Reaches r now (put_verdict xs k v)) e h
+pub reaches_from : (r : Result Bool ModeFault) (now b s : Knowledge) (xs : List ℕ) (v : Verdict After) → b ≡ s → ReachesExactly r now (put_verdict xs b v) → ReachesExactly r now (put_verdict xs s v)
+reaches_from r now b s xs v e h = subst (λ (k : Knowledge). ReachesExactly r now (put_verdict xs k v)) e h

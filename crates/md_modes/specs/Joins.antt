@@ -60,7 +60,17 @@ abbrev pub Reaches : Result Bool ModeFault → Knowledge → Verdict After → T
 Reaches (Ok reach) s v = v ≡ Ok (after s reach)
 Reaches (Err e) s v = e ≢ NoMemory → v ≡ Err e
 
+-- the same where no memory is asked for
+abbrev pub ReachesExactly : Result Bool ModeFault → Knowledge → Verdict After → Type 0
+ReachesExactly (Ok reach) s v = v ≡ Ok (after s reach)
+ReachesExactly (Err e) s v = v ≡ Err e
+
 -- the same of what is known after a branch whose end is reachable
 abbrev pub IsJoined : Result (Vec Mark Global) ModeFault → Verdict After → Type 0
 IsJoined (Ok marks) v = v ≡ Ok (after (knowledge_of marks.items) true)
-IsJoined (Err e) v = e ≢ NoMemory → v ≡ Err e
+IsJoined (Err e) v = v ≡ Err e
+
+-- a check finds a fault exactly where the definition has it, unless memory is refused
+abbrev pub Checks : Result (Unit {0}) ModeFault → Verdict (Unit {0}) → Type 0
+Checks (Ok u) v = v ≡ Ok tt
+Checks (Err e) v = e ≢ NoMemory → v ≡ Err e

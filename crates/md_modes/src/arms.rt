@@ -5,7 +5,7 @@ ghost use Rattle.md_modes.specs.Branches.{After, after};
 ghost use Rattle.md_modes.specs.Branches as spec;
 ghost use Rattle.md_binding.specs.Kinds.{knowledge_of};
 ghost use Rattle.md_modes.specs.Views as views;
-ghost use Rattle.md_modes.specs.Joins.{IsJoin, Ends, IsArm, IsEnd, Reaches, end_of, occurs};
+ghost use Rattle.md_modes.specs.Joins.{IsJoin, Ends, IsArm, IsEnd, ReachesExactly, end_of, occurs};
 
 use crate::end::End;
 use crate::joined::Joined;
@@ -84,7 +84,7 @@ pub fn end_arms<'a>(
 ) -> Result<bool, ModeFault>
     ensures { (p : ℕ → Bool) → (ends : List After) → Ends p (knowledge_of view.entry.before.now) joined.entry ends
         → knowledge_of view.entry.before.now ≡ views.seen view.entry.outside.local.now.places.items (knowledge_of marks.old.items)
-        → Reaches result (knowledge_of marks.new.items)
+        → ReachesExactly result (knowledge_of marks.new.items)
         (views.put_verdict view.entry.outside.local.now.places.items (knowledge_of marks.old.items) (spec.joined line p (knowledge_of view.entry.before.now) ends)) }
 {
     match joined {

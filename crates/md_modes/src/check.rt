@@ -1,12 +1,12 @@
 // The whole program.
 ghost use Rattle.std.specs.Prelude.{◌≡◌, ◌≢◌, None, Some, ◌++◌, IfOk, OnOk, MatchResult};
 ghost use Rattle.md_hlds.specs.Listing.{listing_of, procedure_of, procedures_of};
-ghost use Rattle.md_binding.specs.Kinds.{Finds};
 ghost use Rattle.md_binding.specs.declared.fault.ModeFault.TheVariants as faults;
 ghost use Rattle.md_modes.specs.Modes as spec;
 ghost use Rattle.md_modes.specs.Modes.{mode_fault};
 ghost use Rattle.md_modes.specs.Notes.{program_notes, notes_from, clause_notes};
 ghost use Rattle.md_modes.specs.Classes.{notes_told};
+ghost use Rattle.md_modes.specs.Joins.{Checks};
 
 use crate::class::Note;
 use crate::clause::Clause;
@@ -34,7 +34,7 @@ pub fn check_modes(alloc: Global, program: Program) -> Result<Moded, ModeFault>
 
 /// Checks a program, and notes what is found at its goals.
 fn check_program(alloc: Global, program: &Program, notes: &mut Vec<Note>) -> Result<(), ModeFault>
-    ensures checked { Finds result (spec.checked (listing_of program.now)) }
+    ensures checked { Checks result (spec.checked (listing_of program.now)) }
     ensures notes { OnOk result (notes_told notes.new.items ≡ notes_told notes.old.items ++ program_notes (listing_of program.now)) }
 {
     let names = Names::new(alloc, program)?;
@@ -44,7 +44,7 @@ fn check_program(alloc: Global, program: &Program, notes: &mut Vec<Note>) -> Res
 /// Checks the program that has these names.
 #[tactic(auto, unfolding(crate::specs::Notes::program_notes))]
 fn check_named(alloc: Global, names: &Names<'_>, notes: &mut Vec<Note>) -> Result<(), ModeFault>
-    ensures checked { Finds result (spec.checked (listing_of names.now)) }
+    ensures checked { Checks result (spec.checked (listing_of names.now)) }
     ensures notes { OnOk result (notes_told notes.new.items ≡ notes_told notes.old.items ++ program_notes (listing_of names.now)) }
 {
     let program = names.program();
@@ -64,7 +64,7 @@ fn check_clauses<'a>(
     preds: &'a [Pred],
     notes: &mut Vec<Note>,
 ) -> Result<(), ModeFault>
-    ensures checked { Finds result (spec.clauses (listing_of names.now) (procedures_of preds.now)) }
+    ensures checked { Checks result (spec.clauses (listing_of names.now) (procedures_of preds.now)) }
     ensures notes { OnOk result (notes_told notes.new.items ≡ notes_told notes.old.items ++ notes_from (listing_of names.now) (procedures_of preds.now)) }
 {
     for pred in preds {
@@ -79,7 +79,7 @@ fn check_clause<'a>(
     pred: &'a Pred,
     notes: &mut Vec<Note>,
 ) -> Result<(), ModeFault>
-    ensures checked { Finds result (spec.clause (listing_of names.now) (procedure_of pred.now)) }
+    ensures checked { Checks result (spec.clause (listing_of names.now) (procedure_of pred.now)) }
     ensures notes { OnOk result (notes_told notes.new.items ≡ notes_told notes.old.items ++ clause_notes (listing_of names.now) (procedure_of pred.now)) }
 {
     let clause = Clause {

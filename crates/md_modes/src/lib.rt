@@ -26,6 +26,7 @@ mod view;
 pub use check::check_modes;
 pub use class::{Class, Note};
 pub use local::Local;
+pub use main_predicate::is_main;
 pub use md_binding::ModeFault;
 pub use moded::Moded;
 pub use outside::Outside;

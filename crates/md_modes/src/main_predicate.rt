@@ -19,7 +19,8 @@ pub fn has_main(preds: &[Pred]) -> bool
     false
 }
 
-fn is_main(pred: &Pred) -> bool
+/// Whether a predicate is declared as `main(io::di, io::uo) is det`.
+pub fn is_main(pred: &Pred) -> bool
     ensures { result ≡ spec.is_main (procedure_of pred.now) }
 {
     pred.qualifier.is_none()

@@ -5,7 +5,7 @@ use Rattle.md_modes.proofs.ArmLemmas.{clash_told}
 use Rattle.md_modes.proofs.joined.Joined.end.Goals as goal
 
 pub returns-then-clashes : goal.returns-then-clashes
-returns-then-clashes c p r qs h ne =
+returns-then-clashes c p r qs h =
     let s = knowledge_of c.args.before.now in
     let alike : some_differ p s r qs ≡ false = sym h.differ ∙ c.if-self.false in
     let parts : clash s (all_have r qs) r qs ≡ true =
