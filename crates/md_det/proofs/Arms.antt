@@ -3,27 +3,27 @@ use Rattle.std.proofs.Common.{◌≡◌, refl, ap, ◌∙◌, ℕ, List, [], ◌
 use Rattle.std.specs.declared.alloc.Global.{Global}
 use Rattle.md_hlds.specs.declared.goal.Goal.{Goal}
 use Rattle.md_hlds.specs.declared.goal.GoalKind.{Conj}
-use Rattle.md_hlds.specs.Part.{At, Each, gathered, part_of, parts_of, task_of}
-use Rattle.md_hlds.specs.Listing.{Listing}
+use Rattle.md_hlds.specs.HldsGoal.{At, ConjGoal, gathered, goal_of, goals_of, expr_of}
+use Rattle.md_hlds.specs.Hlds.{Hlds}
 use Rattle.md_hlds.specs.Switch.{Key, goal_key, arm_key}
-use Rattle.md_hlds.proofs.Bridge.{task_of-Conj}
+use Rattle.md_hlds.proofs.Bridge.{expr_of-Conj}
 
 -- the key of a conjunction of these goals
-abbrev pub first_key : Listing → List Goal → Option (ℕ × Key)
+abbrev pub first_key : Hlds → List Goal → Option (ℕ × Key)
 first_key p [] = None
-first_key p (g ∷ gs) = goal_key p (part_of g)
+first_key p (g ∷ gs) = goal_key p (goal_of g)
 
-pub arm_key-Conj : (p : Listing) (g : Goal) (v : Vec Goal Global) → g.kind ≡ Conj v → arm_key p (part_of g) ≡ first_key p v.items
-arm_key-Conj p g v e = ap (λ k. arm_key p (At g.line (task_of k))) e ∙ (ap (λ t. arm_key p (At g.line t)) (task_of-Conj v) ∙ first v.items)
+pub arm_key-Conj : (p : Hlds) (g : Goal) (v : Vec Goal Global) → g.kind ≡ Conj v → arm_key p (goal_of g) ≡ first_key p v.items
+arm_key-Conj p g v e = ap (λ k. arm_key p (At g.line (expr_of k))) e ∙ (ap (λ t. arm_key p (At g.line t)) (expr_of-Conj v) ∙ first v.items)
   where
-    first : (gs : List Goal) → arm_key p (At g.line (Each (gathered (parts_of gs)))) ≡ first_key p gs
+    first : (gs : List Goal) → arm_key p (At g.line (ConjGoal (gathered (goals_of gs)))) ≡ first_key p gs
     first [] = refl
     first (h ∷ gs) = refl
 
-pub no_first : (p : Listing) (gs : List Goal) → None ≡ slice_get gs 0 → None ≡ first_key p gs
+pub no_first : (p : Hlds) (gs : List Goal) → None ≡ slice_get gs 0 → None ≡ first_key p gs
 no_first p [] e = refl
 no_first p (g ∷ gs) e = absurd (cc)
 
-pub from_first : (p : Listing) (gs : List Goal) (g : Goal) → Some g ≡ slice_get gs 0 → goal_key p (part_of g) ≡ first_key p gs
+pub from_first : (p : Hlds) (gs : List Goal) (g : Goal) → Some g ≡ slice_get gs 0 → goal_key p (goal_of g) ≡ first_key p gs
 from_first p [] g e = absurd (cc)
-from_first p (h ∷ gs) g e = let same : g ≡ h = cc in ap (λ (x : Goal). goal_key p (part_of x)) same
+from_first p (h ∷ gs) g e = let same : g ≡ h = cc in ap (λ (x : Goal). goal_key p (goal_of x)) same

@@ -4,8 +4,8 @@ use Rattle.std.specs.Prelude.{IfOk}
 use Rattle.std.specs.declared.alloc.Global.{Global}
 use Rattle.md_hlds.specs.declared.goal.Goal.{Goal}
 use Rattle.md_hlds.specs.declared.goal.GoalKind.{GoalKind, Conj, Disj, If}
-use Rattle.md_hlds.specs.Part.{Each, Either, Choose, gathered, part_of, parts_of, task_of}
-use Rattle.md_hlds.proofs.Bridge.{task_of-Conj, task_of-Disj}
+use Rattle.md_hlds.specs.HldsGoal.{ConjGoal, DisjGoal, IfGoal, gathered, goal_of, goals_of, expr_of}
+use Rattle.md_hlds.proofs.Bridge.{expr_of-Conj, expr_of-Disj}
 use Rattle.md_det.specs.declared.fault.DetFault.{DetFault}
 use Rattle.md_det.specs.declared.finding.Finding.{Finding}
 use Rattle.md_det.specs.declared.finding.Switch.{Switch}
@@ -15,7 +15,7 @@ use Rattle.md_det.specs.declared.pair.Bound.TheVariants.{Zero, One, Many}
 use Rattle.md_det.specs.declared.pair.Pair.{Pair}
 use Rattle.md_det.specs.Bounds.{product, sum, greatest, is_many}
 use Rattle.md_det.specs.Pairs.{in_turn, one_of_two}
-use Rattle.md_det.specs.Judge.{Reading, Judgement, judgement, Found, found, whole, or_else, beside, and_then, or_arm, condition_fault, judge_part, judge_task, judge_each, judge_arms, onto}
+use Rattle.md_det.specs.Judge.{Reading, Judgement, judgement, Found, found, whole, or_else, beside, and_then, or_arm, condition_fault, judge_part, judge_expr, judge_each, judge_arms, onto}
 use Rattle.md_det.specs.Told.{found_told, found_onto}
 use Rattle.md_det.proofs.KeyLemmas.{parts-step}
 
@@ -82,12 +82,12 @@ or_arm-assoc at j k m =
 -- what is judged with what was found before, and then the next, whose judgement is known from its own
 pub each_next : (r : Reading) (at : Option ℕ) (again : Bool) (gs : List Goal) (i : ℕ) (g : Goal) (p : Pair) (f : Option DetFault) (olds : List Finding)
     (q : Pair) (h : Option DetFault) (news : List Finding) → i < length gs → g ≡ get_or gs i g
-    → judgement q h news ≡ onto olds (judge_part r (length olds) at again (part_of g))
-    → and_then (judgement p f olds) (judge_each r (length olds) at again (gathered (parts_of (drop i gs))))
-    ≡ and_then (judgement (in_turn p q) (or_else f h) news) (judge_each r (length news) None (again || is_many q.bound) (gathered (parts_of (drop (i + 1) gs))))
+    → judgement q h news ≡ onto olds (judge_part r (length olds) at again (goal_of g))
+    → and_then (judgement p f olds) (judge_each r (length olds) at again (gathered (goals_of (drop i gs))))
+    ≡ and_then (judgement (in_turn p q) (or_else f h) news) (judge_each r (length news) None (again || is_many q.bound) (gathered (goals_of (drop (i + 1) gs))))
 each_next r at again gs i g p f olds q h news lt is told =
-    let j = judge_part r (length olds) at again (part_of g) in
-    let rest = gathered (parts_of (drop (i + 1) gs)) in
+    let j = judge_part r (length olds) at again (goal_of g) in
+    let rest = gathered (goals_of (drop (i + 1) gs)) in
     let pairs : q ≡ j.pair = ap (λ (x : Judgement). x.pair) told in
     let faults : h ≡ j.fault = ap (λ (x : Judgement). x.fault) told in
     let finds : news ≡ olds ++ j.findings = ap (λ (x : Judgement). x.findings) told in
@@ -99,12 +99,12 @@ each_next r at again gs i g p f olds q h news lt is told =
 
 pub arms_next : (r : Reading) (at : Option ℕ) (again : Bool) (gs : List Goal) (i : ℕ) (g : Goal) (p : Pair) (f : Option DetFault) (olds : List Finding)
     (q : Pair) (h : Option DetFault) (news : List Finding) → i < length gs → g ≡ get_or gs i g
-    → judgement q h news ≡ onto olds (judge_part r (length olds) at again (part_of g))
-    → or_arm at (judgement p f olds) (judge_arms r (length olds) at again (gathered (parts_of (drop i gs))))
-    ≡ or_arm at (judgement (beside at p q) (or_else f h) news) (judge_arms r (length news) at again (gathered (parts_of (drop (i + 1) gs))))
+    → judgement q h news ≡ onto olds (judge_part r (length olds) at again (goal_of g))
+    → or_arm at (judgement p f olds) (judge_arms r (length olds) at again (gathered (goals_of (drop i gs))))
+    ≡ or_arm at (judgement (beside at p q) (or_else f h) news) (judge_arms r (length news) at again (gathered (goals_of (drop (i + 1) gs))))
 arms_next r at again gs i g p f olds q h news lt is told =
-    let j = judge_part r (length olds) at again (part_of g) in
-    let rest = gathered (parts_of (drop (i + 1) gs)) in
+    let j = judge_part r (length olds) at again (goal_of g) in
+    let rest = gathered (goals_of (drop (i + 1) gs)) in
     let pairs : q ≡ j.pair = ap (λ (x : Judgement). x.pair) told in
     let faults : h ≡ j.fault = ap (λ (x : Judgement). x.fault) told in
     let finds : news ≡ olds ++ j.findings = ap (λ (x : Judgement). x.findings) told in
@@ -133,58 +133,58 @@ own_set olds with_own news x w p f t is told =
 
 pub conj_found : (r : Reading) (n : ℕ) (at : Option ℕ) (again : Bool) (l : ℕ) (k : GoalKind) (v : Vec Goal Global) (gs : List Goal) (p : Pair) (f : Option DetFault) (olds news : List Finding)
     → k ≡ Conj v → gs ≡ v.items → suc n ≡ length olds
-    → judgement p f news ≡ onto olds (judge_each r (length olds) at again (gathered (parts_of gs)))
-    → found None p f news ≡ found_onto olds (judge_task r n at again l (task_of k))
+    → judgement p f news ≡ onto olds (judge_each r (length olds) at again (gathered (goals_of gs)))
+    → found None p f news ≡ found_onto olds (judge_expr r n at again l (expr_of k))
 conj_found r n at again l k v gs p f olds news is items number told =
     ap (λ (j : Judgement). found None j.pair j.fault j.findings) told
-    ∙ (ap (λ m. found_onto olds (found None (judge_each r m at again (gathered (parts_of gs))).pair (judge_each r m at again (gathered (parts_of gs))).fault (judge_each r m at again (gathered (parts_of gs))).findings)) (sym number)
-    ∙ (ap (λ xs. found_onto olds (judge_task r n at again l (Each (gathered (parts_of xs))))) items
-    ∙ ap (λ t. found_onto olds (judge_task r n at again l t)) (sym (ap task_of is ∙ task_of-Conj v))))
+    ∙ (ap (λ m. found_onto olds (found None (judge_each r m at again (gathered (goals_of gs))).pair (judge_each r m at again (gathered (goals_of gs))).fault (judge_each r m at again (gathered (goals_of gs))).findings)) (sym number)
+    ∙ (ap (λ xs. found_onto olds (judge_expr r n at again l (ConjGoal (gathered (goals_of xs))))) items
+    ∙ ap (λ t. found_onto olds (judge_expr r n at again l t)) (sym (ap expr_of is ∙ expr_of-Conj v))))
 
 pub disj_found : {E : Type 0} (r : Reading) (n : ℕ) (at : Option ℕ) (again : Bool) (l : ℕ) (k : GoalKind) (v : Vec Goal Global) (gs : List Goal) (o : Result code.Found E) (olds news : List Finding)
     → k ≡ Disj v → gs ≡ v.items
-    → IfOk o (λ f. found_told f news ≡ found_onto olds (judge_task r n None again 0 (Either (gathered (parts_of gs)))))
-    → IfOk o (λ f. found_told f news ≡ found_onto olds (judge_task r n at again l (task_of k)))
+    → IfOk o (λ f. found_told f news ≡ found_onto olds (judge_expr r n None again 0 (DisjGoal (gathered (goals_of gs)))))
+    → IfOk o (λ f. found_told f news ≡ found_onto olds (judge_expr r n at again l (expr_of k)))
 disj_found r n at again l k v gs o olds news is items told =
-    subst (λ t. IfOk o (λ f. found_told f news ≡ found_onto olds (judge_task r n at again l t))) (ap (λ xs. Either (gathered (parts_of xs))) items ∙ sym (ap task_of is ∙ task_of-Disj v)) told
+    subst (λ t. IfOk o (λ f. found_told f news ≡ found_onto olds (judge_expr r n at again l t))) (ap (λ xs. DisjGoal (gathered (goals_of xs))) items ∙ sym (ap expr_of is ∙ expr_of-Disj v)) told
 
 -- condition, then and else, each with what was found before it
 pub choice_found : (r : Reading) (n : ℕ) (at : Option ℕ) (again : Bool) (l : ℕ) (k : GoalKind) (cb tb eb : Box Goal Global) (c t e : Goal)
     (olds first second news : List Finding) (p q s : Pair) (f g h own : Option DetFault)
     → k ≡ If cb tb eb → c ≡ cb.value → t ≡ tb.value → e ≡ eb.value → suc n ≡ length olds
-    → judgement p f first ≡ onto olds (judge_part r (length olds) None again (part_of c))
-    → own ≡ condition_fault r l (suc n) (part_of c) p
-    → judgement q g second ≡ onto first (judge_part r (length first) None again (part_of t))
-    → judgement s h news ≡ onto second (judge_part r (length second) None again (part_of e))
-    → found None (one_of_two q s) (or_else own (or_else f (or_else g h))) news ≡ found_onto olds (judge_task r n at again l (task_of k))
+    → judgement p f first ≡ onto olds (judge_part r (length olds) None again (goal_of c))
+    → own ≡ condition_fault r l (suc n) (goal_of c) p
+    → judgement q g second ≡ onto first (judge_part r (length first) None again (goal_of t))
+    → judgement s h news ≡ onto second (judge_part r (length second) None again (goal_of e))
+    → found None (one_of_two q s) (or_else own (or_else f (or_else g h))) news ≡ found_onto olds (judge_expr r n at again l (expr_of k))
 choice_found r n at again l k cb tb eb c t e olds first second news p q s f g h own is cs ts es number one two three four =
-    let j = judge_part r (suc n) None again (part_of c) in
-    let first_is : judgement p f first ≡ onto olds j = one ∙ ap (λ m. onto olds (judge_part r m None again (part_of c))) (sym number) in
+    let j = judge_part r (suc n) None again (goal_of c) in
+    let first_is : judgement p f first ≡ onto olds j = one ∙ ap (λ m. onto olds (judge_part r m None again (goal_of c))) (sym number) in
     let count : length first ≡ suc n + length j.findings
     = ap (λ (x : Judgement). length x.findings) first_is ∙ (length-append olds j.findings ∙ ap (λ m. m + length j.findings) (sym number)) in
-    let k' = judge_part r (suc n + length j.findings) None again (part_of t) in
-    let second_is : judgement q g second ≡ onto first k' = three ∙ ap (λ m. onto first (judge_part r m None again (part_of t))) count in
+    let k' = judge_part r (suc n + length j.findings) None again (goal_of t) in
+    let second_is : judgement q g second ≡ onto first k' = three ∙ ap (λ m. onto first (judge_part r m None again (goal_of t))) count in
     let count_more : length second ≡ suc n + length j.findings + length k'.findings
     = ap (λ (x : Judgement). length x.findings) second_is ∙ (length-append first k'.findings ∙ ap (λ m. m + length k'.findings) count) in
-    let m' = judge_part r (suc n + length j.findings + length k'.findings) None again (part_of e) in
-    let third_is : judgement s h news ≡ onto second m' = four ∙ ap (λ m. onto second (judge_part r m None again (part_of e))) count_more in
+    let m' = judge_part r (suc n + length j.findings + length k'.findings) None again (goal_of e) in
+    let third_is : judgement s h news ≡ onto second m' = four ∙ ap (λ m. onto second (judge_part r m None again (goal_of e))) count_more in
     let finds : news ≡ olds ++ (j.findings ++ (k'.findings ++ m'.findings))
     = ap (λ (x : Judgement). x.findings) third_is
     ∙ (ap (λ fs. fs ++ m'.findings) (ap (λ (x : Judgement). x.findings) second_is ∙ ap (λ fs. fs ++ k'.findings) (ap (λ (x : Judgement). x.findings) first_is))
     ∙ (append_assoc (olds ++ j.findings) k'.findings m'.findings ∙ append_assoc olds j.findings (k'.findings ++ m'.findings))) in
     let pairs : p ≡ j.pair = ap (λ (x : Judgement). x.pair) first_is in
-    let owns : own ≡ condition_fault r l (suc n) (part_of c) j.pair = two ∙ ap (condition_fault r l (suc n) (part_of c)) pairs in
+    let owns : own ≡ condition_fault r l (suc n) (goal_of c) j.pair = two ∙ ap (condition_fault r l (suc n) (goal_of c)) pairs in
     let fs : f ≡ j.fault = ap (λ (x : Judgement). x.fault) first_is in
     let gs : g ≡ k'.fault = ap (λ (x : Judgement). x.fault) second_is in
     let hs : h ≡ m'.fault = ap (λ (x : Judgement). x.fault) third_is in
     let qs : q ≡ k'.pair = ap (λ (x : Judgement). x.pair) second_is in
     let ss : s ≡ m'.pair = ap (λ (x : Judgement). x.pair) third_is in
-    let same : Choose (part_of c) (part_of t) (part_of e) ≡ task_of k
-    = sym (ap task_of is ∙ rw (cs, ts, es) refl) in
+    let same : IfGoal (goal_of c) (goal_of t) (goal_of e) ≡ expr_of k
+    = sym (ap expr_of is ∙ rw (cs, ts, es) refl) in
     all_same _ _ _ _ _ _ (ap (λ (x : Pair). one_of_two x s) qs ∙ ap (one_of_two k'.pair) ss)
     (all_faults _ _ _ _ _ _ _ _ owns fs gs hs)
     finds
-    ∙ ap (λ u. found_onto olds (judge_task r n at again l u)) same
+    ∙ ap (λ u. found_onto olds (judge_expr r n at again l u)) same
   where
     all_faults : (a a' b b' c c' d d' : Option DetFault) → a ≡ a' → b ≡ b' → c ≡ c' → d ≡ d'
         → or_else a (or_else b (or_else c d)) ≡ or_else a' (or_else b' (or_else c' d'))

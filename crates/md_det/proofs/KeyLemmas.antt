@@ -6,8 +6,8 @@ use Rattle.std.specs.Str.{bytes_eq}
 use Rattle.md_hlds.specs.declared.goal.Goal.{Goal}
 use Rattle.md_hlds.specs.declared.program.Functor.{Functor}
 use Rattle.md_hlds.specs.declared.types.Ty.{Ty}
-use Rattle.md_hlds.specs.Listing.{Listing, construct_of, constructs_of, sorts_of}
-use Rattle.md_hlds.specs.Part.{gathered, part_of, parts_of}
+use Rattle.md_hlds.specs.Hlds.{Hlds, hlds_functor_of, hlds_functors_of, hlds_types_of}
+use Rattle.md_hlds.specs.HldsGoal.{gathered, goal_of, goals_of}
 use Rattle.md_hlds.specs.Switch.{Key, IntKey, TextKey, FunctorKey, same_key, has_key, all_different, if_different, keys_of, prepend_key, arm_key}
 use Rattle.std.specs.Cmp.Lexicographic.{pointwise}
 use Rattle.md_det.specs.declared.key.Key as code
@@ -129,34 +129,34 @@ pub keys_again : (x : ℕ) (k : Key) (js : List Key) (r : Option (List Key)) →
 keys_again x k js None h = refl
 keys_again x k js (Some ks) h = rw (append_assoc js (k ∷ []) ks, different_not js ks k h) refl
 
-pub parts-step : (gs : List Goal) (i : ℕ) (g : Goal) → i < length gs → g ≡ get_or gs i g → parts_of (drop i gs) ≡ part_of g ∷ parts_of (drop (i + 1) gs)
-parts-step gs i g lt is = rw add-one (ap parts_of (drop-cons gs i g lt ∙ ap (λ (h : Goal). h ∷ drop (suc i) gs) (sym is)))
+pub parts-step : (gs : List Goal) (i : ℕ) (g : Goal) → i < length gs → g ≡ get_or gs i g → goals_of (drop i gs) ≡ goal_of g ∷ goals_of (drop (i + 1) gs)
+parts-step gs i g lt is = rw add-one (ap goals_of (drop-cons gs i g lt ∙ ap (λ (h : Goal). h ∷ drop (suc i) gs) (sym is)))
 
 -- the keys of the arms that are left, by the first of them
-pub keys_of-step : (p : Listing) (x : ℕ) (gs : List Goal) (i : ℕ) (g : Goal) → i < length gs → g ≡ get_or gs i g
-    → keys_of p x (gathered (parts_of (drop i gs))) ≡ prepend_key x (arm_key p (part_of g)) (keys_of p x (gathered (parts_of (drop (i + 1) gs))))
+pub keys_of-step : (p : Hlds) (x : ℕ) (gs : List Goal) (i : ℕ) (g : Goal) → i < length gs → g ≡ get_or gs i g
+    → keys_of p x (gathered (goals_of (drop i gs))) ≡ prepend_key x (arm_key p (goal_of g)) (keys_of p x (gathered (goals_of (drop (i + 1) gs))))
 keys_of-step p x gs i g lt is = ap (λ ps. keys_of p x (gathered ps)) (parts-step gs i g lt is)
 
 -- ---- functors
 
-length-sorts : (ts : List Ty) → length (sorts_of ts) ≡ length ts
+length-sorts : (ts : List Ty) → length (hlds_types_of ts) ≡ length ts
 length-sorts [] = refl
 length-sorts (t ∷ ts) = ap suc (length-sorts ts)
 
 pub constructs-step : (fs : List Functor) (i : ℕ) (f : Functor) → i < length fs → f ≡ get_or fs i f
-    → constructs_of (drop i fs) ≡ construct_of f ∷ constructs_of (drop (i + 1) fs)
-constructs-step fs i f lt is = rw add-one (ap constructs_of (drop-cons fs i f lt ∙ ap (λ (h : Functor). h ∷ drop (suc i) fs) (sym is)))
+    → hlds_functors_of (drop i fs) ≡ hlds_functor_of f ∷ hlds_functors_of (drop (i + 1) fs)
+constructs-step fs i f lt is = rw add-one (ap hlds_functors_of (drop-cons fs i f lt ∙ ap (λ (h : Functor). h ∷ drop (suc i) fs) (sym is)))
 
 -- a functor's key, as the code has it
-pub key_is : (name : List ℕ) (arity : ℕ) (f : Functor) → name ≡ f.name → arity ≡ length f.args.items → FunctorKey name arity ≡ key_of (construct_of f)
+pub key_is : (name : List ℕ) (arity : ℕ) (f : Functor) → name ≡ f.name → arity ≡ length f.args.items → FunctorKey name arity ≡ key_of (hlds_functor_of f)
 key_is name arity f a b = rw (a, b, length-sorts f.args.items) refl
 
 -- what the first key says of the others
-abbrev pub whole_by : Listing → List Key → Key → Bool
+abbrev pub whole_by : Hlds → List Key → Key → Bool
 whole_by p ks (FunctorKey name arity) = no_functor_missing ks (family_with name arity p.types)
 whole_by p ks k = false
 
-pub is_whole-first : (p : Listing) (ks : List code.Key) (k : code.Key) → Some k ≡ slice_get ks 0 → whole_by p (keys_told ks) (key_of_code k) ≡ is_whole p (keys_told ks)
+pub is_whole-first : (p : Hlds) (ks : List code.Key) (k : code.Key) → Some k ≡ slice_get ks 0 → whole_by p (keys_told ks) (key_of_code k) ≡ is_whole p (keys_told ks)
 is_whole-first p [] k e = absurd (cc)
 is_whole-first p (j ∷ ks) k e =
     let same : k ≡ j = cc in
@@ -167,7 +167,7 @@ is_whole-first p (j ∷ ks) k e =
     here (variant.Text a) ks = refl
     here (variant.Functor f m) ks = refl
 
-pub is_whole-none : (p : Listing) (ks : List code.Key) → None ≡ slice_get ks 0 → false ≡ is_whole p (keys_told ks)
+pub is_whole-none : (p : Hlds) (ks : List code.Key) → None ≡ slice_get ks 0 → false ≡ is_whole p (keys_told ks)
 is_whole-none p [] e = refl
 is_whole-none p (j ∷ ks) e = absurd (cc)
 

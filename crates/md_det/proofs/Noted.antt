@@ -4,12 +4,12 @@ use Rattle.std.proofs.Common.{◌≡◌, refl, sym, ap, ◌∙◌, arith, ℕ, z
 use Rattle.std.specs.Prelude.{is_none, is_some}
 use Rattle.md_hlds.specs.declared.goal.Term.{Term}
 use Rattle.md_hlds.specs.declared.goal.Term.TheVariants.{Var, Int, Str, Name}
-use Rattle.md_hlds.specs.Part.{Simple, Succeeds, Fails, Unifies, Computes, Compares, WritesInt, WritesText, EndsLine, Part, At, Task, Plain, Invoke, Apply, Each, Either, Choose, Unless, Once, Parts, nothing, also}
-use Rattle.md_hlds.specs.Listing.{closure, Construct, Family, Procedure, Listing, is_functor, unqualified_functor}
+use Rattle.md_hlds.specs.HldsGoal.{Simple, Succeeds, Fails, Unifies, Computes, Compares, WritesInt, WritesText, EndsLine, HldsGoal, At, GoalExpr, SimpleGoal, CallGoal, HoCallGoal, ConjGoal, DisjGoal, IfGoal, NotGoal, SomeGoal, HldsGoals, nothing, also}
+use Rattle.md_hlds.specs.Hlds.{closure, HldsFunctor, HldsTypeDef, Procedure, Hlds, is_functor, unqualified_functor}
 use Rattle.md_hlds.specs.Switch.{Key, FunctorKey, term_key, variable_key, goal_key, arm_key, keys_of, all_different, if_different, switch_on}
-use Rattle.md_binding.specs.Known.{Known, free, has, Knowledge, known_at, is_bound}
+use Rattle.md_inst.specs.Instantiation.{Instantiation, free, has, InstMap, known_at, is_bound}
 use Rattle.md_names.specs.Named.{functor_found}
-use Rattle.md_binding.specs.Named.{Functor, functor_of, functor_called, if_unqualified}
+use Rattle.md_inst.specs.Named.{Functor, functor_of, functor_called, if_unqualified}
 use Rattle.md_det.proofs.Functors.{functor_there}
 use Rattle.md_modes.specs.Branches.{outside, some_of}
 use Rattle.md_modes.specs.Goals.{Scope, within, variables, goal}
@@ -75,16 +75,16 @@ only_if false f = refl
 -- ---- as many findings as notes
 
 mutual
-  length_findings : (c : Scope) (at : Option ℕ) (q : Part) (s : Knowledge) → length (findings c at q s) ≡ length (notes c q s)
+  length_findings : (c : Scope) (at : Option ℕ) (q : HldsGoal) (s : InstMap) → length (findings c at q s) ≡ length (notes c q s)
   length_findings c at (At l t) s = ap suc (length_inner c at t s)
 
-  length_inner : (c : Scope) (at : Option ℕ) (t : Task) (s : Knowledge) → length (inner_findings c at t s) ≡ length (inner_notes c t s)
-  length_inner c at (Plain g) s = refl
-  length_inner c at (Invoke site q ys) s = refl
-  length_inner c at (Apply site f ys) s = refl
-  length_inner c at (Each ps) s = length_each c at ps s
-  length_inner c at (Either ps) s = length_arms c (variable_of (switch_of c.program ps s)) ps s
-  length_inner c at (Choose p t e) s =
+  length_inner : (c : Scope) (at : Option ℕ) (t : GoalExpr) (s : InstMap) → length (inner_findings c at t s) ≡ length (inner_notes c t s)
+  length_inner c at (SimpleGoal g) s = refl
+  length_inner c at (CallGoal site q ys) s = refl
+  length_inner c at (HoCallGoal site f ys) s = refl
+  length_inner c at (ConjGoal ps) s = length_each c at ps s
+  length_inner c at (DisjGoal ps) s = length_arms c (variable_of (switch_of c.program ps s)) ps s
+  length_inner c at (IfGoal p t e) s =
       let r = known_after s (goal (within c) p s) in
       rw (
         length-append (findings (within c) None p s) (findings c None t r ++ findings c None e s),
@@ -95,10 +95,10 @@ mutual
         length_findings c None t r,
         length_findings c None e s,
       ) refl
-  length_inner c at (Unless p) s = length_findings (within c) None p s
-  length_inner c at (Once vs p) s = length_findings (within c) None p s
+  length_inner c at (NotGoal p) s = length_findings (within c) None p s
+  length_inner c at (SomeGoal vs p) s = length_findings (within c) None p s
 
-  length_each : (c : Scope) (at : Option ℕ) (ps : Parts) (s : Knowledge) → length (each_findings c at ps s) ≡ length (each_notes c ps s)
+  length_each : (c : Scope) (at : Option ℕ) (ps : HldsGoals) (s : InstMap) → length (each_findings c at ps s) ≡ length (each_notes c ps s)
   length_each c at nothing s = refl
   length_each c at (also p ps) s =
       let r = known_after s (goal c p s) in
@@ -109,7 +109,7 @@ mutual
         length_each c None ps r,
       ) refl
 
-  length_arms : (c : Scope) (at : Option ℕ) (ps : Parts) (s : Knowledge) → length (arm_findings c at ps s) ≡ length (arm_notes c ps s)
+  length_arms : (c : Scope) (at : Option ℕ) (ps : HldsGoals) (s : InstMap) → length (arm_findings c at ps s) ≡ length (arm_notes c ps s)
   length_arms c at nothing s = refl
   length_arms c at (also p ps) s =
       rw (
@@ -125,7 +125,7 @@ apart_bound : (b : Bool) → (apart_pair b).bound ≡ One
 apart_bound true = refl
 apart_bound false = refl
 
-role_bound : (p : Listing) (at : Option ℕ) (x : ℕ) (t : Term) (r : Role) → (unification_pair p at x t r).bound ≡ (unification_pair p None x t r).bound
+role_bound : (p : Hlds) (at : Option ℕ) (x : ℕ) (t : Term) (r : Role) → (unification_pair p at x t r).bound ≡ (unification_pair p None x t r).bound
 role_bound p at x t constructs = refl
 role_bound p at x t closes = refl
 role_bound p at x t (takes_apart bound) = apart_bound _ ∙ sym (apart_bound _)
@@ -133,7 +133,7 @@ role_bound p at x t (assigns to) = refl
 role_bound p at x t tests = refl
 role_bound p at x t (applies u) = refl
 
-simple_bound : (p : Listing) (at : Option ℕ) (g : Simple) (s : Knowledge) → (simple_pair p at g s).bound ≡ (simple_pair p None g s).bound
+simple_bound : (p : Hlds) (at : Option ℕ) (g : Simple) (s : InstMap) → (simple_pair p at g s).bound ≡ (simple_pair p None g s).bound
 simple_bound p at Succeeds s = refl
 simple_bound p at Fails s = refl
 simple_bound p at (Unifies x t) s = role_bound p at x t (role_of_unification p x t s)
@@ -144,17 +144,17 @@ simple_bound p at (WritesText x before after) s = refl
 simple_bound p at (EndsLine before after) s = refl
 
 mutual
-  goal_bound : (c : Scope) (at : Option ℕ) (q : Part) (s : Knowledge) → (goal_pair c at q s).bound ≡ (goal_pair c None q s).bound
-  goal_bound c at (At l (Plain g)) s = simple_bound c.program at g s
-  goal_bound c at (At l (Invoke site q ys)) s = refl
-  goal_bound c at (At l (Apply site f ys)) s = refl
-  goal_bound c at (At l (Each ps)) s = each_bound c at ps s
-  goal_bound c at (At l (Either ps)) s = refl
-  goal_bound c at (At l (Choose p t e)) s = refl
-  goal_bound c at (At l (Unless p)) s = refl
-  goal_bound c at (At l (Once vs p)) s = refl
+  goal_bound : (c : Scope) (at : Option ℕ) (q : HldsGoal) (s : InstMap) → (goal_pair c at q s).bound ≡ (goal_pair c None q s).bound
+  goal_bound c at (At l (SimpleGoal g)) s = simple_bound c.program at g s
+  goal_bound c at (At l (CallGoal site q ys)) s = refl
+  goal_bound c at (At l (HoCallGoal site f ys)) s = refl
+  goal_bound c at (At l (ConjGoal ps)) s = each_bound c at ps s
+  goal_bound c at (At l (DisjGoal ps)) s = refl
+  goal_bound c at (At l (IfGoal p t e)) s = refl
+  goal_bound c at (At l (NotGoal p)) s = refl
+  goal_bound c at (At l (SomeGoal vs p)) s = refl
 
-  each_bound : (c : Scope) (at : Option ℕ) (ps : Parts) (s : Knowledge) → (each_pair c at ps s).bound ≡ (each_pair c None ps s).bound
+  each_bound : (c : Scope) (at : Option ℕ) (ps : HldsGoals) (s : InstMap) → (each_pair c at ps s).bound ≡ (each_pair c None ps s).bound
   each_bound c at nothing s = refl
   each_bound c at (also p ps) s =
       ap (λ b. product b (each_pair c None ps (known_after s (goal c p s))).bound) (goal_bound c at p s)
@@ -168,11 +168,11 @@ state_is : (ns : List Note) (n : ℕ) (x : Note) (r : List Note) → drop n ns �
 state_is ns n x r e = ap state_of_note (at_drop ns n x r e)
 
 -- what the goal of that number binds
-binds_is : (c : Scope) (ns : List Note) (n : ℕ) (q : Part) (s : Knowledge) (rest : List Note) → drop n ns ≡ notes c q s ++ rest
+binds_is : (c : Scope) (ns : List Note) (n : ℕ) (q : HldsGoal) (s : InstMap) (rest : List Note) → drop n ns ≡ notes c q s ++ rest
     → binds_at ns n ≡ binds s (goal c q s)
 binds_is c ns n (At l t) s rest e = ap binds_of_note (at_drop ns n _ (inner_notes c t s ++ rest) e)
 
-read_plain : (p : Listing) (at : Option ℕ) (g : Simple) (s : Knowledge) → read_simple p at (role_of p (Plain g) s) g ≡ simple_pair p at g s
+read_plain : (p : Hlds) (at : Option ℕ) (g : Simple) (s : InstMap) → read_simple p at (role_of p (SimpleGoal g) s) g ≡ simple_pair p at g s
 read_plain p at Succeeds s = refl
 read_plain p at Fails s = refl
 read_plain p at (Unifies x t) s = refl
@@ -182,7 +182,7 @@ read_plain p at (WritesInt x before after) s = refl
 read_plain p at (WritesText x before after) s = refl
 read_plain p at (EndsLine before after) s = refl
 
-read_closure : (k : Known) → read_apply (role_of_closure k) ≡ apply_pair k
+read_closure : (k : Instantiation) → read_apply (role_of_closure k) ≡ apply_pair k
 read_closure free = refl
 read_closure (has (closure ts ms d) used) = refl
 read_closure (has t used) = refl
@@ -204,17 +204,17 @@ cond_same true x = refl
 cond_same false x = refl
 
 -- a term is a functor where the look-up of functors finds one
-found_kept : (f : Option (Family × Construct)) → is_some f ≡ is_some (functor_of f)
+found_kept : (f : Option (HldsTypeDef × HldsFunctor)) → is_some f ≡ is_some (functor_of f)
 found_kept None = refl
 found_kept (Some f) = refl
 
-unqualified_is : (p : Listing) (m : Option (List ℕ)) (name : List ℕ) (arity : ℕ)
+unqualified_is : (p : Hlds) (m : Option (List ℕ)) (name : List ℕ) (arity : ℕ)
     → unqualified_functor p m name arity ≡ is_some (if_unqualified m (functor_of (functor_found name arity p.types)))
 unqualified_is p None name arity = functor_there name arity p.types ∙ found_kept (functor_found name arity p.types)
 unqualified_is p (Some m) name arity = refl
 
 -- the key is of the variable of the unification, and tells whether that is bound
-term_apart : (ys : List ℕ) (k : Known) (s : Knowledge) → is_apart (Some (role_of_term ys k s)) ≡ is_bound k
+term_apart : (ys : List ℕ) (k : Instantiation) (s : InstMap) → is_apart (Some (role_of_term ys k s)) ≡ is_bound k
 term_apart ys free s = refl
 term_apart ys (has t used) s = refl
 
@@ -222,12 +222,12 @@ name_key : (b : Bool) (x : ℕ) (j : Key) (k : ℕ × Key) → variable_key x (c
 name_key true x j k e = (refl, cc)
 name_key false x j k e = absurd (cc)
 
-name_apart : (f : Option Functor) (ys : List ℕ) (k : Known) (s : Knowledge) → is_some f ≡ true
+name_apart : (f : Option Functor) (ys : List ℕ) (k : Instantiation) (s : InstMap) → is_some f ≡ true
     → is_apart (Some (role_of_name ys k s f)) ≡ is_bound k
 name_apart None ys k s e = absurd (cc)
 name_apart (Some f) ys k s e = term_apart ys k s
 
-unification_apart : (p : Listing) (x : ℕ) (t : Term) (s : Knowledge) (k : ℕ × Key) → variable_key x (term_key p t) ≡ Some k
+unification_apart : (p : Hlds) (x : ℕ) (t : Term) (s : InstMap) (k : ℕ × Key) → variable_key x (term_key p t) ≡ Some k
     → is_apart (Some (role_of_unification p x t s)) ≡ is_bound (known_at s k.0)
 unification_apart p x (Var y) s k e = absurd (cc)
 unification_apart p x (Int n) s k e = let same : x ≡ k.0 = cc in term_apart [] (known_at s x) s ∙ ap (λ y. is_bound (known_at s y)) same
@@ -237,38 +237,38 @@ unification_apart p x (Name q ys) s k e =
     name_apart (functor_called p q (length ys)) ys (known_at s x) s (sym (unqualified_is p q.qualifier q.name (length ys)) ∙ named.0)
     ∙ ap (λ y. is_bound (known_at s y)) named.1
 
-goal_apart : (c : Scope) (ns : List Note) (n : ℕ) (q : Part) (s : Knowledge) (rest : List Note) (k : ℕ × Key) → goal_key c.program q ≡ Some k
+goal_apart : (c : Scope) (ns : List Note) (n : ℕ) (q : HldsGoal) (s : InstMap) (rest : List Note) (k : ℕ × Key) → goal_key c.program q ≡ Some k
     → drop n ns ≡ notes c q s ++ rest → is_apart (role_at ns n) ≡ is_bound (known_at s k.0)
-goal_apart c ns n (At l (Plain (Unifies x t))) s rest k e at =
+goal_apart c ns n (At l (SimpleGoal (Unifies x t))) s rest k e at =
     ap is_apart (role_is ns n _ rest at) ∙ unification_apart c.program x t s k e
 goal_apart c ns n (At l t) s rest k e at = absurd (cc)
 
-arm_apart : (c : Scope) (ns : List Note) (n : ℕ) (q : Part) (qs : Parts) (s : Knowledge) (rest : List Note) (k : ℕ × Key) → arm_key c.program q ≡ Some k
+arm_apart : (c : Scope) (ns : List Note) (n : ℕ) (q : HldsGoal) (qs : HldsGoals) (s : InstMap) (rest : List Note) (k : ℕ × Key) → arm_key c.program q ≡ Some k
     → drop n ns ≡ notes c q s ++ rest → is_apart (role_at ns (first_goal n (also q qs))) ≡ is_bound (known_at s k.0)
-arm_apart c ns n (At l (Plain g)) qs s rest k e at = goal_apart c ns n (At l (Plain g)) s rest k e at
-arm_apart c ns n (At l (Each (also p ps))) qs s rest k e at =
+arm_apart c ns n (At l (SimpleGoal g)) qs s rest k e at = goal_apart c ns n (At l (SimpleGoal g)) s rest k e at
+arm_apart c ns n (At l (ConjGoal (also p ps))) qs s rest k e at =
     goal_apart c ns (suc n) p s (each_notes c ps (known_after s (goal c p s)) ++ rest) k e
     (drop_one ns n _ _ at ∙ append_assoc (notes c p s) (each_notes c ps (known_after s (goal c p s))) rest)
 arm_apart c ns n (At l t) qs s rest k e at = absurd (cc)
 
 -- a shape with a variable that is bound
-different_bound : (p : Listing) (x : ℕ) (ks : List Key) (b : Bool) (j : Known)
+different_bound : (p : Hlds) (x : ℕ) (ks : List Key) (b : Bool) (j : Instantiation)
     → cond (is_bound j) (shaped p (cond b (Some (x, ks)) None)) None ≡ elim b [ true ↦ switch_on_known p x ks j | false ↦ None ]
 different_bound p x ks true free = refl
 different_bound p x ks true (has t used) = refl
 different_bound p x ks false j = cond_same (is_bound j) None
 
-different_with : (p : Listing) (x : ℕ) (ks : List Key) (b : Bool) (s : Knowledge)
+different_with : (p : Hlds) (x : ℕ) (ks : List Key) (b : Bool) (s : InstMap)
     → elim b [ true ↦ switch_on_known p x ks (known_at s x) | false ↦ None ] ≡ switch_with p (cond b (Some (x, ks)) None) s
 different_with p x ks true s = refl
 different_with p x ks false s = refl
 
-shape_bound : (p : Listing) (x : ℕ) (o : Option (List Key)) (s : Knowledge)
+shape_bound : (p : Hlds) (x : ℕ) (o : Option (List Key)) (s : InstMap)
     → cond (is_bound (known_at s x)) (shaped p (if_different x o)) None ≡ switch_with p (if_different x o) s
 shape_bound p x None s = cond_same (is_bound (known_at s x)) None
 shape_bound p x (Some ks) s = different_bound p x ks (all_different ks) (known_at s x) ∙ different_with p x ks (all_different ks) s
 
-switch_first : (c : Scope) (ns : List Note) (n : ℕ) (q : Part) (qs : Parts) (s : Knowledge) (rest : List Note) (k : Option (ℕ × Key)) → arm_key c.program q ≡ k
+switch_first : (c : Scope) (ns : List Note) (n : ℕ) (q : HldsGoal) (qs : HldsGoals) (s : InstMap) (rest : List Note) (k : Option (ℕ × Key)) → arm_key c.program q ≡ k
     → drop n ns ≡ notes c q s ++ rest
     → cond (is_apart (role_at ns (first_goal n (also q qs)))) (shaped c.program (switch_on c.program k (also q qs))) None
     ≡ switch_with c.program (switch_on c.program k (also q qs)) s
@@ -277,7 +277,7 @@ switch_first c ns n q qs s rest (Some k) e at =
     ap (λ b. cond b (shaped c.program (switch_on c.program (Some k) (also q qs))) None) (arm_apart c ns n q qs s rest k e at)
     ∙ shape_bound c.program k.0 (keys_of c.program k.0 (also q qs)) s
 
-switch_is : (c : Scope) (ns : List Note) (n : ℕ) (ps : Parts) (s : Knowledge) (rest : List Note) → drop n ns ≡ arm_notes c ps s ++ rest
+switch_is : (c : Scope) (ns : List Note) (n : ℕ) (ps : HldsGoals) (s : InstMap) (rest : List Note) → drop n ns ≡ arm_notes c ps s ++ rest
     → read_switch (reading c ns) n ps ≡ switch_of c.program ps s
 switch_is c ns n nothing s rest at = cond_same _ None
 switch_is c ns n (also q qs) s rest at =
@@ -302,13 +302,13 @@ disjunction_is (Some w) ps = refl
 
 -- ---- goals
 
-abbrev pub goal_judgement : Scope → Option ℕ → Bool → Part → Knowledge → Judgement
+abbrev pub goal_judgement : Scope → Option ℕ → Bool → HldsGoal → InstMap → Judgement
 goal_judgement c at again q s = judgement (goal_pair c at q s) (first_of (goal_faults c again q s)) (findings c at q s)
 
-abbrev each_judgement : Scope → Option ℕ → Bool → Parts → Knowledge → Judgement
+abbrev each_judgement : Scope → Option ℕ → Bool → HldsGoals → InstMap → Judgement
 each_judgement c at again ps s = judgement (each_pair c at ps s) (first_of (each_faults c again ps s)) (each_findings c at ps s)
 
-abbrev arms_judgement : Scope → Option ℕ → Bool → Parts → Knowledge → Judgement
+abbrev arms_judgement : Scope → Option ℕ → Bool → HldsGoals → InstMap → Judgement
 arms_judgement c at again ps s = judgement (arms_pair at (arm_pairs c at ps s)) (first_of (arm_faults c again ps s)) (arm_findings c at ps s)
 
 both_is : (p p' : Pair) (f g : List DetFault) (fs : List Finding) → p ≡ p'
@@ -316,20 +316,20 @@ both_is : (p p' : Pair) (f g : List DetFault) (fs : List Finding) → p ≡ p'
 both_is p p' f g fs e = rw (e, first_of-append f g) refl
 
 mutual
-  pub judged_part : (c : Scope) (ns : List Note) (n : ℕ) (at : Option ℕ) (again : Bool) (q : Part) (s : Knowledge) (rest : List Note)
+  pub judged_part : (c : Scope) (ns : List Note) (n : ℕ) (at : Option ℕ) (again : Bool) (q : HldsGoal) (s : InstMap) (rest : List Note)
       → drop n ns ≡ notes c q s ++ rest → judge_part (reading c ns) n at again q ≡ goal_judgement c at again q s
-  judged_part c ns n at again (At l (Plain g)) s rest e =
+  judged_part c ns n at again (At l (SimpleGoal g)) s rest e =
       own_is None None _ _ _ _ [] [] refl (ap (λ r. read_simple c.program at r g) (role_is ns n _ rest e) ∙ read_plain c.program at g s)
       (io_is ns n _ rest c again l e ∙ only_if _ (IoInBacktracking l)) refl
-  judged_part c ns n at again (At l (Invoke site q ys)) s rest e =
+  judged_part c ns n at again (At l (CallGoal site q ys)) s rest e =
       own_is None None _ _ _ _ [] [] refl refl (io_is ns n _ rest c again l e ∙ only_if _ (IoInBacktracking l)) refl
-  judged_part c ns n at again (At l (Apply site f ys)) s rest e =
+  judged_part c ns n at again (At l (HoCallGoal site f ys)) s rest e =
       own_is None None _ _ _ _ [] [] refl (ap read_apply (role_is ns n _ rest e) ∙ read_closure (known_at s f))
       (io_is ns n _ rest c again l e ∙ only_if _ (IoInBacktracking l)) refl
-  judged_part c ns n at again (At l (Each ps)) s rest e =
+  judged_part c ns n at again (At l (ConjGoal ps)) s rest e =
       let j = judged_each c ns (suc n) at again ps s rest (drop_one ns n _ _ e) in
       own_is None None _ _ _ _ _ _ refl (ap (λ (x : Judgement). x.pair) j) (ap (λ (x : Judgement). x.fault) j) (ap (λ (x : Judgement). x.findings) j)
-  judged_part c ns n at again (At l (Either ps)) s rest e =
+  judged_part c ns n at again (At l (DisjGoal ps)) s rest e =
       let later = drop_one ns n _ _ e in
       let w = switch_of c.program ps s in
       let j = judged_arms c ns (suc n) (variable_of w) (again || is_none w) ps s rest later in
@@ -339,7 +339,7 @@ mutual
       (switch_is c ns (suc n) ps s rest later)
       ∙ own_is w w _ _ _ _ _ _ refl (ap (λ (x : Judgement). if_missing w x.pair) j ∙ disjunction_is w (arm_pairs c (variable_of w) ps s))
       (ap (λ (x : Judgement). x.fault) j) (ap (λ (x : Judgement). x.findings) j)
-  judged_part c ns n at again (At l (Choose p t e)) s rest start =
+  judged_part c ns n at again (At l (IfGoal p t e)) s rest start =
       let r = known_after s (goal (within c) p s) in
       let a = notes (within c) p s in let b = notes c t r in let d = notes c e s in
       let first : drop (suc n) ns ≡ a ++ (b ++ (d ++ rest))
@@ -365,14 +365,14 @@ mutual
       ∙ (ap (or_else (fault_where (binds_many c p s) (ManyInCondition l))) (first_of-append (goal_faults (within c) again p s) (goal_faults c again t r ++ goal_faults c again e s))
       ∙ first_of-if (binds_many c p s) (ManyInCondition l) _)))
       refl))
-  judged_part c ns n at again (At l (Unless p)) s rest e =
+  judged_part c ns n at again (At l (NotGoal p)) s rest e =
       let j = judged_part (within c) ns (suc n) None again p s rest (drop_one ns n _ _ e) in
       own_is None None _ _ _ _ _ _ refl refl
       (ap (λ (x : Judgement). or_else (io_fault (reading c ns) n again l) x.fault) j
       ∙ (ap (λ o. or_else o (first_of (goal_faults (within c) again p s))) (io_is ns n _ _ c again l e)
       ∙ first_of-if _ (IoInBacktracking l) (goal_faults (within c) again p s)))
       (ap (λ (x : Judgement). x.findings) j)
-  judged_part c ns n at again (At l (Once vs p)) s rest e =
+  judged_part c ns n at again (At l (SomeGoal vs p)) s rest e =
       let j = judged_part (within c) ns (suc n) None again p s rest (drop_one ns n _ _ e) in
       own_is None None _ _ _ _ _ _ refl (ap (λ (x : Judgement). cut x.pair) j)
       (ap (λ (x : Judgement). or_else (io_fault (reading c ns) n again l) x.fault) j
@@ -380,7 +380,7 @@ mutual
       ∙ first_of-if _ (IoInBacktracking l) (goal_faults (within c) again p s)))
       (ap (λ (x : Judgement). x.findings) j)
 
-  judged_each : (c : Scope) (ns : List Note) (n : ℕ) (at : Option ℕ) (again : Bool) (ps : Parts) (s : Knowledge) (rest : List Note)
+  judged_each : (c : Scope) (ns : List Note) (n : ℕ) (at : Option ℕ) (again : Bool) (ps : HldsGoals) (s : InstMap) (rest : List Note)
       → drop n ns ≡ each_notes c ps s ++ rest → judge_each (reading c ns) n at again ps ≡ each_judgement c at again ps s
   judged_each c ns n at again nothing s rest e = refl
   judged_each c ns n at again (also p ps) s rest e =
@@ -397,7 +397,7 @@ mutual
       ∙ (ap (λ (k : Judgement). and_then (goal_judgement c at again p s) k) k
       ∙ both_is _ _ (goal_faults c again p s) (each_faults c many ps r) _ refl))
 
-  judged_arms : (c : Scope) (ns : List Note) (n : ℕ) (at : Option ℕ) (again : Bool) (ps : Parts) (s : Knowledge) (rest : List Note)
+  judged_arms : (c : Scope) (ns : List Note) (n : ℕ) (at : Option ℕ) (again : Bool) (ps : HldsGoals) (s : InstMap) (rest : List Note)
       → drop n ns ≡ arm_notes c ps s ++ rest → judge_arms (reading c ns) n at again ps ≡ arms_judgement c at again ps s
   judged_arms c ns n at again nothing s rest e = ap (λ p. judgement p None []) (arms_none at)
   judged_arms c ns n at again (also p ps) s rest e =
@@ -414,10 +414,10 @@ mutual
 -- ---- predicates
 
 -- what a predicate is judged to be
-abbrev pub procedure_judgement : Listing → Procedure → Judgement
+abbrev pub procedure_judgement : Hlds → Procedure → Judgement
 procedure_judgement p q = judgement (body_pair p q) (first_of (procedure_faults p q)) (findings (scope_of p q) None q.body (entry q))
 
-pub judged_procedure : (p : Listing) (ns : List Note) (n : ℕ) (q : Procedure) (rest : List Note) → drop n ns ≡ clause_notes p q ++ rest
+pub judged_procedure : (p : Hlds) (ns : List Note) (n : ℕ) (q : Procedure) (rest : List Note) → drop n ns ≡ clause_notes p q ++ rest
     → judge_procedure p ns n q ≡ procedure_judgement p q
 judged_procedure p ns n q rest e =
     ap (declared q) (judged_part (scope_of p q) ns n None false q.body (entry q) rest e)
@@ -431,7 +431,7 @@ judged_procedure p ns n q rest e =
     alone true f = refl
     alone false f = refl
 
-judged_from : (p : Listing) (ns : List Note) (n : ℕ) (qs : List Procedure) → drop n ns ≡ notes_from p qs
+judged_from : (p : Hlds) (ns : List Note) (n : ℕ) (qs : List Procedure) → drop n ns ≡ notes_from p qs
     → judge_procedures p ns n qs ≡ judgement sure (first_of (faults_of p qs)) (findings_from p qs)
 judged_from p ns n [] e = refl
 judged_from p ns n (q ∷ qs) e =
@@ -443,6 +443,6 @@ judged_from p ns n (q ∷ qs) e =
     ∙ both_is sure sure (procedure_faults p q) (faults_of p qs) _ refl)
 
 -- a program is judged as the definitions say
-pub judged_program : (p : Listing) → judge_procedures p (program_notes p) 0 p.procedures ≡ judgement sure (det_fault p) (program_findings p)
+pub judged_program : (p : Hlds) → judge_procedures p (program_notes p) 0 p.procedures ≡ judgement sure (det_fault p) (program_findings p)
 unfolding program_notes det_fault program_findings
 judged_program p = judged_from p (program_notes p) 0 p.procedures refl

@@ -2,9 +2,9 @@
 use Rattle.std.proofs.Common.{◌≡◌, refl, sym, ap, ◌∙◌, arith, add-one, ℕ, zero, suc, ◌+◌, ◌<◌, ◌≤◌, Bool, true, false, cond, ◌||◌, List, [], ◌∷◌, ◌++◌, length, length-append, drop, drop-cons, get_or, Option, Some, None, append_assoc, Result, Ok, Err, subst, ◌≢◌}
 use Rattle.std.specs.Result.{IsErrAnd, IfErr}
 use Rattle.md_hlds.specs.declared.program.Pred.{Pred}
-use Rattle.md_hlds.specs.Listing.{Listing, Procedure, procedure_of, procedures_of}
-use Rattle.md_binding.specs.declared.fault.ModeFault.{ModeFault}
-use Rattle.md_binding.specs.Verdict.{Verdict, ◌>>◌, fault_unless}
+use Rattle.md_hlds.specs.Hlds.{Hlds, Procedure, procedure_of, procedures_of}
+use Rattle.md_inst.specs.declared.fault.ModeFault.{ModeFault}
+use Rattle.md_inst.specs.Verdict.{Verdict, ◌>>◌, fault_unless}
 use Rattle.md_modes.specs.Declarations as declarations
 use Rattle.md_modes.specs.Modes.{is_main, has_main, clauses, fault_of, mode_fault}
 use Rattle.md_modes.specs.Notes.{Note}
@@ -20,7 +20,7 @@ pub procedures-step : (ps : List Pred) (i : ℕ) (p : Pred) → i < length ps �
 procedures-step ps i p lt is = rw add-one (ap procedures_of (drop-cons ps i p lt ∙ ap (λ (q : Pred). q ∷ drop (suc i) ps) (sym is)))
 
 -- nothing has been judged yet
-pub others_start : (s : Listing) (ns : List Note) (qs : List Procedure)
+pub others_start : (s : Hlds) (ns : List Note) (qs : List Procedure)
     → judge_procedures s ns 0 qs ≡ and_others (judgement sure None []) (judge_procedures s ns 0 qs)
 others_start s ns [] = refl
 others_start s ns (q ∷ qs) = refl
@@ -30,7 +30,7 @@ others_assoc : (olds : List Finding) (j k : Judgement) → j.fault ≡ None
 others_assoc olds j k sound = rw (sound, append_assoc olds j.findings k.findings) refl
 
 -- a predicate without a fault, and then the others
-pub others_next : (s : Listing) (ns : List Note) (ps : List Pred) (i : ℕ) (p : Pred) (olds news : List Finding) → i < length ps → p ≡ get_or ps i p
+pub others_next : (s : Hlds) (ns : List Note) (ps : List Pred) (i : ℕ) (p : Pred) (olds news : List Finding) → i < length ps → p ≡ get_or ps i p
     → (judge_procedure s ns (length olds) (procedure_of p)).fault ≡ None
     → news ≡ olds ++ (judge_procedure s ns (length olds) (procedure_of p)).findings
     → and_others (judgement sure None olds) (judge_procedures s ns (length olds) (procedures_of (drop i ps)))
@@ -45,7 +45,7 @@ others_next s ns ps i p olds news lt is sound finds =
     ∙ ap (λ fs. and_others (judgement sure None fs) (judge_procedures s ns (length news) rest)) (sym finds)))
 
 -- the first predicate with a fault
-pub others_refused : (s : Listing) (ns : List Note) (ps : List Pred) (i : ℕ) (p : Pred) (olds : List Finding) (f : DetFault) → i < length ps → p ≡ get_or ps i p
+pub others_refused : (s : Hlds) (ns : List Note) (ps : List Pred) (i : ℕ) (p : Pred) (olds : List Finding) (f : DetFault) → i < length ps → p ≡ get_or ps i p
     → (judge_procedure s ns (length olds) (procedure_of p)).fault ≡ Some f
     → (and_others (judgement sure None olds) (judge_procedures s ns (length olds) (procedures_of (drop i ps)))).fault ≡ Some f
 others_refused s ns ps i p olds f lt is fault =
@@ -54,7 +54,7 @@ others_refused s ns ps i p olds f lt is fault =
     ∙ ap (λ o. or_else o (judge_procedures s ns (length olds + length j.findings) (procedures_of (drop (i + 1) ps))).fault) fault
 
 -- all predicates have been judged
-pub others_end : (s : Listing) (ns : List Note) (ps : List Pred) (i : ℕ) (olds : List Finding) → length ps ≤ i
+pub others_end : (s : Hlds) (ns : List Note) (ps : List Pred) (i : ℕ) (olds : List Finding) → length ps ≤ i
     → and_others (judgement sure None olds) (judge_procedures s ns (length olds) (procedures_of (drop i ps))) ≡ judgement sure None (olds ++ [])
 others_end s ns [] i olds le = none i
   where
@@ -74,7 +74,7 @@ no_fault : (b : Bool) (e : ModeFault) → fault_of (fault_unless b e) ≡ None �
 no_fault true e h = refl
 no_fault false e h = absurd (cc)
 
-has_main_accepted : (s : Listing) → mode_fault s ≡ None → has_main s.procedures ≡ true
+has_main_accepted : (s : Hlds) → mode_fault s ≡ None → has_main s.procedures ≡ true
 unfolding mode_fault
 has_main_accepted s h =
     no_fault (has_main s.procedures) _
@@ -98,7 +98,7 @@ past_all n zero (p ∷ ps) le = absurd (omega (arith, le))
 past_all n (suc i) (p ∷ ps) le = past_all n i ps (omega (arith, le))
 
 -- an accepted program has a main, so the search for it doesn't end without one
-pub main_missed : (s : Listing) (ps : List Pred) (n i : ℕ) → mode_fault s ≡ None → main_of s ≡ main_from n (procedures_of (drop i ps)) → length ps ≤ i → ⊥
+pub main_missed : (s : Hlds) (ps : List Pred) (n i : ℕ) → mode_fault s ≡ None → main_of s ≡ main_from n (procedures_of (drop i ps)) → length ps ≤ i → ⊥
 main_missed s ps n i accepted e le =
     let none : has_main s.procedures ≡ false = some_main 0 s.procedures (e ∙ past_all n i ps le) in
     let some = has_main_accepted s accepted in

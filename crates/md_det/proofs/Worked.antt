@@ -7,8 +7,8 @@ use Rattle.md_hlds.specs.declared.types.Mode.TheVariants.{In, Out, Di, Uo}
 use Rattle.md_hlds.specs.declared.types.Det.{Det}
 use Rattle.md_hlds.specs.declared.types.Det.TheVariants.{Semidet, Multi, Nondet, Failure}
 use Rattle.md_hlds.specs.declared.types.Det.TheVariants.{Det as One}
-use Rattle.md_hlds.specs.Part.{Part}
-use Rattle.md_hlds.specs.Listing.{Listing, Procedure, number, world, named}
+use Rattle.md_hlds.specs.HldsGoal.{HldsGoal}
+use Rattle.md_hlds.specs.Hlds.{Hlds, Procedure, number, world, named}
 use Rattle.md_modes.proofs.Worked.{conj, disj, is_int, same, made, call, succeed, fail, choose, unless, some, at_most, write_int, new_line, predicate, main, program, list, list_type, colour_type, functor, type_of, hand_over, hello, count, member, one_member, no_member, closures, loop, queens, modules, failing_arm}
 use Rattle.md_det.specs.declared.pair.Bound.TheVariants as bound
 use Rattle.md_det.specs.declared.pair.Pair.{Pair}
@@ -60,20 +60,20 @@ queens_findings = refl
 -- ---- faults of declarations
 
 -- code(C, N) with a disjunction of these arms on lines of their own
-abbrev pub code_of : Det → List Part → Listing
+abbrev pub code_of : Det → List HldsGoal → Hlds
 code_of det arms = program (colour_type ∷ list_type ∷ []) (hand_over
     ∷ predicate 4 (codes "code") ((named (codes "colour"), In) ∷ (number, Out) ∷ []) det 3 (disj 5 arms) ∷ [])
 
-abbrev pub arm : ℕ → List ℕ → ℕ → Part
+abbrev pub arm : ℕ → List ℕ → ℕ → HldsGoal
 arm l colour n = conj l (made l 0 colour [] ∷ is_int l 1 n ∷ [])
 
-abbrev pub red : Part
+abbrev pub red : HldsGoal
 red = arm 5 (codes "red") 1
 
-abbrev pub green : Part
+abbrev pub green : HldsGoal
 green = arm 6 (codes "green") 2
 
-abbrev pub blue : Part
+abbrev pub blue : HldsGoal
 blue = arm 7 (codes "blue") 3
 
 -- a functor is missing; none is; one comes twice, so it is no switch; an arm whose first part is a conjunction; an arm that
@@ -93,13 +93,13 @@ unfolding det_fault
 faults_of_switches = refl
 
 -- a predicate p(N, L) that is declared on line 4, beside member; further variables are 2 to 5
-abbrev pub with_body : Det → Part → Listing
+abbrev pub with_body : Det → HldsGoal → Hlds
 with_body det body = program (list_type ∷ type_of 30 (codes "box") (functor (codes "box") (number ∷ []) ∷ []) ∷ []) (hand_over
     ∷ predicate 4 (codes "p") ((number, In) ∷ (list, In) ∷ []) det 6 body ∷ member
     ∷ predicate 8 (codes "none") [] Failure 0 (fail 9) ∷ [])
 
 -- what the body of p is found to be, where it isn't what is declared
-abbrev pub inferred : Det → List Part → List (Option DetFault)
+abbrev pub inferred : Det → List HldsGoal → List (Option DetFault)
 unfolding det_fault
 inferred det bodies = map (λ b. det_fault (with_body det b)) bodies
 
@@ -148,7 +148,7 @@ together = refl
 abbrev pub pick : Procedure
 pick = predicate 8 (codes "pick") ((number, Out) ∷ []) Multi 1 (disj 9 (is_int 9 0 1 ∷ is_int 9 0 2 ∷ []))
 
-abbrev pub with_main : Part → Listing
+abbrev pub with_main : HldsGoal → Hlds
 with_main body = program [] (main 5 body ∷ pick ∷ [])
 
 -- A condition with many solutions that binds what occurs outside it, and one that doesn't. An io state after a goal with

@@ -2,9 +2,9 @@
 use Rattle.std.specs.Prelude.{ℕ, Bool, true, false, ◌&&◌, ◌||◌, List, [], ◌∷◌, length, Option, Some, None, nat_eq}
 use Rattle.md_hlds.specs.declared.goal.Term.{Term}
 use Rattle.md_hlds.specs.declared.goal.Term.TheVariants.{Name}
-use Rattle.md_hlds.specs.Part.{Simple, Succeeds, Fails, Unifies, Computes, Compares, WritesInt, WritesText, EndsLine, Part, At, Task, Plain, Invoke, Apply, Each, Either, Choose, Unless, Once, Parts, nothing, also}
-use Rattle.md_hlds.specs.Listing.{Sort, closure, Procedure, Listing, procedure_called}
-use Rattle.md_binding.specs.Known.{Known, free, has, Knowledge, known_at}
+use Rattle.md_hlds.specs.HldsGoal.{Simple, Succeeds, Fails, Unifies, Computes, Compares, WritesInt, WritesText, EndsLine, HldsGoal, At, GoalExpr, SimpleGoal, CallGoal, HoCallGoal, ConjGoal, DisjGoal, IfGoal, NotGoal, SomeGoal, HldsGoals, nothing, also}
+use Rattle.md_hlds.specs.Hlds.{HldsType, closure, Procedure, Hlds, procedure_called}
+use Rattle.md_inst.specs.Instantiation.{Instantiation, free, has, InstMap, known_at}
 use Rattle.md_modes.specs.Goals.{Scope, within, goal}
 use Rattle.md_modes.specs.Notes.{Role, constructs, closes, takes_apart, assigns, tests, applies, role_of_unification, known_after}
 use Rattle.md_det.specs.declared.pair.Bound.TheVariants.{Zero, One}
@@ -21,7 +21,7 @@ sure = pair false One
 abbrev pub unsure : Pair
 unsure = pair true One
 
-abbrev pub one_functor : Listing → Term → Bool
+abbrev pub one_functor : Hlds → Term → Bool
 one_functor p (Name q ys) = is_only_functor p q (length ys)
 one_functor p t = false
 
@@ -41,7 +41,7 @@ abbrev pub apart_pair : Bool → Pair
 apart_pair true = sure
 apart_pair false = unsure
 
-abbrev pub unification_pair : Listing → Option ℕ → ℕ → Term → Role → Pair
+abbrev pub unification_pair : Hlds → Option ℕ → ℕ → Term → Role → Pair
 unification_pair p at x t constructs = sure
 unification_pair p at x t closes = sure
 unification_pair p at x t (assigns to) = sure
@@ -49,7 +49,7 @@ unification_pair p at x t tests = unsure
 unification_pair p at x t (takes_apart bound) = apart_pair (is_none_bound bound && (is_at at x || one_functor p t))
 unification_pair p at x t (applies u) = unsure
 
-abbrev pub simple_pair : Listing → Option ℕ → Simple → Knowledge → Pair
+abbrev pub simple_pair : Hlds → Option ℕ → Simple → InstMap → Pair
 simple_pair p at Succeeds s = sure
 simple_pair p at Fails s = pair true Zero
 simple_pair p at (Unifies x t) s = unification_pair p at x t (role_of_unification p x t s)
@@ -65,11 +65,11 @@ call_pair None = unsure
 call_pair (Some q) = pair_of q.1.det
 
 -- a call of a closure is as the closure's type says
-abbrev pub sort_pair : Sort → Pair
+abbrev pub sort_pair : HldsType → Pair
 sort_pair (closure ts ms d) = pair_of d
 sort_pair t = unsure
 
-abbrev pub apply_pair : Known → Pair
+abbrev pub apply_pair : Instantiation → Pair
 apply_pair free = unsure
 apply_pair (has t used) = sort_pair t
 
@@ -79,26 +79,26 @@ disjunction_pair (Some w) arms = with_missing w.whole (one_of_all arms)
 
 -- The pair of a goal where this is known before it.
 abbrev mutual
-  pub goal_pair : Scope → Option ℕ → Part → Knowledge → Pair
-  goal_pair c at (At l t) s = task_pair c at t s
+  pub goal_pair : Scope → Option ℕ → HldsGoal → InstMap → Pair
+  goal_pair c at (At l t) s = expr_pair c at t s
 
-  pub task_pair : Scope → Option ℕ → Task → Knowledge → Pair
-  task_pair c at (Plain g) s = simple_pair c.program at g s
-  task_pair c at (Invoke site q ys) s = call_pair (procedure_called c.program q)
-  task_pair c at (Apply site f ys) s = apply_pair (known_at s f)
-  task_pair c at (Each ps) s = each_pair c at ps s
-  task_pair c at (Either ps) s =
+  pub expr_pair : Scope → Option ℕ → GoalExpr → InstMap → Pair
+  expr_pair c at (SimpleGoal g) s = simple_pair c.program at g s
+  expr_pair c at (CallGoal site q ys) s = call_pair (procedure_called c.program q)
+  expr_pair c at (HoCallGoal site f ys) s = apply_pair (known_at s f)
+  expr_pair c at (ConjGoal ps) s = each_pair c at ps s
+  expr_pair c at (DisjGoal ps) s =
       disjunction_pair (switch_of c.program ps s) (arm_pairs c (variable_of (switch_of c.program ps s)) ps s)
-  task_pair c at (Choose p t e) s =
+  expr_pair c at (IfGoal p t e) s =
       one_of_two (goal_pair c None t (known_after s (goal (within c) p s))) (goal_pair c None e s)
-  task_pair c at (Unless p) s = unsure
-  task_pair c at (Once vs p) s = cut (goal_pair (within c) None p s)
+  expr_pair c at (NotGoal p) s = unsure
+  expr_pair c at (SomeGoal vs p) s = cut (goal_pair (within c) None p s)
 
   -- goals in turn; the first of them begins what they begin
-  pub each_pair : Scope → Option ℕ → Parts → Knowledge → Pair
+  pub each_pair : Scope → Option ℕ → HldsGoals → InstMap → Pair
   each_pair c at nothing s = sure
   each_pair c at (also p ps) s = in_turn (goal_pair c at p s) (each_pair c None ps (known_after s (goal c p s)))
 
-  pub arm_pairs : Scope → Option ℕ → Parts → Knowledge → List Pair
+  pub arm_pairs : Scope → Option ℕ → HldsGoals → InstMap → List Pair
   arm_pairs c at nothing s = []
   arm_pairs c at (also p ps) s = goal_pair c at p s ∷ arm_pairs c at ps s

@@ -1,8 +1,8 @@
 -- What the checks find at each goal: its pair, and the switch that it is.
 use Rattle.std.specs.Prelude.{ℕ, Bool, List, [], ◌∷◌, ◌++◌, Option, Some, None, slice_get}
-use Rattle.md_hlds.specs.Part.{Part, At, Task, Plain, Invoke, Apply, Each, Either, Choose, Unless, Once, Parts, nothing, also}
-use Rattle.md_hlds.specs.Listing.{Procedure, Listing}
-use Rattle.md_binding.specs.Known.{Knowledge}
+use Rattle.md_hlds.specs.HldsGoal.{HldsGoal, At, GoalExpr, SimpleGoal, CallGoal, HoCallGoal, ConjGoal, DisjGoal, IfGoal, NotGoal, SomeGoal, HldsGoals, nothing, also}
+use Rattle.md_hlds.specs.Hlds.{Procedure, Hlds}
+use Rattle.md_inst.specs.Instantiation.{InstMap}
 use Rattle.md_modes.specs.Goals.{Scope, within, goal}
 use Rattle.md_modes.specs.Modes.{entry, scope_of}
 use Rattle.md_modes.specs.Notes.{known_after}
@@ -11,43 +11,43 @@ use Rattle.md_det.specs.declared.finding.Switch.{Switch}
 use Rattle.md_det.specs.declared.pair.Bound.{Bound}
 use Rattle.md_det.specs.declared.pair.Bound.TheVariants.{Zero, One, Many}
 use Rattle.md_det.specs.Switches.{switch_of, variable_of}
-use Rattle.md_det.specs.Determinism.{task_pair}
+use Rattle.md_det.specs.Determinism.{expr_pair}
 
 -- only a disjunction is a switch
-abbrev pub task_switch : Listing → Task → Knowledge → Option Switch
-task_switch p (Either ps) s = switch_of p ps s
-task_switch p t s = None
+abbrev pub expr_switch : Hlds → GoalExpr → InstMap → Option Switch
+expr_switch p (DisjGoal ps) s = switch_of p ps s
+expr_switch p t s = None
 
 -- the findings at a goal and at those within it, outer before inner, in text order
 abbrev mutual
-  pub findings : Scope → Option ℕ → Part → Knowledge → List Finding
-  findings c at (At l t) s = record { switch = task_switch c.program t s; pair = task_pair c at t s } ∷ inner_findings c at t s
+  pub findings : Scope → Option ℕ → HldsGoal → InstMap → List Finding
+  findings c at (At l t) s = record { switch = expr_switch c.program t s; pair = expr_pair c at t s } ∷ inner_findings c at t s
 
-  pub inner_findings : Scope → Option ℕ → Task → Knowledge → List Finding
-  inner_findings c at (Plain g) s = []
-  inner_findings c at (Invoke site q ys) s = []
-  inner_findings c at (Apply site f ys) s = []
-  inner_findings c at (Each ps) s = each_findings c at ps s
-  inner_findings c at (Either ps) s = arm_findings c (variable_of (switch_of c.program ps s)) ps s
-  inner_findings c at (Choose p t e) s =
+  pub inner_findings : Scope → Option ℕ → GoalExpr → InstMap → List Finding
+  inner_findings c at (SimpleGoal g) s = []
+  inner_findings c at (CallGoal site q ys) s = []
+  inner_findings c at (HoCallGoal site f ys) s = []
+  inner_findings c at (ConjGoal ps) s = each_findings c at ps s
+  inner_findings c at (DisjGoal ps) s = arm_findings c (variable_of (switch_of c.program ps s)) ps s
+  inner_findings c at (IfGoal p t e) s =
       findings (within c) None p s ++ (findings c None t (known_after s (goal (within c) p s)) ++ findings c None e s)
-  inner_findings c at (Unless p) s = findings (within c) None p s
-  inner_findings c at (Once vs p) s = findings (within c) None p s
+  inner_findings c at (NotGoal p) s = findings (within c) None p s
+  inner_findings c at (SomeGoal vs p) s = findings (within c) None p s
 
-  pub each_findings : Scope → Option ℕ → Parts → Knowledge → List Finding
+  pub each_findings : Scope → Option ℕ → HldsGoals → InstMap → List Finding
   each_findings c at nothing s = []
   each_findings c at (also p ps) s = findings c at p s ++ each_findings c None ps (known_after s (goal c p s))
 
-  pub arm_findings : Scope → Option ℕ → Parts → Knowledge → List Finding
+  pub arm_findings : Scope → Option ℕ → HldsGoals → InstMap → List Finding
   arm_findings c at nothing s = []
   arm_findings c at (also p ps) s = findings c at p s ++ arm_findings c at ps s
 
-abbrev pub findings_from : Listing → List Procedure → List Finding
+abbrev pub findings_from : Hlds → List Procedure → List Finding
 findings_from s [] = []
 findings_from s (p ∷ ps) = findings (scope_of s p) None p.body (entry p) ++ findings_from s ps
 
 -- the findings at all goals of a program, in text order
-unfoldable pub program_findings : Listing → List Finding
+unfoldable pub program_findings : Hlds → List Finding
 program_findings s = findings_from s s.procedures
 
 -- ---- what is found at the goal of a number

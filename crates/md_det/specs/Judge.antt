@@ -3,10 +3,10 @@
 use Rattle.std.specs.Prelude.{ℕ, suc, ◌+◌, Bool, true, false, not, ◌&&◌, ◌||◌, List, [], ◌∷◌, ◌++◌, length, Option, Some, None, cond, is_none}
 use Rattle.md_hlds.specs.declared.types.Det.TheVariants as det
 use Rattle.md_hlds.specs.declared.goal.Term.{Term}
-use Rattle.md_hlds.specs.Part.{Simple, Succeeds, Fails, Unifies, Computes, Compares, WritesInt, WritesText, EndsLine, Part, At, Task, Plain, Invoke, Apply, Each, Either, Choose, Unless, Once, Parts, nothing, also}
-use Rattle.md_hlds.specs.Listing.{Procedure, Listing, procedure_called}
+use Rattle.md_hlds.specs.HldsGoal.{Simple, Succeeds, Fails, Unifies, Computes, Compares, WritesInt, WritesText, EndsLine, HldsGoal, At, GoalExpr, SimpleGoal, CallGoal, HoCallGoal, ConjGoal, DisjGoal, IfGoal, NotGoal, SomeGoal, HldsGoals, nothing, also}
+use Rattle.md_hlds.specs.Hlds.{Procedure, Hlds, procedure_called}
 use Rattle.md_hlds.specs.Switch.{Key, switch_shape}
-use Rattle.md_binding.specs.Sorts.{same_det}
+use Rattle.md_inst.specs.HldsTypes.{same_det}
 use Rattle.md_modes.specs.Branches.{outside, some_of}
 use Rattle.md_modes.specs.Goals.{variables}
 use Rattle.md_modes.specs.Notes.{Role, takes_apart, applies, Note}
@@ -25,7 +25,7 @@ use Rattle.md_det.specs.Faults.{has_world}
 
 -- what a clause is judged by: the program, the clause's variables as often as they occur, and the notes of all goals
 pub record Reading : Type 0 where
-  pub program : Listing
+  pub program : Hlds
   pub all : List ℕ
   pub notes : List Note
 
@@ -48,7 +48,7 @@ fault_where b f = cond b (Some f) None
 
 -- ---- goals without parts
 
-abbrev pub read_unification : Listing → Option ℕ → ℕ → Term → Option Role → Pair
+abbrev pub read_unification : Hlds → Option ℕ → ℕ → Term → Option Role → Pair
 read_unification p at x t None = unsure
 read_unification p at x t (Some r) = unification_pair p at x t r
 
@@ -56,7 +56,7 @@ abbrev pub read_apply : Option Role → Pair
 read_apply (Some (applies t)) = sort_pair t
 read_apply r = unsure
 
-abbrev pub read_simple : Listing → Option ℕ → Option Role → Simple → Pair
+abbrev pub read_simple : Hlds → Option ℕ → Option Role → Simple → Pair
 read_simple p at r Succeeds = sure
 read_simple p at r Fails = pair true Zero
 read_simple p at r (Unifies x t) = read_unification p at x t r
@@ -67,17 +67,17 @@ read_simple p at r (WritesText x before after) = sure
 read_simple p at r (EndsLine before after) = sure
 
 -- of a goal that is no conjunction and no branch
-abbrev pub read_leaf : Listing → Option ℕ → Option Role → Task → Pair
-read_leaf p at r (Plain g) = read_simple p at r g
-read_leaf p at r (Invoke site q ys) = call_pair (procedure_called p q)
-read_leaf p at r (Apply site f ys) = read_apply r
-read_leaf p at r t = unsure
+abbrev pub read_atomic : Hlds → Option ℕ → Option Role → GoalExpr → Pair
+read_atomic p at r (SimpleGoal g) = read_simple p at r g
+read_atomic p at r (CallGoal site q ys) = call_pair (procedure_called p q)
+read_atomic p at r (HoCallGoal site f ys) = read_apply r
+read_atomic p at r t = unsure
 
 -- ---- switches
 
 -- the number of the unification that the first arm begins with, where that arm has the number n
-abbrev pub first_goal : ℕ → Parts → ℕ
-first_goal n (also (At l (Each qs)) ps) = suc n
+abbrev pub first_goal : ℕ → HldsGoals → ℕ
+first_goal n (also (At l (ConjGoal qs)) ps) = suc n
 first_goal n ps = n
 
 -- a unification that takes its left side apart: that variable is bound before it
@@ -86,12 +86,12 @@ is_apart (Some (takes_apart bound)) = true
 is_apart r = false
 
 -- the switch of this shape, if its variable is bound
-abbrev pub shaped : Listing → Option (ℕ × List Key) → Option Switch
+abbrev pub shaped : Hlds → Option (ℕ × List Key) → Option Switch
 shaped p None = None
 shaped p (Some shape) = Some (record { var = shape.0; whole = is_whole p shape.1 })
 
 -- the switch that a disjunction of these arms is, where the first of them has the number n
-abbrev pub read_switch : Reading → ℕ → Parts → Option Switch
+abbrev pub read_switch : Reading → ℕ → HldsGoals → Option Switch
 read_switch r n ps = cond (is_apart (role_at r.notes (first_goal n ps))) (shaped r.program (switch_shape r.program ps)) None
 
 -- one arm and then others, of a switch on that variable or of no switch
@@ -127,11 +127,11 @@ abbrev pub io_fault : Reading → ℕ → Bool → ℕ → Option DetFault
 io_fault r n again l = fault_where (again && state_at r.notes n) (IoInBacktracking l)
 
 -- a condition of this number and with this pair
-abbrev pub condition_fault : Reading → ℕ → ℕ → Part → Pair → Option DetFault
+abbrev pub condition_fault : Reading → ℕ → ℕ → HldsGoal → Pair → Option DetFault
 condition_fault r l n c p = fault_where (is_many p.bound && some_of (outside r.all (variables c)) (binds_at r.notes n)) (ManyInCondition l)
 
-abbrev pub judge_leaf : Reading → ℕ → Option ℕ → Bool → ℕ → Task → Found
-judge_leaf r n at again l t = found None (read_leaf r.program at (role_at r.notes n) t) (io_fault r n again l) []
+abbrev pub judge_atomic : Reading → ℕ → Option ℕ → Bool → ℕ → GoalExpr → Found
+judge_atomic r n at again l t = found None (read_atomic r.program at (role_at r.notes n) t) (io_fault r n again l) []
 
 -- two goals in turn, and two arms
 abbrev pub and_then : Judgement → Judgement → Judgement
@@ -140,46 +140,46 @@ and_then j k = judgement (in_turn j.pair k.pair) (or_else j.fault k.fault) (j.fi
 abbrev pub or_arm : Option ℕ → Judgement → Judgement → Judgement
 or_arm at j k = judgement (beside at j.pair k.pair) (or_else j.fault k.fault) (j.findings ++ k.findings)
 
-abbrev pub chosen : Reading → ℕ → ℕ → Part → (j k m : Judgement) → Found
+abbrev pub chosen : Reading → ℕ → ℕ → HldsGoal → (j k m : Judgement) → Found
 chosen r n l c j k m =
     found None (one_of_two k.pair m.pair) (or_else (condition_fault r l (suc n) c j.pair) (or_else j.fault (or_else k.fault m.fault)))
     (j.findings ++ (k.findings ++ m.findings))
 
 -- The goal of the number n. `at` is the variable of the switch whose arm it begins; `again` holds where a run may come back.
 abbrev mutual
-  pub judge_part : Reading → ℕ → Option ℕ → Bool → Part → Judgement
-  judge_part r n at again (At l t) = whole (judge_task r n at again l t)
+  pub judge_part : Reading → ℕ → Option ℕ → Bool → HldsGoal → Judgement
+  judge_part r n at again (At l t) = whole (judge_expr r n at again l t)
 
-  pub judge_task : Reading → ℕ → Option ℕ → Bool → ℕ → Task → Found
-  judge_task r n at again l (Plain g) = judge_leaf r n at again l (Plain g)
-  judge_task r n at again l (Invoke site q ys) = judge_leaf r n at again l (Invoke site q ys)
-  judge_task r n at again l (Apply site f ys) = judge_leaf r n at again l (Apply site f ys)
-  judge_task r n at again l (Each ps) =
+  pub judge_expr : Reading → ℕ → Option ℕ → Bool → ℕ → GoalExpr → Found
+  judge_expr r n at again l (SimpleGoal g) = judge_atomic r n at again l (SimpleGoal g)
+  judge_expr r n at again l (CallGoal site q ys) = judge_atomic r n at again l (CallGoal site q ys)
+  judge_expr r n at again l (HoCallGoal site f ys) = judge_atomic r n at again l (HoCallGoal site f ys)
+  judge_expr r n at again l (ConjGoal ps) =
       let j = judge_each r (suc n) at again ps in
       found None j.pair j.fault j.findings
-  judge_task r n at again l (Either ps) =
+  judge_expr r n at again l (DisjGoal ps) =
       let w = read_switch r (suc n) ps in
       let j = judge_arms r (suc n) (variable_of w) (again || is_none w) ps in
       found w (if_missing w j.pair) j.fault j.findings
-  judge_task r n at again l (Choose c t e) =
+  judge_expr r n at again l (IfGoal c t e) =
       let j = judge_part r (suc n) None again c in
       let k = judge_part r (suc n + length j.findings) None again t in
       let m = judge_part r (suc n + length j.findings + length k.findings) None again e in
       chosen r n l c j k m
-  judge_task r n at again l (Unless c) =
+  judge_expr r n at again l (NotGoal c) =
       let j = judge_part r (suc n) None again c in
       found None unsure (or_else (io_fault r n again l) j.fault) j.findings
-  judge_task r n at again l (Once vs c) =
+  judge_expr r n at again l (SomeGoal vs c) =
       let j = judge_part r (suc n) None again c in
       found None (cut j.pair) (or_else (io_fault r n again l) j.fault) j.findings
 
-  pub judge_each : Reading → ℕ → Option ℕ → Bool → Parts → Judgement
+  pub judge_each : Reading → ℕ → Option ℕ → Bool → HldsGoals → Judgement
   judge_each r n at again nothing = judgement sure None []
   judge_each r n at again (also p ps) =
       let j = judge_part r n at again p in
       and_then j (judge_each r (n + length j.findings) None (again || is_many j.pair.bound) ps)
 
-  pub judge_arms : Reading → ℕ → Option ℕ → Bool → Parts → Judgement
+  pub judge_arms : Reading → ℕ → Option ℕ → Bool → HldsGoals → Judgement
   judge_arms r n at again nothing = judgement (no_arm at) None []
   judge_arms r n at again (also p ps) =
       let j = judge_part r n at again p in
@@ -191,7 +191,7 @@ abbrev pub clause_variables : Procedure → List ℕ
 clause_variables q = q.head ++ variables q.body
 
 -- the reading of a predicate's clause
-abbrev pub reading_of : Listing → List Note → Procedure → Reading
+abbrev pub reading_of : Hlds → List Note → Procedure → Reading
 reading_of p ns q = record { program = p; all = clause_variables q; notes = ns }
 
 -- an io state in a predicate that isn't det
@@ -207,7 +207,7 @@ abbrev pub declared : Procedure → Judgement → Judgement
 declared q j = judgement j.pair (or_else (state_fault q) (or_else j.fault (declared_fault q j.pair))) j.findings
 
 -- the predicate whose body has the number n
-abbrev pub judge_procedure : Listing → List Note → ℕ → Procedure → Judgement
+abbrev pub judge_procedure : Hlds → List Note → ℕ → Procedure → Judgement
 judge_procedure p ns n q = declared q (judge_part (reading_of p ns q) n None false q.body)
 
 -- findings, and then what is found at other goals
@@ -218,7 +218,7 @@ onto fs j = judgement j.pair j.fault (fs ++ j.findings)
 abbrev pub and_others : Judgement → Judgement → Judgement
 and_others j k = judgement sure (or_else j.fault k.fault) (j.findings ++ k.findings)
 
-abbrev pub judge_procedures : Listing → List Note → ℕ → List Procedure → Judgement
+abbrev pub judge_procedures : Hlds → List Note → ℕ → List Procedure → Judgement
 judge_procedures p ns n [] = judgement sure None []
 judge_procedures p ns n (q ∷ qs) =
     let j = judge_procedure p ns n q in

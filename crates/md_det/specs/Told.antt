@@ -1,6 +1,6 @@
 -- The judgements of the code as the definitions have them.
 use Rattle.std.specs.Prelude.{List, ◌++◌}
-use Rattle.md_hlds.specs.Listing.{listing_of, procedure_of}
+use Rattle.md_hlds.specs.Hlds.{hlds_of, procedure_of}
 use Rattle.md_modes.specs.Notes.{program_notes}
 use Rattle.md_det.specs.declared.context.Context.{Context}
 use Rattle.md_det.specs.declared.judge.Judged.{Judged}
@@ -9,7 +9,7 @@ use Rattle.md_det.specs.declared.finding.Finding.{Finding}
 use Rattle.md_det.specs.Judge.{Reading, reading_of, Judgement, judgement, Found, found}
 
 abbrev pub reading_in : Context → Reading
-reading_in c = reading_of (listing_of c.moded.now) (program_notes (listing_of c.moded.now)) (procedure_of c.pred.now)
+reading_in c = reading_of (hlds_of c.moded.now) (program_notes (hlds_of c.moded.now)) (procedure_of c.pred.now)
 
 -- a judgement, with all that has been found so far
 abbrev pub judged_told : Judged → List Finding → Judgement

@@ -1,6 +1,6 @@
 // The determinism checks of a whole program.
 ghost use Rattle.std.specs.Prelude.{◌≡◌, ◌≢◌, None, Some, IfOk, IfErr};
-ghost use Rattle.md_hlds.specs.Listing.{listing_of};
+ghost use Rattle.md_hlds.specs.Hlds.{hlds_of};
 ghost use Rattle.md_det.specs.declared.fault.DetFault.TheVariants.{NoMemory};
 ghost use Rattle.md_det.specs.Faults.{det_fault};
 ghost use Rattle.md_det.specs.Findings.{program_findings};
@@ -25,8 +25,8 @@ use std::alloc::Global;
 /// stands where a run may come back, `NoMemory` only where memory was refused.
 pub fn check_det(alloc: Global, moded: Moded) -> Result<Checked, DetFault>
     ensures same { IfOk result (λ checked. checked ≡ moded) }
-    ensures accepted { IfOk result (λ checked. det_fault (listing_of checked) ≡ None) }
-    ensures refused { IfErr result (λ fault. fault ≢ NoMemory → det_fault (listing_of moded) ≡ Some fault) }
+    ensures accepted { IfOk result (λ checked. det_fault (hlds_of checked) ≡ None) }
+    ensures refused { IfErr result (λ fault. fault ≢ NoMemory → det_fault (hlds_of moded) ≡ Some fault) }
 {
     let findings = judge_all(alloc, &moded)?;
     let main = main_of(moded.program());
@@ -35,9 +35,9 @@ pub fn check_det(alloc: Global, moded: Moded) -> Result<Checked, DetFault>
 
 /// What is found at all goals, or the first fault.
 fn judge_all(alloc: Global, moded: &Moded) -> Result<Vec<Finding>, DetFault>
-    ensures accepted { IfOk result (λ findings. det_fault (listing_of moded.now) ≡ None) }
-    ensures found { IfOk result (λ findings. findings.items ≡ program_findings (listing_of moded.now)) }
-    ensures refused { IfErr result (λ fault. fault ≢ NoMemory → det_fault (listing_of moded.now) ≡ Some fault) }
+    ensures accepted { IfOk result (λ findings. det_fault (hlds_of moded.now) ≡ None) }
+    ensures found { IfOk result (λ findings. findings.items ≡ program_findings (hlds_of moded.now)) }
+    ensures refused { IfErr result (λ fault. fault ≢ NoMemory → det_fault (hlds_of moded.now) ≡ Some fault) }
 {
     let program = moded.program();
     let names = Names::new(alloc, program)?;

@@ -1,6 +1,6 @@
 // A program that the determinism checks accept.
 ghost use Rattle.std.specs.Prelude.{◌≡◌, None, Some};
-ghost use Rattle.md_hlds.specs.Listing.{listing_of};
+ghost use Rattle.md_hlds.specs.Hlds.{hlds_of};
 ghost use Rattle.md_modes.specs.Modes.{mode_fault};
 ghost use Rattle.md_det.specs.Faults.{det_fault};
 ghost use Rattle.md_det.specs.Findings.{program_findings, switch_at, pair_at};
@@ -28,7 +28,7 @@ impl Model for Checked {
     ghost use Rattle.md_hlds.specs.declared.program.Program.{Program};
     ghost use Rattle.md_hlds.specs.contracts.goal.Goal as goal;
     ghost use Rattle.md_hlds.specs.contracts.types.Ty as ty;
-    ghost use Rattle.md_hlds.specs.Listing.{listing_of};
+    ghost use Rattle.md_hlds.specs.Hlds.{hlds_of};
     ghost use Rattle.md_modes.specs.Modes.{mode_fault};
     ghost use Rattle.md_det.specs.Faults.{det_fault};
     ghost use Rattle.md_det.specs.Findings.{program_findings};
@@ -40,19 +40,19 @@ impl Model for Checked {
 
     ghost view = { λ checked. checked.moded };
 
-    ghost invariant = { λ checked. (mode_fault (listing_of checked.moded) ≡ None)
-        × (det_fault (listing_of checked.moded) ≡ None)
-        × (checked.findings.items ≡ program_findings (listing_of checked.moded))
-        × (main_of (listing_of checked.moded) ≡ Some checked.main) };
+    ghost invariant = { λ checked. (mode_fault (hlds_of checked.moded) ≡ None)
+        × (det_fault (hlds_of checked.moded) ≡ None)
+        × (checked.findings.items ≡ program_findings (hlds_of checked.moded))
+        × (main_of (hlds_of checked.moded) ≡ Some checked.main) };
 }
 
 impl Checked {
     /// A program with what was found at its goals, and the number of its `main`.
     pub(crate) fn new(moded: Moded, findings: Vec<Finding>, main: ProcId) -> Checked
-        requires moded { mode_fault (listing_of moded) ≡ None }
-        requires accepted { det_fault (listing_of moded) ≡ None }
-        requires found { findings.items ≡ program_findings (listing_of moded) }
-        requires main { main_of (listing_of moded) ≡ Some main }
+        requires moded { mode_fault (hlds_of moded) ≡ None }
+        requires accepted { det_fault (hlds_of moded) ≡ None }
+        requires found { findings.items ≡ program_findings (hlds_of moded) }
+        requires main { main_of (hlds_of moded) ≡ Some main }
         ensures { result ≡ moded }
     {
         Checked {
@@ -65,8 +65,8 @@ impl Checked {
     /// The program, which has no fault of the mode checks and none of the determinism checks.
     pub fn program(&self) -> &Program
         ensures program { result.now ≡ self.now }
-        ensures moded { mode_fault (listing_of self.now) ≡ None }
-        ensures accepted { det_fault (listing_of self.now) ≡ None }
+        ensures moded { mode_fault (hlds_of self.now) ≡ None }
+        ensures accepted { det_fault (hlds_of self.now) ≡ None }
     {
         self.moded.program()
     }
@@ -80,14 +80,14 @@ impl Checked {
 
     /// The number of `main`.
     pub fn main(&self) -> ProcId
-        ensures { main_of (listing_of self.now) ≡ Some result }
+        ensures { main_of (hlds_of self.now) ≡ Some result }
     {
         self.main
     }
 
     /// The switch that the goal of this number is, or `None` exactly where it is none or there is no such goal.
     pub fn switch(&self, goal: u32) -> Option<Switch>
-        ensures { result ≡ switch_at (program_findings (listing_of self.now)) goal }
+        ensures { result ≡ switch_at (program_findings (hlds_of self.now)) goal }
     {
         match self.findings.get(goal as usize) {
             None => None,
@@ -98,7 +98,7 @@ impl Checked {
     /// Whether the goal of this number may fail, and its bound on solutions, 2 standing for many; `None` exactly where
     /// there is no such goal.
     pub fn pair(&self, goal: u32) -> Option<(bool, u8)>
-        ensures { result ≡ pair_at (program_findings (listing_of self.now)) goal }
+        ensures { result ≡ pair_at (program_findings (hlds_of self.now)) goal }
     {
         match self.findings.get(goal as usize) {
             None => None,

@@ -1,6 +1,6 @@
 // What a clause is judged by.
 ghost use Rattle.std.specs.Prelude.{◌≡◌};
-ghost use Rattle.md_hlds.specs.Listing.{procedure_of};
+ghost use Rattle.md_hlds.specs.Hlds.{procedure_of};
 ghost use Rattle.md_modes.specs.Tally.{AreCounts};
 ghost use Rattle.md_det.specs.Judge.{clause_variables};
 

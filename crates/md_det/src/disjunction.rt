@@ -1,13 +1,13 @@
 // Disjunctions: which are switches, and what the pairs of their arms come to.
 ghost use Rattle.std.specs.Prelude.{◌≡◌, ◌<◌, IfOk};
-ghost use Rattle.md_hlds.specs.Part.{parts_of, gathered};
+ghost use Rattle.md_hlds.specs.HldsGoal.{goals_of, gathered};
 ghost use Rattle.md_det.specs.Switches.{variable_of};
 ghost use Rattle.md_det.specs.Judge as spec;
 ghost use Rattle.md_det.specs.Told.{reading_in};
 
 use crate::context::Context;
 use crate::finding::Switch;
-use crate::leaf::is_apart;
+use crate::atomic::is_apart;
 use crate::pair::{Bound, Pair};
 use crate::switch::switch_among;
 use md_base::NoMemory;
@@ -20,7 +20,7 @@ pub fn find_switch(
     number: u32,
 ) -> Result<Option<Switch>, NoMemory>
     requires { number < 4294967295 }
-    ensures { IfOk result (λ switch. switch ≡ spec.read_switch (reading_in context.now) number (gathered (parts_of arms.now))) }
+    ensures { IfOk result (λ switch. switch ≡ spec.read_switch (reading_in context.now) number (gathered (goals_of arms.now))) }
 {
     if is_apart(context.moded, first_goal(arms, number)) {
         switch_among(context.alloc, context.names, arms)
@@ -32,7 +32,7 @@ pub fn find_switch(
 /// The number of the goal that the first arm begins with.
 fn first_goal(arms: &[Goal], number: u32) -> u32
     requires { number < 4294967295 }
-    ensures { result ≡ spec.first_goal number (gathered (parts_of arms.now)) }
+    ensures { result ≡ spec.first_goal number (gathered (goals_of arms.now)) }
 {
     match arms.first() {
         None => number,

@@ -1,7 +1,7 @@
 // The judgement of a goal: how often it may succeed, its first fault, and what is found at it and at the goals within it.
 ghost use Rattle.std.specs.Prelude.{◌≡◌, ◌<◌, ◌+◌, ◌^◌, suc, ◌||◌, is_none, length, None, IfOk};
-ghost use Rattle.md_hlds.specs.Part.{Each, Either, Choose, part_of, parts_of, gathered, task_of};
-ghost use Rattle.md_det.specs.Judge.{judge_part, judge_task, judge_each, judge_arms, onto};
+ghost use Rattle.md_hlds.specs.HldsGoal.{ConjGoal, DisjGoal, IfGoal, goal_of, goals_of, gathered, expr_of};
+ghost use Rattle.md_det.specs.Judge.{judge_part, judge_expr, judge_each, judge_arms, onto};
 ghost use Rattle.md_det.specs.Told.{reading_in, judged_told, found_told, found_onto};
 
 use crate::condition::condition_fault;
@@ -9,7 +9,7 @@ use crate::context::Context;
 use crate::disjunction::{beside, find_switch, if_missing, no_arm, variable_of};
 use crate::fault::DetFault;
 use crate::finding::{Finding, Switch};
-use crate::leaf::{io_fault, leaf_pair};
+use crate::atomic::{io_fault, atomic_pair};
 use crate::pair::Pair;
 use md_base::NoMemory;
 use md_hlds::{Goal, GoalKind};
@@ -56,7 +56,7 @@ pub fn judge(
     findings: &mut Vec<Finding>,
 ) -> Result<Judged, NoMemory>
     ensures { IfOk result (λ judged. judged_told judged findings.new.items
-        ≡ onto findings.old.items (judge_part (reading_in context.now) (length findings.old.items) at again (part_of goal.now))) }
+        ≡ onto findings.old.items (judge_part (reading_in context.now) (length findings.old.items) at again (goal_of goal.now))) }
 {
     let place = findings.len();
     if place >= MOST_GOALS {
@@ -90,7 +90,7 @@ fn judge_kind(
     requires numbered { suc number ≡ length findings.old.items }
     requires small { number < 4294967290 }
     ensures { IfOk result (λ found. found_told found findings.new.items
-        ≡ found_onto findings.old.items (judge_task (reading_in context.now) number at again goal.now.line (task_of goal.now.kind))) }
+        ≡ found_onto findings.old.items (judge_expr (reading_in context.now) number at again goal.now.line (expr_of goal.now.kind))) }
 {
     match &goal.kind {
         GoalKind::Conj(goals) => {
@@ -119,7 +119,7 @@ fn judge_kind(
             Ok(Found::plain(judged.pair.cut(), fault))
         }
         _ => {
-            let pair = leaf_pair(context, &goal.kind, number, at);
+            let pair = atomic_pair(context, &goal.kind, number, at);
             let fault = io_fault(context, number, again, goal.line);
             Ok(Found::plain(pair, fault))
         }
@@ -136,7 +136,7 @@ fn judge_each(
     findings: &mut Vec<Finding>,
 ) -> Result<Judged, NoMemory>
     ensures { IfOk result (λ judged. judged_told judged findings.new.items
-        ≡ onto findings.old.items (judge_each (reading_in context.now) (length findings.old.items) at again (gathered (parts_of goals.now)))) }
+        ≡ onto findings.old.items (judge_each (reading_in context.now) (length findings.old.items) at again (gathered (goals_of goals.now)))) }
 {
     let mut all = Judged {
         pair: Pair::SURE,
@@ -169,7 +169,7 @@ fn judge_disjunction(
     requires numbered { suc number ≡ length findings.old.items }
     requires small { number < 4294967290 }
     ensures { IfOk result (λ found. found_told found findings.new.items
-        ≡ found_onto findings.old.items (judge_task (reading_in context.now) number None again 0 (Either (gathered (parts_of arms.now))))) }
+        ≡ found_onto findings.old.items (judge_expr (reading_in context.now) number None again 0 (DisjGoal (gathered (goals_of arms.now))))) }
 {
     let switch = find_switch(context, arms, number + 1)?;
     let again = again || switch.is_none();
@@ -191,7 +191,7 @@ fn judge_arms(
     findings: &mut Vec<Finding>,
 ) -> Result<Judged, NoMemory>
     ensures { IfOk result (λ judged. judged_told judged findings.new.items
-        ≡ onto findings.old.items (judge_arms (reading_in context.now) (length findings.old.items) at again (gathered (parts_of arms.now)))) }
+        ≡ onto findings.old.items (judge_arms (reading_in context.now) (length findings.old.items) at again (gathered (goals_of arms.now)))) }
 {
     let mut all = Judged {
         pair: no_arm(at),

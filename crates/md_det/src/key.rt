@@ -1,7 +1,7 @@
 // What tells one arm of a switch from another.
 ghost use Rattle.std.specs.Prelude.{◌≡◌};
-ghost use Rattle.md_hlds.specs.Listing.{listing_of, is_functor};
-ghost use Rattle.md_hlds.specs.Part.{part_of};
+ghost use Rattle.md_hlds.specs.Hlds.{hlds_of, is_functor};
+ghost use Rattle.md_hlds.specs.HldsGoal.{goal_of};
 ghost use Rattle.md_hlds.specs.Switch as spec;
 ghost use Rattle.md_det.specs.Keys.{key_told, tested_told};
 
@@ -19,7 +19,7 @@ pub enum Key<'a> {
 /// The variable and the key that an arm tests first: the arm, or the first part of the conjunction that it is, is a
 /// unification of that variable with a functor or constant.
 pub fn arm_key<'a>(names: &Names, arm: &'a Goal) -> Option<(u32, Key<'a>)>
-    ensures { tested_told result ≡ spec.arm_key (listing_of names.now) (part_of arm.now) }
+    ensures { tested_told result ≡ spec.arm_key (hlds_of names.now) (goal_of arm.now) }
 {
     match &arm.kind {
         GoalKind::Conj(goals) => match goals.as_slice().first() {
@@ -31,7 +31,7 @@ pub fn arm_key<'a>(names: &Names, arm: &'a Goal) -> Option<(u32, Key<'a>)>
 }
 
 fn goal_key<'a>(names: &Names, goal: &'a Goal) -> Option<(u32, Key<'a>)>
-    ensures { tested_told result ≡ spec.goal_key (listing_of names.now) (part_of goal.now) }
+    ensures { tested_told result ≡ spec.goal_key (hlds_of names.now) (goal_of goal.now) }
 {
     match &goal.kind {
         GoalKind::Unify(x, term) => match term_key(names, term) {
@@ -43,7 +43,7 @@ fn goal_key<'a>(names: &Names, goal: &'a Goal) -> Option<(u32, Key<'a>)>
 }
 
 fn term_key<'a>(names: &Names, term: &'a Term) -> Option<Key<'a>>
-    ensures { key_told result ≡ spec.term_key (listing_of names.now) term.now }
+    ensures { key_told result ≡ spec.term_key (hlds_of names.now) term.now }
 {
     match term {
         Term::Var(_) => None,
@@ -63,7 +63,7 @@ fn term_key<'a>(names: &Names, term: &'a Term) -> Option<Key<'a>>
 /// Whether a term of this name and number of arguments is a functor.
 #[tactic(auto, using(crate::proofs::Functors::functor_there))]
 fn is_functor(names: &Names, name: &PredName, arity: usize) -> bool
-    ensures { result ≡ is_functor (listing_of names.now) name.now arity }
+    ensures { result ≡ is_functor (hlds_of names.now) name.now arity }
 {
     match name.qualifier {
         None => names.functor(&name.name, arity).is_some(),

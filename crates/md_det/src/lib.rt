@@ -11,7 +11,7 @@ mod fault;
 mod finding;
 mod judge;
 mod key;
-mod leaf;
+mod atomic;
 mod main_predicate;
 mod pair;
 mod predicate;

@@ -1,6 +1,6 @@
 // The judgement of a predicate: its declaration and its clause.
 ghost use Rattle.std.specs.Prelude.{◌≡◌, ◌≢◌, ◌++◌, None, Some, length, OnOk, IfErr};
-ghost use Rattle.md_hlds.specs.Listing.{listing_of, procedure_of};
+ghost use Rattle.md_hlds.specs.Hlds.{hlds_of, procedure_of};
 ghost use Rattle.md_modes.specs.Notes.{program_notes};
 ghost use Rattle.md_det.specs.declared.fault.DetFault.TheVariants.{NoMemory};
 ghost use Rattle.md_det.specs.Judge as spec;
@@ -26,11 +26,11 @@ pub fn judge_predicate(
     findings: &mut Vec<Finding>,
 ) -> Result<(), DetFault>
     requires same_program { names.now ≡ moded.now }
-    ensures sound { OnOk result ((spec.judge_procedure (listing_of moded.now) (program_notes (listing_of moded.now)) (length findings.old.items) (procedure_of pred.now)).fault ≡ None) }
+    ensures sound { OnOk result ((spec.judge_procedure (hlds_of moded.now) (program_notes (hlds_of moded.now)) (length findings.old.items) (procedure_of pred.now)).fault ≡ None) }
     ensures found { OnOk result (findings.new.items ≡ findings.old.items
-        ++ (spec.judge_procedure (listing_of moded.now) (program_notes (listing_of moded.now)) (length findings.old.items) (procedure_of pred.now)).findings) }
+        ++ (spec.judge_procedure (hlds_of moded.now) (program_notes (hlds_of moded.now)) (length findings.old.items) (procedure_of pred.now)).findings) }
     ensures refused { IfErr result (λ fault. fault ≢ NoMemory
-        → (spec.judge_procedure (listing_of moded.now) (program_notes (listing_of moded.now)) (length findings.old.items) (procedure_of pred.now)).fault ≡ Some fault) }
+        → (spec.judge_procedure (hlds_of moded.now) (program_notes (hlds_of moded.now)) (length findings.old.items) (procedure_of pred.now)).fault ≡ Some fault) }
 {
     let counts = counts_of_clause(alloc, pred)?;
     let context = Context {

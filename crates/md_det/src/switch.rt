@@ -1,7 +1,7 @@
 // Switches.
 ghost use Rattle.std.specs.Prelude.{◌≡◌, IfOk};
-ghost use Rattle.md_hlds.specs.Listing.{listing_of, constructs_of};
-ghost use Rattle.md_hlds.specs.Part.{parts_of, gathered};
+ghost use Rattle.md_hlds.specs.Hlds.{hlds_of, hlds_functors_of};
+ghost use Rattle.md_hlds.specs.HldsGoal.{goals_of, gathered};
 ghost use Rattle.md_hlds.specs.Switch.{switch_shape, keys_of, if_different};
 ghost use Rattle.md_det.specs.Switches.{is_whole, all_have_keys};
 ghost use Rattle.md_det.specs.Judge.{shaped};
@@ -17,7 +17,7 @@ use std::alloc::Global;
 
 /// The switch that a disjunction of these arms is where the variable that they test is bound, or `None` where it is none.
 pub fn switch_among(alloc: Global, names: &Names, arms: &[Goal]) -> Result<Option<Switch>, NoMemory>
-    ensures { IfOk result (λ switch. switch ≡ shaped (listing_of names.now) (switch_shape (listing_of names.now) (gathered (parts_of arms.now)))) }
+    ensures { IfOk result (λ switch. switch ≡ shaped (hlds_of names.now) (switch_shape (hlds_of names.now) (gathered (goals_of arms.now)))) }
 {
     let Some(first) = arms.first() else {
         return Ok(None);
@@ -42,7 +42,7 @@ fn keys_of<'a>(
     arms: &'a [Goal],
 ) -> Result<Option<IndexSet<Key<'a>>>, NoMemory>
     ensures { IfOk result (λ keys. with_variable var (keys_found keys)
-        ≡ if_different var (keys_of (listing_of names.now) var (gathered (parts_of arms.now)))) }
+        ≡ if_different var (keys_of (hlds_of names.now) var (gathered (goals_of arms.now)))) }
 {
     let mut keys = IndexSet::new(alloc);
     for arm in arms {
@@ -62,7 +62,7 @@ fn keys_of<'a>(
 
 /// Whether each functor of the type has its key, where the first key is a functor's.
 fn is_whole(names: &Names, keys: &IndexSet<Key>) -> bool
-    ensures { result ≡ is_whole (listing_of names.now) (keys_told keys.now.keys) }
+    ensures { result ≡ is_whole (hlds_of names.now) (keys_told keys.now.keys) }
 {
     match keys.get_index(0) {
         None => false,
@@ -78,7 +78,7 @@ fn is_whole(names: &Names, keys: &IndexSet<Key>) -> bool
 }
 
 fn all_have_keys(keys: &IndexSet<Key>, functors: &[Functor]) -> bool
-    ensures { result ≡ all_have_keys (keys_told keys.now.keys) (constructs_of functors.now) }
+    ensures { result ≡ all_have_keys (keys_told keys.now.keys) (hlds_functors_of functors.now) }
 {
     for functor in functors {
         let key = Key::Functor(functor.name.as_bytes(), functor.args.len());

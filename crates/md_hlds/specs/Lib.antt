@@ -1,5 +1,5 @@
-pub mod Part
-pub mod Listing
+pub mod HldsGoal
+pub mod Hlds
 pub mod Value
 pub mod Simple
 pub mod Switch

@@ -1,6 +1,6 @@
 -- The run of a program within a budget of steps, what it writes, whether it is finished, and its events.
 use Rattle.std.specs.Prelude.{ℕ, ◌-◌, pos, Bool, true, false, List, [], ◌∷◌, ◌++◌, length, Option, Some, None, nat_le}
-use Rattle.md_hlds.specs.Listing.{Listing, Procedure, procedure_called}
+use Rattle.md_hlds.specs.Hlds.{Hlds, Procedure, procedure_called}
 use Rattle.md_hlds.specs.declared.goal.PredName.{PredName}
 use Rattle.md_hlds.specs.Value.{Number, Env, bound, blank}
 use Rattle.md_hlds.specs.Trace.{Turn, Call, Exit, Fail, Out, Answer, Stuck, Deep, Items, Frame, first, trace, call_weight}
@@ -28,17 +28,17 @@ abbrev pub main_frame : Procedure → Frame
 main_frame p = record { act = 0; env = main_env (blank (length p.vars)) p.head; goals = p.body ∷ []; pairs = [] }
 
 -- the whole run to a depth, before the budget cuts it
-abbrev pub main_items : Listing → ℕ → ℕ × Procedure → Items
+abbrev pub main_items : Hlds → ℕ → ℕ × Procedure → Items
 main_items s depth m =
     Turn 0 (call_weight m.1) ∷ Call 0 None None m.0
     ∷ first (trace s depth (main_frame m.1) [] 1) 1 (λ e k. Exit 0 ∷ Answer e ∷ []) (λ k. Fail 0 ∷ [])
 
-abbrev pub run_main : Listing → ℕ → Option (ℕ × Procedure) → Items
+abbrev pub run_main : Hlds → ℕ → Option (ℕ × Procedure) → Items
 run_main s budget None = []
 run_main s budget (Some m) = cut budget (main_items s budget m)
 
 -- The run of a program within a budget. A trace as deep as the budget is deep enough, since each turn weighs 1 or more.
-unfoldable pub run : Listing → ℕ → Items
+unfoldable pub run : Hlds → ℕ → Items
 run s budget = run_main s budget (procedure_called s main_name)
 
 -- what was written

@@ -11,8 +11,8 @@ use Rattle.md_hlds.specs.declared.goal.Op.TheVariants.{Add, Sub, Mul}
 use Rattle.md_hlds.specs.declared.goal.Cmp.{Cmp}
 use Rattle.md_hlds.specs.declared.goal.Cmp.TheVariants.{Lt, Le, Gt, Ge}
 use Rattle.md_hlds.specs.declared.goal.PredName.{PredName}
-use Rattle.md_hlds.specs.Part.{Simple, Succeeds, Fails, Unifies, Computes, Compares, WritesInt, WritesText, EndsLine}
-use Rattle.md_hlds.specs.Listing.{Listing, Procedure, procedure_called, is_functor}
+use Rattle.md_hlds.specs.HldsGoal.{Simple, Succeeds, Fails, Unifies, Computes, Compares, WritesInt, WritesText, EndsLine}
+use Rattle.md_hlds.specs.Hlds.{Hlds, Procedure, procedure_called, is_functor}
 use Rattle.md_hlds.specs.Value.{Value, Number, Literal, Built, Closure, listed_values, gathered_values, value_count, Compared, compared, Env, value_at, values_at, bound}
 
 -- What a simple goal does. Its weight is suc extra.
@@ -84,11 +84,11 @@ abbrev pub unify_predicate : Env → ℕ → List ℕ → Option Value → Optio
 unify_predicate e x ys None (Some q) = close e x (length ys) q.0 (values_at e ys)
 unify_predicate e x ys v q = Stop
 
-abbrev pub unify_name : Listing → Env → ℕ → PredName → List ℕ → Bool → Outcome
+abbrev pub unify_name : Hlds → Env → ℕ → PredName → List ℕ → Bool → Outcome
 unify_name s e x q ys true = unify_functor e x q.name ys (value_at e x)
 unify_name s e x q ys false = unify_predicate e x ys (value_at e x) (procedure_called s q)
 
-abbrev pub unify : Listing → Env → ℕ → Term → Outcome
+abbrev pub unify : Hlds → Env → ℕ → Term → Outcome
 unify s e x (Var y) = unify_values e x y (value_at e x) (value_at e y)
 unify s e x (Int n) = unify_constant e x (Number n) (value_at e x)
 unify s e x (Str bytes) = unify_constant e x (Literal bytes) (value_at e x)
@@ -127,7 +127,7 @@ abbrev pub write_text : Env → ℕ → Option Value → Option Value → Option
 write_text e after (Some (Literal bytes)) v w = write e after bytes v w
 write_text e after x v w = Stop
 
-abbrev pub simple : Listing → Env → Simple → Outcome
+abbrev pub simple : Hlds → Env → Simple → Outcome
 simple s e Succeeds = goes e
 simple s e Fails = No 0
 simple s e (Unifies x t) = unify s e x t

@@ -5,8 +5,8 @@ use Rattle.std.specs.Ordering.{int_eq}
 use Rattle.std.specs.Str.{bytes_eq}
 use Rattle.md_hlds.specs.declared.goal.Term.{Term}
 use Rattle.md_hlds.specs.declared.goal.Term.TheVariants.{Var, Int, Str, Name}
-use Rattle.md_hlds.specs.Part.{Unifies, Part, At, Plain, Each, Parts, nothing, also}
-use Rattle.md_hlds.specs.Listing.{Listing, is_functor}
+use Rattle.md_hlds.specs.HldsGoal.{Unifies, HldsGoal, At, SimpleGoal, ConjGoal, HldsGoals, nothing, also}
+use Rattle.md_hlds.specs.Hlds.{Hlds, is_functor}
 use Rattle.md_hlds.specs.Value.{Value, Number, Literal, Built, value_count}
 
 -- what tells one arm from another
@@ -22,7 +22,7 @@ same_key (FunctorKey f m) (FunctorKey g n) = bytes_eq f g && nat_eq m n
 same_key j k = false
 
 -- the key that a unification with this term tests, if it is one with a functor or constant
-abbrev pub term_key : Listing → Term → Option Key
+abbrev pub term_key : Hlds → Term → Option Key
 term_key s (Var y) = None
 term_key s (Int n) = Some (IntKey n)
 term_key s (Str bytes) = Some (TextKey bytes)
@@ -33,13 +33,13 @@ abbrev pub variable_key : ℕ → Option Key → Option (ℕ × Key)
 variable_key x None = None
 variable_key x (Some k) = Some (x, k)
 
-abbrev pub goal_key : Listing → Part → Option (ℕ × Key)
-goal_key s (At l (Plain (Unifies x t))) = variable_key x (term_key s t)
+abbrev pub goal_key : Hlds → HldsGoal → Option (ℕ × Key)
+goal_key s (At l (SimpleGoal (Unifies x t))) = variable_key x (term_key s t)
 goal_key s (At l t) = None
 
 -- of an arm: its first direct part decides, where it is a conjunction
-abbrev pub arm_key : Listing → Part → Option (ℕ × Key)
-arm_key s (At l (Each (also p ps))) = goal_key s p
+abbrev pub arm_key : Hlds → HldsGoal → Option (ℕ × Key)
+arm_key s (At l (ConjGoal (also p ps))) = goal_key s p
 arm_key s p = goal_key s p
 
 -- the arms' keys, where each arm has one and all are of the variable x
@@ -47,7 +47,7 @@ abbrev pub prepend_key : ℕ → Option (ℕ × Key) → Option (List Key) → O
 prepend_key x (Some k) (Some ks) = cond (nat_eq x k.0) (Some (k.1 ∷ ks)) None
 prepend_key x k ks = None
 
-abbrev pub keys_of : Listing → ℕ → Parts → Option (List Key)
+abbrev pub keys_of : Hlds → ℕ → HldsGoals → Option (List Key)
 keys_of s x nothing = Some []
 keys_of s x (also p ps) = prepend_key x (arm_key s p) (keys_of s x ps)
 
@@ -64,12 +64,12 @@ abbrev pub if_different : ℕ → Option (List Key) → Option (ℕ × List Key)
 if_different x None = None
 if_different x (Some ks) = cond (all_different ks) (Some (x, ks)) None
 
-abbrev pub switch_on : Listing → Option (ℕ × Key) → Parts → Option (ℕ × List Key)
+abbrev pub switch_on : Hlds → Option (ℕ × Key) → HldsGoals → Option (ℕ × List Key)
 switch_on s None ps = None
 switch_on s (Some k) ps = if_different k.0 (keys_of s k.0 ps)
 
 -- the variable and the keys of a disjunction that has the shape of a switch
-abbrev pub switch_shape : Listing → Parts → Option (ℕ × List Key)
+abbrev pub switch_shape : Hlds → HldsGoals → Option (ℕ × List Key)
 switch_shape s nothing = None
 switch_shape s (also p ps) = switch_on s (arm_key s p) (also p ps)
 
@@ -81,6 +81,6 @@ has_the_key (Built f parts) (FunctorKey g arity) = bytes_eq f g && nat_eq (value
 has_the_key v k = false
 
 -- the arm whose key the value has
-abbrev pub arm_for : Value → List Key → Parts → Option Part
+abbrev pub arm_for : Value → List Key → HldsGoals → Option HldsGoal
 arm_for v (k ∷ ks) (also p ps) = cond (has_the_key v k) (Some p) (arm_for v ks ps)
 arm_for v ks ps = None

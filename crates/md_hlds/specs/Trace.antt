@@ -4,8 +4,8 @@
 use Rattle.std.specs.Prelude.{ℕ, suc, zero, ◌+◌, Bool, true, false, List, [], ◌∷◌, ◌++◌, length, Option, Some, None, nat_eq}
 use Rattle.md_hlds.specs.declared.types.Det.{Det}
 use Rattle.md_hlds.specs.declared.types.Det.TheVariants.{Multi, Nondet}
-use Rattle.md_hlds.specs.Part.{Part, At, Task, Plain, Invoke, Apply, Each, Either, Choose, Unless, Once, Parts, nothing, also, listed, site_count}
-use Rattle.md_hlds.specs.Listing.{Listing, Procedure, procedure_called, nth_procedure}
+use Rattle.md_hlds.specs.HldsGoal.{HldsGoal, At, GoalExpr, SimpleGoal, CallGoal, HoCallGoal, ConjGoal, DisjGoal, IfGoal, NotGoal, SomeGoal, HldsGoals, nothing, also, listed, site_count}
+use Rattle.md_hlds.specs.Hlds.{Hlds, Procedure, procedure_called, nth_procedure}
 use Rattle.md_hlds.specs.Value.{Value, Closure, listed_values, Env, value_at, bound, blank}
 use Rattle.md_hlds.specs.Simple.{Outcome, Go, No, Stop, simple}
 use Rattle.md_hlds.specs.Switch.{Key, switch_shape, arm_for}
@@ -38,7 +38,7 @@ Items = List Item
 pub record Frame : Type 0 where
   pub act : ℕ
   pub env : Env
-  pub goals : List Part
+  pub goals : List HldsGoal
   pub pairs : List (ℕ × ℕ)
 
 -- the innermost frame, its callers, and the number of the next activation
@@ -95,14 +95,14 @@ without (v ∷ vs) [] = []
 without (v ∷ vs) (h ∷ hs) = without vs hs
 
 -- the innermost frame with other goals, and with another environment
-abbrev pub doing : Frame → List Part → Frame
+abbrev pub doing : Frame → List HldsGoal → Frame
 doing f goals = record { act = f.act; env = f.env; goals = goals; pairs = f.pairs }
 
-abbrev pub knowing : Frame → Env → List Part → Frame
+abbrev pub knowing : Frame → Env → List HldsGoal → Frame
 knowing f e goals = record { act = f.act; env = e; goals = goals; pairs = f.pairs }
 
 -- one goal by itself, as a condition is run
-abbrev pub alone : Frame → Part → Frame
+abbrev pub alone : Frame → HldsGoal → Frame
 alone f c = record { act = f.act; env = f.env; goals = c ∷ []; pairs = [] }
 
 -- an allocation, where there are words, and an output, where there is one
@@ -115,27 +115,27 @@ written None = []
 written (Some bytes) = Out bytes ∷ []
 
 -- what a simple goal leads to
-abbrev pub after_simple : Does → Frame → List Part → List Frame → ℕ → Outcome → Items
+abbrev pub after_simple : Does → Frame → List HldsGoal → List Frame → ℕ → Outcome → Items
 after_simple go f goals js k (Go e extra words out) = Turn f.act (suc extra) ∷ (allocated f.act words ++ (written out ++ go (knowing f e goals) js k))
 after_simple go f goals js k (No extra) = Turn f.act (suc extra) ∷ []
 after_simple go f goals js k Stop = Turn f.act 1 ∷ Stuck ∷ []
 
 -- the arms one after the other, as alternatives
-abbrev pub arms : Does → Frame → List Part → List Frame → ℕ → Parts → Items
+abbrev pub arms : Does → Frame → List HldsGoal → List Frame → ℕ → HldsGoals → Items
 arms go f goals js k nothing = []
 arms go f goals js k (also p ps) = joined (go (doing f (p ∷ goals)) js k) k (λ n. arms go f goals js n ps)
 
 -- the arm of a switch, if there is one
-abbrev pub one_arm : Does → Frame → List Part → List Frame → ℕ → Option Part → Items
+abbrev pub one_arm : Does → Frame → List HldsGoal → List Frame → ℕ → Option HldsGoal → Items
 one_arm go f goals js k None = []
 one_arm go f goals js k (Some p) = go (doing f (p ∷ goals)) js k
 
 -- a disjunction by the value of the variable that it may be a switch on
-abbrev pub switched : Does → Frame → List Part → List Frame → ℕ → Parts → List Key → Option Value → Items
+abbrev pub switched : Does → Frame → List HldsGoal → List Frame → ℕ → HldsGoals → List Key → Option Value → Items
 switched go f goals js k ps keys None = arms go f goals js k ps
 switched go f goals js k ps keys (Some v) = one_arm go f goals js k (arm_for v keys ps)
 
-abbrev pub disjunction : Does → Frame → List Part → List Frame → ℕ → Parts → Option (ℕ × List Key) → Items
+abbrev pub disjunction : Does → Frame → List HldsGoal → List Frame → ℕ → HldsGoals → Option (ℕ × List Key) → Items
 disjunction go f goals js k ps None = arms go f goals js k ps
 disjunction go f goals js k ps (Some s) = switched go f goals js k ps s.1 (value_at f.env s.0)
 
@@ -157,7 +157,7 @@ abbrev pub call_weight : Procedure → ℕ
 call_weight p = suc (length p.vars + site_count p.body)
 
 -- a call with these captured values and these variables of the caller
-abbrev pub called : Does → Frame → List Part → List Frame → ℕ → ℕ → ℕ × Procedure → List Value → List ℕ → Items
+abbrev pub called : Does → Frame → List HldsGoal → List Frame → ℕ → ℕ → ℕ × Procedure → List Value → List ℕ → Items
 called go f goals js k site q vs ys =
     Turn f.act (call_weight q.1) ∷ Call k (Some f.act) (Some site) q.0
     ∷ run_body go q.1.det
@@ -165,45 +165,45 @@ called go f goals js k site q vs ys =
     (doing f goals) js k
 
 -- a call whose number of arguments is right or not
-abbrev pub call_if : Does → Frame → List Part → List Frame → ℕ → ℕ → ℕ × Procedure → List Value → List ℕ → Bool → Items
+abbrev pub call_if : Does → Frame → List HldsGoal → List Frame → ℕ → ℕ → ℕ × Procedure → List Value → List ℕ → Bool → Items
 call_if go f goals js k site q vs ys true = called go f goals js k site q vs ys
 call_if go f goals js k site q vs ys false = Turn f.act 1 ∷ Stuck ∷ []
 
-abbrev pub invoked : Does → Frame → List Part → List Frame → ℕ → ℕ → Option (ℕ × Procedure) → List Value → List ℕ → Items
+abbrev pub invoked : Does → Frame → List HldsGoal → List Frame → ℕ → ℕ → Option (ℕ × Procedure) → List Value → List ℕ → Items
 invoked go f goals js k site None vs ys = Turn f.act 1 ∷ Stuck ∷ []
 invoked go f goals js k site (Some q) vs ys = call_if go f goals js k site q vs ys (nat_eq (length vs + length ys) (length q.1.head))
 
 -- a call by a closure
-abbrev pub applied : Listing → Does → Frame → List Part → List Frame → ℕ → ℕ → List ℕ → Option Value → Items
+abbrev pub applied : Hlds → Does → Frame → List HldsGoal → List Frame → ℕ → ℕ → List ℕ → Option Value → Items
 applied s go f goals js k site ys (Some (Closure q held)) = invoked go f goals js k site (nth_procedure s q) (listed_values held) ys
 applied s go f goals js k site ys v = Turn f.act 1 ∷ Stuck ∷ []
 
 -- one goal, with `go` for the traces one deeper
-abbrev pub unfold_task : Listing → Does → Frame → List Part → List Frame → ℕ → Task → Items
-unfold_task s go f goals js k (Plain g) = after_simple go f goals js k (simple s f.env g)
-unfold_task s go f goals js k (Each ps) = Turn f.act 1 ∷ go (doing f (listed ps ++ goals)) js k
-unfold_task s go f goals js k (Either ps) = Turn f.act 1 ∷ disjunction go f goals js k ps (switch_shape s ps)
-unfold_task s go f goals js k (Choose c t e) =
+abbrev pub unfold_expr : Hlds → Does → Frame → List HldsGoal → List Frame → ℕ → GoalExpr → Items
+unfold_expr s go f goals js k (SimpleGoal g) = after_simple go f goals js k (simple s f.env g)
+unfold_expr s go f goals js k (ConjGoal ps) = Turn f.act 1 ∷ go (doing f (listed ps ++ goals)) js k
+unfold_expr s go f goals js k (DisjGoal ps) = Turn f.act 1 ∷ disjunction go f goals js k ps (switch_shape s ps)
+unfold_expr s go f goals js k (IfGoal c t e) =
     Turn f.act 1 ∷ first (go (alone f c) [] k) k (λ found n. go (knowing f found (t ∷ goals)) js n) (λ n. go (doing f (e ∷ goals)) js n)
-unfold_task s go f goals js k (Unless c) =
+unfold_expr s go f goals js k (NotGoal c) =
     Turn f.act 1 ∷ first (go (alone f c) [] k) k (λ found n. []) (λ n. go (doing f goals) js n)
-unfold_task s go f goals js k (Once vs c) =
+unfold_expr s go f goals js k (SomeGoal vs c) =
     Turn f.act 1 ∷ first (go (alone f c) [] k) k (λ found n. go (doing f goals) js n) (λ n. [])
-unfold_task s go f goals js k (Invoke site q ys) = invoked go f goals js k site (procedure_called s q) [] ys
-unfold_task s go f goals js k (Apply site p ys) = applied s go f goals js k site ys (value_at f.env p)
+unfold_expr s go f goals js k (CallGoal site q ys) = invoked go f goals js k site (procedure_called s q) [] ys
+unfold_expr s go f goals js k (HoCallGoal site p ys) = applied s go f goals js k site ys (value_at f.env p)
 
-abbrev pub unfold_part : Listing → Does → Frame → List Part → List Frame → ℕ → Part → Items
-unfold_part s go f goals js k (At l t) = unfold_task s go f goals js k t
+abbrev pub unfold_goal : Hlds → Does → Frame → List HldsGoal → List Frame → ℕ → HldsGoal → Items
+unfold_goal s go f goals js k (At l t) = unfold_expr s go f goals js k t
 
 -- A job, with `next` for a first frame that has a goal to do. A frame with none left exits, its caller goes on with
 -- what it was given back, and then comes its redo; with no caller it is an answer.
-abbrev pub returns : (Frame → Part → List Part → List Frame → ℕ → Items) → List Frame → Frame → List Part → ℕ → Items
+abbrev pub returns : (Frame → HldsGoal → List HldsGoal → List Frame → ℕ → Items) → List Frame → Frame → List HldsGoal → ℕ → Items
 returns next js f (g ∷ goals) k = next f g goals js k
 returns next [] f [] k = Answer f.env ∷ []
 returns next (caller ∷ js) f [] k =
     Exit f.act ∷ joined (returns next js (knowing caller (back f.pairs f.env caller.env) caller.goals) caller.goals k) k (λ n. Redo f.act ∷ [])
 
 -- the trace of a job to this depth
-abbrev pub trace : Listing → ℕ → Frame → List Frame → ℕ → Items
+abbrev pub trace : Hlds → ℕ → Frame → List Frame → ℕ → Items
 trace s zero f js k = returns (λ f g goals js k. Deep ∷ []) js f f.goals k
-trace s (suc m) f js k = returns (λ f g goals js k. unfold_part s (λ f js k. trace s m f js k) f goals js k g) js f f.goals k
+trace s (suc m) f js k = returns (λ f g goals js k. unfold_goal s (λ f js k. trace s m f js k) f goals js k g) js f f.goals k

@@ -33,6 +33,8 @@ pub enum GoalKind {
     If(Box<Goal>, Box<Goal>, Box<Goal>),
     Not(Box<Goal>),
     Some(Variables, Box<Goal>),
+    /// `require.error(S)`: throws, with the bytes that the variable has.
+    Error(u32),
 }
 
 /// The right side of a unification.

@@ -51,12 +51,12 @@ pub struct Pred {
 
 impl Program {
     ghost use Rattle.std.specs.Prelude.{◌≡◌, ◌≤◌, slice_get, Some, MatchOption};
-    ghost use Rattle.md_hlds.specs.Listing.{listing_of, procedure_of, sites_of};
+    ghost use Rattle.md_hlds.specs.Hlds.{hlds_of, procedure_of, sites_of};
 
     /// The predicate of this procedure number, or `None` exactly where there is none.
     pub fn pred(&self, id: ProcId) -> Option<&Pred>
-        ensures { MatchOption result (length (listing_of self.now).procedures ≤ id)
-            (λ pred. slice_get (listing_of self.now).procedures id ≡ Some (procedure_of pred.now)) }
+        ensures { MatchOption result (length (hlds_of self.now).procedures ≤ id)
+            (λ pred. slice_get (hlds_of self.now).procedures id ≡ Some (procedure_of pred.now)) }
     {
         self.preds.get(id.number() as usize)
     }
@@ -64,8 +64,8 @@ impl Program {
     /// The procedure in whose clause this call site stands, and the site's line, or `None` exactly where there is no
     /// such site. Sites are counted in text order over the whole file. Walks the program up to the site.
     pub fn site(&self, id: SiteId) -> Option<(ProcId, u32)>
-        ensures { MatchOption result (length (sites_of (listing_of self.now)) ≤ id)
-            (λ found. slice_get (sites_of (listing_of self.now)) id ≡ Some (found.0, found.1)) }
+        ensures { MatchOption result (length (sites_of (hlds_of self.now)) ≤ id)
+            (λ found. slice_get (sites_of (hlds_of self.now)) id ≡ Some (found.0, found.1)) }
     {
         let mut before = id.number();
         for (owner, pred) in self.preds.iter().enumerate() {

@@ -1,5 +1,5 @@
 // The call sites of a goal, in text order.
-ghost use Rattle.md_hlds.specs.Part.{part_of, parts_of, parts_lines, gathered, site_lines};
+ghost use Rattle.md_hlds.specs.HldsGoal.{goal_of, goals_of, goals_lines, gathered, site_lines};
 ghost use Rattle.md_hlds.specs.Sites.{FindsSite};
 
 use crate::{Goal, GoalKind};
@@ -8,7 +8,7 @@ use crate::{Goal, GoalKind};
 /// none, and as many are left to pass by in what follows.
 #[cycle(sites)]
 pub fn find_site(goal: &Goal, before: &mut u32) -> Option<u32>
-    ensures { FindsSite (site_lines (part_of goal.now)) before.old before.new result }
+    ensures { FindsSite (site_lines (goal_of goal.now)) before.old before.new result }
 {
     match &goal.kind {
         GoalKind::Call(..) | GoalKind::HoCall(..) => {
@@ -36,7 +36,7 @@ pub fn find_site(goal: &Goal, before: &mut u32) -> Option<u32>
 
 #[cycle(sites)]
 fn find_in_all(goals: &[Goal], before: &mut u32) -> Option<u32>
-    ensures { FindsSite (parts_lines (gathered (parts_of goals.now))) before.old before.new result }
+    ensures { FindsSite (goals_lines (gathered (goals_of goals.now))) before.old before.new result }
 {
     for goal in goals {
         if let Some(line) = find_site(goal, before) {

@@ -7,7 +7,7 @@ use Rattle.std.specs.Str.{bytes_eq}
 use Rattle.std.specs.Map.{lookup}
 use Rattle.indexmap.specs.IndexMap.{insert_entry}
 use Rattle.md_hlds.specs.declared.program.Pred.{Pred}
-use Rattle.md_hlds.specs.Listing.{Procedure, procedure_of, procedures_of, find_procedure, is_called, same_qualifier}
+use Rattle.md_hlds.specs.Hlds.{Procedure, procedure_of, procedures_of, find_procedure, is_called, same_qualifier}
 use Rattle.md_machine.specs.Named.{unqualified, number_of, number_from}
 
 abbrev pub Name : Type 0

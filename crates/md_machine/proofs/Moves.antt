@@ -4,8 +4,8 @@ use Rattle.std.proofs.Common.{◌≡◌, refl, ap, ◌∙◌, sym, subst, arith,
 use Rattle.std.specs.Prelude.{nat_le}
 use Rattle.md_hlds.specs.declared.types.Det.TheVariants.{Det as One}
 use Rattle.md_hlds.specs.declared.goal.PredName.{PredName}
-use Rattle.md_hlds.specs.Part.{Simple, Part, At, Task, Plain, Invoke, Each, Parts, listed}
-use Rattle.md_hlds.specs.Listing.{Listing, Procedure, procedure_called}
+use Rattle.md_hlds.specs.HldsGoal.{Simple, HldsGoal, At, GoalExpr, SimpleGoal, CallGoal, ConjGoal, HldsGoals, listed}
+use Rattle.md_hlds.specs.Hlds.{Hlds, Procedure, procedure_called}
 use Rattle.md_hlds.specs.Value.{Value, Env, blank}
 use Rattle.md_hlds.specs.Simple.{Outcome, Go, No, Stop, simple}
 use Rattle.md_hlds.specs.Trace.{Item, Turn, Call, Exit, Fail, Out, Answer, Stuck, Deep, Items, Frame, first, back, pairs_of, written, trace, call_weight}
@@ -16,18 +16,18 @@ use Rattle.md_machine.specs.Owes.{Owes, Ended, Caller, AreWaiting, Stands, HasNo
 use Rattle.md_machine.proofs.RestLemmas.{rest-answer, rest-deep, rest-go, rest-no, rest-stop, rest-each, rest-unknown, rest-arity, rest-call}
 
 -- the same debt in other words
-owes_along : (s : Listing) (b left : ℕ) (out : List ℕ) (xs ys : Items) → xs ≡ ys → Owes s b left out xs → Owes s b left out ys
+owes_along : (s : Hlds) (b left : ℕ) (out : List ℕ) (xs ys : Items) → xs ≡ ys → Owes s b left out xs → Owes s b left out ys
 owes_along s b left out xs ys e owed = subst (λ (items : Items). Owes s b left out items) e owed
 
 -- a turn that the budget allows is made
-owes_turn : (s : Listing) (b left : ℕ) (out : List ℕ) (a w : ℕ) (xs : Items) → w ≤ left → Owes s b left out (Turn a w ∷ xs) → Owes s b (left - w) out xs
+owes_turn : (s : Hlds) (b left : ℕ) (out : List ℕ) (a w : ℕ) (xs : Items) → w ≤ left → Owes s b left out (Turn a w ∷ xs) → Owes s b (left - w) out xs
 owes_turn s b left out a w xs fits owed = record {
   bytes = owed.bytes ∙ ap (λ ys. out ++ output ys) (cut_allowed left a w xs fits);
   end = owed.end ∙ ap is_finished (cut_allowed left a w xs fits);
 }
 
 -- what is to be written is written
-owes_written : (s : Listing) (b left : ℕ) (out : List ℕ) (o : Option (List ℕ)) (xs : Items)
+owes_written : (s : Hlds) (b left : ℕ) (out : List ℕ) (o : Option (List ℕ)) (xs : Items)
     → Owes s b left out (written o ++ xs) → Owes s b left (out ++ bytes_of o) xs
 owes_written s b left out None xs owed = record {
   bytes = owed.bytes ∙ ap (λ done. done ++ output (cut left xs)) (sym (append-nil out));
@@ -60,14 +60,14 @@ silent_missed [] k = record { writes_nothing = λ left. refl; unfinished = λ le
 silent_missed (w ∷ ws) k = record { writes_nothing = (silent_missed ws k).writes_nothing; unfinished = (silent_missed ws k).unfinished }
 
 -- a machine that owes nothing more has ended
-end_silent : (s : Listing) (b left : ℕ) (out : List ℕ) (xs : Items) → Silent xs → Owes s b left out xs → Ended s b out false
+end_silent : (s : Hlds) (b left : ℕ) (out : List ℕ) (xs : Items) → Silent xs → Owes s b left out xs → Ended s b out false
 end_silent s b left out xs quiet owed = record {
   bytes = owed.bytes ∙ (ap (λ more. out ++ more) (quiet.writes_nothing left) ∙ append-nil out);
   end = owed.end ∙ quiet.unfinished left;
 }
 
 -- a turn that the budget doesn't allow ends the run
-end_heavy : (s : Listing) (b left : ℕ) (out : List ℕ) (a w : ℕ) (xs : Items) → left < w → Owes s b left out (Turn a w ∷ xs) → Ended s b out false
+end_heavy : (s : Hlds) (b left : ℕ) (out : List ℕ) (a w : ℕ) (xs : Items) → left < w → Owes s b left out (Turn a w ∷ xs) → Ended s b out false
 end_heavy s b left out a w xs over owed = record {
   bytes = owed.bytes ∙ (ap (λ ys. out ++ output ys) (cut_refused left a w xs over) ∙ append-nil out);
   end = owed.end ∙ ap is_finished (cut_refused left a w xs over);
@@ -81,7 +81,7 @@ waiting_less left less [] (w ∷ ws) le are = are
 waiting_less left less (c ∷ cs) (w ∷ ws) le are = (are.0, are.1, are.2, omega (arith, are.3, le), waiting_less left less cs ws le are.4)
 
 -- a return to the innermost caller
-return_to : (s : Listing) (b left : ℕ) (out : List ℕ) (e : Env) (c : Caller) (cs : List Caller) (n a k : ℕ) (ws : List Waiting)
+return_to : (s : Hlds) (b left : ℕ) (out : List ℕ) (e : Env) (c : Caller) (cs : List Caller) (n a k : ℕ) (ws : List Waiting)
     → AreWaiting left (c ∷ cs) ws → Owes s b left out (rest s n (frame a e []) ws k)
     → Stands s b left out (back c.pairs e c.env) c.goals cs
 return_to s b left out e c cs n a k [] are owed = absurd are
@@ -95,30 +95,30 @@ return_to s b left out e c cs n a k (w ∷ ws) are owed =
       waiting = ws;
       are_waiting = are.4;
       deep_enough = are.3;
-      owes = subst (λ (g : List Part). Owes s b left out (rest s w.depth (frame w.act (back c.pairs e c.env) g) ws k)) are.1
+      owes = subst (λ (g : List HldsGoal). Owes s b left out (rest s w.depth (frame w.act (back c.pairs e c.env) g) ws k)) are.1
           (subst (λ (d : Env). Owes s b left out (rest s w.depth (frame w.act (back c.pairs e d) w.goals) ws k)) are.0
           (subst (λ (ps : List (ℕ × ℕ)). Owes s b left out (rest s w.depth (frame w.act (back ps e w.env) w.goals) ws k)) are.2 after));
     }
 
-pub stands_return : (s : Listing) (b left : ℕ) (out : List ℕ) (e : Env) (c : Caller) (cs : List Caller)
+pub stands_return : (s : Hlds) (b left : ℕ) (out : List ℕ) (e : Env) (c : Caller) (cs : List Caller)
     → Stands s b left out e [] (c ∷ cs) → Stands s b left out (back c.pairs e c.env) c.goals cs
 stands_return s b left out e c cs st = return_to s b left out e c cs st.depth st.act st.next st.waiting st.are_waiting st.owes
 
 -- the end of main
-end_main : (s : Listing) (b left : ℕ) (out : List ℕ) (e : Env) (n a k : ℕ) (ws : List Waiting)
+end_main : (s : Hlds) (b left : ℕ) (out : List ℕ) (e : Env) (n a k : ℕ) (ws : List Waiting)
     → AreWaiting left [] ws → Owes s b left out (rest s n (frame a e []) ws k) → Ended s b out true
 end_main s b left out e n a k (w ∷ ws) are owed = absurd are
 end_main s b left out e n a k [] are owed =
     let exits : Owes s b left out (found s [] e k) = owes_along s b left out _ _ (rest-answer s n a k e []) owed in
     record { bytes = exits.bytes ∙ append-nil out; end = exits.end }
 
-pub ended_main : (s : Listing) (b left : ℕ) (out : List ℕ) (e : Env) → Stands s b left out e [] [] → Ended s b out true
+pub ended_main : (s : Hlds) (b left : ℕ) (out : List ℕ) (e : Env) → Stands s b left out e [] [] → Ended s b out true
 ended_main s b left out e st = end_main s b left out e st.depth st.act st.next st.waiting st.are_waiting st.owes
 
 -- a simple goal that succeeds
-go_on : (s : Listing) (b left : ℕ) (out : List ℕ) (e e' : Env) (l : ℕ) (g : Simple) (extra : ℕ) (o : Option (List ℕ)) (goals : List Part) (cs : List Caller)
+go_on : (s : Hlds) (b left : ℕ) (out : List ℕ) (e e' : Env) (l : ℕ) (g : Simple) (extra : ℕ) (o : Option (List ℕ)) (goals : List HldsGoal) (cs : List Caller)
     (n a k : ℕ) (ws : List Waiting) → simple s e g ≡ Go e' extra 0 o → suc extra ≤ left → left ≤ n
-    → AreWaiting left cs ws → Owes s b left out (rest s n (frame a e (At l (Plain g) ∷ goals)) ws k)
+    → AreWaiting left cs ws → Owes s b left out (rest s n (frame a e (At l (SimpleGoal g) ∷ goals)) ws k)
     → Stands s b (left - suc extra) (out ++ bytes_of o) e' goals cs
 go_on s b left out e e' l g extra o goals cs zero a k ws is fits deep are owed = absurd (omega (arith, fits, deep))
 go_on s b left out e e' l g extra o goals cs (suc n) a k ws is fits deep are owed = record {
@@ -132,34 +132,34 @@ go_on s b left out e e' l g extra o goals cs (suc n) a k ws is fits deep are owe
       (owes_turn s b left out a (suc extra) _ fits (owes_along s b left out _ _ (rest-go s n l a k e e' g extra o goals ws is) owed));
 }
 
-pub stands_go : (s : Listing) (b left : ℕ) (out : List ℕ) (e e' : Env) (l : ℕ) (g : Simple) (extra : ℕ) (o : Option (List ℕ)) (goals : List Part) (cs : List Caller)
-    → Stands s b left out e (At l (Plain g) ∷ goals) cs → simple s e g ≡ Go e' extra 0 o → suc extra ≤ left
+pub stands_go : (s : Hlds) (b left : ℕ) (out : List ℕ) (e e' : Env) (l : ℕ) (g : Simple) (extra : ℕ) (o : Option (List ℕ)) (goals : List HldsGoal) (cs : List Caller)
+    → Stands s b left out e (At l (SimpleGoal g) ∷ goals) cs → simple s e g ≡ Go e' extra 0 o → suc extra ≤ left
     → Stands s b (left - suc extra) (out ++ bytes_of o) e' goals cs
 stands_go s b left out e e' l g extra o goals cs st is fits =
     go_on s b left out e e' l g extra o goals cs st.depth st.act st.next st.waiting is fits st.deep_enough st.are_waiting st.owes
 
 -- the end of a run at a goal: `shown` says what the rest is where the depth suffices for a goal more
-record IsTurnOr (s : Listing) (e : Env) (goals : List Part) (ws : List Waiting) (a k : ℕ) (w : ℕ) : Type 0 where
+record IsTurnOr (s : Hlds) (e : Env) (goals : List HldsGoal) (ws : List Waiting) (a k : ℕ) (w : ℕ) : Type 0 where
   items : ℕ → Items
   shown : (n : ℕ) → rest s (suc n) (frame a e goals) ws k ≡ Turn a w ∷ items n
 
-end_at_heavy : (s : Listing) (b left : ℕ) (out : List ℕ) (e : Env) (p : Part) (goals : List Part) (w n a k : ℕ) (ws : List Waiting)
+end_at_heavy : (s : Hlds) (b left : ℕ) (out : List ℕ) (e : Env) (p : HldsGoal) (goals : List HldsGoal) (w n a k : ℕ) (ws : List Waiting)
     → IsTurnOr s e (p ∷ goals) ws a k w → left < w → Owes s b left out (rest s n (frame a e (p ∷ goals)) ws k) → Ended s b out false
 end_at_heavy s b left out e p goals w zero a k ws turn over owed = end_silent s b left out _ silent_deep owed
 end_at_heavy s b left out e p goals w (suc n) a k ws turn over owed =
     end_heavy s b left out a w (turn.items n) over (owes_along s b left out _ _ (turn.shown n) owed)
 
-end_at_silent : (s : Listing) (b left : ℕ) (out : List ℕ) (e : Env) (p : Part) (goals : List Part) (n a k : ℕ) (ws : List Waiting) (xs : Items)
+end_at_silent : (s : Hlds) (b left : ℕ) (out : List ℕ) (e : Env) (p : HldsGoal) (goals : List HldsGoal) (n a k : ℕ) (ws : List Waiting) (xs : Items)
     → ((m : ℕ) → rest s (suc m) (frame a e (p ∷ goals)) ws k ≡ xs) → Silent xs → Owes s b left out (rest s n (frame a e (p ∷ goals)) ws k) → Ended s b out false
 end_at_silent s b left out e p goals zero a k ws xs shown quiet owed = end_silent s b left out _ silent_deep owed
 end_at_silent s b left out e p goals (suc n) a k ws xs shown quiet owed =
     end_silent s b left out xs quiet (owes_along s b left out _ _ (shown n) owed)
 
 -- a simple goal that the budget doesn't allow
-pub ended_go : (s : Listing) (b left : ℕ) (out : List ℕ) (e e' : Env) (l : ℕ) (g : Simple) (extra : ℕ) (o : Option (List ℕ)) (goals : List Part) (cs : List Caller)
-    → Stands s b left out e (At l (Plain g) ∷ goals) cs → simple s e g ≡ Go e' extra 0 o → left < suc extra → Ended s b out false
+pub ended_go : (s : Hlds) (b left : ℕ) (out : List ℕ) (e e' : Env) (l : ℕ) (g : Simple) (extra : ℕ) (o : Option (List ℕ)) (goals : List HldsGoal) (cs : List Caller)
+    → Stands s b left out e (At l (SimpleGoal g) ∷ goals) cs → simple s e g ≡ Go e' extra 0 o → left < suc extra → Ended s b out false
 ended_go s b left out e e' l g extra o goals cs st is over =
-    end_at_heavy s b left out e (At l (Plain g)) goals (suc extra) st.depth st.act st.next st.waiting
+    end_at_heavy s b left out e (At l (SimpleGoal g)) goals (suc extra) st.depth st.act st.next st.waiting
     (record {
       items = λ n. written o ++ rest s n (frame st.act e' goals) st.waiting st.next;
       shown = λ n. rest-go s n l st.act st.next e e' g extra o goals st.waiting is;
@@ -167,25 +167,25 @@ ended_go s b left out e e' l g extra o goals cs st is over =
     over st.owes
 
 -- a simple goal without a solution, whatever the budget
-end_without : (s : Listing) (b left : ℕ) (out : List ℕ) (e : Env) (l : ℕ) (g : Simple) (goals : List Part) (n a k : ℕ) (ws : List Waiting) (o : Outcome)
-    → simple s e g ≡ o → HasNoSolution o → Owes s b left out (rest s n (frame a e (At l (Plain g) ∷ goals)) ws k) → Ended s b out false
+end_without : (s : Hlds) (b left : ℕ) (out : List ℕ) (e : Env) (l : ℕ) (g : Simple) (goals : List HldsGoal) (n a k : ℕ) (ws : List Waiting) (o : Outcome)
+    → simple s e g ≡ o → HasNoSolution o → Owes s b left out (rest s n (frame a e (At l (SimpleGoal g) ∷ goals)) ws k) → Ended s b out false
 end_without s b left out e l g goals n a k ws (Go e' extra words out') is none owed = absurd none
 end_without s b left out e l g goals n a k ws (No extra) is none owed =
-    end_at_silent s b left out e (At l (Plain g)) goals n a k ws (Turn a (suc extra) ∷ missed ws k)
+    end_at_silent s b left out e (At l (SimpleGoal g)) goals n a k ws (Turn a (suc extra) ∷ missed ws k)
     (λ m. rest-no s m l a k e g extra goals ws is) (silent_turn a (suc extra) (missed ws k) (silent_missed ws k)) owed
 end_without s b left out e l g goals n a k ws Stop is none owed =
-    end_at_silent s b left out e (At l (Plain g)) goals n a k ws (Turn a 1 ∷ Stuck ∷ [])
+    end_at_silent s b left out e (At l (SimpleGoal g)) goals n a k ws (Turn a 1 ∷ Stuck ∷ [])
     (λ m. rest-stop s m l a k e g goals ws is) (silent_turn a 1 (Stuck ∷ []) silent_stuck) owed
 
-pub ended_without : (s : Listing) (b left : ℕ) (out : List ℕ) (e : Env) (l : ℕ) (g : Simple) (goals : List Part) (cs : List Caller)
-    → Stands s b left out e (At l (Plain g) ∷ goals) cs → HasNoSolution (simple s e g) → Ended s b out false
+pub ended_without : (s : Hlds) (b left : ℕ) (out : List ℕ) (e : Env) (l : ℕ) (g : Simple) (goals : List HldsGoal) (cs : List Caller)
+    → Stands s b left out e (At l (SimpleGoal g) ∷ goals) cs → HasNoSolution (simple s e g) → Ended s b out false
 ended_without s b left out e l g goals cs st none =
     end_without s b left out e l g goals st.depth st.act st.next st.waiting (simple s e g) refl none st.owes
 
 -- a conjunction
-each_on : (s : Listing) (b left : ℕ) (out : List ℕ) (e : Env) (l : ℕ) (ps : Parts) (goals : List Part) (cs : List Caller)
+each_on : (s : Hlds) (b left : ℕ) (out : List ℕ) (e : Env) (l : ℕ) (ps : HldsGoals) (goals : List HldsGoal) (cs : List Caller)
     (n a k : ℕ) (ws : List Waiting) → 1 ≤ left → left ≤ n
-    → AreWaiting left cs ws → Owes s b left out (rest s n (frame a e (At l (Each ps) ∷ goals)) ws k)
+    → AreWaiting left cs ws → Owes s b left out (rest s n (frame a e (At l (ConjGoal ps) ∷ goals)) ws k)
     → Stands s b (left - 1) out e (listed ps ++ goals) cs
 each_on s b left out e l ps goals cs zero a k ws fits deep are owed = absurd (omega (arith, fits, deep))
 each_on s b left out e l ps goals cs (suc n) a k ws fits deep are owed = record {
@@ -198,15 +198,15 @@ each_on s b left out e l ps goals cs (suc n) a k ws fits deep are owed = record 
   owes = owes_turn s b left out a 1 _ fits (owes_along s b left out _ _ (rest-each s n l a k e ps goals ws) owed);
 }
 
-pub stands_each : (s : Listing) (b left : ℕ) (out : List ℕ) (e : Env) (l : ℕ) (ps : Parts) (goals : List Part) (cs : List Caller)
-    → Stands s b left out e (At l (Each ps) ∷ goals) cs → 1 ≤ left → Stands s b (left - 1) out e (listed ps ++ goals) cs
+pub stands_each : (s : Hlds) (b left : ℕ) (out : List ℕ) (e : Env) (l : ℕ) (ps : HldsGoals) (goals : List HldsGoal) (cs : List Caller)
+    → Stands s b left out e (At l (ConjGoal ps) ∷ goals) cs → 1 ≤ left → Stands s b (left - 1) out e (listed ps ++ goals) cs
 stands_each s b left out e l ps goals cs st fits =
     each_on s b left out e l ps goals cs st.depth st.act st.next st.waiting fits st.deep_enough st.are_waiting st.owes
 
-pub ended_each : (s : Listing) (b left : ℕ) (out : List ℕ) (e : Env) (l : ℕ) (ps : Parts) (goals : List Part) (cs : List Caller)
-    → Stands s b left out e (At l (Each ps) ∷ goals) cs → left < 1 → Ended s b out false
+pub ended_each : (s : Hlds) (b left : ℕ) (out : List ℕ) (e : Env) (l : ℕ) (ps : HldsGoals) (goals : List HldsGoal) (cs : List Caller)
+    → Stands s b left out e (At l (ConjGoal ps) ∷ goals) cs → left < 1 → Ended s b out false
 ended_each s b left out e l ps goals cs st over =
-    end_at_heavy s b left out e (At l (Each ps)) goals 1 st.depth st.act st.next st.waiting
+    end_at_heavy s b left out e (At l (ConjGoal ps)) goals 1 st.depth st.act st.next st.waiting
     (record {
       items = λ n. rest s n (frame st.act e (listed ps ++ goals)) st.waiting st.next;
       shown = λ n. rest-each s n l st.act st.next e ps goals st.waiting;
@@ -214,10 +214,10 @@ ended_each s b left out e l ps goals cs st over =
     over st.owes
 
 -- a call of a deterministic procedure
-call_on : (s : Listing) (b left : ℕ) (out : List ℕ) (e : Env) (l site : ℕ) (q : PredName) (ys : List ℕ) (goals : List Part) (cs : List Caller) (m : ℕ) (p : Procedure)
+call_on : (s : Hlds) (b left : ℕ) (out : List ℕ) (e : Env) (l site : ℕ) (q : PredName) (ys : List ℕ) (goals : List HldsGoal) (cs : List Caller) (m : ℕ) (p : Procedure)
     (n a k : ℕ) (ws : List Waiting)
     → procedure_called s q ≡ Some (m, p) → nat_eq (0 + length ys) (length p.head) ≡ true → p.det ≡ One → call_weight p ≤ left → left ≤ n
-    → AreWaiting left cs ws → Owes s b left out (rest s n (frame a e (At l (Invoke site q ys) ∷ goals)) ws k)
+    → AreWaiting left cs ws → Owes s b left out (rest s n (frame a e (At l (CallGoal site q ys) ∷ goals)) ws k)
     → Stands s b (left - call_weight p) out (entry p e ys) (p.body ∷ []) (record { env = e; goals = goals; pairs = pairs_of p.head ys } ∷ cs)
 call_on s b left out e l site q ys goals cs m p zero a k ws is same one fits deep are owed = absurd (omega (arith, fits, deep))
 call_on s b left out e l site q ys goals cs m p (suc n) a k ws is same one fits deep are owed =
@@ -234,19 +234,19 @@ call_on s b left out e l site q ys goals cs m p (suc n) a k ws is same one fits 
       owes = record { bytes = after.bytes; end = after.end };
     }
 
-pub stands_call : (s : Listing) (b left : ℕ) (out : List ℕ) (e : Env) (l site : ℕ) (q : PredName) (ys : List ℕ) (goals : List Part) (cs : List Caller) (m : ℕ) (p : Procedure)
-    → Stands s b left out e (At l (Invoke site q ys) ∷ goals) cs
+pub stands_call : (s : Hlds) (b left : ℕ) (out : List ℕ) (e : Env) (l site : ℕ) (q : PredName) (ys : List ℕ) (goals : List HldsGoal) (cs : List Caller) (m : ℕ) (p : Procedure)
+    → Stands s b left out e (At l (CallGoal site q ys) ∷ goals) cs
     → procedure_called s q ≡ Some (m, p) → nat_eq (0 + length ys) (length p.head) ≡ true → p.det ≡ One → call_weight p ≤ left
     → Stands s b (left - call_weight p) out (entry p e ys) (p.body ∷ []) (record { env = e; goals = goals; pairs = pairs_of p.head ys } ∷ cs)
 stands_call s b left out e l site q ys goals cs m p st is same one fits =
     call_on s b left out e l site q ys goals cs m p st.depth st.act st.next st.waiting is same one fits st.deep_enough st.are_waiting st.owes
 
 -- a call that the budget doesn't allow
-pub ended_call : (s : Listing) (b left : ℕ) (out : List ℕ) (e : Env) (l site : ℕ) (q : PredName) (ys : List ℕ) (goals : List Part) (cs : List Caller) (m : ℕ) (p : Procedure)
-    → Stands s b left out e (At l (Invoke site q ys) ∷ goals) cs
+pub ended_call : (s : Hlds) (b left : ℕ) (out : List ℕ) (e : Env) (l site : ℕ) (q : PredName) (ys : List ℕ) (goals : List HldsGoal) (cs : List Caller) (m : ℕ) (p : Procedure)
+    → Stands s b left out e (At l (CallGoal site q ys) ∷ goals) cs
     → procedure_called s q ≡ Some (m, p) → nat_eq (0 + length ys) (length p.head) ≡ true → p.det ≡ One → left < call_weight p → Ended s b out false
 ended_call s b left out e l site q ys goals cs m p st is same one over =
-    end_at_heavy s b left out e (At l (Invoke site q ys)) goals (call_weight p) st.depth st.act st.next st.waiting
+    end_at_heavy s b left out e (At l (CallGoal site q ys)) goals (call_weight p) st.depth st.act st.next st.waiting
     (record {
       items = λ n. Call st.next (Some st.act) (Some site) m ∷ rest s n (frame st.next (entry p e ys) (p.body ∷ []))
           (record { callee = st.next; depth = n; act = st.act; env = e; goals = goals; pairs = pairs_of p.head ys } ∷ st.waiting) (suc st.next);
@@ -255,25 +255,25 @@ ended_call s b left out e l site q ys goals cs m p st is same one over =
     over st.owes
 
 -- a call of no procedure, and one with a wrong number of arguments
-pub ended_unknown : (s : Listing) (b left : ℕ) (out : List ℕ) (e : Env) (l site : ℕ) (q : PredName) (ys : List ℕ) (goals : List Part) (cs : List Caller)
-    → Stands s b left out e (At l (Invoke site q ys) ∷ goals) cs → procedure_called s q ≡ None → Ended s b out false
+pub ended_unknown : (s : Hlds) (b left : ℕ) (out : List ℕ) (e : Env) (l site : ℕ) (q : PredName) (ys : List ℕ) (goals : List HldsGoal) (cs : List Caller)
+    → Stands s b left out e (At l (CallGoal site q ys) ∷ goals) cs → procedure_called s q ≡ None → Ended s b out false
 ended_unknown s b left out e l site q ys goals cs st is =
-    end_at_silent s b left out e (At l (Invoke site q ys)) goals st.depth st.act st.next st.waiting (Turn st.act 1 ∷ Stuck ∷ [])
+    end_at_silent s b left out e (At l (CallGoal site q ys)) goals st.depth st.act st.next st.waiting (Turn st.act 1 ∷ Stuck ∷ [])
     (λ m. rest-unknown s m l st.act st.next e site q ys goals st.waiting is) (silent_turn st.act 1 (Stuck ∷ []) silent_stuck) st.owes
 
-pub ended_arity : (s : Listing) (b left : ℕ) (out : List ℕ) (e : Env) (l site : ℕ) (q : PredName) (ys : List ℕ) (goals : List Part) (cs : List Caller) (m : ℕ) (p : Procedure)
-    → Stands s b left out e (At l (Invoke site q ys) ∷ goals) cs
+pub ended_arity : (s : Hlds) (b left : ℕ) (out : List ℕ) (e : Env) (l site : ℕ) (q : PredName) (ys : List ℕ) (goals : List HldsGoal) (cs : List Caller) (m : ℕ) (p : Procedure)
+    → Stands s b left out e (At l (CallGoal site q ys) ∷ goals) cs
     → procedure_called s q ≡ Some (m, p) → nat_eq (0 + length ys) (length p.head) ≡ false → Ended s b out false
 ended_arity s b left out e l site q ys goals cs m p st is differ =
-    end_at_silent s b left out e (At l (Invoke site q ys)) goals st.depth st.act st.next st.waiting (Turn st.act 1 ∷ Stuck ∷ [])
+    end_at_silent s b left out e (At l (CallGoal site q ys)) goals st.depth st.act st.next st.waiting (Turn st.act 1 ∷ Stuck ∷ [])
     (λ n. rest-arity s n l st.act st.next e site q ys goals st.waiting m p is differ) (silent_turn st.act 1 (Stuck ∷ []) silent_stuck) st.owes
 
 -- the beginning of a run: main's call
-whole : (s : Listing) (b : ℕ) (m : ℕ × Procedure) → procedure_called s main_name ≡ Some m → Owes s b b [] (main_items s b m)
+whole : (s : Hlds) (b : ℕ) (m : ℕ × Procedure) → procedure_called s main_name ≡ Some m → Owes s b b [] (main_items s b m)
 unfolding run
 whole s b m is = record { bytes = ap (λ q. output (run_main s b q)) is; end = ap (λ q. is_finished (run_main s b q)) is }
 
-pub stands_start : (s : Listing) (b m : ℕ) (p : Procedure) → procedure_called s main_name ≡ Some (m, p) → call_weight p ≤ b
+pub stands_start : (s : Hlds) (b m : ℕ) (p : Procedure) → procedure_called s main_name ≡ Some (m, p) → call_weight p ≤ b
     → Stands s b (b - call_weight p) [] (main_env (blank (length p.vars)) p.head) (p.body ∷ []) []
 stands_start s b m p is fits =
     let after : Owes s b (b - call_weight p) [] (Call 0 None None m ∷ rest s b (main_frame p) [] 1)
@@ -288,9 +288,9 @@ stands_start s b m p is fits =
       owes = record { bytes = after.bytes; end = after.end };
     }
 
-pub ended_start : (s : Listing) (b m : ℕ) (p : Procedure) → procedure_called s main_name ≡ Some (m, p) → b < call_weight p → Ended s b [] false
+pub ended_start : (s : Hlds) (b m : ℕ) (p : Procedure) → procedure_called s main_name ≡ Some (m, p) → b < call_weight p → Ended s b [] false
 ended_start s b m p is over = end_heavy s b b [] 0 (call_weight p) _ over (whole s b (m, p) is)
 
-pub ended_no_main : (s : Listing) (b : ℕ) → procedure_called s main_name ≡ None → Ended s b [] false
+pub ended_no_main : (s : Hlds) (b : ℕ) → procedure_called s main_name ≡ None → Ended s b [] false
 unfolding run
 ended_no_main s b is = record { bytes = ap (λ q. output (run_main s b q)) is; end = ap (λ q. is_finished (run_main s b q)) is }

@@ -2,8 +2,8 @@
 use Rattle.std.proofs.Common.{◌≡◌, refl, ap, ◌∙◌, sym, ℕ, zero, suc, ◌+◌, Bool, true, false, List, [], ◌∷◌, ◌++◌, length, Option, Some, None, nat_eq}
 use Rattle.md_hlds.specs.declared.types.Det.TheVariants.{Det as One}
 use Rattle.md_hlds.specs.declared.goal.PredName.{PredName}
-use Rattle.md_hlds.specs.Part.{Simple, Part, At, Task, Plain, Invoke, Each, Parts, listed}
-use Rattle.md_hlds.specs.Listing.{Listing, Procedure, procedure_called}
+use Rattle.md_hlds.specs.HldsGoal.{Simple, HldsGoal, At, GoalExpr, SimpleGoal, CallGoal, ConjGoal, HldsGoals, listed}
+use Rattle.md_hlds.specs.Hlds.{Hlds, Procedure, procedure_called}
 use Rattle.md_hlds.specs.Value.{Value, Env, blank}
 use Rattle.md_hlds.specs.Simple.{Outcome, Go, No, Stop, simple}
 use Rattle.md_hlds.specs.Trace.{Item, Turn, Call, Exit, Fail, Alloc, Out, Answer, Stuck, Deep, Items, Frame, first, back, passed, given, pairs_of, allocated, written, after_simple, body_frame, run_body, call_if, invoked, trace, call_weight}
@@ -11,12 +11,12 @@ use Rattle.md_hlds.proofs.TraceLemmas.{first-first}
 use Rattle.md_machine.specs.Rest.{Waiting, frame, entry, missed, found, rest}
 
 -- no goal is left: the call has a solution
-pub rest-answer : (s : Listing) (n a k : ℕ) (e : Env) (ws : List Waiting) → rest s n (frame a e []) ws k ≡ found s ws e k
+pub rest-answer : (s : Hlds) (n a k : ℕ) (e : Env) (ws : List Waiting) → rest s n (frame a e []) ws k ≡ found s ws e k
 rest-answer s zero a k e ws = refl
 rest-answer s (suc n) a k e ws = refl
 
 -- the trace isn't deep enough for another goal
-pub rest-deep : (s : Listing) (a k : ℕ) (e : Env) (p : Part) (goals : List Part) (ws : List Waiting)
+pub rest-deep : (s : Hlds) (a k : ℕ) (e : Env) (p : HldsGoal) (goals : List HldsGoal) (ws : List Waiting)
     → rest s zero (frame a e (p ∷ goals)) ws k ≡ Deep ∷ []
 rest-deep s a k e p goals ws = refl
 
@@ -26,61 +26,61 @@ first-written None xs k later never = refl
 first-written (Some bytes) xs k later never = refl
 
 -- a simple goal that succeeds and allocates nothing
-pub rest-go : (s : Listing) (n l a k : ℕ) (e e' : Env) (g : Simple) (extra : ℕ) (out : Option (List ℕ)) (goals : List Part) (ws : List Waiting)
+pub rest-go : (s : Hlds) (n l a k : ℕ) (e e' : Env) (g : Simple) (extra : ℕ) (out : Option (List ℕ)) (goals : List HldsGoal) (ws : List Waiting)
     → simple s e g ≡ Go e' extra 0 out
-    → rest s (suc n) (frame a e (At l (Plain g) ∷ goals)) ws k ≡ Turn a (suc extra) ∷ (written out ++ rest s n (frame a e' goals) ws k)
+    → rest s (suc n) (frame a e (At l (SimpleGoal g) ∷ goals)) ws k ≡ Turn a (suc extra) ∷ (written out ++ rest s n (frame a e' goals) ws k)
 rest-go s n l a k e e' g extra out goals ws is =
-    ap (λ o. first (after_simple (λ f js k. trace s n f js k) (frame a e (At l (Plain g) ∷ goals)) goals [] k o) k (found s ws) (missed ws)) is
+    ap (λ o. first (after_simple (λ f js k. trace s n f js k) (frame a e (At l (SimpleGoal g) ∷ goals)) goals [] k o) k (found s ws) (missed ws)) is
     ∙ ap (λ xs. Turn a (suc extra) ∷ xs) (first-written out (trace s n (frame a e' goals) [] k) k (found s ws) (missed ws))
 
 -- one that has no solution
-pub rest-no : (s : Listing) (n l a k : ℕ) (e : Env) (g : Simple) (extra : ℕ) (goals : List Part) (ws : List Waiting)
+pub rest-no : (s : Hlds) (n l a k : ℕ) (e : Env) (g : Simple) (extra : ℕ) (goals : List HldsGoal) (ws : List Waiting)
     → simple s e g ≡ No extra
-    → rest s (suc n) (frame a e (At l (Plain g) ∷ goals)) ws k ≡ Turn a (suc extra) ∷ missed ws k
+    → rest s (suc n) (frame a e (At l (SimpleGoal g) ∷ goals)) ws k ≡ Turn a (suc extra) ∷ missed ws k
 rest-no s n l a k e g extra goals ws is =
-    ap (λ o. first (after_simple (λ f js k. trace s n f js k) (frame a e (At l (Plain g) ∷ goals)) goals [] k o) k (found s ws) (missed ws)) is
+    ap (λ o. first (after_simple (λ f js k. trace s n f js k) (frame a e (At l (SimpleGoal g) ∷ goals)) goals [] k o) k (found s ws) (missed ws)) is
 
 -- one that no rule fits
-pub rest-stop : (s : Listing) (n l a k : ℕ) (e : Env) (g : Simple) (goals : List Part) (ws : List Waiting)
+pub rest-stop : (s : Hlds) (n l a k : ℕ) (e : Env) (g : Simple) (goals : List HldsGoal) (ws : List Waiting)
     → simple s e g ≡ Stop
-    → rest s (suc n) (frame a e (At l (Plain g) ∷ goals)) ws k ≡ Turn a 1 ∷ Stuck ∷ []
+    → rest s (suc n) (frame a e (At l (SimpleGoal g) ∷ goals)) ws k ≡ Turn a 1 ∷ Stuck ∷ []
 rest-stop s n l a k e g goals ws is =
-    ap (λ o. first (after_simple (λ f js k. trace s n f js k) (frame a e (At l (Plain g) ∷ goals)) goals [] k o) k (found s ws) (missed ws)) is
+    ap (λ o. first (after_simple (λ f js k. trace s n f js k) (frame a e (At l (SimpleGoal g) ∷ goals)) goals [] k o) k (found s ws) (missed ws)) is
 
 -- a conjunction
-pub rest-each : (s : Listing) (n l a k : ℕ) (e : Env) (ps : Parts) (goals : List Part) (ws : List Waiting)
-    → rest s (suc n) (frame a e (At l (Each ps) ∷ goals)) ws k ≡ Turn a 1 ∷ rest s n (frame a e (listed ps ++ goals)) ws k
+pub rest-each : (s : Hlds) (n l a k : ℕ) (e : Env) (ps : HldsGoals) (goals : List HldsGoal) (ws : List Waiting)
+    → rest s (suc n) (frame a e (At l (ConjGoal ps) ∷ goals)) ws k ≡ Turn a 1 ∷ rest s n (frame a e (listed ps ++ goals)) ws k
 rest-each s n l a k e ps goals ws = refl
 
 -- what a call of an unqualified procedure is, by what its name and its number of arguments lead to
-abbrev pub after_call : Listing → ℕ → Frame → List Part → ℕ → ℕ → List ℕ → Option (ℕ × Procedure) → Items
+abbrev pub after_call : Hlds → ℕ → Frame → List HldsGoal → ℕ → ℕ → List ℕ → Option (ℕ × Procedure) → Items
 after_call s n f goals k site ys q = invoked (λ f js k. trace s n f js k) f goals [] k site q [] ys
 
 -- a call whose name no procedure has
-pub rest-unknown : (s : Listing) (n l a k : ℕ) (e : Env) (site : ℕ) (q : PredName) (ys : List ℕ) (goals : List Part) (ws : List Waiting)
+pub rest-unknown : (s : Hlds) (n l a k : ℕ) (e : Env) (site : ℕ) (q : PredName) (ys : List ℕ) (goals : List HldsGoal) (ws : List Waiting)
     → procedure_called s q ≡ None
-    → rest s (suc n) (frame a e (At l (Invoke site q ys) ∷ goals)) ws k ≡ Turn a 1 ∷ Stuck ∷ []
+    → rest s (suc n) (frame a e (At l (CallGoal site q ys) ∷ goals)) ws k ≡ Turn a 1 ∷ Stuck ∷ []
 rest-unknown s n l a k e site q ys goals ws is =
-    ap (λ o. first (after_call s n (frame a e (At l (Invoke site q ys) ∷ goals)) goals k site ys o) k (found s ws) (missed ws)) is
+    ap (λ o. first (after_call s n (frame a e (At l (CallGoal site q ys) ∷ goals)) goals k site ys o) k (found s ws) (missed ws)) is
 
 -- a call with another number of arguments than the procedure has
-pub rest-arity : (s : Listing) (n l a k : ℕ) (e : Env) (site : ℕ) (q : PredName) (ys : List ℕ) (goals : List Part) (ws : List Waiting) (m : ℕ) (p : Procedure)
+pub rest-arity : (s : Hlds) (n l a k : ℕ) (e : Env) (site : ℕ) (q : PredName) (ys : List ℕ) (goals : List HldsGoal) (ws : List Waiting) (m : ℕ) (p : Procedure)
     → procedure_called s q ≡ Some (m, p) → nat_eq (0 + length ys) (length p.head) ≡ false
-    → rest s (suc n) (frame a e (At l (Invoke site q ys) ∷ goals)) ws k ≡ Turn a 1 ∷ Stuck ∷ []
+    → rest s (suc n) (frame a e (At l (CallGoal site q ys) ∷ goals)) ws k ≡ Turn a 1 ∷ Stuck ∷ []
 rest-arity s n l a k e site q ys goals ws m p is differ =
-    ap (λ o. first (after_call s n (frame a e (At l (Invoke site q ys) ∷ goals)) goals k site ys o) k (found s ws) (missed ws)) is
-    ∙ ap (λ b. first (call_if (λ f js k. trace s n f js k) (frame a e (At l (Invoke site q ys) ∷ goals)) goals [] k site (m, p) [] ys b) k (found s ws) (missed ws)) differ
+    ap (λ o. first (after_call s n (frame a e (At l (CallGoal site q ys) ∷ goals)) goals k site ys o) k (found s ws) (missed ws)) is
+    ∙ ap (λ b. first (call_if (λ f js k. trace s n f js k) (frame a e (At l (CallGoal site q ys) ∷ goals)) goals [] k site (m, p) [] ys b) k (found s ws) (missed ws)) differ
 
 -- a call of a deterministic procedure
-pub rest-call : (s : Listing) (n l a k : ℕ) (e : Env) (site : ℕ) (q : PredName) (ys : List ℕ) (goals : List Part) (ws : List Waiting) (m : ℕ) (p : Procedure)
+pub rest-call : (s : Hlds) (n l a k : ℕ) (e : Env) (site : ℕ) (q : PredName) (ys : List ℕ) (goals : List HldsGoal) (ws : List Waiting) (m : ℕ) (p : Procedure)
     → procedure_called s q ≡ Some (m, p) → nat_eq (0 + length ys) (length p.head) ≡ true → p.det ≡ One
-    → rest s (suc n) (frame a e (At l (Invoke site q ys) ∷ goals)) ws k
+    → rest s (suc n) (frame a e (At l (CallGoal site q ys) ∷ goals)) ws k
     ≡ Turn a (call_weight p) ∷ Call k (Some a) (Some site) m
     ∷ rest s n (frame k (entry p e ys) (p.body ∷ []))
     (record { callee = k; depth = n; act = a; env = e; goals = goals; pairs = pairs_of p.head ys } ∷ ws) (suc k)
 rest-call s n l a k e site q ys goals ws m p is same one =
     let go : Frame → List Frame → ℕ → Items = λ f js k. trace s n f js k in
-    let f : Frame = frame a e (At l (Invoke site q ys) ∷ goals) in
+    let f : Frame = frame a e (At l (CallGoal site q ys) ∷ goals) in
     ap (λ o. first (after_call s n f goals k site ys o) k (found s ws) (missed ws)) is
     ∙ (ap (λ b. first (call_if go f goals [] k site (m, p) [] ys b) k (found s ws) (missed ws)) same
     ∙ (ap (λ d. first (Turn a (call_weight p) ∷ Call k (Some a) (Some site) m ∷ run_body go d (body_frame k (entry p e ys) p (pairs_of p.head ys)) (frame a e goals) [] k) k (found s ws) (missed ws)) one

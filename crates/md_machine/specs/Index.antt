@@ -2,7 +2,7 @@
 use Rattle.std.specs.Prelude.{ℕ, ◌≡◌, List, Vec, Option, nat_eq}
 use Rattle.std.specs.Cmp.Lexicographic.{pointwise}
 use Rattle.std.specs.declared.alloc.Global.{Global}
-use Rattle.md_hlds.specs.Listing.{procedures_of}
+use Rattle.md_hlds.specs.Hlds.{procedures_of}
 use Rattle.md_machine.specs.declared.index.Procedures.{Procedures}
 use Rattle.md_machine.specs.Named.{number_from}
 use Rattle.indexmap.specs.IndexMap.{IndexMap, get_by}

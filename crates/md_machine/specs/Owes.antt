@@ -1,7 +1,7 @@
 -- What a machine in the middle of a run still owes.
 use Rattle.std.specs.Prelude.{ℕ, ◌≡◌, ◌≤◌, Bool, List, [], ◌∷◌, ◌++◌, Option, Some, None}
-use Rattle.md_hlds.specs.Part.{Part}
-use Rattle.md_hlds.specs.Listing.{Listing}
+use Rattle.md_hlds.specs.HldsGoal.{HldsGoal}
+use Rattle.md_hlds.specs.Hlds.{Hlds}
 use Rattle.md_hlds.specs.Value.{Env}
 use Rattle.md_hlds.specs.Simple.{Outcome, Go, No, Stop}
 use Rattle.md_hlds.specs.Trace.{Items}
@@ -9,19 +9,19 @@ use Rattle.md_hlds.specs.Run.{run, cut, output, is_finished}
 use Rattle.md_machine.specs.Rest.{Waiting, frame, rest}
 
 -- of the run within the budget, `out` has been written, and `left` of the budget and these items are left
-pub record Owes (s : Listing) (budget left : ℕ) (out : List ℕ) (items : Items) : Type 0 where
+pub record Owes (s : Hlds) (budget left : ℕ) (out : List ℕ) (items : Items) : Type 0 where
   pub bytes : output (run s budget) ≡ out ++ output (cut left items)
   pub end : is_finished (run s budget) ≡ is_finished (cut left items)
 
 -- the run within the budget wrote `out`, and is finished or not
-pub record Ended (s : Listing) (budget : ℕ) (out : List ℕ) (finished : Bool) : Type 0 where
+pub record Ended (s : Hlds) (budget : ℕ) (out : List ℕ) (finished : Bool) : Type 0 where
   pub bytes : output (run s budget) ≡ out
   pub end : is_finished (run s budget) ≡ finished
 
 -- a caller as the machine keeps it
 pub record Caller : Type 0 where
   pub env : Env
-  pub goals : List Part
+  pub goals : List HldsGoal
   pub pairs : List (ℕ × ℕ)
 
 -- the machine's callers are these, innermost first, and each one's trace goes deep enough for what is left
@@ -32,7 +32,7 @@ AreWaiting left cs ws = ⊥
 
 -- The machine stands in the run at a frame that knows `env` and has `goals` to do, with these callers. The depth, the
 -- number of the activation and the next number are those of the definition; the machine has no need of them.
-pub record Stands (s : Listing) (budget left : ℕ) (out : List ℕ) (env : Env) (goals : List Part) (callers : List Caller) : Type 0 where
+pub record Stands (s : Hlds) (budget left : ℕ) (out : List ℕ) (env : Env) (goals : List HldsGoal) (callers : List Caller) : Type 0 where
   pub depth : ℕ
   pub act : ℕ
   pub next : ℕ

@@ -1,7 +1,7 @@
 -- What is left of the run of a deterministic program, by the frame that runs and the callers that wait.
 use Rattle.std.specs.Prelude.{ℕ, List, [], ◌∷◌, length}
-use Rattle.md_hlds.specs.Part.{Part}
-use Rattle.md_hlds.specs.Listing.{Listing, Procedure}
+use Rattle.md_hlds.specs.HldsGoal.{HldsGoal}
+use Rattle.md_hlds.specs.Hlds.{Hlds, Procedure}
 use Rattle.md_hlds.specs.Value.{Env, blank}
 use Rattle.md_hlds.specs.Trace.{Items, Exit, Fail, Answer, Frame, first, back, passed, pairs_of, trace}
 
@@ -12,10 +12,10 @@ pub record Waiting : Type 0 where
   pub depth : ℕ
   pub act : ℕ
   pub env : Env
-  pub goals : List Part
+  pub goals : List HldsGoal
   pub pairs : List (ℕ × ℕ)
 
-abbrev pub frame : ℕ → Env → List Part → Frame
+abbrev pub frame : ℕ → Env → List HldsGoal → Frame
 frame act env goals = record { act = act; env = env; goals = goals; pairs = [] }
 
 -- the environment in which a procedure's body begins
@@ -28,10 +28,10 @@ missed [] k = Fail 0 ∷ []
 missed (w ∷ ws) k = Fail w.callee ∷ missed ws k
 
 -- what follows its first solution
-abbrev pub found : Listing → List Waiting → Env → ℕ → Items
+abbrev pub found : Hlds → List Waiting → Env → ℕ → Items
 found s [] e k = Exit 0 ∷ Answer e ∷ []
 found s (w ∷ ws) e k = Exit w.callee ∷ first (trace s w.depth (frame w.act (back w.pairs e w.env) w.goals) [] k) k (found s ws) (missed ws)
 
 -- the rest of the run
-abbrev pub rest : Listing → ℕ → Frame → List Waiting → ℕ → Items
+abbrev pub rest : Hlds → ℕ → Frame → List Waiting → ℕ → Items
 rest s depth f ws k = first (trace s depth f [] k) k (found s ws) (missed ws)

@@ -1,6 +1,6 @@
 // The run of a deterministic program.
 ghost use Rattle.std.specs.Prelude.{ℕ, ◌≡◌, [], ◌∷◌, length, false, IsTrue, IfOk};
-ghost use Rattle.md_hlds.specs.Listing.{listing_of, procedure_of, procedures_of};
+ghost use Rattle.md_hlds.specs.Hlds.{hlds_of, procedure_of, procedures_of};
 ghost use Rattle.md_hlds.specs.Run.{run, output, is_finished, main_env, main_name};
 ghost use Rattle.md_hlds.specs.Value.{blank as Blank};
 ghost use Rattle.md_machine.specs.Values.{env_of};
@@ -39,8 +39,8 @@ pub struct Ran {
 /// Runs a program of the first form (`is_first_form`) within a budget of steps. The output and the end are those of the
 /// definition of the run. Memory grows with the depth of calls and the output.
 pub fn walk(alloc: Global, program: &Program, budget: u32) -> Result<Ran, NoMemory>
-    requires { IsTrue (is_first_form (listing_of program.now)) }
-    ensures { IfOk result (λ ran. IsRunOf (listing_of program.now) budget ran) }
+    requires { IsTrue (is_first_form (hlds_of program.now)) }
+    ensures { IfOk result (λ ran. IsRunOf (hlds_of program.now) budget ran) }
 {
     let procedures = Procedures::new(alloc, program)?;
     let Some(main) = procedures.called(b"main") else {
@@ -56,10 +56,10 @@ fn run_main<'a>(
     main: &'a Pred,
     budget: u32,
 ) -> Result<Ran, NoMemory>
-    requires main { IsCalled (listing_of procedures.now.program.now) main_name (procedure_of main.now) }
+    requires main { IsCalled (hlds_of procedures.now.program.now) main_name (procedure_of main.now) }
     requires indexed { IsIndexed procedures.now }
     requires form { IsTrue (are_first_procedures (procedures_of procedures.now.program.now.preds.items)) }
-    ensures { IfOk result (λ ran. IsRunOf (listing_of procedures.now.program.now) budget ran) }
+    ensures { IfOk result (λ ran. IsRunOf (hlds_of procedures.now.program.now) budget ran) }
 {
     let weight = call_weight(main);
     if weight > budget as u64 {
@@ -114,7 +114,7 @@ fn run_on<'a>(
     requires indexed { IsIndexed procedures.now }
     requires form { IsTrue (are_first_procedures (procedures_of procedures.now.program.now.preds.items)) }
     requires walkable { IsWalkable machine }
-    ensures { IfOk result (λ ran. (b : ℕ) → StandsIn (listing_of procedures.now.program.now) b machine.entry → IsRunOf (listing_of procedures.now.program.now) b ran) }
+    ensures { IfOk result (λ ran. (b : ℕ) → StandsIn (hlds_of procedures.now.program.now) b machine.entry → IsRunOf (hlds_of procedures.now.program.now) b ran) }
 {
     loop {
         let end = match machine.step(alloc, procedures)? {

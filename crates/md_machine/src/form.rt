@@ -1,7 +1,7 @@
 // Whether a program is of the first form, which is what `walk` runs.
 ghost use Rattle.std.specs.Prelude.{◌≡◌, ◌&&◌, ◌||◌, nat_eq, length};
-ghost use Rattle.md_hlds.specs.Part.{part_of, parts_of, task_of};
-ghost use Rattle.md_hlds.specs.Listing.{listing_of, procedure_of, procedures_of, args_of, families_of, sort_of};
+ghost use Rattle.md_hlds.specs.HldsGoal.{goal_of, goals_of, expr_of};
+ghost use Rattle.md_hlds.specs.Hlds.{hlds_of, procedure_of, procedures_of, args_of, type_defs_of, hlds_type_of};
 ghost use Rattle.md_machine.specs.FirstForm.{is_first_form, has_no_types, is_first_procedure, are_first_procedures, is_before, is_after, is_first_args, is_first_body, is_first_unit, are_first_units, is_first_term};
 
 use md_hlds::{Det, Goal, GoalKind, Mode, Pred, Program, Term, Ty, TypeDef, Variables};
@@ -10,13 +10,13 @@ use md_hlds::{Det, Goal, GoalKind, Mode, Pred, Program, Term, Ty, TypeDef, Varia
 /// after, and whose bodies are conjunctions of `true`, unifications with a literal or a variable, writes of text, new
 /// lines, and calls of such predicates.
 pub fn is_first_form(program: &Program) -> bool
-    ensures { result ≡ is_first_form (listing_of program.now) }
+    ensures { result ≡ is_first_form (hlds_of program.now) }
 {
     has_no_types(program.types.as_slice()) && are_first_procedures(program.preds.as_slice())
 }
 
 fn has_no_types(types: &[TypeDef]) -> bool
-    ensures { result ≡ has_no_types (families_of types.now) }
+    ensures { result ≡ has_no_types (type_defs_of types.now) }
 {
     match types {
         [] => true,
@@ -55,7 +55,7 @@ fn is_first_args(args: &[(Ty, Mode)]) -> bool
 }
 
 fn is_before(argument: &(Ty, Mode)) -> bool
-    ensures { result ≡ is_before (sort_of argument.now.0) argument.now.1 }
+    ensures { result ≡ is_before (hlds_type_of argument.now.0) argument.now.1 }
 {
     match (&argument.0, argument.1) {
         (Ty::Io, Mode::Di) => true,
@@ -64,7 +64,7 @@ fn is_before(argument: &(Ty, Mode)) -> bool
 }
 
 fn is_after(argument: &(Ty, Mode)) -> bool
-    ensures { result ≡ is_after (sort_of argument.now.0) argument.now.1 }
+    ensures { result ≡ is_after (hlds_type_of argument.now.0) argument.now.1 }
 {
     match (&argument.0, argument.1) {
         (Ty::Io, Mode::Uo) => true,
@@ -73,7 +73,7 @@ fn is_after(argument: &(Ty, Mode)) -> bool
 }
 
 fn is_first_body(body: &Goal) -> bool
-    ensures { result ≡ is_first_body (part_of body.now) }
+    ensures { result ≡ is_first_body (goal_of body.now) }
 {
     match &body.kind {
         GoalKind::Conj(goals) => are_first_units(goals.as_slice()),
@@ -82,7 +82,7 @@ fn is_first_body(body: &Goal) -> bool
 }
 
 fn are_first_units(goals: &[Goal]) -> bool
-    ensures { result ≡ are_first_units (parts_of goals.now) }
+    ensures { result ≡ are_first_units (goals_of goals.now) }
 {
     for goal in goals {
         if !is_first_unit(goal) {
@@ -93,7 +93,7 @@ fn are_first_units(goals: &[Goal]) -> bool
 }
 
 fn is_first_unit(goal: &Goal) -> bool
-    ensures { result ≡ is_first_unit (part_of goal.now) }
+    ensures { result ≡ is_first_unit (goal_of goal.now) }
 {
     match &goal.kind {
         GoalKind::True | GoalKind::WriteStr(..) | GoalKind::Nl(..) => true,

@@ -1,6 +1,6 @@
 // The procedures of a program by their names.
 ghost use Rattle.std.specs.Prelude.{◌≡◌, None, IfOk, MatchOption};
-ghost use Rattle.md_hlds.specs.Listing.{listing_of, procedure_of, procedure_called};
+ghost use Rattle.md_hlds.specs.Hlds.{hlds_of, procedure_of, procedure_called};
 ghost use Rattle.md_machine.specs.Named.{unqualified, IsCalled};
 ghost use Rattle.md_machine.specs.Index.{number_in, IsIndexed};
 
@@ -43,8 +43,8 @@ impl<'a> Procedures<'a> {
     /// The predicate of this unqualified name, or `None` exactly where the program has none.
     pub fn called(&self, name: &[u8]) -> Option<&'a Pred>
         requires { IsIndexed self.now }
-        ensures { MatchOption result (procedure_called (listing_of self.now.program.now) (unqualified name.now) ≡ None)
-            (λ pred. IsCalled (listing_of self.now.program.now) (unqualified name.now) (procedure_of pred.now)) }
+        ensures { MatchOption result (procedure_called (hlds_of self.now.program.now) (unqualified name.now) ≡ None)
+            (λ pred. IsCalled (hlds_of self.now.program.now) (unqualified name.now) (procedure_of pred.now)) }
     {
         let number = self.find(name)?;
         Some(&self.program.preds[number as usize])

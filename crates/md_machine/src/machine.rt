@@ -1,7 +1,7 @@
 // A machine for deterministic programs: the frame that runs, and the callers that wait for it.
 ghost use Rattle.std.specs.Prelude.{ℕ, ◌≡◌, ◌<◌, None, [], ◌∷◌, ◌++◌, IsTrue, IfOk, OnOk};
-ghost use Rattle.md_hlds.specs.Part.{Each, gathered, task_of, parts_of};
-ghost use Rattle.md_hlds.specs.Listing.{Listing, listing_of, procedure_of, procedures_of};
+ghost use Rattle.md_hlds.specs.HldsGoal.{ConjGoal, gathered, expr_of, goals_of};
+ghost use Rattle.md_hlds.specs.Hlds.{Hlds, hlds_of, procedure_of, procedures_of};
 ghost use Rattle.md_machine.specs.Rest.{entry};
 ghost use Rattle.md_machine.specs.Values.{env_of};
 ghost use Rattle.md_machine.specs.FirstForm.{is_first_form, is_first_plain, are_first_units, are_first_procedures};
@@ -59,7 +59,7 @@ impl<'a> Machine<'a> {
     fn give_back(&mut self) -> Progress
         requires done { self.old.frame.goals.now ≡ [] }
         requires walkable { IsWalkable self.old }
-        ensures after { (s : Listing) (b : ℕ) → StandsIn s b self.old → After s b result self.new }
+        ensures after { (s : Hlds) (b : ℕ) → StandsIn s b self.old → After s b result self.new }
         ensures walkable { IsWalkable self.new }
         ensures falls { result ≡ Progress.On → work self.new < work self.old }
     {
@@ -82,9 +82,9 @@ impl<'a> Machine<'a> {
     /// Runs a goal that has neither parts nor calls.
     fn run_simple(&mut self, goal: &'a Goal, rest: &'a [Goal]) -> Result<Progress, NoMemory>
         requires front { self.old.frame.goals.now ≡ goal.now ∷ rest.now }
-        requires plain { IsTrue (is_first_plain (task_of goal.now.kind)) }
+        requires plain { IsTrue (is_first_plain (expr_of goal.now.kind)) }
         requires walkable { IsWalkable self.old }
-        ensures after { IfOk result (λ p. (s : Listing) (b : ℕ) → StandsIn s b self.old → After s b p self.new) }
+        ensures after { IfOk result (λ p. (s : Hlds) (b : ℕ) → StandsIn s b self.old → After s b p self.new) }
         ensures walkable { OnOk result (IsWalkable self.new) }
         ensures falls { IfOk result (λ p. p ≡ Progress.On → work self.new < work self.old) }
     {
@@ -105,10 +105,10 @@ impl<'a> Machine<'a> {
     /// Takes a conjunction, which is all that the frame has to do, apart.
     fn open(&mut self, goal: &'a Goal, parts: &'a [Goal]) -> Progress
         requires front { self.old.frame.goals.now ≡ goal.now ∷ [] }
-        requires parts { task_of goal.now.kind ≡ Each (gathered (parts_of parts.now)) }
-        requires units { IsTrue (are_first_units (parts_of parts.now)) }
+        requires parts { expr_of goal.now.kind ≡ ConjGoal (gathered (goals_of parts.now)) }
+        requires units { IsTrue (are_first_units (goals_of parts.now)) }
         requires walkable { IsWalkable self.old }
-        ensures after { (s : Listing) (b : ℕ) → StandsIn s b self.old → After s b result self.new }
+        ensures after { (s : Hlds) (b : ℕ) → StandsIn s b self.old → After s b result self.new }
         ensures walkable { IsWalkable self.new }
         ensures falls { result ≡ Progress.On → work self.new < work self.old }
     {
@@ -133,13 +133,13 @@ impl<'a> Machine<'a> {
         rest: &'a [Goal],
     ) -> Result<Progress, NoMemory>
         requires front { self.old.frame.goals.now ≡ goal.now ∷ rest.now }
-        requires call { IsCallOf (task_of goal.now.kind) name.now arguments.now }
+        requires call { IsCallOf (expr_of goal.now.kind) name.now arguments.now }
         requires unqualified { name.now.qualifier ≡ None }
         requires indexed { IsIndexed procedures.now }
         requires form { IsTrue (are_first_procedures (procedures_of procedures.now.program.now.preds.items)) }
-        requires units { IsTrue (are_first_units (parts_of rest.now)) }
+        requires units { IsTrue (are_first_units (goals_of rest.now)) }
         requires walkable { IsWalkable self.old }
-        ensures after { IfOk result (λ p. (b : ℕ) → StandsIn (listing_of procedures.now.program.now) b self.old → After (listing_of procedures.now.program.now) b p self.new) }
+        ensures after { IfOk result (λ p. (b : ℕ) → StandsIn (hlds_of procedures.now.program.now) b self.old → After (hlds_of procedures.now.program.now) b p self.new) }
         ensures walkable { OnOk result (IsWalkable self.new) }
         ensures falls { IfOk result (λ p. p ≡ Progress.On → work self.new < work self.old) }
     {
@@ -173,7 +173,7 @@ impl<'a> Machine<'a> {
         requires indexed { IsIndexed procedures.now }
         requires form { IsTrue (are_first_procedures (procedures_of procedures.now.program.now.preds.items)) }
         requires walkable { IsWalkable self.old }
-        ensures after { IfOk result (λ p. (b : ℕ) → StandsIn (listing_of procedures.now.program.now) b self.old → After (listing_of procedures.now.program.now) b p self.new) }
+        ensures after { IfOk result (λ p. (b : ℕ) → StandsIn (hlds_of procedures.now.program.now) b self.old → After (hlds_of procedures.now.program.now) b p self.new) }
         ensures walkable { OnOk result (IsWalkable self.new) }
         ensures falls { IfOk result (λ p. p ≡ Progress.On → work self.new < work self.old) }
     {
@@ -196,7 +196,7 @@ impl<'a> Machine<'a> {
         requires indexed { IsIndexed procedures.now }
         requires form { IsTrue (are_first_procedures (procedures_of procedures.now.program.now.preds.items)) }
         requires walkable { IsWalkable self.old }
-        ensures after { IfOk result (λ p. (b : ℕ) → StandsIn (listing_of procedures.now.program.now) b self.old → After (listing_of procedures.now.program.now) b p self.new) }
+        ensures after { IfOk result (λ p. (b : ℕ) → StandsIn (hlds_of procedures.now.program.now) b self.old → After (hlds_of procedures.now.program.now) b p self.new) }
         ensures walkable { OnOk result (IsWalkable self.new) }
         ensures falls { IfOk result (λ p. p ≡ Progress.On → work self.new < work self.old) }
     {

@@ -1,7 +1,7 @@
 // Goals without parts and calls.
 ghost use Rattle.std.specs.Prelude.{◌≡◌, ◌≤◌, IsTrue};
-ghost use Rattle.md_hlds.specs.Part.{Simple, Plain, task_of};
-ghost use Rattle.md_hlds.specs.Listing.{Listing};
+ghost use Rattle.md_hlds.specs.HldsGoal.{Simple, SimpleGoal, expr_of};
+ghost use Rattle.md_hlds.specs.Hlds.{Hlds};
 ghost use Rattle.md_hlds.specs.Simple.{simple, unify, unify_values, unify_constant, write, write_text};
 ghost use Rattle.md_hlds.specs.Value.{value_at};
 ghost use Rattle.md_machine.specs.FirstForm.{is_first_term, is_first_plain};
@@ -122,7 +122,7 @@ fn write_variable<'a>(
 /// A unification with a literal or a variable.
 fn unify<'a>(x: u32, term: &'a Term, values: &mut [Option<Value<'a>>]) -> Option<Effect<'a>>
     requires { IsTrue (is_first_term term.now) }
-    ensures { (s : Listing) → Does (unify s (env_of values.old) x term.now) (env_of values.new) result }
+    ensures { (s : Hlds) → Does (unify s (env_of values.old) x term.now) (env_of values.new) result }
 {
     match term {
         Term::Var(y) => unify_variables(x, *y, values),
@@ -134,8 +134,8 @@ fn unify<'a>(x: u32, term: &'a Term, values: &mut [Option<Value<'a>>]) -> Option
 
 /// Runs a simple goal of the first form: where it succeeds, `values` are those after it.
 pub fn run_simple<'a>(kind: &'a GoalKind, values: &mut [Option<Value<'a>>]) -> Option<Effect<'a>>
-    requires { IsTrue (is_first_plain (task_of kind.now)) }
-    ensures { (s : Listing) (g : Simple) → task_of kind.now ≡ Plain g → Does (simple s (env_of values.old) g) (env_of values.new) result }
+    requires { IsTrue (is_first_plain (expr_of kind.now)) }
+    ensures { (s : Hlds) (g : Simple) → expr_of kind.now ≡ SimpleGoal g → Does (simple s (env_of values.old) g) (env_of values.new) result }
 {
     match kind {
         GoalKind::True => Some(Effect::none()),

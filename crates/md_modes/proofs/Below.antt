@@ -2,7 +2,7 @@
 use Rattle.std.proofs.Common.{◌≡◌, refl, arith, ℕ, zero, suc, ◌<◌, Bool, true, false, ◌||◌, ◌&&◌, inl, inr}
 use Rattle.std.proofs.lemmas.Bool.{cases_eq}
 use Rattle.std.proofs.Math.Bool.{or-true}
-use Rattle.md_binding.specs.Known.{some_below}
+use Rattle.md_inst.specs.Instantiation.{some_below}
 
 true_or : (a b : Bool) → a ≡ true → (a || b) ≡ true
 true_or true b e = refl

@@ -3,32 +3,32 @@ use Rattle.std.proofs.Common.{◌≡◌, refl, sym, ap, ◌∙◌, subst, ℕ, B
 use Rattle.std.specs.declared.alloc.Global.{Global}
 use Rattle.md_hlds.specs.declared.goal.Goal.{Goal}
 use Rattle.md_hlds.specs.declared.goal.GoalKind.{GoalKind, Conj, Disj, If, Not}
-use Rattle.md_hlds.specs.Part.{Part, Either, Choose, Once, gathered, part_of, parts_of, task_of}
-use Rattle.md_hlds.proofs.Bridge.{task_of-Conj, task_of-Disj}
-use Rattle.md_binding.specs.declared.fault.ModeFault.{ModeFault}
-use Rattle.md_binding.specs.declared.fault.ModeFault.TheVariants.{BranchBinds}
-use Rattle.md_binding.specs.Verdict.{Verdict, ◌>>=◌, fault_unless}
-use Rattle.md_binding.specs.Known.{Knowledge}
+use Rattle.md_hlds.specs.HldsGoal.{HldsGoal, DisjGoal, IfGoal, SomeGoal, gathered, goal_of, goals_of, expr_of}
+use Rattle.md_hlds.proofs.Bridge.{expr_of-Conj, expr_of-Disj}
+use Rattle.md_inst.specs.declared.fault.ModeFault.{ModeFault}
+use Rattle.md_inst.specs.declared.fault.ModeFault.TheVariants.{BranchBinds}
+use Rattle.md_inst.specs.Verdict.{Verdict, ◌>>=◌, fault_unless}
+use Rattle.md_inst.specs.Instantiation.{InstMap}
 use Rattle.md_modes.specs.Branches.{After, after, outside, binds_some, some_of, joined}
-use Rattle.md_modes.specs.Goals.{Scope, within, variables, goal, task, each, binds_inside}
+use Rattle.md_modes.specs.Goals.{Scope, within, variables, goal, expr, each, binds_inside}
 use Rattle.md_modes.specs.Joins.{Reaches}
 use Rattle.md_modes.specs.Inside.{inside}
 
-pub reaches_along : (r : Result Bool ModeFault) (k : Knowledge) (v w : Verdict After) → v ≡ w → Reaches r k w → Reaches r k v
+pub reaches_along : (r : Result Bool ModeFault) (k : InstMap) (v w : Verdict After) → v ≡ w → Reaches r k w → Reaches r k v
 reaches_along r k v w e h = subst (λ (u : Verdict After). Reaches r k u) (sym e) h
 
-pub conj_is : (c : Scope) (l : ℕ) (k : GoalKind) (v : Vec Goal Global) (s : Knowledge) → k ≡ Conj v → task c l (task_of k) s ≡ each c (gathered (parts_of v.items)) s
-conj_is c l k v s is = ap (λ j. task c l (task_of j) s) is ∙ ap (λ t. task c l t s) (task_of-Conj v)
+pub conj_is : (c : Scope) (l : ℕ) (k : GoalKind) (v : Vec Goal Global) (s : InstMap) → k ≡ Conj v → expr c l (expr_of k) s ≡ each c (gathered (goals_of v.items)) s
+conj_is c l k v s is = ap (λ j. expr c l (expr_of j) s) is ∙ ap (λ t. expr c l t s) (expr_of-Conj v)
 
-pub disj_is : (c : Scope) (l : ℕ) (k : GoalKind) (v : Vec Goal Global) (s : Knowledge) → k ≡ Disj v → task c l (task_of k) s ≡ task c l (Either (gathered (parts_of v.items))) s
-disj_is c l k v s is = ap (λ j. task c l (task_of j) s) is ∙ ap (λ t. task c l t s) (task_of-Disj v)
+pub disj_is : (c : Scope) (l : ℕ) (k : GoalKind) (v : Vec Goal Global) (s : InstMap) → k ≡ Disj v → expr c l (expr_of k) s ≡ expr c l (DisjGoal (gathered (goals_of v.items))) s
+disj_is c l k v s is = ap (λ j. expr c l (expr_of j) s) is ∙ ap (λ t. expr c l t s) (expr_of-Disj v)
 
-pub not_is : (c : Scope) (l : ℕ) (k : GoalKind) (b : Box Goal Global) (g : Goal) (s : Knowledge) → k ≡ Not b → g ≡ b.value → task c l (task_of k) s ≡ task c l (Once [] (part_of g)) s
-not_is c l k b g s is gs = ap (λ j. task c l (task_of j) s) is ∙ rw gs refl
+pub not_is : (c : Scope) (l : ℕ) (k : GoalKind) (b : Box Goal Global) (g : Goal) (s : InstMap) → k ≡ Not b → g ≡ b.value → expr c l (expr_of k) s ≡ expr c l (SomeGoal [] (goal_of g)) s
+not_is c l k b g s is gs = ap (λ j. expr c l (expr_of j) s) is ∙ rw gs refl
 
-pub choose_is : (c : Scope) (l : ℕ) (k : GoalKind) (p t e : Box Goal Global) (g h j : Goal) (s : Knowledge) → k ≡ If p t e → g ≡ p.value → h ≡ t.value → j ≡ e.value
-    → task c l (task_of k) s ≡ task c l (Choose (part_of g) (part_of h) (part_of j)) s
-choose_is c l k p t e g h j s is gs hs js = ap (λ i. task c l (task_of i) s) is ∙ rw (gs, hs, js) refl
+pub choose_is : (c : Scope) (l : ℕ) (k : GoalKind) (p t e : Box Goal Global) (g h j : Goal) (s : InstMap) → k ≡ If p t e → g ≡ p.value → h ≡ t.value → j ≡ e.value
+    → expr c l (expr_of k) s ≡ expr c l (IfGoal (goal_of g) (goal_of h) (goal_of j)) s
+choose_is c l k p t e g h j s is gs hs js = ap (λ i. expr c l (expr_of i) s) is ∙ rw (gs, hs, js) refl
 
 -- ---- a goal within a branch
 
@@ -42,23 +42,23 @@ and_then_again (Ok a) f g = and_then_kept (f a) a g
 and_then_again (Err e) f g = refl
 
 -- the variables of an if-then-else
-abbrev pub three_variables : (p t e : Part) → List ℕ
+abbrev pub three_variables : (p t e : HldsGoal) → List ℕ
 three_variables p t e = variables p ++ (variables t ++ variables e)
 
 -- what follows the condition of an if-then-else, and what follows a goal that is negated or quantified
-abbrev pub rest_of_choice : Scope → ℕ → (p t e : Part) → Knowledge → After → Verdict After
+abbrev pub rest_of_choice : Scope → ℕ → (p t e : HldsGoal) → InstMap → After → Verdict After
 rest_of_choice c l p t e s a = goal c t a.known >>= (λ b. goal c e s >>= (λ d. joined l (outside c.all (three_variables p t e)) s (b ∷ d ∷ [])))
 
-abbrev pub rest_of_once : Scope → ℕ → List ℕ → Part → Knowledge → After → Verdict After
+abbrev pub rest_of_once : Scope → ℕ → List ℕ → HldsGoal → InstMap → After → Verdict After
 rest_of_once c l vs p s a = fault_unless (not (some_of (outside c.all (vs ++ variables p)) vs)) (BranchBinds l) >>= (λ _. Ok (after s true))
 
-pub choose_inside : (c : Scope) (l : ℕ) (p t e : Part) (s : Knowledge)
-    → task c l (Choose p t e) s ≡ (inside (within c) l (three_variables p t e) p s >>= rest_of_choice c l p t e s)
+pub choose_inside : (c : Scope) (l : ℕ) (p t e : HldsGoal) (s : InstMap)
+    → expr c l (IfGoal p t e) s ≡ (inside (within c) l (three_variables p t e) p s >>= rest_of_choice c l p t e s)
 choose_inside c l p t e s =
     and_then_again (goal (within c) p s) (λ a. binds_inside l (outside c.all (three_variables p t e)) s a) (rest_of_choice c l p t e s)
 
-pub once_inside : (c : Scope) (l : ℕ) (vs : List ℕ) (p : Part) (s : Knowledge)
-    → task c l (Once vs p) s ≡ (inside (within c) l (vs ++ variables p) p s >>= rest_of_once c l vs p s)
+pub once_inside : (c : Scope) (l : ℕ) (vs : List ℕ) (p : HldsGoal) (s : InstMap)
+    → expr c l (SomeGoal vs p) s ≡ (inside (within c) l (vs ++ variables p) p s >>= rest_of_once c l vs p s)
 once_inside c l vs p s =
     and_then_again (goal (within c) p s) (λ a. binds_inside l (outside c.all (vs ++ variables p)) s a) (rest_of_once c l vs p s)
 
@@ -71,45 +71,45 @@ ok_by (Ok b) f a e = rw (kept_by (f b) b a e) refl
 ok_by (Err x) f a e = absurd (cc)
 
 -- a goal that is right within a branch is right
-pub inside_ok : (c : Scope) (l : ℕ) (vars : List ℕ) (p : Part) (s : Knowledge) (a : After) → inside c l vars p s ≡ Ok a → goal c p s ≡ Ok a
+pub inside_ok : (c : Scope) (l : ℕ) (vars : List ℕ) (p : HldsGoal) (s : InstMap) (a : After) → inside c l vars p s ≡ Ok a → goal c p s ≡ Ok a
 inside_ok c l vars p s a e = ok_by (goal c p s) (λ a. binds_inside l (outside c.all vars) s a) a e
 
-pub inside_fault : (c : Scope) (l : ℕ) (vars : List ℕ) (p : Part) (s : Knowledge) (x : ModeFault) → goal c p s ≡ Err x → inside c l vars p s ≡ Err x
+pub inside_fault : (c : Scope) (l : ℕ) (vars : List ℕ) (p : HldsGoal) (s : InstMap) (x : ModeFault) → goal c p s ≡ Err x → inside c l vars p s ≡ Err x
 inside_fault c l vars p s x e = rw e refl
 
-pub inside_by : (c : Scope) (l : ℕ) (vars : List ℕ) (p : Part) (s : Knowledge) (a : After) → goal c p s ≡ Ok a → binds_some (outside c.all vars) s a.known ≡ false → inside c l vars p s ≡ Ok a
+pub inside_by : (c : Scope) (l : ℕ) (vars : List ℕ) (p : HldsGoal) (s : InstMap) (a : After) → goal c p s ≡ Ok a → binds_some (outside c.all vars) s a.known ≡ false → inside c l vars p s ≡ Ok a
 inside_by c l vars p s a e f = rw (e, f) refl
 
-pub inside_binds : (c : Scope) (l : ℕ) (vars : List ℕ) (p : Part) (s : Knowledge) (a : After) → goal c p s ≡ Ok a → binds_some (outside c.all vars) s a.known ≡ true
+pub inside_binds : (c : Scope) (l : ℕ) (vars : List ℕ) (p : HldsGoal) (s : InstMap) (a : After) → goal c p s ≡ Ok a → binds_some (outside c.all vars) s a.known ≡ true
     → inside c l vars p s ≡ Err (BranchBinds l)
 inside_binds c l vars p s a e f = rw (e, f) refl
 
 -- ---- an if-then-else
 
-pub condition_fault : (c : Scope) (l : ℕ) (p t e : Part) (s : Knowledge) (x : ModeFault) → inside (within c) l (three_variables p t e) p s ≡ Err x → task c l (Choose p t e) s ≡ Err x
+pub condition_fault : (c : Scope) (l : ℕ) (p t e : HldsGoal) (s : InstMap) (x : ModeFault) → inside (within c) l (three_variables p t e) p s ≡ Err x → expr c l (IfGoal p t e) s ≡ Err x
 condition_fault c l p t e s x h = choose_inside c l p t e s ∙ rw h refl
 
-pub then_fault : (c : Scope) (l : ℕ) (p t e : Part) (s : Knowledge) (a : After) (x : ModeFault) → inside (within c) l (three_variables p t e) p s ≡ Ok a
-    → goal c t a.known ≡ Err x → task c l (Choose p t e) s ≡ Err x
+pub then_fault : (c : Scope) (l : ℕ) (p t e : HldsGoal) (s : InstMap) (a : After) (x : ModeFault) → inside (within c) l (three_variables p t e) p s ≡ Ok a
+    → goal c t a.known ≡ Err x → expr c l (IfGoal p t e) s ≡ Err x
 then_fault c l p t e s a x f h = choose_inside c l p t e s ∙ rw (f, h) refl
 
-pub else_fault : (c : Scope) (l : ℕ) (p t e : Part) (s : Knowledge) (a b : After) (x : ModeFault) → inside (within c) l (three_variables p t e) p s ≡ Ok a
-    → goal c t a.known ≡ Ok b → goal c e s ≡ Err x → task c l (Choose p t e) s ≡ Err x
+pub else_fault : (c : Scope) (l : ℕ) (p t e : HldsGoal) (s : InstMap) (a b : After) (x : ModeFault) → inside (within c) l (three_variables p t e) p s ≡ Ok a
+    → goal c t a.known ≡ Ok b → goal c e s ≡ Err x → expr c l (IfGoal p t e) s ≡ Err x
 else_fault c l p t e s a b x f h i = choose_inside c l p t e s ∙ rw (f, h, i) refl
 
-pub choose_joined : (c : Scope) (l : ℕ) (p t e : Part) (s : Knowledge) (a b d : After) → inside (within c) l (three_variables p t e) p s ≡ Ok a
-    → goal c t a.known ≡ Ok b → goal c e s ≡ Ok d → task c l (Choose p t e) s ≡ joined l (outside c.all (three_variables p t e)) s (b ∷ d ∷ [])
+pub choose_joined : (c : Scope) (l : ℕ) (p t e : HldsGoal) (s : InstMap) (a b d : After) → inside (within c) l (three_variables p t e) p s ≡ Ok a
+    → goal c t a.known ≡ Ok b → goal c e s ≡ Ok d → expr c l (IfGoal p t e) s ≡ joined l (outside c.all (three_variables p t e)) s (b ∷ d ∷ [])
 choose_joined c l p t e s a b d f h i = choose_inside c l p t e s ∙ rw (f, h, i) refl
 
 -- ---- a goal that is negated or quantified
 
-pub once_fault : (c : Scope) (l : ℕ) (vs : List ℕ) (p : Part) (s : Knowledge) (x : ModeFault) → inside (within c) l (vs ++ variables p) p s ≡ Err x → task c l (Once vs p) s ≡ Err x
+pub once_fault : (c : Scope) (l : ℕ) (vs : List ℕ) (p : HldsGoal) (s : InstMap) (x : ModeFault) → inside (within c) l (vs ++ variables p) p s ≡ Err x → expr c l (SomeGoal vs p) s ≡ Err x
 once_fault c l vs p s x h = once_inside c l vs p s ∙ rw h refl
 
-pub once_outside : (c : Scope) (l : ℕ) (vs : List ℕ) (p : Part) (s : Knowledge) (a : After) → inside (within c) l (vs ++ variables p) p s ≡ Ok a
-    → some_of (outside c.all (vs ++ variables p)) vs ≡ true → task c l (Once vs p) s ≡ Err (BranchBinds l)
+pub once_outside : (c : Scope) (l : ℕ) (vs : List ℕ) (p : HldsGoal) (s : InstMap) (a : After) → inside (within c) l (vs ++ variables p) p s ≡ Ok a
+    → some_of (outside c.all (vs ++ variables p)) vs ≡ true → expr c l (SomeGoal vs p) s ≡ Err (BranchBinds l)
 once_outside c l vs p s a h f = once_inside c l vs p s ∙ rw (h, f) refl
 
-pub once_right : (c : Scope) (l : ℕ) (vs : List ℕ) (p : Part) (s : Knowledge) (a : After) → inside (within c) l (vs ++ variables p) p s ≡ Ok a
-    → some_of (outside c.all (vs ++ variables p)) vs ≡ false → task c l (Once vs p) s ≡ Ok (after s true)
+pub once_right : (c : Scope) (l : ℕ) (vs : List ℕ) (p : HldsGoal) (s : InstMap) (a : After) → inside (within c) l (vs ++ variables p) p s ≡ Ok a
+    → some_of (outside c.all (vs ++ variables p)) vs ≡ false → expr c l (SomeGoal vs p) s ≡ Ok (after s true)
 once_right c l vs p s a h f = once_inside c l vs p s ∙ rw (h, f) refl

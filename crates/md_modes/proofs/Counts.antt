@@ -1,6 +1,6 @@
 -- Counts of variables.
 use Rattle.std.proofs.Common.{◌≡◌, refl, ap, ◌∙◌, arith, ℕ, zero, suc, ◌+◌, ◌<◌, Bool, true, false, cond, nat_eq, List, [], ◌∷◌, ◌++◌, length, take, get_or, slice_index, add-one}
-use Rattle.md_binding.specs.Known.{times}
+use Rattle.md_inst.specs.Instantiation.{times}
 use Rattle.md_modes.specs.Tally.{Adds, AreCounts}
 
 times_cond : (b : Bool) (m n : ℕ) → cond b (suc (m + n)) (m + n) ≡ cond b (suc m) m + n

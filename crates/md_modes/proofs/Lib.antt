@@ -10,7 +10,7 @@ pub mod GoalLemmas
 pub mod Choices
 pub mod NoteLemmas
 pub mod Notings
-pub mod KnownLemmas
+pub mod InstantiationLemmas
 pub mod Leaving
 pub mod Frames
 pub mod Views

@@ -3,42 +3,42 @@ use Rattle.std.proofs.Common.{◌≡◌, refl, sym, ap, ◌∙◌, subst, arith,
 use Rattle.std.specs.declared.alloc.Global.{Global}
 use Rattle.md_hlds.specs.declared.goal.Goal.{Goal}
 use Rattle.md_hlds.specs.declared.goal.GoalKind.{GoalKind, Conj, Disj, If, Some}
-use Rattle.md_hlds.specs.Part.{gathered, part_of, parts_of, task_of}
-use Rattle.md_hlds.proofs.Bridge.{task_of-Conj, task_of-Disj}
+use Rattle.md_hlds.specs.HldsGoal.{gathered, goal_of, goals_of, expr_of}
+use Rattle.md_hlds.proofs.Bridge.{expr_of-Conj, expr_of-Disj}
 use Rattle.md_modes.specs.Branches.{some_of}
-use Rattle.md_modes.specs.Goals.{variables, task_variables, parts_variables}
+use Rattle.md_modes.specs.Goals.{variables, expr_variables, parts_variables}
 use Rattle.std.proofs.lemmas.Bool.{le-ltb}
 
 -- the variables of these goals
 abbrev pub goals_variables : List Goal → List ℕ
-goals_variables gs = parts_variables (gathered (parts_of gs))
+goals_variables gs = parts_variables (gathered (goals_of gs))
 
-pub goals_variables-Conj : (k : GoalKind) (v : Vec Goal Global) → k ≡ Conj v → task_variables (task_of k) ≡ goals_variables v.items
-goals_variables-Conj k v e = ap (λ j. task_variables (task_of j)) e ∙ ap task_variables (task_of-Conj v)
+pub goals_variables-Conj : (k : GoalKind) (v : Vec Goal Global) → k ≡ Conj v → expr_variables (expr_of k) ≡ goals_variables v.items
+goals_variables-Conj k v e = ap (λ j. expr_variables (expr_of j)) e ∙ ap expr_variables (expr_of-Conj v)
 
-pub goals_variables-Disj : (k : GoalKind) (v : Vec Goal Global) → k ≡ Disj v → task_variables (task_of k) ≡ goals_variables v.items
-goals_variables-Disj k v e = ap (λ j. task_variables (task_of j)) e ∙ ap task_variables (task_of-Disj v)
+pub goals_variables-Disj : (k : GoalKind) (v : Vec Goal Global) → k ≡ Disj v → expr_variables (expr_of k) ≡ goals_variables v.items
+goals_variables-Disj k v e = ap (λ j. expr_variables (expr_of j)) e ∙ ap expr_variables (expr_of-Disj v)
 
 pub variables-If : (k : GoalKind) (c t e : Box Goal Global) (g h j : Goal) → k ≡ If c t e → g ≡ c.value → h ≡ t.value → j ≡ e.value
-    → task_variables (task_of k) ≡ variables (part_of g) ++ (variables (part_of h) ++ variables (part_of j))
-variables-If k c t e g h j is gs hs js = ap (λ j. task_variables (task_of j)) is ∙ rw (gs, hs, js) refl
+    → expr_variables (expr_of k) ≡ variables (goal_of g) ++ (variables (goal_of h) ++ variables (goal_of j))
+variables-If k c t e g h j is gs hs js = ap (λ j. expr_variables (expr_of j)) is ∙ rw (gs, hs, js) refl
 
 pub some_variables : (k : GoalKind) (vs : List ℕ) (c : Box Goal Global) (g : Goal) → k ≡ Some vs c → g ≡ c.value
-    → task_variables (task_of k) ≡ vs ++ variables (part_of g)
-some_variables k vs c g is gs = ap (λ j. task_variables (task_of j)) is ∙ rw gs refl
+    → expr_variables (expr_of k) ≡ vs ++ variables (goal_of g)
+some_variables k vs c g is gs = ap (λ j. expr_variables (expr_of j)) is ∙ rw gs refl
 
 pub goals_variables-more : (gs : List Goal) (i : ℕ) (g : Goal) → i < length gs → g ≡ get_or gs i g
-    → goals_variables (drop i gs) ≡ variables (part_of g) ++ goals_variables (drop (suc i) gs)
+    → goals_variables (drop i gs) ≡ variables (goal_of g) ++ goals_variables (drop (suc i) gs)
 goals_variables-more [] i g lt is = absurd (omega (arith, lt))
 goals_variables-more (h ∷ gs) zero g lt is = rw is refl
 goals_variables-more (h ∷ gs) (suc i) g lt is = goals_variables-more gs i g (omega (arith, lt)) is
 
 -- one goal more is listed
 pub listed-loop : (now new whole : List ℕ) (gs : List Goal) (i : ℕ) (g : Goal) → i < length gs → g ≡ get_or gs i g
-    → new ≡ now ++ variables (part_of g) → now ++ goals_variables (drop i gs) ≡ whole → new ++ goals_variables (drop (i + 1) gs) ≡ whole
+    → new ≡ now ++ variables (goal_of g) → now ++ goals_variables (drop i gs) ≡ whole → new ++ goals_variables (drop (i + 1) gs) ≡ whole
 listed-loop now new whole gs i g lt is more so_far =
     rw (more, add-one)
-    (append_assoc now (variables (part_of g)) (goals_variables (drop (suc i) gs)) ∙ (ap (λ xs. now ++ xs) (sym (goals_variables-more gs i g lt is)) ∙ so_far))
+    (append_assoc now (variables (goal_of g)) (goals_variables (drop (suc i) gs)) ∙ (ap (λ xs. now ++ xs) (sym (goals_variables-more gs i g lt is)) ∙ so_far))
 
 drop-end : (gs : List Goal) (i : ℕ) → length gs ≡ i → drop i gs ≡ []
 drop-end [] zero e = refl

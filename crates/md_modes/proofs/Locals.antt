@@ -9,7 +9,7 @@ use Rattle.std.proofs.lemmas.Bool.{cases_eq, cases_lt, eq-eqb, eqb-true, lt-ltb}
 use Rattle.std.proofs.lemmas.List.{length-set}
 use Rattle.std.proofs.lemmas.List.Sums.{sum_by-cons}
 use Rattle.std.proofs.lemmas.List.Sorted.{sum_by-IsPermutation, searched}
-use Rattle.md_binding.specs.Known.{times}
+use Rattle.md_inst.specs.Instantiation.{times}
 use Rattle.md_modes.specs.declared.local.Local.{Local}
 use Rattle.md_modes.specs.Views.{Rising}
 use Rattle.md_modes.specs.Tally.{IsLocal, IsNoLess, ends_with, count_last}

@@ -7,41 +7,41 @@ use Rattle.md_hlds.specs.declared.types.Det.{Det}
 use Rattle.md_hlds.specs.declared.types.HoTy.{HoTy}
 use Rattle.md_hlds.specs.declared.types.Mode.{Mode}
 use Rattle.md_hlds.specs.declared.types.Ty.{Ty, Ho}
-use Rattle.md_hlds.specs.Part.{Part, gathered, part_of, parts_of, task_of}
-use Rattle.md_hlds.specs.Listing.{Sort, closure, gathered_sorts, sort_of, sorts_of, args_of}
-use Rattle.md_hlds.proofs.Bridge.{task_of-Conj, task_of-Disj, sort_of-Ho}
+use Rattle.md_hlds.specs.HldsGoal.{HldsGoal, gathered, goal_of, goals_of, expr_of}
+use Rattle.md_hlds.specs.Hlds.{HldsType, closure, gathered_types, hlds_type_of, hlds_types_of, args_of}
+use Rattle.md_hlds.proofs.Bridge.{expr_of-Conj, expr_of-Disj, hlds_type_of-Ho}
 use Rattle.md_modes.specs.declared.class.Class.TheVariants as class
 use Rattle.md_modes.specs.declared.class.Note as code
-use Rattle.md_binding.specs.declared.kind.Kind.{Kind}
-use Rattle.md_binding.specs.declared.kind.Kind.TheVariants.{Closure, Open}
-use Rattle.md_binding.specs.declared.fault.ModeFault.{ModeFault}
-use Rattle.md_binding.specs.Known.{Knowledge}
-use Rattle.md_binding.specs.Kinds.{kind_sort}
-use Rattle.md_binding.specs.Simple.{types_of, modes_of}
+use Rattle.md_inst.specs.declared.kind.Kind.{Kind}
+use Rattle.md_inst.specs.declared.kind.Kind.TheVariants.{Closure, Open}
+use Rattle.md_inst.specs.declared.fault.ModeFault.{ModeFault}
+use Rattle.md_inst.specs.Instantiation.{InstMap}
+use Rattle.md_inst.specs.Kinds.{kind_sort}
+use Rattle.md_inst.specs.Simple.{types_of, modes_of}
 use Rattle.md_modes.specs.Branches.{After}
 use Rattle.md_modes.specs.Goals.{Scope, within, goal}
 use Rattle.md_modes.specs.Notes.{Note, applies, role_of_sort, known_after, notes, inner_notes, each_notes, arm_notes}
 use Rattle.md_modes.specs.Classes.{class_told, note_told, notes_told}
 
-pub sorts_of-append : (ts us : List Ty) → sorts_of (ts ++ us) ≡ sorts_of ts ++ sorts_of us
-sorts_of-append [] us = refl
-sorts_of-append (t ∷ ts) us = ap (λ xs. sort_of t ∷ xs) (sorts_of-append ts us)
+pub hlds_types_of-append : (ts us : List Ty) → hlds_types_of (ts ++ us) ≡ hlds_types_of ts ++ hlds_types_of us
+hlds_types_of-append [] us = refl
+hlds_types_of-append (t ∷ ts) us = ap (λ xs. hlds_type_of t ∷ xs) (hlds_types_of-append ts us)
 
 pub notes_told-append : (ns ms : List code.Note) → notes_told (ns ++ ms) ≡ notes_told ns ++ notes_told ms
 notes_told-append [] ms = refl
 notes_told-append (n ∷ ns) ms = ap (λ xs. note_told n ∷ xs) (notes_told-append ns ms)
 
 -- the notes within a conjunction, and within a disjunction
-pub each_notes_is : (c : Scope) (k : GoalKind) (v : Vec Goal Global) (s : Knowledge) → k ≡ Conj v → inner_notes c (task_of k) s ≡ each_notes c (gathered (parts_of v.items)) s
-each_notes_is c k v s is = ap (λ j. inner_notes c (task_of j) s) is ∙ ap (λ t. inner_notes c t s) (task_of-Conj v)
+pub each_notes_is : (c : Scope) (k : GoalKind) (v : Vec Goal Global) (s : InstMap) → k ≡ Conj v → inner_notes c (expr_of k) s ≡ each_notes c (gathered (goals_of v.items)) s
+each_notes_is c k v s is = ap (λ j. inner_notes c (expr_of j) s) is ∙ ap (λ t. inner_notes c t s) (expr_of-Conj v)
 
-pub arm_notes_is : (c : Scope) (k : GoalKind) (v : Vec Goal Global) (s : Knowledge) → k ≡ Disj v → inner_notes c (task_of k) s ≡ arm_notes c (gathered (parts_of v.items)) s
-arm_notes_is c k v s is = ap (λ j. inner_notes c (task_of j) s) is ∙ ap (λ t. inner_notes c t s) (task_of-Disj v)
+pub arm_notes_is : (c : Scope) (k : GoalKind) (v : Vec Goal Global) (s : InstMap) → k ≡ Disj v → inner_notes c (expr_of k) s ≡ arm_notes c (gathered (goals_of v.items)) s
+arm_notes_is c k v s is = ap (λ j. inner_notes c (expr_of j) s) is ∙ ap (λ t. inner_notes c t s) (expr_of-Disj v)
 
-pub choice_notes_is : (c : Scope) (k : GoalKind) (p t e : Box Goal Global) (g h j : Goal) (s : Knowledge) → k ≡ If p t e → g ≡ p.value → h ≡ t.value → j ≡ e.value
-    → inner_notes c (task_of k) s
-    ≡ notes (within c) (part_of g) s ++ (notes c (part_of h) (known_after s (goal (within c) (part_of g) s)) ++ notes c (part_of j) s)
-choice_notes_is c k p t e g h j s is gs hs js = ap (λ i. inner_notes c (task_of i) s) is ∙ rw (gs, hs, js) refl
+pub choice_notes_is : (c : Scope) (k : GoalKind) (p t e : Box Goal Global) (g h j : Goal) (s : InstMap) → k ≡ If p t e → g ≡ p.value → h ≡ t.value → j ≡ e.value
+    → inner_notes c (expr_of k) s
+    ≡ notes (within c) (goal_of g) s ++ (notes c (goal_of h) (known_after s (goal (within c) (goal_of g) s)) ++ notes c (goal_of j) s)
+choice_notes_is c k p t e g h j s is gs hs js = ap (λ i. inner_notes c (expr_of i) s) is ∙ rw (gs, hs, js) refl
 
 pub always : {A : Type 0} (r : Result Bool ModeFault) → A → IfOk r (λ reach. A)
 always (Ok reach) a = a
@@ -51,84 +51,84 @@ pub notes_along : (r : Result Bool ModeFault) (a b xs ys : List Note) → xs ≡
 notes_along r a b xs ys e h = subst (λ (zs : List Note). IfOk r (λ reach. b ≡ a ++ zs)) (sym e) h
 
 -- one goal more, of those that are left
-pub each_notes-more : (c : Scope) (gs : List Goal) (i : ℕ) (g : Goal) (s : Knowledge) → i < length gs → g ≡ get_or gs i g
-    → each_notes c (gathered (parts_of (drop i gs))) s
-    ≡ notes c (part_of g) s ++ each_notes c (gathered (parts_of (drop (suc i) gs))) (known_after s (goal c (part_of g) s))
+pub each_notes-more : (c : Scope) (gs : List Goal) (i : ℕ) (g : Goal) (s : InstMap) → i < length gs → g ≡ get_or gs i g
+    → each_notes c (gathered (goals_of (drop i gs))) s
+    ≡ notes c (goal_of g) s ++ each_notes c (gathered (goals_of (drop (suc i) gs))) (known_after s (goal c (goal_of g) s))
 each_notes-more c [] i g s lt is = absurd (omega (arith, lt))
 each_notes-more c (k ∷ gs) zero g s lt is = rw is refl
 each_notes-more c (k ∷ gs) (suc i) g s lt is = each_notes-more c gs i g s (omega (arith, lt)) is
 
-pub arm_notes-more : (c : Scope) (gs : List Goal) (i : ℕ) (g : Goal) (s : Knowledge) → i < length gs → g ≡ get_or gs i g
-    → arm_notes c (gathered (parts_of (drop i gs))) s ≡ notes c (part_of g) s ++ arm_notes c (gathered (parts_of (drop (suc i) gs))) s
+pub arm_notes-more : (c : Scope) (gs : List Goal) (i : ℕ) (g : Goal) (s : InstMap) → i < length gs → g ≡ get_or gs i g
+    → arm_notes c (gathered (goals_of (drop i gs))) s ≡ notes c (goal_of g) s ++ arm_notes c (gathered (goals_of (drop (suc i) gs))) s
 arm_notes-more c [] i g s lt is = absurd (omega (arith, lt))
 arm_notes-more c (k ∷ gs) zero g s lt is = rw is refl
 arm_notes-more c (k ∷ gs) (suc i) g s lt is = arm_notes-more c gs i g s (omega (arith, lt)) is
 
 -- ---- types of closures
 
-ho_sort : (a : HoTy) (ts : List Sort) (ms : List Mode) (d : Det) → sorts_of a.types.items ≡ ts → a.modes.items ≡ ms → a.det ≡ d → sort_of (Ho a) ≡ closure (gathered_sorts ts) ms d
-ho_sort a ts ms d types modes det = sort_of-Ho a ∙ rw (types, modes, det) refl
+ho_sort : (a : HoTy) (ts : List HldsType) (ms : List Mode) (d : Det) → hlds_types_of a.types.items ≡ ts → a.modes.items ≡ ms → a.det ≡ d → hlds_type_of (Ho a) ≡ closure (gathered_types ts) ms d
+ho_sort a ts ms d types modes det = hlds_type_of-Ho a ∙ rw (types, modes, det) refl
 
-pub ho_same : (a b : HoTy) (t : Ty) → t ≡ Ho b → sorts_of a.types.items ≡ sorts_of b.types.items → a.modes.items ≡ b.modes.items → a.det ≡ b.det → sort_of (Ho a) ≡ sort_of t
-ho_same a b t is types modes det = ho_sort a (sorts_of b.types.items) b.modes.items b.det types modes det ∙ (sym (sort_of-Ho b) ∙ ap sort_of (sym is))
+pub ho_same : (a b : HoTy) (t : Ty) → t ≡ Ho b → hlds_types_of a.types.items ≡ hlds_types_of b.types.items → a.modes.items ≡ b.modes.items → a.det ≡ b.det → hlds_type_of (Ho a) ≡ hlds_type_of t
+ho_same a b t is types modes det = ho_sort a (hlds_types_of b.types.items) b.modes.items b.det types modes det ∙ (sym (hlds_type_of-Ho b) ∙ ap hlds_type_of (sym is))
 
-pub class_closure : (h : HoTy) (k : Kind) (b : Bor HoTy) → k ≡ Closure b → sorts_of h.types.items ≡ sorts_of b.now.types.items → h.modes.items ≡ b.now.modes.items → h.det ≡ b.now.det
+pub class_closure : (h : HoTy) (k : Kind) (b : Bor HoTy) → k ≡ Closure b → hlds_types_of h.types.items ≡ hlds_types_of b.now.types.items → h.modes.items ≡ b.now.modes.items → h.det ≡ b.now.det
     → class_told (Some (class.Closure h)) ≡ role_of_sort (kind_sort k)
 class_closure h k b is types modes det =
-    ap (λ (t : Sort). Some (applies t)) (ho_sort h (sorts_of b.now.types.items) b.now.modes.items b.now.det types modes det) ∙ ap (λ (x : Kind). role_of_sort (kind_sort x)) (sym is)
+    ap (λ (t : HldsType). Some (applies t)) (ho_sort h (hlds_types_of b.now.types.items) b.now.modes.items b.now.det types modes det) ∙ ap (λ (x : Kind). role_of_sort (kind_sort x)) (sym is)
 
-pub class_open : (h : HoTy) (k : Kind) (args : Bor (List (Ty × Mode))) (d : Det) → k ≡ Open args d → sorts_of h.types.items ≡ types_of (args_of args.now)
+pub class_open : (h : HoTy) (k : Kind) (args : Bor (List (Ty × Mode))) (d : Det) → k ≡ Open args d → hlds_types_of h.types.items ≡ types_of (args_of args.now)
     → h.modes.items ≡ modes_of (args_of args.now) → h.det ≡ d → class_told (Some (class.Closure h)) ≡ role_of_sort (kind_sort k)
 class_open h k args d is types modes det =
-    ap (λ (t : Sort). Some (applies t)) (ho_sort h (types_of (args_of args.now)) (modes_of (args_of args.now)) d types modes det) ∙ ap (λ (x : Kind). role_of_sort (kind_sort x)) (sym is)
+    ap (λ (t : HldsType). Some (applies t)) (ho_sort h (types_of (args_of args.now)) (modes_of (args_of args.now)) d types modes det) ∙ ap (λ (x : Kind). role_of_sort (kind_sort x)) (sym is)
 
-sorts-step : (ts : List Ty) (i : ℕ) (t : Ty) → i < length ts → t ≡ get_or ts i t → sorts_of (drop i ts) ≡ sort_of t ∷ sorts_of (drop (suc i) ts)
+sorts-step : (ts : List Ty) (i : ℕ) (t : Ty) → i < length ts → t ≡ get_or ts i t → hlds_types_of (drop i ts) ≡ hlds_type_of t ∷ hlds_types_of (drop (suc i) ts)
 sorts-step [] i t lt is = absurd (omega (arith, lt))
 sorts-step (u ∷ ts) zero t lt is = rw is refl
 sorts-step (u ∷ ts) (suc i) t lt is = sorts-step ts i t (omega (arith, lt)) is
 
-pub copied-more : (cs more ts : List Ty) (i : ℕ) (t u : Ty) (whole : List Sort) → i < length ts → t ≡ get_or ts i t → more ≡ cs ++ u ∷ [] → sort_of u ≡ sort_of t
-    → sorts_of cs ++ sorts_of (drop i ts) ≡ whole → sorts_of more ++ sorts_of (drop (i + 1) ts) ≡ whole
+pub copied-more : (cs more ts : List Ty) (i : ℕ) (t u : Ty) (whole : List HldsType) → i < length ts → t ≡ get_or ts i t → more ≡ cs ++ u ∷ [] → hlds_type_of u ≡ hlds_type_of t
+    → hlds_types_of cs ++ hlds_types_of (drop i ts) ≡ whole → hlds_types_of more ++ hlds_types_of (drop (i + 1) ts) ≡ whole
 copied-more cs more ts i t u whole lt is is_more same so_far =
     rw (is_more, add-one)
-    (ap (λ xs. xs ++ sorts_of (drop (suc i) ts)) (sorts_of-append cs (u ∷ []))
-    ∙ (append_assoc (sorts_of cs) (sort_of u ∷ []) (sorts_of (drop (suc i) ts))
-    ∙ (ap (λ (x : Sort). sorts_of cs ++ x ∷ sorts_of (drop (suc i) ts)) same
-    ∙ (ap (λ xs. sorts_of cs ++ xs) (sym (sorts-step ts i t lt is)) ∙ so_far))))
+    (ap (λ xs. xs ++ hlds_types_of (drop (suc i) ts)) (hlds_types_of-append cs (u ∷ []))
+    ∙ (append_assoc (hlds_types_of cs) (hlds_type_of u ∷ []) (hlds_types_of (drop (suc i) ts))
+    ∙ (ap (λ (x : HldsType). hlds_types_of cs ++ x ∷ hlds_types_of (drop (suc i) ts)) same
+    ∙ (ap (λ xs. hlds_types_of cs ++ xs) (sym (sorts-step ts i t lt is)) ∙ so_far))))
 
 args-step : (args : List (Ty × Mode)) (i : ℕ) (a : Ty × Mode) → i < length args → a ≡ get_or args i a
-    → types_of (args_of (drop i args)) ≡ sort_of a.0 ∷ types_of (args_of (drop (suc i) args))
+    → types_of (args_of (drop i args)) ≡ hlds_type_of a.0 ∷ types_of (args_of (drop (suc i) args))
 args-step [] i a lt is = absurd (omega (arith, lt))
 args-step (b ∷ args) zero a lt is = rw is refl
 args-step (b ∷ args) (suc i) a lt is = args-step args i a (omega (arith, lt)) is
 
-pub opened-more : (cs more : List Ty) (args : List (Ty × Mode)) (i : ℕ) (a : Ty × Mode) (u : Ty) (whole : List Sort) → i < length args → a ≡ get_or args i a
-    → more ≡ cs ++ u ∷ [] → sort_of u ≡ sort_of a.0
-    → sorts_of cs ++ types_of (args_of (drop i args)) ≡ whole → sorts_of more ++ types_of (args_of (drop (i + 1) args)) ≡ whole
+pub opened-more : (cs more : List Ty) (args : List (Ty × Mode)) (i : ℕ) (a : Ty × Mode) (u : Ty) (whole : List HldsType) → i < length args → a ≡ get_or args i a
+    → more ≡ cs ++ u ∷ [] → hlds_type_of u ≡ hlds_type_of a.0
+    → hlds_types_of cs ++ types_of (args_of (drop i args)) ≡ whole → hlds_types_of more ++ types_of (args_of (drop (i + 1) args)) ≡ whole
 opened-more cs more args i a u whole lt is is_more same so_far =
     rw (is_more, add-one)
-    (ap (λ xs. xs ++ types_of (args_of (drop (suc i) args))) (sorts_of-append cs (u ∷ []))
-    ∙ (append_assoc (sorts_of cs) (sort_of u ∷ []) (types_of (args_of (drop (suc i) args)))
-    ∙ (ap (λ (x : Sort). sorts_of cs ++ x ∷ types_of (args_of (drop (suc i) args))) same
-    ∙ (ap (λ xs. sorts_of cs ++ xs) (sym (args-step args i a lt is)) ∙ so_far))))
+    (ap (λ xs. xs ++ types_of (args_of (drop (suc i) args))) (hlds_types_of-append cs (u ∷ []))
+    ∙ (append_assoc (hlds_types_of cs) (hlds_type_of u ∷ []) (types_of (args_of (drop (suc i) args)))
+    ∙ (ap (λ (x : HldsType). hlds_types_of cs ++ x ∷ types_of (args_of (drop (suc i) args))) same
+    ∙ (ap (λ xs. hlds_types_of cs ++ xs) (sym (args-step args i a lt is)) ∙ so_far))))
 
 -- ---- loops over goals
 
-pub each-loop : (c : Scope) (gs : List Goal) (i : ℕ) (g : Goal) (s : Knowledge) (a : After) (old new whole : List Note) → i < length gs → g ≡ get_or gs i g
-    → new ≡ old ++ notes c (part_of g) s → goal c (part_of g) s ≡ Ok a → old ++ each_notes c (gathered (parts_of (drop i gs))) s ≡ whole
-    → new ++ each_notes c (gathered (parts_of (drop (i + 1) gs))) a.known ≡ whole
+pub each-loop : (c : Scope) (gs : List Goal) (i : ℕ) (g : Goal) (s : InstMap) (a : After) (old new whole : List Note) → i < length gs → g ≡ get_or gs i g
+    → new ≡ old ++ notes c (goal_of g) s → goal c (goal_of g) s ≡ Ok a → old ++ each_notes c (gathered (goals_of (drop i gs))) s ≡ whole
+    → new ++ each_notes c (gathered (goals_of (drop (i + 1) gs))) a.known ≡ whole
 each-loop c gs i g s a old new whole lt is is_new is_a so_far =
-    let known : known_after s (goal c (part_of g) s) ≡ a.known = rw is_a refl in
+    let known : known_after s (goal c (goal_of g) s) ≡ a.known = rw is_a refl in
     rw (is_new, add-one, ← known)
-    (append_assoc old (notes c (part_of g) s) (each_notes c (gathered (parts_of (drop (suc i) gs))) (known_after s (goal c (part_of g) s)))
+    (append_assoc old (notes c (goal_of g) s) (each_notes c (gathered (goals_of (drop (suc i) gs))) (known_after s (goal c (goal_of g) s)))
     ∙ (ap (λ ns. old ++ ns) (sym (each_notes-more c gs i g s lt is)) ∙ so_far))
 
-pub arms-loop : (c : Scope) (gs : List Goal) (i : ℕ) (g : Goal) (s : Knowledge) (old new whole : List Note) → i < length gs → g ≡ get_or gs i g
-    → new ≡ old ++ notes c (part_of g) s → old ++ arm_notes c (gathered (parts_of (drop i gs))) s ≡ whole
-    → new ++ arm_notes c (gathered (parts_of (drop (i + 1) gs))) s ≡ whole
+pub arms-loop : (c : Scope) (gs : List Goal) (i : ℕ) (g : Goal) (s : InstMap) (old new whole : List Note) → i < length gs → g ≡ get_or gs i g
+    → new ≡ old ++ notes c (goal_of g) s → old ++ arm_notes c (gathered (goals_of (drop i gs))) s ≡ whole
+    → new ++ arm_notes c (gathered (goals_of (drop (i + 1) gs))) s ≡ whole
 arms-loop c gs i g s old new whole lt is is_new so_far =
     rw (is_new, add-one)
-    (append_assoc old (notes c (part_of g) s) (arm_notes c (gathered (parts_of (drop (suc i) gs))) s)
+    (append_assoc old (notes c (goal_of g) s) (arm_notes c (gathered (goals_of (drop (suc i) gs))) s)
     ∙ (ap (λ ns. old ++ ns) (sym (arm_notes-more c gs i g s lt is)) ∙ so_far))
 
 none_left : (gs : List Goal) (i : ℕ) → length gs ≡ i → drop i gs ≡ []
@@ -137,14 +137,14 @@ none_left [] (suc i) e = refl
 none_left (g ∷ gs) zero e = absurd (omega (arith, e))
 none_left (g ∷ gs) (suc i) e = none_left gs i (omega (arith, e))
 
-pub each-loop-end : (c : Scope) (gs : List Goal) (i : ℕ) (s : Knowledge) (now whole : List Note) → length gs ≡ i → now ++ each_notes c (gathered (parts_of (drop i gs))) s ≡ whole → now ≡ whole
-each-loop-end c gs i s now whole e so_far = sym (append-nil now) ∙ rw (← ap (λ hs. each_notes c (gathered (parts_of hs)) s) (none_left gs i e)) so_far
+pub each-loop-end : (c : Scope) (gs : List Goal) (i : ℕ) (s : InstMap) (now whole : List Note) → length gs ≡ i → now ++ each_notes c (gathered (goals_of (drop i gs))) s ≡ whole → now ≡ whole
+each-loop-end c gs i s now whole e so_far = sym (append-nil now) ∙ rw (← ap (λ hs. each_notes c (gathered (goals_of hs)) s) (none_left gs i e)) so_far
 
-pub arms-loop-end : (c : Scope) (gs : List Goal) (i : ℕ) (s : Knowledge) (now whole : List Note) → length gs ≡ i → now ++ arm_notes c (gathered (parts_of (drop i gs))) s ≡ whole → now ≡ whole
-arms-loop-end c gs i s now whole e so_far = sym (append-nil now) ∙ rw (← ap (λ hs. arm_notes c (gathered (parts_of hs)) s) (none_left gs i e)) so_far
+pub arms-loop-end : (c : Scope) (gs : List Goal) (i : ℕ) (s : InstMap) (now whole : List Note) → length gs ≡ i → now ++ arm_notes c (gathered (goals_of (drop i gs))) s ≡ whole → now ≡ whole
+arms-loop-end c gs i s now whole e so_far = sym (append-nil now) ∙ rw (← ap (λ hs. arm_notes c (gathered (goals_of hs)) s) (none_left gs i e)) so_far
 
 -- the notes of the parts of an if-then-else, one after the other
-pub choice_notes : (c d : Scope) (p t e : Part) (s : Knowledge) (a : After) (old first second third : List Note)
+pub choice_notes : (c d : Scope) (p t e : HldsGoal) (s : InstMap) (a : After) (old first second third : List Note)
     → goal d p s ≡ Ok a → first ≡ old ++ notes d p s → second ≡ first ++ notes c t a.known → third ≡ second ++ notes c e s
     → third ≡ old ++ (notes d p s ++ (notes c t (known_after s (goal d p s)) ++ notes c e s))
 choice_notes c d p t e s a old first second third is f g h =

@@ -2,15 +2,15 @@
 use Rattle.std.proofs.Common.{◌≡◌, ◌≢◌, refl, sym, ap, ◌∙◌, subst, arith, append_assoc, append-nil, add-one, ℕ, zero, suc, ◌+◌, ◌<◌, ◌≤◌, Bool, true, false, cond, ◌||◌, ◌&&◌, List, [], ◌∷◌, ◌++◌, length, take, drop, get_or, slice_index, inl, inr, ◌⊎◌}
 use Rattle.std.proofs.lemmas.Bool.{cases_eq, cases_lt}
 use Rattle.md_modes.specs.declared.joined.Shared.{Shared}
-use Rattle.md_binding.specs.Known.{Known, free, has, Knowledge, known_at, put, is_bound, is_newly_bound, times}
+use Rattle.md_inst.specs.Instantiation.{Instantiation, free, has, InstMap, known_at, put, is_bound, is_newly_bound, times}
 use Rattle.md_modes.specs.Branches.{some_of}
 use Rattle.md_modes.specs.Shares.{unsettled, numbers, common_at, commons, compared, kept, begun, gained, some_clash}
 use Rattle.md_modes.specs.Views.{seen}
 use Rattle.md_modes.proofs.Counts.{times-append}
-use Rattle.md_binding.specs.Common.{common}
+use Rattle.md_inst.specs.Common.{common}
 use Rattle.md_modes.specs.declared.end.End.{End}
 use Rattle.md_modes.specs.Joins.{IsSettled, end_of}
-use Rattle.md_modes.proofs.KnownLemmas.{known_at-outside, known_at-put, known_at-put_other}
+use Rattle.md_modes.proofs.InstantiationLemmas.{known_at-outside, known_at-put, known_at-put_other}
 use Rattle.md_modes.proofs.Locals.{take-more, times_self, times_other}
 use Rattle.md_modes.proofs.Views.{length-seen}
 
@@ -31,17 +31,17 @@ begun-here : (b : Bool) (e : Shared) (es : List Shared) → cond b (e ∷ es) es
 begun-here true e es = refl
 begun-here false e es = refl
 
-unsettled_past : (b : Known) → unsettled b free ≡ false
+unsettled_past : (b : Instantiation) → unsettled b free ≡ false
 unsettled_past free = refl
 unsettled_past (has t used) = refl
 
-begun-unbound : (n i : ℕ) (r : Knowledge) → i < length r
+begun-unbound : (n i : ℕ) (r : InstMap) → i < length r
     → begun n [] (drop i r) ≡ cond (unsettled free (known_at r i)) (record { number = n; unlike = false } ∷ []) [] ++ begun (suc n) [] (drop (suc i) r)
 begun-unbound n i [] lt = absurd (omega (arith, lt))
 begun-unbound n zero (k ∷ r) lt = begun-here (unsettled free k) (record { number = n; unlike = false }) (begun (suc n) [] r)
 begun-unbound n (suc i) (k ∷ r) lt = begun-unbound n i r (omega (arith, lt))
 
-begun-more : (n i : ℕ) (s r : Knowledge) → i < length r
+begun-more : (n i : ℕ) (s r : InstMap) → i < length r
     → begun n (drop i s) (drop i r) ≡ cond (unsettled (known_at s i) (known_at r i)) (record { number = n; unlike = false } ∷ []) [] ++ begun (suc n) (drop (suc i) s) (drop (suc i) r)
 begun-more n i s [] lt = absurd (omega (arith, lt))
 begun-more n zero [] (k ∷ r) lt = begun-here (unsettled free k) (record { number = n; unlike = false }) (begun (suc n) [] r)
@@ -49,7 +49,7 @@ begun-more n zero (b ∷ s) (k ∷ r) lt = begun-here (unsettled b k) (record { 
 begun-more n (suc i) [] (k ∷ r) lt = begun-unbound n i r (omega (arith, lt))
 begun-more n (suc i) (b ∷ s) (k ∷ r) lt = begun-more n i s r (omega (arith, lt))
 
-pub begun-loop : (now more whole : List Shared) (s r : Knowledge) (i : ℕ) → i < length r
+pub begun-loop : (now more whole : List Shared) (s r : InstMap) (i : ℕ) → i < length r
     → more ≡ now ++ cond (unsettled (known_at s i) (known_at r i)) (record { number = i; unlike = false } ∷ []) []
     → now ++ begun i (drop i s) (drop i r) ≡ whole → more ++ begun (i + 1) (drop (i + 1) s) (drop (i + 1) r) ≡ whole
 begun-loop now more whole s r i lt is so_far =
@@ -57,22 +57,22 @@ begun-loop now more whole s r i lt is so_far =
     (append_assoc now (cond (unsettled (known_at s i) (known_at r i)) (record { number = i; unlike = false } ∷ []) []) (begun (suc i) (drop (suc i) s) (drop (suc i) r))
     ∙ (ap (λ es. now ++ es) (sym (begun-more i i s r lt)) ∙ so_far))
 
-begun-none : (n : ℕ) (s : Knowledge) → begun n s [] ≡ []
+begun-none : (n : ℕ) (s : InstMap) → begun n s [] ≡ []
 begun-none n s = refl
 
-pub begun-end : (now whole : List Shared) (s r : Knowledge) (i : ℕ) → length r ≤ i → now ++ begun i (drop i s) (drop i r) ≡ whole → now ≡ whole
+pub begun-end : (now whole : List Shared) (s r : InstMap) (i : ℕ) → length r ≤ i → now ++ begun i (drop i s) (drop i r) ≡ whole → now ≡ whole
 begun-end now whole s r i le so_far = sym (append-nil now) ∙ (sym (ap (λ ks. now ++ begun i (drop i s) ks) (none_left r i le)) ∙ so_far)
 
 -- ---- those that one arm more binds too
 
-pub commons-loop : (c d q whole : Knowledge) (es : List Shared) (i : ℕ) (e : Shared) → i < length es → e ≡ get_or es i e → d ≡ put c e.number (common_at c q e.number)
+pub commons-loop : (c d q whole : InstMap) (es : List Shared) (i : ℕ) (e : Shared) → i < length es → e ≡ get_or es i e → d ≡ put c e.number (common_at c q e.number)
     → commons c q (drop i es) ≡ whole → commons d q (drop (i + 1) es) ≡ whole
 commons-loop c d q whole es i e lt is is_d so_far = rw (is_d, add-one) (sym (ap (commons c q) (next es i e lt is)) ∙ so_far)
 
-pub commons-end : (c q whole : Knowledge) (es : List Shared) (i : ℕ) → length es ≤ i → commons c q (drop i es) ≡ whole → c ≡ whole
+pub commons-end : (c q whole : InstMap) (es : List Shared) (i : ℕ) → length es ≤ i → commons c q (drop i es) ≡ whole → c ≡ whole
 commons-end c q whole es i le so_far = sym (ap (commons c q) (none_left es i le)) ∙ so_far
 
-pub kept-loop : (r c d q : Knowledge) (now more whole es : List Shared) (i : ℕ) (e : Shared) → i < length es → e ≡ get_or es i e → d ≡ put c e.number (common_at c q e.number)
+pub kept-loop : (r c d q : InstMap) (now more whole es : List Shared) (i : ℕ) (e : Shared) → i < length es → e ≡ get_or es i e → d ≡ put c e.number (common_at c q e.number)
     → more ≡ now ++ cond (is_bound (common_at c q e.number)) (compared r q e ∷ []) []
     → now ++ kept r c q (drop i es) ≡ whole → more ++ kept r d q (drop (i + 1) es) ≡ whole
 kept-loop r c d q now more whole es i e lt is is_d is_more so_far =
@@ -81,7 +81,7 @@ kept-loop r c d q now more whole es i e lt is is_d is_more so_far =
     (append_assoc now (cond (is_bound (common_at c q e.number)) (compared r q e ∷ []) []) rest
     ∙ (ap (λ fs. now ++ fs) (sym (begun-here (is_bound (common_at c q e.number)) (compared r q e) rest) ∙ sym (ap (kept r c q) (next es i e lt is))) ∙ so_far))
 
-pub kept-end : (r c q : Knowledge) (now whole es : List Shared) (i : ℕ) → length es ≤ i → now ++ kept r c q (drop i es) ≡ whole → now ≡ whole
+pub kept-end : (r c q : InstMap) (now whole es : List Shared) (i : ℕ) → length es ≤ i → now ++ kept r c q (drop i es) ≡ whole → now ≡ whole
 kept-end r c q now whole es i le so_far = sym (append-nil now) ∙ (sym (ap (λ fs. now ++ kept r c q fs) (none_left es i le)) ∙ so_far)
 
 -- ---- those that one arm more doesn't bind
@@ -101,19 +101,19 @@ lost-end f es i le so_far = sym (so_far ∙ ap (λ fs. some_of f (numbers fs)) (
 
 -- ---- those that arms bind with different types
 
-pub clash-found : (s c : Knowledge) (es : List Shared) (i : ℕ) (e : Shared) → i < length es → e ≡ get_or es i e
+pub clash-found : (s c : InstMap) (es : List Shared) (i : ℕ) (e : Shared) → i < length es → e ≡ get_or es i e
     → (is_newly_bound (known_at s e.number) (known_at c e.number) && e.unlike) ≡ true
     → some_clash s c es ≡ some_clash s c (drop i es) → true ≡ some_clash s c es
 clash-found s c es i e lt is hit so_far =
     sym (so_far ∙ (ap (some_clash s c) (next es i e lt is) ∙ ap (λ b. b || some_clash s c (drop (suc i) es)) hit))
 
-pub clash-missed : (s c : Knowledge) (es : List Shared) (i : ℕ) (e : Shared) → i < length es → e ≡ get_or es i e
+pub clash-missed : (s c : InstMap) (es : List Shared) (i : ℕ) (e : Shared) → i < length es → e ≡ get_or es i e
     → (is_newly_bound (known_at s e.number) (known_at c e.number) && e.unlike) ≡ false
     → some_clash s c es ≡ some_clash s c (drop i es) → some_clash s c es ≡ some_clash s c (drop (i + 1) es)
 clash-missed s c es i e lt is miss so_far =
     so_far ∙ (ap (some_clash s c) (next es i e lt is) ∙ (ap (λ b. b || some_clash s c (drop (suc i) es)) miss ∙ rw add-one refl))
 
-pub clash-end : (s c : Knowledge) (es : List Shared) (i : ℕ) → length es ≤ i → some_clash s c es ≡ some_clash s c (drop i es) → false ≡ some_clash s c es
+pub clash-end : (s c : InstMap) (es : List Shared) (i : ℕ) → length es ≤ i → some_clash s c es ≡ some_clash s c (drop i es) → false ≡ some_clash s c es
 clash-end s c es i le so_far = sym (so_far ∙ ap (some_clash s c) (none_left es i le))
 
 -- ---- those that one arm more binds and the first doesn't
@@ -125,10 +125,10 @@ and_last true true false d e = absurd (cc)
 and_last true false c d e = absurd (cc)
 and_last false b c d e = absurd (cc)
 
-unbound_past : (xs : List ℕ) (m : Knowledge) (x : ℕ) → length xs ≤ x → is_bound (known_at (seen xs m) x) ≡ false
+unbound_past : (xs : List ℕ) (m : InstMap) (x : ℕ) → length xs ≤ x → is_bound (known_at (seen xs m) x) ≡ false
 unbound_past xs m x le = rw (known_at-outside (seen xs m) x (omega (arith, le, length-seen xs m))) refl
 
-pub gained-inside : (p : ℕ → Bool) (s r m : Knowledge) (xs : List ℕ) (x : ℕ) → gained p s r (seen xs m) x ≡ true → x < length xs
+pub gained-inside : (p : ℕ → Bool) (s r m : InstMap) (xs : List ℕ) (x : ℕ) → gained p s r (seen xs m) x ≡ true → x < length xs
 gained-inside p s r m xs x e = elim (cases_lt x (length xs)) [
   | inl lt ↦ lt
   | inr le ↦
@@ -167,29 +167,29 @@ twice true b = refl
 twice false true = refl
 twice false false = refl
 
-settled_again : (k j : Known) → common (common k j) j ≡ common k j
+settled_again : (k j : Instantiation) → common (common k j) j ≡ common k j
 settled_again free j = refl
 settled_again (has t used) free = refl
 settled_again (has t used) (has u spent) = ap (has t) (twice used spent)
 
-pub settled-none : (e : End) (c : Knowledge) (x : ℕ) → IsSettled e c c [] x
+pub settled-none : (e : End) (c : InstMap) (x : ℕ) → IsSettled e c c [] x
 settled-none e c x = record { here = λ some. absurd (some refl); elsewhere = λ none. refl }
 
 -- what is known after one variable more was compared
-compared_here : (c now q : Knowledge) (x : ℕ) → x < length now → (known_at now x ≡ common_at c q x) ⊎ (known_at now x ≡ known_at c x)
+compared_here : (c now q : InstMap) (x : ℕ) → x < length now → (known_at now x ≡ common_at c q x) ⊎ (known_at now x ≡ known_at c x)
     → known_at (put now x (common_at now q x)) x ≡ common_at c q x
 compared_here c now q x lt h = known_at-put now x (common_at now q x) lt ∙ elim h [
   | inl is ↦ ap (λ k. common k (known_at q x)) is ∙ settled_again (known_at c x) (known_at q x)
   | inr is ↦ ap (λ k. common k (known_at q x)) is
 ]
 
-either_way : (e : End) (c now : Knowledge) (own : List ℕ) (x : ℕ) → IsSettled e c now own x → (known_at now x ≡ common_at c (end_of e) x) ⊎ (known_at now x ≡ known_at c x)
+either_way : (e : End) (c now : InstMap) (own : List ℕ) (x : ℕ) → IsSettled e c now own x → (known_at now x ≡ common_at c (end_of e) x) ⊎ (known_at now x ≡ known_at c x)
 either_way e c now own x h = elim (cases_eq (times (slice_index e.view.outside.local.now.places.items x) own) 0) [
   | inl none ↦ inr (h.elsewhere none)
   | inr some ↦ inl (h.here some)
 ]
 
-pub settled-more : (e : End) (c now d : Knowledge) (own : List ℕ) (i y n x : ℕ) → i < length own → y ≡ slice_index own i
+pub settled-more : (e : End) (c now d : InstMap) (own : List ℕ) (i y n x : ℕ) → i < length own → y ≡ slice_index own i
     → length now ≡ length e.view.outside.local.now.places.items → x < length e.view.outside.local.now.places.items
     → (slice_index e.view.outside.local.now.places.items x ≡ y → n ≡ x)
     → (n < length e.view.outside.local.now.places.items → slice_index e.view.outside.local.now.places.items n ≡ y)
@@ -214,5 +214,5 @@ settled-more e c now d own i y n x lt is size inside found there is_d h =
           }
     ]
 
-pub settled-end : (e : End) (c d : Knowledge) (own : List ℕ) (i x : ℕ) → length own ≤ i → IsSettled e c d (take i own) x → IsSettled e c d own x
+pub settled-end : (e : End) (c d : InstMap) (own : List ℕ) (i x : ℕ) → length own ≤ i → IsSettled e c d (take i own) x → IsSettled e c d own x
 settled-end e c d own i x le h = subst (λ ys. IsSettled e c d ys x) (take_all own i le) h

@@ -11,74 +11,74 @@ use Rattle.md_hlds.specs.declared.goal.PredName.{PredName}
 use Rattle.md_hlds.specs.declared.goal.Term.TheVariants.{Var, Int, Str, Name}
 use Rattle.md_hlds.specs.declared.goal.Op.TheVariants.{Add, Sub, Mul}
 use Rattle.md_hlds.specs.declared.goal.Cmp.TheVariants.{Le, Gt}
-use Rattle.md_hlds.specs.Part.{Part, At, Plain, Invoke, Apply, Each, Either, Choose, Unless, Once, gathered, Succeeds, Fails, Unifies, Computes, Compares, WritesInt, WritesText, EndsLine}
-use Rattle.md_hlds.specs.Listing.{Listing, Procedure, Family, Construct, Sort, number, text, world, named, closure, gathered_sorts}
-use Rattle.md_binding.specs.declared.fault.ModeFault.{ModeFault}
-use Rattle.md_binding.specs.declared.fault.ModeFault.TheVariants.{UnknownName, Arity, TypeClash, Unbound, BoundTwice, BranchBinds, IoUsed, ClosureTest, NoMain}
+use Rattle.md_hlds.specs.HldsGoal.{HldsGoal, At, SimpleGoal, CallGoal, HoCallGoal, ConjGoal, DisjGoal, IfGoal, NotGoal, SomeGoal, gathered, Succeeds, Fails, Unifies, Computes, Compares, WritesInt, WritesText, EndsLine}
+use Rattle.md_hlds.specs.Hlds.{Hlds, Procedure, HldsTypeDef, HldsFunctor, HldsType, number, text, world, named, closure, gathered_types}
+use Rattle.md_inst.specs.declared.fault.ModeFault.{ModeFault}
+use Rattle.md_inst.specs.declared.fault.ModeFault.TheVariants.{UnknownName, Arity, TypeClash, Unbound, BoundTwice, BranchBinds, IoUsed, ClosureTest, NoMain}
 use Rattle.md_modes.specs.Modes.{mode_fault}
 use Rattle.md_modes.specs.Notes.{Role, constructs, closes, takes_apart, assigns, tests, applies, Note, program_notes}
 
 -- ---- words for writing programs; each goal is on the line that stands first
 
-abbrev pub conj : ℕ → List Part → Part
-conj l ps = At l (Each (gathered ps))
+abbrev pub conj : ℕ → List HldsGoal → HldsGoal
+conj l ps = At l (ConjGoal (gathered ps))
 
-abbrev pub disj : ℕ → List Part → Part
-disj l ps = At l (Either (gathered ps))
+abbrev pub disj : ℕ → List HldsGoal → HldsGoal
+disj l ps = At l (DisjGoal (gathered ps))
 
 abbrev pub unqualified : List ℕ → PredName
 unqualified name = record { qualifier = None; name = name }
 
-abbrev pub is_int : ℕ → ℕ → ℕ → Part
-is_int l x n = At l (Plain (Unifies x (Int (pos n))))
+abbrev pub is_int : ℕ → ℕ → ℕ → HldsGoal
+is_int l x n = At l (SimpleGoal (Unifies x (Int (pos n))))
 
-abbrev pub is_text : ℕ → ℕ → List ℕ → Part
-is_text l x bytes = At l (Plain (Unifies x (Str bytes)))
+abbrev pub is_text : ℕ → ℕ → List ℕ → HldsGoal
+is_text l x bytes = At l (SimpleGoal (Unifies x (Str bytes)))
 
-abbrev pub same : ℕ → ℕ → ℕ → Part
-same l x y = At l (Plain (Unifies x (Var y)))
+abbrev pub same : ℕ → ℕ → ℕ → HldsGoal
+same l x y = At l (SimpleGoal (Unifies x (Var y)))
 
-abbrev pub made : ℕ → ℕ → List ℕ → List ℕ → Part
-made l x f ys = At l (Plain (Unifies x (Name (unqualified f) ys)))
+abbrev pub made : ℕ → ℕ → List ℕ → List ℕ → HldsGoal
+made l x f ys = At l (SimpleGoal (Unifies x (Name (unqualified f) ys)))
 
-abbrev pub call : ℕ → List ℕ → List ℕ → Part
-call l q ys = At l (Invoke 0 (unqualified q) ys)
+abbrev pub call : ℕ → List ℕ → List ℕ → HldsGoal
+call l q ys = At l (CallGoal 0 (unqualified q) ys)
 
-abbrev pub apply : ℕ → ℕ → List ℕ → Part
-apply l f ys = At l (Apply 0 f ys)
+abbrev pub apply : ℕ → ℕ → List ℕ → HldsGoal
+apply l f ys = At l (HoCallGoal 0 f ys)
 
-abbrev pub succeed : ℕ → Part
-succeed l = At l (Plain Succeeds)
+abbrev pub succeed : ℕ → HldsGoal
+succeed l = At l (SimpleGoal Succeeds)
 
-abbrev pub fail : ℕ → Part
-fail l = At l (Plain Fails)
+abbrev pub fail : ℕ → HldsGoal
+fail l = At l (SimpleGoal Fails)
 
-abbrev pub choose : ℕ → Part → Part → Part → Part
-choose l c t e = At l (Choose c t e)
+abbrev pub choose : ℕ → HldsGoal → HldsGoal → HldsGoal → HldsGoal
+choose l c t e = At l (IfGoal c t e)
 
-abbrev pub unless : ℕ → Part → Part
-unless l c = At l (Unless c)
+abbrev pub unless : ℕ → HldsGoal → HldsGoal
+unless l c = At l (NotGoal c)
 
-abbrev pub some : ℕ → List ℕ → Part → Part
-some l vs c = At l (Once vs c)
+abbrev pub some : ℕ → List ℕ → HldsGoal → HldsGoal
+some l vs c = At l (SomeGoal vs c)
 
-abbrev pub add : ℕ → ℕ → ℕ → ℕ → Part
-add l z a b = At l (Plain (Computes z a Add b))
+abbrev pub add : ℕ → ℕ → ℕ → ℕ → HldsGoal
+add l z a b = At l (SimpleGoal (Computes z a Add b))
 
-abbrev pub minus : ℕ → ℕ → ℕ → ℕ → Part
-minus l z a b = At l (Plain (Computes z a Sub b))
+abbrev pub minus : ℕ → ℕ → ℕ → ℕ → HldsGoal
+minus l z a b = At l (SimpleGoal (Computes z a Sub b))
 
-abbrev pub at_most : ℕ → ℕ → ℕ → Part
-at_most l a b = At l (Plain (Compares a Le b))
+abbrev pub at_most : ℕ → ℕ → ℕ → HldsGoal
+at_most l a b = At l (SimpleGoal (Compares a Le b))
 
-abbrev pub write_int : ℕ → ℕ → ℕ → ℕ → Part
-write_int l x before after = At l (Plain (WritesInt x before after))
+abbrev pub write_int : ℕ → ℕ → ℕ → ℕ → HldsGoal
+write_int l x before after = At l (SimpleGoal (WritesInt x before after))
 
-abbrev pub write_text : ℕ → ℕ → ℕ → ℕ → Part
-write_text l x before after = At l (Plain (WritesText x before after))
+abbrev pub write_text : ℕ → ℕ → ℕ → ℕ → HldsGoal
+write_text l x before after = At l (SimpleGoal (WritesText x before after))
 
-abbrev pub new_line : ℕ → ℕ → ℕ → Part
-new_line l before after = At l (Plain (EndsLine before after))
+abbrev pub new_line : ℕ → ℕ → ℕ → HldsGoal
+new_line l before after = At l (SimpleGoal (EndsLine before after))
 
 abbrev pub names : ℕ → List (List ℕ)
 names zero = []
@@ -90,7 +90,7 @@ places from zero = []
 places from (suc n) = from ∷ places (suc from) n
 
 -- a predicate that is declared on a line and has its clause on the next; its arguments are the first of so many variables
-abbrev pub predicate : ℕ → List ℕ → List (Sort × Mode) → Det → ℕ → Part → Procedure
+abbrev pub predicate : ℕ → List ℕ → List (HldsType × Mode) → Det → ℕ → HldsGoal → Procedure
 predicate l name args det vars body = record {
   qualifier = None;
   name = name;
@@ -103,32 +103,32 @@ predicate l name args det vars body = record {
   body = body;
 }
 
-abbrev pub io_args : List (Sort × Mode)
+abbrev pub io_args : List (HldsType × Mode)
 io_args = (world, Di) ∷ (world, Uo) ∷ []
 
 -- main(IO0, IO): IO0 is variable 0 and IO variable 1
-abbrev pub main : ℕ → Part → Procedure
+abbrev pub main : ℕ → HldsGoal → Procedure
 main vars body = predicate 2 (codes "main") io_args One vars body
 
-abbrev pub program : List Family → List Procedure → Listing
+abbrev pub program : List HldsTypeDef → List Procedure → Hlds
 program types ps = record { module_name = codes "t"; module_line = 1; types = types; procedures = ps }
 
 -- `:- type list ---> nil ; cons(int, list).`
-abbrev pub list : Sort
+abbrev pub list : HldsType
 list = named (codes "list")
 
-abbrev pub functor : List ℕ → List Sort → Construct
+abbrev pub functor : List ℕ → List HldsType → HldsFunctor
 functor name args = record { name = name; args = args }
 
-abbrev pub type_of : ℕ → List ℕ → List Construct → Family
+abbrev pub type_of : ℕ → List ℕ → List HldsFunctor → HldsTypeDef
 type_of l name functors = record { name = name; line = l; functors = functors }
 
-abbrev pub list_type : Family
+abbrev pub list_type : HldsTypeDef
 list_type = type_of 20 (codes "list") (functor (codes "nil") [] ∷ functor (codes "cons") (number ∷ list ∷ []) ∷ [])
 
 -- `pred(int, int)::in(pred(in, out) is det)`
-abbrev pub function_of_ints : Sort
-function_of_ints = closure (gathered_sorts (number ∷ number ∷ [])) (In ∷ Out ∷ []) One
+abbrev pub function_of_ints : HldsType
+function_of_ints = closure (gathered_types (number ∷ number ∷ [])) (In ∷ Out ∷ []) One
 
 -- ---- accepted programs
 
@@ -137,11 +137,11 @@ abbrev pub hand_over : Procedure
 hand_over = main 2 (same 3 1 0)
 
 -- main(IO0, IO) :- S = "hello", io.write_string(S, IO0, IO1), io.nl(IO1, IO).
-abbrev pub hello : Listing
+abbrev pub hello : Hlds
 hello = program [] (main 4 (conj 3 (is_text 3 2 (codes "hello") ∷ write_text 3 2 0 3 ∷ new_line 3 3 1 ∷ [])) ∷ [])
 
 -- count(N) :- Z = 0, ( N =< Z -> true ; D = 1, M = N - D, count(M) ).
-abbrev pub count : Listing
+abbrev pub count : Hlds
 count = program [] (main 3 (conj 3 (is_int 3 2 3 ∷ call 3 (codes "count") (2 ∷ []) ∷ same 3 1 0 ∷ []))
     ∷ predicate 4 (codes "count") ((number, In) ∷ []) One 4 (conj 5 (is_int 5 1 0
     ∷ choose 5 (at_most 5 0 1) (succeed 5) (conj 5 (is_int 5 2 1 ∷ minus 5 3 0 2 ∷ call 5 (codes "count") (3 ∷ []) ∷ []))
@@ -155,16 +155,16 @@ member = predicate 4 (codes "member") ((number, Out) ∷ (list, In) ∷ []) Nond
     ∷ []))
 
 -- A = 1, E = nil, L = cons(A, E), ( some [X] ( member(X, L) ) -> S = "yes" ; S = "no" ), io.write_string(S, IO0, IO)
-abbrev pub one_member : Listing
+abbrev pub one_member : Hlds
 one_member = program (list_type ∷ []) (main 7 (conj 3 (is_int 3 2 1 ∷ made 3 3 (codes "nil") [] ∷ made 3 4 (codes "cons") (2 ∷ 3 ∷ [])
     ∷ choose 3 (some 3 (5 ∷ []) (call 3 (codes "member") (5 ∷ 4 ∷ []))) (is_text 3 6 (codes "yes")) (is_text 3 6 (codes "no"))
     ∷ write_text 3 6 0 1 ∷ []))
     ∷ member ∷ [])
 
 -- .., V = 5, ( not ( member(X, L), X > V ) -> S = "none" ; S = "some" ), io.write_string(S, IO0, IO)
-abbrev pub no_member : Listing
+abbrev pub no_member : Hlds
 no_member = program (list_type ∷ []) (main 7 (conj 3 (made 3 2 (codes "nil") [] ∷ is_int 3 3 5
-    ∷ choose 3 (unless 3 (conj 3 (call 3 (codes "member") (4 ∷ 2 ∷ []) ∷ At 3 (Plain (Compares 4 Gt 3)) ∷ []))) (is_text 3 5 (codes "none")) (is_text 3 5 (codes "some"))
+    ∷ choose 3 (unless 3 (conj 3 (call 3 (codes "member") (4 ∷ 2 ∷ []) ∷ At 3 (SimpleGoal (Compares 4 Gt 3)) ∷ []))) (is_text 3 5 (codes "none")) (is_text 3 5 (codes "some"))
     ∷ write_text 3 5 0 1 ∷ []))
     ∷ member ∷ [])
 
@@ -180,16 +180,16 @@ adder = predicate 6 (codes "add") ((number, In) ∷ (number, In) ∷ (number, Ou
 
 -- double(A, B) :- T = 2, B = A * T.
 abbrev pub double : Procedure
-double = predicate 8 (codes "double") ((number, In) ∷ (number, Out) ∷ []) One 3 (conj 9 (is_int 9 2 2 ∷ At 9 (Plain (Computes 1 0 Mul 2)) ∷ []))
+double = predicate 8 (codes "double") ((number, In) ∷ (number, Out) ∷ []) One 3 (conj 9 (is_int 9 2 2 ∷ At 9 (SimpleGoal (Computes 1 0 Mul 2)) ∷ []))
 
 -- main(IO0, IO) :- A = 1, N = 3, P = add(A), Q = double, drive(P, Q, N), IO = IO0.
-abbrev pub closures : Listing
+abbrev pub closures : Hlds
 closures = program [] (main 6 (conj 3 (is_int 3 2 1 ∷ is_int 3 3 3 ∷ made 3 4 (codes "add") (2 ∷ []) ∷ made 3 5 (codes "double") []
     ∷ call 3 (codes "drive") (4 ∷ 5 ∷ 3 ∷ []) ∷ same 3 1 0 ∷ []))
     ∷ drive ∷ adder ∷ double ∷ [])
 
 -- loop(N, IO0, IO) :- Z = 0, ( N =< Z -> IO = IO0 ; D = 1, M = N - D, P = loop(M), call(P, IO0, IO) ).
-abbrev pub loop : Listing
+abbrev pub loop : Hlds
 loop = program [] (main 3 (conj 3 (is_int 3 2 2 ∷ call 3 (codes "loop") (2 ∷ 0 ∷ 1 ∷ []) ∷ []))
     ∷ predicate 4 (codes "loop") ((number, In) ∷ (world, Di) ∷ (world, Uo) ∷ []) One 7 (conj 5 (is_int 5 3 0
     ∷ choose 5 (at_most 5 0 3) (same 5 2 1)
@@ -198,15 +198,15 @@ loop = program [] (main 3 (conj 3 (is_int 3 2 2 ∷ call 3 (codes "loop") (2 ∷
     ∷ [])
 
 -- pick(X) :- ( X = 1 ; X = 2 ).
-abbrev pub picks : Listing
+abbrev pub picks : Hlds
 picks = program [] (main 3 (conj 3 (call 3 (codes "pick") (2 ∷ []) ∷ write_int 3 2 0 1 ∷ []))
     ∷ predicate 4 (codes "pick") ((number, Out) ∷ []) Multi 1 (disj 5 (is_int 5 0 1 ∷ is_int 5 0 2 ∷ [])) ∷ [])
 
 -- :- type colour ---> red ; green ; blue.   code(C, N) :- ( C = red, N = 1 ; C = green, N = 2 ).
-abbrev pub colour_type : Family
+abbrev pub colour_type : HldsTypeDef
 colour_type = type_of 20 (codes "colour") (functor (codes "red") [] ∷ functor (codes "green") [] ∷ functor (codes "blue") [] ∷ [])
 
-abbrev pub code : Listing
+abbrev pub code : Hlds
 code = program (colour_type ∷ []) (hand_over
     ∷ predicate 4 (codes "code") ((named (codes "colour"), In) ∷ (number, Out) ∷ []) One 2 (disj 5 (
     conj 5 (made 5 0 (codes "red") [] ∷ is_int 5 1 1 ∷ []) ∷ conj 5 (made 5 0 (codes "green") [] ∷ is_int 5 1 2 ∷ []) ∷ []))
@@ -216,7 +216,7 @@ code = program (colour_type ∷ []) (hand_over
 --     Done1 = cons(X, Done), place(Rest, Done1, Q) ).
 -- safe(X, D, L) :- ( L = nil ; L = cons(Y, T), U = X + D, V = X - D, not ( Y = U ), not ( Y = V ), One = 1,
 --     D1 = D + One, safe(X, D1, T) ).
-abbrev pub queens : Listing
+abbrev pub queens : Hlds
 queens = program (list_type ∷ []) (hand_over
     ∷ predicate 4 (codes "place") ((list, In) ∷ (list, In) ∷ (list, Out) ∷ []) Nondet 9 (disj 5 (
     conj 5 (made 5 0 (codes "nil") [] ∷ same 5 2 1 ∷ [])
@@ -247,15 +247,15 @@ elsewhere = record {
   body = succeed 5;
 }
 
-abbrev pub modules : Listing
-modules = program [] (main 2 (conj 3 (At 3 (Invoke 0 (record { qualifier = Some (codes "a"); name = codes "f" }) []) ∷ same 3 1 0 ∷ [])) ∷ elsewhere ∷ [])
+abbrev pub modules : Hlds
+modules = program [] (main 2 (conj 3 (At 3 (CallGoal 0 (record { qualifier = Some (codes "a"); name = codes "f" }) []) ∷ same 3 1 0 ∷ [])) ∷ elsewhere ∷ [])
 
 -- an arm that ends in `fail` needs to bind nothing: ( true -> X = 1 ; fail ), io.write_int(X, IO0, IO)
-abbrev pub failing_arm : Listing
+abbrev pub failing_arm : Hlds
 failing_arm = program [] (main 3 (conj 3 (choose 3 (succeed 3) (is_int 3 2 1) (fail 3) ∷ write_int 3 2 0 1 ∷ [])) ∷ [])
 
 -- a variable that occurs in the arms alone may be bound by some of them, with any types
-abbrev pub local : Listing
+abbrev pub local : Hlds
 local = program [] (main 4 (conj 3 (disj 3 (is_int 3 2 1 ∷ is_text 3 3 (codes "a") ∷ succeed 3 ∷ []) ∷ same 3 1 0 ∷ [])) ∷ [])
 
 accepted :
@@ -302,7 +302,7 @@ unfolding program_notes
 closure_notes = refl
 
 -- main(IO0, IO) :- A = 1, E = nil, L = cons(A, E), B = 1, A = B, A = 1, L = cons(B, T), ( X = 2, fail ; true ), IO = IO0.
-abbrev pub taken_apart : Listing
+abbrev pub taken_apart : Hlds
 taken_apart = program (list_type ∷ []) (main 8 (conj 3 (is_int 3 2 1 ∷ made 3 3 (codes "nil") [] ∷ made 3 4 (codes "cons") (2 ∷ 3 ∷ [])
     ∷ is_int 3 5 1 ∷ same 3 2 5 ∷ is_int 3 2 1 ∷ made 3 4 (codes "cons") (5 ∷ 6 ∷ []) ∷ disj 3 (conj 3 (is_int 3 7 2 ∷ fail 3 ∷ []) ∷ succeed 3 ∷ [])
     ∷ same 3 1 0 ∷ [])) ∷ [])
@@ -322,7 +322,7 @@ taken_apart_notes = refl
 -- ---- faults
 
 -- :- type t ---> f(..).
-abbrev pub with_types : List Family → Listing
+abbrev pub with_types : List HldsTypeDef → Hlds
 with_types ts = program ts (hand_over ∷ [])
 
 -- the declarations of types: an unknown one, an io state, and the first of two faults
@@ -337,7 +337,7 @@ unfolding mode_fault
 faults_of_types = refl
 
 -- a predicate p of one argument, declared on line 4 beside main
-abbrev pub with_argument : Sort → Mode → Listing
+abbrev pub with_argument : HldsType → Mode → Hlds
 with_argument t m = program [] (hand_over ∷ predicate 4 (codes "p") ((t, m) ∷ []) One 1 (fail 5) ∷ [])
 
 -- the declarations of predicates
@@ -347,11 +347,11 @@ faults_of_predicates :
     ∷ with_argument number Di
     ∷ with_argument world In
     ∷ with_argument world Out
-    ∷ with_argument (closure (gathered_sorts (number ∷ named (codes "u") ∷ [])) (In ∷ []) One) In
-    ∷ with_argument (closure (gathered_sorts (number ∷ number ∷ [])) (In ∷ []) One) In
-    ∷ with_argument (closure (gathered_sorts (world ∷ [])) (In ∷ []) One) In
-    ∷ with_argument (closure (gathered_sorts (number ∷ [])) (Uo ∷ []) One) In
-    ∷ with_argument (closure (gathered_sorts (world ∷ world ∷ [])) (Di ∷ Uo ∷ []) One) In
+    ∷ with_argument (closure (gathered_types (number ∷ named (codes "u") ∷ [])) (In ∷ []) One) In
+    ∷ with_argument (closure (gathered_types (number ∷ number ∷ [])) (In ∷ []) One) In
+    ∷ with_argument (closure (gathered_types (world ∷ [])) (In ∷ []) One) In
+    ∷ with_argument (closure (gathered_types (number ∷ [])) (Uo ∷ []) One) In
+    ∷ with_argument (closure (gathered_types (world ∷ world ∷ [])) (Di ∷ Uo ∷ []) One) In
     ∷ [])
     ≡ (Some (UnknownName 4) ∷ Some (UnknownName 4) ∷ Some (TypeClash 4) ∷ Some (TypeClash 4) ∷ Some (TypeClash 4) ∷ Some (UnknownName 4)
     ∷ Some (TypeClash 4) ∷ Some (TypeClash 4) ∷ Some (TypeClash 4) ∷ None ∷ [])
@@ -361,13 +361,13 @@ faults_of_predicates = refl
 -- The fault of a predicate p on line 4 with the clause p(S, L, F, N, R) :- .. on line 5, where S is a string, L a list, F a
 -- function of integers, N an integer, and R an integer that the clause has to bind. Beside it stand main, member, add and
 -- double. Further variables are 5 to 11.
-abbrev pub with_body : Part → Listing
+abbrev pub with_body : HldsGoal → Hlds
 with_body body = program (list_type ∷ []) (hand_over
     ∷ predicate 4 (codes "p") ((text, In) ∷ (list, In) ∷ (function_of_ints, In) ∷ (number, In) ∷ (number, Out) ∷ []) Nondet 12 body
     ∷ member ∷ adder ∷ double ∷ [])
 
 -- the goal on line 6 after R = 1
-abbrev pub body_fault : Part → Option ModeFault
+abbrev pub body_fault : HldsGoal → Option ModeFault
 unfolding mode_fault
 body_fault g = mode_fault (with_body (conj 5 (is_int 5 4 1 ∷ g ∷ [])))
 
@@ -427,7 +427,7 @@ unfolding mode_fault body_fault
 faults_of_closure_calls = refl
 
 -- the fault of two goals on the lines 6 and 7, the second of which speaks of what the first one does
-abbrev pub fault_of_two : Part × Part → Option ModeFault
+abbrev pub fault_of_two : HldsGoal × HldsGoal → Option ModeFault
 unfolding body_fault
 fault_of_two gs = body_fault (conj 6 (gs.0 ∷ gs.1 ∷ []))
 
@@ -475,7 +475,7 @@ unfolding mode_fault
 faults_at_the_end = refl
 
 -- main with a body on line 3, beside w(IO0, IO) :- io.nl(IO0, IO). Further variables are 2 to 5.
-abbrev pub io_fault : Part → Option ModeFault
+abbrev pub io_fault : HldsGoal → Option ModeFault
 unfolding mode_fault
 io_fault body = mode_fault (program [] (main 6 body ∷ predicate 8 (codes "w") io_args One 2 (new_line 9 0 1) ∷ []))
 

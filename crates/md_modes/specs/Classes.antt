@@ -1,7 +1,7 @@
 -- What is found at the goals, as the code has it.
 use Rattle.std.specs.Prelude.{ℕ, Bool, false, List, [], ◌∷◌, Option, Some, None, slice_get}
 use Rattle.md_hlds.specs.declared.types.Ty.TheVariants.{Ho}
-use Rattle.md_hlds.specs.Listing.{sort_of}
+use Rattle.md_hlds.specs.Hlds.{hlds_type_of}
 use Rattle.md_modes.specs.declared.class.Class.{Class}
 use Rattle.md_modes.specs.declared.class.Class.TheVariants as class
 use Rattle.md_modes.specs.declared.class.Note as code
@@ -13,7 +13,7 @@ role_told class.Close = closes
 role_told (class.Deconstruct bound) = takes_apart bound.items
 role_told (class.Assign to) = assigns to
 role_told class.Test = tests
-role_told (class.Closure h) = applies (sort_of (Ho h))
+role_told (class.Closure h) = applies (hlds_type_of (Ho h))
 
 abbrev pub class_told : Option Class → Option Role
 class_told None = None

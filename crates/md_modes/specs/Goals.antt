@@ -2,12 +2,12 @@
 use Rattle.std.specs.Prelude.{ℕ, Bool, true, not, ◌&&◌, List, [], ◌∷◌, ◌++◌, Ok}
 use Rattle.md_hlds.specs.declared.goal.Term.{Term}
 use Rattle.md_hlds.specs.declared.goal.Term.TheVariants.{Var, Int, Str, Name}
-use Rattle.md_hlds.specs.Part.{Simple, Succeeds, Fails, Unifies, Computes, Compares, WritesInt, WritesText, EndsLine, Part, At, Task, Plain, Invoke, Apply, Each, Either, Choose, Unless, Once, Parts, nothing, also}
-use Rattle.md_hlds.specs.Listing.{Procedure, Listing}
-use Rattle.md_binding.specs.declared.fault.ModeFault.TheVariants.{BranchBinds}
-use Rattle.md_binding.specs.Verdict.{Verdict, ◌>>=◌, ◌>>◌, fault_unless}
-use Rattle.md_binding.specs.Known.{Knowledge}
-use Rattle.md_binding.specs.Simple.{leaf, goes_on}
+use Rattle.md_hlds.specs.HldsGoal.{Simple, Succeeds, Fails, Unifies, Computes, Compares, WritesInt, WritesText, EndsLine, HldsGoal, At, GoalExpr, SimpleGoal, CallGoal, HoCallGoal, ConjGoal, DisjGoal, IfGoal, NotGoal, SomeGoal, HldsGoals, nothing, also}
+use Rattle.md_hlds.specs.Hlds.{Procedure, Hlds}
+use Rattle.md_inst.specs.declared.fault.ModeFault.TheVariants.{BranchBinds}
+use Rattle.md_inst.specs.Verdict.{Verdict, ◌>>=◌, ◌>>◌, fault_unless}
+use Rattle.md_inst.specs.Instantiation.{InstMap}
+use Rattle.md_inst.specs.Simple.{atomic, goes_on}
 use Rattle.md_modes.specs.Branches.{After, after, outside, binds_some, some_of, joined}
 
 -- ---- the variables of a goal, as often as they occur, in text order
@@ -29,20 +29,20 @@ simple_variables (WritesText x before after) = x ∷ before ∷ after ∷ []
 simple_variables (EndsLine before after) = before ∷ after ∷ []
 
 abbrev mutual
-  pub variables : Part → List ℕ
-  variables (At l t) = task_variables t
+  pub variables : HldsGoal → List ℕ
+  variables (At l t) = expr_variables t
 
-  pub task_variables : Task → List ℕ
-  task_variables (Plain g) = simple_variables g
-  task_variables (Invoke site q ys) = ys
-  task_variables (Apply site f ys) = f ∷ ys
-  task_variables (Each ps) = parts_variables ps
-  task_variables (Either ps) = parts_variables ps
-  task_variables (Choose c t e) = variables c ++ (variables t ++ variables e)
-  task_variables (Unless c) = variables c
-  task_variables (Once vs c) = vs ++ variables c
+  pub expr_variables : GoalExpr → List ℕ
+  expr_variables (SimpleGoal g) = simple_variables g
+  expr_variables (CallGoal site q ys) = ys
+  expr_variables (HoCallGoal site f ys) = f ∷ ys
+  expr_variables (ConjGoal ps) = parts_variables ps
+  expr_variables (DisjGoal ps) = parts_variables ps
+  expr_variables (IfGoal c t e) = variables c ++ (variables t ++ variables e)
+  expr_variables (NotGoal c) = variables c
+  expr_variables (SomeGoal vs c) = vs ++ variables c
 
-  pub parts_variables : Parts → List ℕ
+  pub parts_variables : HldsGoals → List ℕ
   parts_variables nothing = []
   parts_variables (also p ps) = variables p ++ parts_variables ps
 
@@ -55,7 +55,7 @@ clause_variables p = p.head ++ variables p.body
 -- where a goal stands: the program, the variables of its clause as often as they occur, and whether it is within a
 -- condition, a negation or `some`
 pub record Scope : Type 0 where
-  pub program : Listing
+  pub program : Hlds
   pub all : List ℕ
   pub strict : Bool
 
@@ -63,51 +63,51 @@ pub record Scope : Type 0 where
 abbrev pub within : Scope → Scope
 within c = record { program = c.program; all = c.all; strict = true }
 
-abbrev pub reached : Bool → Verdict Knowledge → Verdict After
+abbrev pub reached : Bool → Verdict InstMap → Verdict After
 reached reach v = v >>= (λ s. Ok (after s reach))
 
 -- the place after a goal that is no conjunction and no branch
-abbrev pub goes_on_after : Task → Bool
-goes_on_after (Plain g) = goes_on g
+abbrev pub goes_on_after : GoalExpr → Bool
+goes_on_after (SimpleGoal g) = goes_on g
 goes_on_after t = true
 
-abbrev pub leaf_task : Scope → ℕ → Task → Knowledge → Verdict After
-leaf_task c l t s = reached (goes_on_after t) (leaf c.program c.strict l t s)
+abbrev pub atomic_expr : Scope → ℕ → GoalExpr → InstMap → Verdict After
+atomic_expr c l t s = reached (goes_on_after t) (atomic c.program c.strict l t s)
 
 -- a goal that may bind only what occurs nowhere outside
-abbrev pub binds_inside : ℕ → (ℕ → Bool) → Knowledge → After → Verdict (Unit {0})
+abbrev pub binds_inside : ℕ → (ℕ → Bool) → InstMap → After → Verdict (Unit {0})
 binds_inside l p s a = fault_unless (not (binds_some p s a.known)) (BranchBinds l)
 
 abbrev mutual
-  pub goal : Scope → Part → Knowledge → Verdict After
-  goal c (At l t) s = task c l t s
+  pub goal : Scope → HldsGoal → InstMap → Verdict After
+  goal c (At l t) s = expr c l t s
 
-  pub task : Scope → ℕ → Task → Knowledge → Verdict After
-  task c l (Plain g) s = leaf_task c l (Plain g) s
-  task c l (Invoke site q ys) s = leaf_task c l (Invoke site q ys) s
-  task c l (Apply site f ys) s = leaf_task c l (Apply site f ys) s
-  task c l (Each ps) s = each c ps s
-  task c l (Either ps) s = do
+  pub expr : Scope → ℕ → GoalExpr → InstMap → Verdict After
+  expr c l (SimpleGoal g) s = atomic_expr c l (SimpleGoal g) s
+  expr c l (CallGoal site q ys) s = atomic_expr c l (CallGoal site q ys) s
+  expr c l (HoCallGoal site f ys) s = atomic_expr c l (HoCallGoal site f ys) s
+  expr c l (ConjGoal ps) s = each c ps s
+  expr c l (DisjGoal ps) s = do
     ends ← arms c ps s
     joined l (outside c.all (parts_variables ps)) s ends
-  task c l (Choose p t e) s = do
+  expr c l (IfGoal p t e) s = do
     a ← goal (within c) p s
     binds_inside l (outside c.all (variables p ++ (variables t ++ variables e))) s a
     b ← goal c t a.known
     d ← goal c e s
     joined l (outside c.all (variables p ++ (variables t ++ variables e))) s (b ∷ d ∷ [])
-  task c l (Unless p) s = do
+  expr c l (NotGoal p) s = do
     a ← goal (within c) p s
     binds_inside l (outside c.all (variables p)) s a
     Ok (after s true)
-  task c l (Once vs p) s = do
+  expr c l (SomeGoal vs p) s = do
     a ← goal (within c) p s
     binds_inside l (outside c.all (vs ++ variables p)) s a
     fault_unless (not (some_of (outside c.all (vs ++ variables p)) vs)) (BranchBinds l)
     Ok (after s true)
 
   -- one goal after the other; the place after them is reachable where the place after each is
-  pub each : Scope → Parts → Knowledge → Verdict After
+  pub each : Scope → HldsGoals → InstMap → Verdict After
   each c nothing s = Ok (after s true)
   each c (also p ps) s = do
     a ← goal c p s
@@ -115,7 +115,7 @@ abbrev mutual
     Ok (after rest.known (a.reach && rest.reach))
 
   -- the end of each arm; all begin with what is known at entry
-  pub arms : Scope → Parts → Knowledge → Verdict (List After)
+  pub arms : Scope → HldsGoals → InstMap → Verdict (List After)
   arms c nothing s = Ok []
   arms c (also p ps) s = do
     a ← goal c p s

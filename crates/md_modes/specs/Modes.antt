@@ -4,12 +4,12 @@ use Rattle.std.specs.Str.{bytes_eq}
 use Rattle.md_hlds.specs.declared.types.Mode.{Mode}
 use Rattle.md_hlds.specs.declared.types.Mode.TheVariants.{In, Out, Di, Uo}
 use Rattle.md_hlds.specs.declared.types.Det.TheVariants as det
-use Rattle.md_hlds.specs.Listing.{Sort, Procedure, Listing}
-use Rattle.md_binding.specs.declared.fault.ModeFault.{ModeFault}
-use Rattle.md_binding.specs.declared.fault.ModeFault.TheVariants.{TypeClash, Unbound, IoUsed, NoMain}
-use Rattle.md_binding.specs.Verdict.{Verdict, ◌>>=◌, ◌>>◌, fine, fault_unless}
-use Rattle.md_binding.specs.Sorts.{same_sort, is_world, same_det}
-use Rattle.md_binding.specs.Known.{Known, free, has, Knowledge, known_at, put, nothing_known}
+use Rattle.md_hlds.specs.Hlds.{HldsType, Procedure, Hlds}
+use Rattle.md_inst.specs.declared.fault.ModeFault.{ModeFault}
+use Rattle.md_inst.specs.declared.fault.ModeFault.TheVariants.{TypeClash, Unbound, IoUsed, NoMain}
+use Rattle.md_inst.specs.Verdict.{Verdict, ◌>>=◌, ◌>>◌, fine, fault_unless}
+use Rattle.md_inst.specs.HldsTypes.{same_sort, is_world, same_det}
+use Rattle.md_inst.specs.Instantiation.{Instantiation, free, has, InstMap, known_at, put, nothing_known}
 use Rattle.md_modes.specs.Declarations as declarations
 use Rattle.md_modes.specs.Branches.{After}
 use Rattle.md_modes.specs.Goals.{Scope, clause_variables, goal}
@@ -17,33 +17,33 @@ use Rattle.md_modes.specs.Goals.{Scope, clause_variables, goal}
 -- ---- a clause
 
 -- a variable of the head that has a value before the body
-abbrev pub enter : Mode → Sort → ℕ → Knowledge → Knowledge
+abbrev pub enter : Mode → HldsType → ℕ → InstMap → InstMap
 enter In t x s = put s x (has t false)
 enter Di t x s = put s x (has t false)
 enter Out t x s = s
 enter Uo t x s = s
 
 -- the inputs of the head
-abbrev pub entry_from : List (Sort × Mode) → List ℕ → Knowledge → Knowledge
+abbrev pub entry_from : List (HldsType × Mode) → List ℕ → InstMap → InstMap
 entry_from (a ∷ args) (x ∷ xs) s = entry_from args xs (enter a.1 a.0 x s)
 entry_from args xs s = s
 
 -- what is known before the body of a clause
-abbrev pub entry : Procedure → Knowledge
+abbrev pub entry : Procedure → InstMap
 entry p = entry_from p.args p.head (nothing_known (length p.vars))
 
 -- an output at the end of the clause: it is bound, has its type, and is no used io state
-abbrev pub exit_known : ℕ → Sort → Known → Verdict (Unit {0})
+abbrev pub exit_known : ℕ → HldsType → Instantiation → Verdict (Unit {0})
 exit_known l t free = Err (Unbound l)
 exit_known l t (has u used) = cond (same_sort u t) (cond (is_world u && used) (Err (IoUsed l)) fine) (Err (TypeClash l))
 
-abbrev pub exit : ℕ → Mode → Sort → Known → Verdict (Unit {0})
+abbrev pub exit : ℕ → Mode → HldsType → Instantiation → Verdict (Unit {0})
 exit l In t k = fine
 exit l Di t k = fine
 exit l Out t k = exit_known l t k
 exit l Uo t k = exit_known l t k
 
-abbrev pub exits : ℕ → List (Sort × Mode) → List ℕ → Knowledge → Verdict (Unit {0})
+abbrev pub exits : ℕ → List (HldsType × Mode) → List ℕ → InstMap → Verdict (Unit {0})
 exits l (a ∷ args) (x ∷ xs) s = exit l a.1 a.0 (known_at s x) >> exits l args xs s
 exits l args xs s = fine
 
@@ -51,13 +51,13 @@ exits l args xs s = fine
 abbrev pub end : Procedure → After → Verdict (Unit {0})
 end p a = cond a.reach (exits p.clause_line p.args p.head a.known) fine
 
-abbrev pub scope_of : Listing → Procedure → Scope
+abbrev pub scope_of : Hlds → Procedure → Scope
 scope_of s p = record { program = s; all = clause_variables p; strict = false }
 
-abbrev pub clause : Listing → Procedure → Verdict (Unit {0})
+abbrev pub clause : Hlds → Procedure → Verdict (Unit {0})
 clause s p = goal (scope_of s p) p.body (entry p) >>= (λ a. end p a)
 
-abbrev pub clauses : Listing → List Procedure → Verdict (Unit {0})
+abbrev pub clauses : Hlds → List Procedure → Verdict (Unit {0})
 clauses s [] = fine
 clauses s (p ∷ ps) = clause s p >> clauses s ps
 
@@ -72,7 +72,7 @@ is_di Di = true
 is_di m = false
 
 -- `io::di, io::uo`
-abbrev pub are_main_args : List (Sort × Mode) → Bool
+abbrev pub are_main_args : List (HldsType × Mode) → Bool
 are_main_args (a ∷ b ∷ []) = (is_world a.0 && is_di a.1) && (is_world b.0 && is_uo b.1)
 are_main_args args = false
 
@@ -87,7 +87,7 @@ has_main (p ∷ ps) = is_main p || has_main ps
 -- ---- the program
 
 -- the declarations of types, those of predicates, the clauses, and main
-abbrev pub checked : Listing → Verdict (Unit {0})
+abbrev pub checked : Hlds → Verdict (Unit {0})
 checked s =
     declarations.families s.types s.types
     >> declarations.procedures s.types s.procedures
@@ -99,5 +99,5 @@ fault_of (Ok u) = None
 fault_of (Err e) = Some e
 
 -- the first fault of the mode checks
-unfoldable pub mode_fault : Listing → Option ModeFault
+unfoldable pub mode_fault : Hlds → Option ModeFault
 mode_fault s = fault_of (checked s)

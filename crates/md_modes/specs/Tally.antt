@@ -1,7 +1,7 @@
 -- How often variables occur, as the code counts it.
 use Rattle.std.specs.Prelude.{◌≡◌, ◌≢◌, ℕ, ◌+◌, ◌-◌, ◌<◌, ◌≤◌, Bool, ◌&&◌, nat_lt, nat_eq, List, [], ◌∷◌, length, slice_index, slice_set}
-use Rattle.md_hlds.specs.Part.{Task, Plain, Invoke, Apply}
-use Rattle.md_binding.specs.Known.{times}
+use Rattle.md_hlds.specs.HldsGoal.{GoalExpr, SimpleGoal, CallGoal, HoCallGoal}
+use Rattle.md_inst.specs.Instantiation.{times}
 use Rattle.md_modes.specs.Goals.{simple_variables}
 use Rattle.md_modes.specs.Views.{Rising}
 
@@ -39,8 +39,8 @@ abbrev pub exceeds : (all places counts : List ℕ) → ℕ → Bool
 exceeds all places counts i = nat_lt (slice_index counts i) (slice_index all (slice_index places i))
 
 -- the variables of a goal that is no conjunction and no branch
-abbrev pub leaf_variables : Task → List ℕ
-leaf_variables (Plain g) = simple_variables g
-leaf_variables (Invoke site q ys) = ys
-leaf_variables (Apply site f ys) = f ∷ ys
-leaf_variables t = []
+abbrev pub atomic_variables : GoalExpr → List ℕ
+atomic_variables (SimpleGoal g) = simple_variables g
+atomic_variables (CallGoal site q ys) = ys
+atomic_variables (HoCallGoal site f ys) = f ∷ ys
+atomic_variables t = []

@@ -1,25 +1,25 @@
 // The arms of a branch, one after the other.
 ghost use Rattle.std.specs.Prelude.{◌≡◌, ℕ, Bool, List, [], ◌∷◌, ◌++◌, Some, IfOk, OnOk};
-ghost use Rattle.md_binding.specs.Known.{Knowledge};
+ghost use Rattle.md_inst.specs.Instantiation.{InstMap};
 ghost use Rattle.md_modes.specs.Branches.{After, after};
 ghost use Rattle.md_modes.specs.Branches as spec;
-ghost use Rattle.md_binding.specs.Kinds.{knowledge_of};
+ghost use Rattle.md_inst.specs.Kinds.{inst_map_of};
 ghost use Rattle.md_modes.specs.Views as views;
 ghost use Rattle.md_modes.specs.Joins.{IsJoin, Ends, IsArm, IsEnd, ReachesExactly, end_of, occurs};
 
 use crate::end::End;
 use crate::joined::Joined;
-use crate::outside::View;
+use crate::nonlocals::View;
 use crate::view::{put_all, seen};
 use md_base::NoMemory;
-use md_binding::{Mark, ModeFault};
+use md_inst::{Inst, ModeFault};
 use std::alloc::Global;
 
 /// The variables of an arm of a branch, and what was known of them before the branch.
 #[derive(Clone, Copy)]
 pub struct Own<'a, 'b> {
     pub places: &'b [u32],
-    pub before: &'b [Mark<'a>],
+    pub before: &'b [Inst<'a>],
 }
 
 /// One arm more, and what the arms so far whose ends are reachable have in common. Afterwards what is known of the arm's
@@ -29,27 +29,27 @@ pub fn add_arm<'a>(
     view: View<'a, '_>,
     own: Own<'a, '_>,
     joined: Option<Joined<'a>>,
-    marks: &mut Vec<Mark<'a>>,
+    insts: &mut Vec<Inst<'a>>,
     reach: bool,
 ) -> Result<Option<Joined<'a>>, NoMemory>
-    ensures marks { OnOk result (knowledge_of marks.new.items
-        ≡ views.put_all own.entry.places.now (knowledge_of own.entry.before.now) (knowledge_of marks.old.items)) }
-    ensures ends { IfOk result (λ more. (s : Knowledge) → (ends : List After) → IsArm view.entry own.entry.places.now s (knowledge_of marks.old.items)
-        → Ends (occurs view.entry.outside) (knowledge_of view.entry.before.now) joined.entry ends
-        → Ends (occurs view.entry.outside) (knowledge_of view.entry.before.now) more
-        (ends ++ after (views.seen view.entry.outside.local.now.places.items (knowledge_of marks.old.items)) reach ∷ [])) }
+    ensures insts { OnOk result (inst_map_of insts.new.items
+        ≡ views.put_all own.entry.places.now (inst_map_of own.entry.before.now) (inst_map_of insts.old.items)) }
+    ensures ends { IfOk result (λ more. (s : InstMap) → (ends : List After) → IsArm view.entry own.entry.places.now s (inst_map_of insts.old.items)
+        → Ends (occurs view.entry.outside) (inst_map_of view.entry.before.now) joined.entry ends
+        → Ends (occurs view.entry.outside) (inst_map_of view.entry.before.now) more
+        (ends ++ after (views.seen view.entry.outside.local.now.places.items (inst_map_of insts.old.items)) reach ∷ [])) }
 {
     if !reach {
-        put_all(marks, own.places, own.before);
+        put_all(insts, own.places, own.before);
         return Ok(joined);
     }
     let end = End {
         view,
         own: own.places,
-        marks,
+        insts,
     };
     let more = one_more(alloc, end, joined)?;
-    put_all(marks, own.places, own.before);
+    put_all(insts, own.places, own.before);
     Ok(Some(more))
 }
 
@@ -59,14 +59,14 @@ fn one_more<'a>(
     end: End<'a, '_>,
     joined: Option<Joined<'a>>,
 ) -> Result<Joined<'a>, NoMemory>
-    ensures { IfOk result (λ more. (s : Knowledge) → (rs : List Knowledge) → IsEnd end.entry s
-        → IsJoin (occurs end.entry.view.outside) (knowledge_of end.entry.view.before.now) joined.entry rs
-        → IsJoin (occurs end.entry.view.outside) (knowledge_of end.entry.view.before.now) (Some more) (rs ++ end_of end.entry ∷ [])) }
+    ensures { IfOk result (λ more. (s : InstMap) → (rs : List InstMap) → IsEnd end.entry s
+        → IsJoin (occurs end.entry.view.outside) (inst_map_of end.entry.view.before.now) joined.entry rs
+        → IsJoin (occurs end.entry.view.outside) (inst_map_of end.entry.view.before.now) (Some more) (rs ++ end_of end.entry ∷ [])) }
 {
     match joined {
         None => {
-            let marks = seen(alloc, &end.view.outside.local.places, end.marks)?;
-            Joined::new(alloc, end.view.before, marks)
+            let insts = seen(alloc, &end.view.outside.local.places, end.insts)?;
+            Joined::new(alloc, end.view.before, insts)
         }
         Some(mut joined) => {
             joined.add(alloc, end)?;
@@ -79,19 +79,19 @@ fn one_more<'a>(
 pub fn end_arms<'a>(
     view: View<'a, '_>,
     joined: Option<Joined<'a>>,
-    marks: &mut Vec<Mark<'a>>,
+    insts: &mut Vec<Inst<'a>>,
     line: u32,
 ) -> Result<bool, ModeFault>
-    ensures { (p : ℕ → Bool) → (ends : List After) → Ends p (knowledge_of view.entry.before.now) joined.entry ends
-        → knowledge_of view.entry.before.now ≡ views.seen view.entry.outside.local.now.places.items (knowledge_of marks.old.items)
-        → ReachesExactly result (knowledge_of marks.new.items)
-        (views.put_verdict view.entry.outside.local.now.places.items (knowledge_of marks.old.items) (spec.joined line p (knowledge_of view.entry.before.now) ends)) }
+    ensures { (p : ℕ → Bool) → (ends : List After) → Ends p (inst_map_of view.entry.before.now) joined.entry ends
+        → inst_map_of view.entry.before.now ≡ views.seen view.entry.outside.local.now.places.items (inst_map_of insts.old.items)
+        → ReachesExactly result (inst_map_of insts.new.items)
+        (views.put_verdict view.entry.outside.local.now.places.items (inst_map_of insts.old.items) (spec.joined line p (inst_map_of view.entry.before.now) ends)) }
 {
     match joined {
         None => Ok(false),
         Some(joined) => {
             let end = joined.end(view.before, line)?;
-            put_all(marks, &view.outside.local.places, &end);
+            put_all(insts, &view.outside.local.places, &end);
             Ok(true)
         }
     }

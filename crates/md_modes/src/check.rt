@@ -1,7 +1,7 @@
 // The whole program.
 ghost use Rattle.std.specs.Prelude.{◌≡◌, ◌≢◌, None, Some, ◌++◌, IfOk, OnOk, MatchResult};
-ghost use Rattle.md_hlds.specs.Listing.{listing_of, procedure_of, procedures_of};
-ghost use Rattle.md_binding.specs.declared.fault.ModeFault.TheVariants as faults;
+ghost use Rattle.md_hlds.specs.Hlds.{hlds_of, procedure_of, procedures_of};
+ghost use Rattle.md_inst.specs.declared.fault.ModeFault.TheVariants as faults;
 ghost use Rattle.md_modes.specs.Modes as spec;
 ghost use Rattle.md_modes.specs.Modes.{mode_fault};
 ghost use Rattle.md_modes.specs.Notes.{program_notes, notes_from, clause_notes};
@@ -15,7 +15,7 @@ use crate::ends::{check_exits, entry};
 use crate::main_predicate::has_main;
 use crate::moded::Moded;
 use crate::tally::counts_of_clause;
-use md_binding::ModeFault;
+use md_inst::ModeFault;
 use md_hlds::{Pred, Program};
 use md_names::Names;
 use std::alloc::Global;
@@ -24,8 +24,8 @@ use std::alloc::Global;
 /// fault with its line, and gives the program up. Takes time near linear in the program, times the depth of its goals.
 #[tactic(auto, unfolding(crate::specs::Modes::mode_fault))]
 pub fn check_modes(alloc: Global, program: Program) -> Result<Moded, ModeFault>
-    ensures answer { MatchResult result (λ moded. moded ≡ program) (λ fault. fault ≢ faults.NoMemory → mode_fault (listing_of program) ≡ Some fault) }
-    ensures accepted { IfOk result (λ moded. mode_fault (listing_of moded) ≡ None) }
+    ensures answer { MatchResult result (λ moded. moded ≡ program) (λ fault. fault ≢ faults.NoMemory → mode_fault (hlds_of program) ≡ Some fault) }
+    ensures accepted { IfOk result (λ moded. mode_fault (hlds_of moded) ≡ None) }
 {
     let mut notes = Vec::new(alloc);
     check_program(alloc, &program, &mut notes)?;
@@ -34,8 +34,8 @@ pub fn check_modes(alloc: Global, program: Program) -> Result<Moded, ModeFault>
 
 /// Checks a program, and notes what is found at its goals.
 fn check_program(alloc: Global, program: &Program, notes: &mut Vec<Note>) -> Result<(), ModeFault>
-    ensures checked { Checks result (spec.checked (listing_of program.now)) }
-    ensures notes { OnOk result (notes_told notes.new.items ≡ notes_told notes.old.items ++ program_notes (listing_of program.now)) }
+    ensures checked { Checks result (spec.checked (hlds_of program.now)) }
+    ensures notes { OnOk result (notes_told notes.new.items ≡ notes_told notes.old.items ++ program_notes (hlds_of program.now)) }
 {
     let names = Names::new(alloc, program)?;
     check_named(alloc, &names, notes)
@@ -44,8 +44,8 @@ fn check_program(alloc: Global, program: &Program, notes: &mut Vec<Note>) -> Res
 /// Checks the program that has these names.
 #[tactic(auto, unfolding(crate::specs::Notes::program_notes))]
 fn check_named(alloc: Global, names: &Names<'_>, notes: &mut Vec<Note>) -> Result<(), ModeFault>
-    ensures checked { Checks result (spec.checked (listing_of names.now)) }
-    ensures notes { OnOk result (notes_told notes.new.items ≡ notes_told notes.old.items ++ program_notes (listing_of names.now)) }
+    ensures checked { Checks result (spec.checked (hlds_of names.now)) }
+    ensures notes { OnOk result (notes_told notes.new.items ≡ notes_told notes.old.items ++ program_notes (hlds_of names.now)) }
 {
     let program = names.program();
     check_types(names, program.types.as_slice())?;
@@ -64,8 +64,8 @@ fn check_clauses<'a>(
     preds: &'a [Pred],
     notes: &mut Vec<Note>,
 ) -> Result<(), ModeFault>
-    ensures checked { Checks result (spec.clauses (listing_of names.now) (procedures_of preds.now)) }
-    ensures notes { OnOk result (notes_told notes.new.items ≡ notes_told notes.old.items ++ notes_from (listing_of names.now) (procedures_of preds.now)) }
+    ensures checked { Checks result (spec.clauses (hlds_of names.now) (procedures_of preds.now)) }
+    ensures notes { OnOk result (notes_told notes.new.items ≡ notes_told notes.old.items ++ notes_from (hlds_of names.now) (procedures_of preds.now)) }
 {
     for pred in preds {
         check_clause(alloc, names, pred, notes)?;
@@ -79,21 +79,21 @@ fn check_clause<'a>(
     pred: &'a Pred,
     notes: &mut Vec<Note>,
 ) -> Result<(), ModeFault>
-    ensures checked { Checks result (spec.clause (listing_of names.now) (procedure_of pred.now)) }
-    ensures notes { OnOk result (notes_told notes.new.items ≡ notes_told notes.old.items ++ clause_notes (listing_of names.now) (procedure_of pred.now)) }
+    ensures checked { Checks result (spec.clause (hlds_of names.now) (procedure_of pred.now)) }
+    ensures notes { OnOk result (notes_told notes.new.items ≡ notes_told notes.old.items ++ clause_notes (hlds_of names.now) (procedure_of pred.now)) }
 {
     let clause = Clause {
         names,
         pred,
         counts: counts_of_clause(alloc, pred)?,
     };
-    let mut marks = entry(alloc, pred)?;
-    let reach = clause.check(alloc, &mut marks, false, &pred.body, notes)?;
+    let mut insts = entry(alloc, pred)?;
+    let reach = clause.check(alloc, &mut insts, false, &pred.body, notes)?;
     if !reach {
         return Ok(());
     }
     check_exits(
-        &marks,
+        &insts,
         pred.clause_line,
         pred.args.as_slice(),
         pred.head.as_slice(),

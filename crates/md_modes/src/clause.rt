@@ -1,5 +1,5 @@
 // A clause with how often each of its variables occurs.
-ghost use Rattle.md_hlds.specs.Listing.{procedure_of};
+ghost use Rattle.md_hlds.specs.Hlds.{procedure_of};
 ghost use Rattle.md_modes.specs.Goals.{clause_variables};
 ghost use Rattle.md_modes.specs.Tally.{AreCounts};
 

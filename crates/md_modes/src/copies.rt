@@ -1,7 +1,7 @@
 // Copies of the types of closures.
 ghost use Rattle.std.specs.Prelude.{◌≡◌, IfOk};
-ghost use Rattle.md_hlds.specs.Listing.{sort_of, sorts_of, args_of};
-ghost use Rattle.md_binding.specs.Simple.{types_of, modes_of};
+ghost use Rattle.md_hlds.specs.Hlds.{hlds_type_of, hlds_types_of, args_of};
+ghost use Rattle.md_inst.specs.Simple.{types_of, modes_of};
 
 use md_base::NoMemory;
 use md_hlds::{Det, HoTy, Mode, Ty};
@@ -10,7 +10,7 @@ use std::alloc::Global;
 /// The same higher-order type once more.
 #[cycle(copies)]
 pub fn copy_closure(alloc: Global, ho: &HoTy) -> Result<HoTy, NoMemory>
-    ensures types { IfOk result (λ copy. sorts_of copy.types.items ≡ sorts_of ho.now.types.items) }
+    ensures types { IfOk result (λ copy. hlds_types_of copy.types.items ≡ hlds_types_of ho.now.types.items) }
     ensures modes { IfOk result (λ copy. copy.modes.items ≡ ho.now.modes.items) }
     ensures det { IfOk result (λ copy. copy.det ≡ ho.now.det) }
 {
@@ -23,7 +23,7 @@ pub fn copy_closure(alloc: Global, ho: &HoTy) -> Result<HoTy, NoMemory>
 
 #[cycle(copies)]
 fn copy_types(alloc: Global, types: &[Ty]) -> Result<Vec<Ty>, NoMemory>
-    ensures { IfOk result (λ copies. sorts_of copies.items ≡ sorts_of types.now) }
+    ensures { IfOk result (λ copies. hlds_types_of copies.items ≡ hlds_types_of types.now) }
 {
     let mut copies = Vec::with_capacity(alloc, types.len())?;
     for ty in types {
@@ -34,7 +34,7 @@ fn copy_types(alloc: Global, types: &[Ty]) -> Result<Vec<Ty>, NoMemory>
 
 #[cycle(copies)]
 fn copy_type(alloc: Global, ty: &Ty) -> Result<Ty, NoMemory>
-    ensures { IfOk result (λ copy. sort_of copy ≡ sort_of ty.now) }
+    ensures { IfOk result (λ copy. hlds_type_of copy ≡ hlds_type_of ty.now) }
 {
     match ty {
         Ty::Int => Ok(Ty::Int),
@@ -47,7 +47,7 @@ fn copy_type(alloc: Global, ty: &Ty) -> Result<Ty, NoMemory>
 
 /// The type of a closure of a predicate that is declared so, with these arguments left.
 pub fn open_closure(alloc: Global, args: &[(Ty, Mode)], det: Det) -> Result<HoTy, NoMemory>
-    ensures types { IfOk result (λ left. sorts_of left.types.items ≡ types_of (args_of args.now)) }
+    ensures types { IfOk result (λ left. hlds_types_of left.types.items ≡ types_of (args_of args.now)) }
     ensures modes { IfOk result (λ left. left.modes.items ≡ modes_of (args_of args.now)) }
     ensures det { IfOk result (λ left. left.det ≡ det) }
 {
@@ -59,7 +59,7 @@ pub fn open_closure(alloc: Global, args: &[(Ty, Mode)], det: Det) -> Result<HoTy
 }
 
 fn types_of(alloc: Global, args: &[(Ty, Mode)]) -> Result<Vec<Ty>, NoMemory>
-    ensures { IfOk result (λ types. sorts_of types.items ≡ types_of (args_of args.now)) }
+    ensures { IfOk result (λ types. hlds_types_of types.items ≡ types_of (args_of args.now)) }
 {
     let mut types = Vec::with_capacity(alloc, args.len())?;
     for arg in args {

@@ -1,17 +1,17 @@
 // The checks of declarations: of types, and of predicates.
 ghost use Rattle.std.specs.Prelude.{◌≡◌};
-ghost use Rattle.md_hlds.specs.Listing.{listing_of, families_of, constructs_of, procedures_of, sorts_of, args_of, gathered_sorts};
-ghost use Rattle.md_binding.specs.Simple.{types_of, modes_of};
+ghost use Rattle.md_hlds.specs.Hlds.{hlds_of, type_defs_of, hlds_functors_of, procedures_of, hlds_types_of, args_of, gathered_types};
+ghost use Rattle.md_inst.specs.Simple.{types_of, modes_of};
 ghost use Rattle.md_modes.specs.Declarations as spec;
-ghost use Rattle.md_binding.specs.Kinds.{kind_sort, Finds};
+ghost use Rattle.md_inst.specs.Kinds.{kind_sort, Finds};
 
-use md_binding::{Kind, ModeFault};
+use md_inst::{Kind, ModeFault};
 use md_hlds::{Functor, Mode, Pred, Ty, TypeDef};
 use md_names::Names;
 
 /// Checks the declarations of these types of a program.
 pub fn check_types(names: &Names<'_>, types: &[TypeDef]) -> Result<(), ModeFault>
-    ensures { Finds result (spec.families (listing_of names.now).types (families_of types.now)) }
+    ensures { Finds result (spec.families (hlds_of names.now).types (type_defs_of types.now)) }
 {
     for ty in types {
         check_functors(names, ty.line, ty.functors.as_slice())?;
@@ -20,7 +20,7 @@ pub fn check_types(names: &Names<'_>, types: &[TypeDef]) -> Result<(), ModeFault
 }
 
 fn check_functors(names: &Names<'_>, line: u32, functors: &[Functor]) -> Result<(), ModeFault>
-    ensures { Finds result (spec.functors (listing_of names.now).types line (constructs_of functors.now)) }
+    ensures { Finds result (spec.functors (hlds_of names.now).types line (hlds_functors_of functors.now)) }
 {
     for functor in functors {
         check_parts(names, line, functor.args.as_slice())?;
@@ -30,7 +30,7 @@ fn check_functors(names: &Names<'_>, line: u32, functors: &[Functor]) -> Result<
 
 /// Checks the arguments of a functor.
 fn check_parts(names: &Names<'_>, line: u32, types: &[Ty]) -> Result<(), ModeFault>
-    ensures { Finds result (spec.parts (listing_of names.now).types line (sorts_of types.now)) }
+    ensures { Finds result (spec.parts (hlds_of names.now).types line (hlds_types_of types.now)) }
 {
     match types {
         [] => Ok(()),
@@ -42,7 +42,7 @@ fn check_parts(names: &Names<'_>, line: u32, types: &[Ty]) -> Result<(), ModeFau
 }
 
 fn check_part(names: &Names<'_>, line: u32, kind: Kind<'_>) -> Result<(), ModeFault>
-    ensures { Finds result (spec.part (listing_of names.now).types line (kind_sort kind.entry)) }
+    ensures { Finds result (spec.part (hlds_of names.now).types line (kind_sort kind.entry)) }
 {
     if !is_known(names, kind) {
         return Err(ModeFault::UnknownName(line));
@@ -55,7 +55,7 @@ fn check_part(names: &Names<'_>, line: u32, kind: Kind<'_>) -> Result<(), ModeFa
 
 /// Checks the declarations of these predicates of a program.
 pub fn check_predicates(names: &Names<'_>, preds: &[Pred]) -> Result<(), ModeFault>
-    ensures { Finds result (spec.procedures (listing_of names.now).types (procedures_of preds.now)) }
+    ensures { Finds result (spec.procedures (hlds_of names.now).types (procedures_of preds.now)) }
 {
     for pred in preds {
         check_arguments(names, pred.line, pred.args.as_slice())?;
@@ -64,7 +64,7 @@ pub fn check_predicates(names: &Names<'_>, preds: &[Pred]) -> Result<(), ModeFau
 }
 
 fn check_arguments(names: &Names<'_>, line: u32, args: &[(Ty, Mode)]) -> Result<(), ModeFault>
-    ensures { Finds result (spec.arguments (listing_of names.now).types line (args_of args.now)) }
+    ensures { Finds result (spec.arguments (hlds_of names.now).types line (args_of args.now)) }
 {
     match args {
         [] => Ok(()),
@@ -76,7 +76,7 @@ fn check_arguments(names: &Names<'_>, line: u32, args: &[(Ty, Mode)]) -> Result<
 }
 
 fn check_argument(names: &Names<'_>, line: u32, kind: Kind<'_>, mode: Mode) -> Result<(), ModeFault>
-    ensures { Finds result (spec.argument (listing_of names.now).types line (kind_sort kind.entry, mode)) }
+    ensures { Finds result (spec.argument (hlds_of names.now).types line (kind_sort kind.entry, mode)) }
 {
     if !is_known(names, kind) {
         return Err(ModeFault::UnknownName(line));
@@ -89,7 +89,7 @@ fn check_argument(names: &Names<'_>, line: u32, kind: Kind<'_>, mode: Mode) -> R
 
 /// Whether a type is declared; of a higher-order type, whether those of its arguments are.
 fn is_known(names: &Names<'_>, kind: Kind<'_>) -> bool
-    ensures { result ≡ spec.is_known (listing_of names.now).types (kind_sort kind.entry) }
+    ensures { result ≡ spec.is_known (hlds_of names.now).types (kind_sort kind.entry) }
 {
     match kind {
         Kind::Number | Kind::Text | Kind::World => true,
@@ -100,7 +100,7 @@ fn is_known(names: &Names<'_>, kind: Kind<'_>) -> bool
 }
 
 fn are_declared(names: &Names<'_>, types: &[Ty]) -> bool
-    ensures { result ≡ spec.are_declared (listing_of names.now).types (gathered_sorts (sorts_of types.now)) }
+    ensures { result ≡ spec.are_declared (hlds_of names.now).types (gathered_types (hlds_types_of types.now)) }
 {
     match types {
         [] => true,
@@ -110,7 +110,7 @@ fn are_declared(names: &Names<'_>, types: &[Ty]) -> bool
 
 /// Whether the types of these arguments are declared.
 fn have_declared(names: &Names<'_>, args: &[(Ty, Mode)]) -> bool
-    ensures { result ≡ spec.are_declared (listing_of names.now).types (gathered_sorts (types_of (args_of args.now))) }
+    ensures { result ≡ spec.are_declared (hlds_of names.now).types (gathered_types (types_of (args_of args.now))) }
 {
     match args {
         [] => true,
@@ -119,7 +119,7 @@ fn have_declared(names: &Names<'_>, args: &[(Ty, Mode)]) -> bool
 }
 
 fn is_declared(names: &Names<'_>, kind: Kind<'_>) -> bool
-    ensures { result ≡ spec.is_declared (listing_of names.now).types (kind_sort kind.entry) }
+    ensures { result ≡ spec.is_declared (hlds_of names.now).types (kind_sort kind.entry) }
 {
     match kind {
         Kind::Named(name) => names.has_type(name),
@@ -141,7 +141,7 @@ fn is_pair(kind: Kind<'_>, mode: Mode) -> bool
 }
 
 fn are_pairs(types: &[Ty], modes: &[Mode]) -> bool
-    ensures { result ≡ spec.are_pairs (gathered_sorts (sorts_of types.now)) modes.now }
+    ensures { result ≡ spec.are_pairs (gathered_types (hlds_types_of types.now)) modes.now }
 {
     match types {
         [] => match modes {
@@ -157,7 +157,7 @@ fn are_pairs(types: &[Ty], modes: &[Mode]) -> bool
 
 /// Whether these arguments have modes of their own.
 fn have_pairs(args: &[(Ty, Mode)]) -> bool
-    ensures { result ≡ spec.are_pairs (gathered_sorts (types_of (args_of args.now))) (modes_of (args_of args.now)) }
+    ensures { result ≡ spec.are_pairs (gathered_types (types_of (args_of args.now))) (modes_of (args_of args.now)) }
 {
     match args {
         [] => true,

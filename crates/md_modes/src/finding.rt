@@ -1,17 +1,17 @@
 // What there is to say of one goal, by what is known before and after it.
 ghost use Rattle.std.specs.Prelude.{◌≡◌, ◌||◌, cond, [], length, IfOk};
-ghost use Rattle.md_hlds.specs.Listing.{listing_of};
-ghost use Rattle.md_hlds.specs.Part.{task_of};
-ghost use Rattle.md_binding.specs.Kinds.{kind_sort, known_of, knowledge_of};
+ghost use Rattle.md_hlds.specs.Hlds.{hlds_of};
+ghost use Rattle.md_hlds.specs.HldsGoal.{expr_of};
+ghost use Rattle.md_inst.specs.Kinds.{kind_sort, instantiation_of, inst_map_of};
 ghost use Rattle.md_modes.specs.Notes.{role_of, role_of_variables, role_of_term, role_of_name, role_of_sort, role_of_closure, role_of_unification, bound_places, is_state};
 ghost use Rattle.md_modes.specs.Views.{picked, some_state, names_seen};
-ghost use Rattle.md_binding.specs.Named as named;
+ghost use Rattle.md_inst.specs.Named as named;
 ghost use Rattle.md_modes.specs.Classes.{role_told, class_told, note_told};
 
 use crate::class::{Class, Note};
 use crate::copies::{copy_closure, open_closure};
 use md_base::NoMemory;
-use md_binding::{Kind, Mark, functor_called, mark_at, mark_in};
+use md_inst::{Kind, Inst, functor_called, inst_at, inst_in};
 use md_hlds::{GoalKind, PredName, Term};
 use md_names::Names;
 use std::alloc::Global;
@@ -21,16 +21,16 @@ pub fn class_of(
     alloc: Global,
     names: &Names<'_>,
     goal: &GoalKind,
-    marks: &[Mark<'_>],
+    insts: &[Inst<'_>],
 ) -> Result<Option<Class>, NoMemory>
-    ensures { IfOk result (λ class. class_told class ≡ role_of (listing_of names.now) (task_of goal.now) (knowledge_of marks.now)) }
+    ensures { IfOk result (λ class. class_told class ≡ role_of (hlds_of names.now) (expr_of goal.now) (inst_map_of insts.now)) }
 {
     match goal {
         GoalKind::Unify(x, term) => {
-            let class = class_of_unification(alloc, names, marks, *x, term)?;
+            let class = class_of_unification(alloc, names, insts, *x, term)?;
             Ok(Some(class))
         }
-        GoalKind::HoCall(_, closure, _) => class_of_closure(alloc, mark_at(marks, *closure)),
+        GoalKind::HoCall(_, closure, _) => class_of_closure(alloc, inst_at(insts, *closure)),
         GoalKind::True
         | GoalKind::Fail
         | GoalKind::Arith(..)
@@ -50,34 +50,34 @@ pub fn class_of(
 fn class_of_unification(
     alloc: Global,
     names: &Names<'_>,
-    marks: &[Mark<'_>],
+    insts: &[Inst<'_>],
     x: u32,
     term: &Term,
 ) -> Result<Class, NoMemory>
-    ensures { IfOk result (λ class. role_told class ≡ role_of_unification (listing_of names.now) x term.now (knowledge_of marks.now)) }
+    ensures { IfOk result (λ class. role_told class ≡ role_of_unification (hlds_of names.now) x term.now (inst_map_of insts.now)) }
 {
     match term {
-        Term::Var(y) => Ok(class_of_variables(x, *y, mark_at(marks, x), mark_at(marks, *y))),
-        Term::Int(_) | Term::Str(_) => class_of_term(alloc, &[], mark_at(marks, x), marks),
+        Term::Var(y) => Ok(class_of_variables(x, *y, inst_at(insts, x), inst_at(insts, *y))),
+        Term::Int(_) | Term::Str(_) => class_of_term(alloc, &[], inst_at(insts, x), insts),
         Term::Name(name, places) => class_of_name(
             alloc,
             names,
-            marks,
-            mark_at(marks, x),
+            insts,
+            inst_at(insts, x),
             name,
             places.as_slice(),
         ),
     }
 }
 
-fn class_of_variables(x: u32, y: u32, left: Mark<'_>, right: Mark<'_>) -> Class
-    ensures { role_told result ≡ role_of_variables x y (known_of left.entry) (known_of right.entry) }
+fn class_of_variables(x: u32, y: u32, left: Inst<'_>, right: Inst<'_>) -> Class
+    ensures { role_told result ≡ role_of_variables x y (instantiation_of left.entry) (instantiation_of right.entry) }
 {
     match left {
-        Mark::Free => Class::Assign { to: x },
-        Mark::Bound(..) => match right {
-            Mark::Free => Class::Assign { to: y },
-            Mark::Bound(..) => Class::Test,
+        Inst::Free => Class::Assign { to: x },
+        Inst::Bound(..) => match right {
+            Inst::Free => Class::Assign { to: y },
+            Inst::Bound(..) => Class::Test,
         },
     }
 }
@@ -85,15 +85,15 @@ fn class_of_variables(x: u32, y: u32, left: Mark<'_>, right: Mark<'_>) -> Class
 fn class_of_term(
     alloc: Global,
     places: &[u32],
-    mark: Mark<'_>,
-    marks: &[Mark<'_>],
+    inst: Inst<'_>,
+    insts: &[Inst<'_>],
 ) -> Result<Class, NoMemory>
-    ensures { IfOk result (λ class. role_told class ≡ role_of_term places.now (known_of mark.entry) (knowledge_of marks.now)) }
+    ensures { IfOk result (λ class. role_told class ≡ role_of_term places.now (instantiation_of inst.entry) (inst_map_of insts.now)) }
 {
-    match mark {
-        Mark::Free => Ok(Class::Construct),
-        Mark::Bound(..) => Ok(Class::Deconstruct {
-            bound: bound_among(alloc, places, marks)?,
+    match inst {
+        Inst::Free => Ok(Class::Construct),
+        Inst::Bound(..) => Ok(Class::Deconstruct {
+            bound: bound_among(alloc, places, insts)?,
         }),
     }
 }
@@ -101,27 +101,27 @@ fn class_of_term(
 fn class_of_name(
     alloc: Global,
     names: &Names<'_>,
-    marks: &[Mark<'_>],
-    mark: Mark<'_>,
+    insts: &[Inst<'_>],
+    inst: Inst<'_>,
     name: &PredName,
     places: &[u32],
 ) -> Result<Class, NoMemory>
-    ensures { IfOk result (λ class. role_told class ≡ role_of_name places.now (known_of mark.entry) (knowledge_of marks.now)
-        (named.functor_called (listing_of names.now) name.now (length places.now))) }
+    ensures { IfOk result (λ class. role_told class ≡ role_of_name places.now (instantiation_of inst.entry) (inst_map_of insts.now)
+        (named.functor_called (hlds_of names.now) name.now (length places.now))) }
 {
     match functor_called(names, name, places.len()) {
-        Some(_) => class_of_term(alloc, places, mark, marks),
+        Some(_) => class_of_term(alloc, places, inst, insts),
         None => Ok(Class::Close),
     }
 }
 
 /// The type of the closure that a variable has.
-fn class_of_closure(alloc: Global, mark: Mark<'_>) -> Result<Option<Class>, NoMemory>
-    ensures { IfOk result (λ class. class_told class ≡ role_of_closure (known_of mark.entry)) }
+fn class_of_closure(alloc: Global, inst: Inst<'_>) -> Result<Option<Class>, NoMemory>
+    ensures { IfOk result (λ class. class_told class ≡ role_of_closure (instantiation_of inst.entry)) }
 {
-    match mark {
-        Mark::Free => Ok(None),
-        Mark::Bound(kind, _) => class_of_kind(alloc, kind),
+    match inst {
+        Inst::Free => Ok(None),
+        Inst::Bound(kind, _) => class_of_kind(alloc, kind),
     }
 }
 
@@ -142,12 +142,12 @@ fn class_of_kind(alloc: Global, kind: Kind<'_>) -> Result<Option<Class>, NoMemor
 }
 
 /// The places, from 0, of the variables that are bound.
-fn bound_among(alloc: Global, places: &[u32], marks: &[Mark<'_>]) -> Result<Vec<u32>, NoMemory>
-    ensures { IfOk result (λ bound. bound.items ≡ bound_places 0 places.now (knowledge_of marks.now)) }
+fn bound_among(alloc: Global, places: &[u32], insts: &[Inst<'_>]) -> Result<Vec<u32>, NoMemory>
+    ensures { IfOk result (λ bound. bound.items ≡ bound_places 0 places.now (inst_map_of insts.now)) }
 {
     let mut bound = Vec::new(alloc);
     for number in 0..places.len() {
-        if mark_at(marks, places[number]).is_bound() {
+        if inst_at(insts, places[number]).is_bound() {
             bound.push(number_of(number)?)?;
         }
     }
@@ -158,8 +158,8 @@ fn bound_among(alloc: Global, places: &[u32], marks: &[Mark<'_>]) -> Result<Vec<
 #[derive(Clone, Copy)]
 pub struct Change<'a, 'b> {
     pub places: &'b [u32],
-    pub before: &'b [Mark<'a>],
-    pub after: &'b [Mark<'a>],
+    pub before: &'b [Inst<'a>],
+    pub after: &'b [Inst<'a>],
     pub ghost before_all: { length before.now ≡ length places.now },
     pub ghost after_all: { length after.now ≡ length places.now },
 }
@@ -175,8 +175,8 @@ impl<'a, 'b> Change<'a, 'b> {
     ) -> Result<Note, NoMemory>
         ensures { IfOk result (λ note. note_told note ≡ record {
           role = class_told class;
-          binds = cond reach (picked self.entry.places.now (knowledge_of self.entry.before.now) (knowledge_of self.entry.after.now)) [];
-          state = names_seen (task_of goal.now) (knowledge_of self.entry.before.now) (knowledge_of self.entry.after.now);
+          binds = cond reach (picked self.entry.places.now (inst_map_of self.entry.before.now) (inst_map_of self.entry.after.now)) [];
+          state = names_seen (expr_of goal.now) (inst_map_of self.entry.before.now) (inst_map_of self.entry.after.now);
         }) }
     {
         let binds = if reach {
@@ -193,11 +193,11 @@ impl<'a, 'b> Change<'a, 'b> {
 
     /// The variables that are free before and bound after.
     fn newly_bound(self, alloc: Global) -> Result<Vec<u32>, NoMemory>
-        ensures { IfOk result (λ bound. bound.items ≡ picked self.entry.places.now (knowledge_of self.entry.before.now) (knowledge_of self.entry.after.now)) }
+        ensures { IfOk result (λ bound. bound.items ≡ picked self.entry.places.now (inst_map_of self.entry.before.now) (inst_map_of self.entry.after.now)) }
     {
         let mut bound = Vec::new(alloc);
         for number in 0..self.places.len() {
-            if Mark::is_newly_bound(mark_in(self.before, number), mark_in(self.after, number)) {
+            if Inst::is_newly_bound(inst_in(self.before, number), inst_in(self.after, number)) {
                 bound.push(self.places[number])?;
             }
         }
@@ -207,7 +207,7 @@ impl<'a, 'b> Change<'a, 'b> {
     /// Whether a variable of the goal is an io state before or after it; a conjunction, a disjunction and an if-then-else
     /// name none.
     fn names_io(self, goal: &GoalKind) -> bool
-        ensures { result ≡ names_seen (task_of goal.now) (knowledge_of self.entry.before.now) (knowledge_of self.entry.after.now) }
+        ensures { result ≡ names_seen (expr_of goal.now) (inst_map_of self.entry.before.now) (inst_map_of self.entry.after.now) }
     {
         match goal {
             GoalKind::Conj(_) | GoalKind::Disj(_) | GoalKind::If(..) => false,
@@ -227,10 +227,10 @@ impl<'a, 'b> Change<'a, 'b> {
     }
 
     fn has_state(self) -> bool
-        ensures { result ≡ some_state (knowledge_of self.entry.before.now) (knowledge_of self.entry.after.now) }
+        ensures { result ≡ some_state (inst_map_of self.entry.before.now) (inst_map_of self.entry.after.now) }
     {
         for number in 0..self.places.len() {
-            if is_either_state(mark_in(self.before, number), mark_in(self.after, number)) {
+            if is_either_state(inst_in(self.before, number), inst_in(self.after, number)) {
                 return true;
             }
         }
@@ -239,19 +239,19 @@ impl<'a, 'b> Change<'a, 'b> {
 }
 
 /// Whether a variable is bound to an io state before or after the goal.
-fn is_either_state(before: Mark<'_>, after: Mark<'_>) -> bool
-    ensures { result ≡ (is_state (known_of before.entry) || is_state (known_of after.entry)) }
+fn is_either_state(before: Inst<'_>, after: Inst<'_>) -> bool
+    ensures { result ≡ (is_state (instantiation_of before.entry) || is_state (instantiation_of after.entry)) }
 {
     is_state(before) || is_state(after)
 }
 
 /// Whether a variable is bound to an io state.
-fn is_state(mark: Mark<'_>) -> bool
-    ensures { result ≡ is_state (known_of mark.entry) }
+fn is_state(inst: Inst<'_>) -> bool
+    ensures { result ≡ is_state (instantiation_of inst.entry) }
 {
-    match mark {
-        Mark::Free => false,
-        Mark::Bound(kind, _) => kind.is_world(),
+    match inst {
+        Inst::Free => false,
+        Inst::Bound(kind, _) => kind.is_world(),
     }
 }
 

@@ -1,6 +1,6 @@
 // The goals of a clause.
 ghost use Rattle.std.specs.Prelude.{◌≡◌, ◌++◌, ◌&&◌, ℕ, List, true, IfOk};
-ghost use Rattle.md_hlds.specs.Part.{Either, Once, part_of, parts_of, task_of, gathered};
+ghost use Rattle.md_hlds.specs.HldsGoal.{DisjGoal, SomeGoal, goal_of, goals_of, expr_of, gathered};
 ghost use Rattle.md_modes.specs.Goals.{parts_variables};
 ghost use Rattle.md_modes.specs.Goals as spec;
 ghost use Rattle.md_modes.specs.Notes as noted;
@@ -8,16 +8,16 @@ ghost use Rattle.md_modes.specs.Classes.{notes_told};
 ghost use Rattle.md_modes.specs.Joins.{Reaches};
 ghost use Rattle.md_modes.specs.Inside.{IsViewOf, AreAmong, inside};
 ghost use Rattle.md_modes.specs.Clauses.{scope_at};
-ghost use Rattle.md_binding.specs.Kinds.{knowledge_of};
+ghost use Rattle.md_inst.specs.Kinds.{inst_map_of};
 
 use crate::arms::{Own, add_arm, end_arms};
 use crate::class::Note;
 use crate::clause::Clause;
 use crate::finding::{Change, class_of};
 use crate::local::Local;
-use crate::outside::{Outside, View, binds_some};
+use crate::nonlocals::{Nonlocals, View, binds_some};
 use crate::view::{put_all, seen};
-use md_binding::{Mark, ModeFault, Spot, leaf};
+use md_inst::{Inst, ModeFault, Spot, atomic};
 use md_hlds::{Goal, GoalKind};
 use std::alloc::Global;
 
@@ -28,21 +28,21 @@ impl<'a, 'b> Clause<'a, 'b> {
     pub fn check(
         &self,
         alloc: Global,
-        marks: &mut Vec<Mark<'a>>,
+        insts: &mut Vec<Inst<'a>>,
         strict: bool,
         goal: &Goal,
         notes: &mut Vec<Note>,
     ) -> Result<bool, ModeFault>
-        ensures reaches { Reaches result (knowledge_of marks.new.items) (spec.goal (scope_at self.now strict) (part_of goal.now) (knowledge_of marks.old.items)) }
+        ensures reaches { Reaches result (inst_map_of insts.new.items) (spec.goal (scope_at self.now strict) (goal_of goal.now) (inst_map_of insts.old.items)) }
         ensures notes { IfOk result (λ reach. notes_told notes.new.items
-            ≡ notes_told notes.old.items ++ noted.notes (scope_at self.now strict) (part_of goal.now) (knowledge_of marks.old.items)) }
+            ≡ notes_told notes.old.items ++ noted.notes (scope_at self.now strict) (goal_of goal.now) (inst_map_of insts.old.items)) }
     {
         let local = Local::new(alloc, &goal.kind)?;
-        let class = class_of(alloc, self.names, &goal.kind, marks)?;
-        let before = seen(alloc, &local.places, marks)?;
+        let class = class_of(alloc, self.names, &goal.kind, insts)?;
+        let before = seen(alloc, &local.places, insts)?;
         let number = notes.len();
         notes.push(Note::blank(alloc))?;
-        let outside = Outside {
+        let outside = Nonlocals {
             all: &self.counts,
             local: &local,
         };
@@ -50,8 +50,8 @@ impl<'a, 'b> Clause<'a, 'b> {
             outside,
             before: &before,
         };
-        let reach = self.check_kind(alloc, marks, view, strict, goal, notes)?;
-        let after = seen(alloc, &local.places, marks)?;
+        let reach = self.check_kind(alloc, insts, view, strict, goal, notes)?;
+        let after = seen(alloc, &local.places, insts)?;
         let change = Change {
             places: &local.places,
             before: &before,
@@ -66,43 +66,43 @@ impl<'a, 'b> Clause<'a, 'b> {
     fn check_kind(
         &self,
         alloc: Global,
-        marks: &mut Vec<Mark<'a>>,
+        insts: &mut Vec<Inst<'a>>,
         view: View<'a, '_>,
         strict: bool,
         goal: &Goal,
         notes: &mut Vec<Note>,
     ) -> Result<bool, ModeFault>
-        requires view { IsViewOf self.now view (spec.task_variables (task_of goal.now.kind)) (knowledge_of marks.now.items) }
-        ensures reaches { Reaches result (knowledge_of marks.new.items) (spec.task (scope_at self.now strict) goal.now.line (task_of goal.now.kind) (knowledge_of marks.old.items)) }
+        requires view { IsViewOf self.now view (spec.expr_variables (expr_of goal.now.kind)) (inst_map_of insts.now.items) }
+        ensures reaches { Reaches result (inst_map_of insts.new.items) (spec.expr (scope_at self.now strict) goal.now.line (expr_of goal.now.kind) (inst_map_of insts.old.items)) }
         ensures notes { IfOk result (λ reach. notes_told notes.new.items
-            ≡ notes_told notes.old.items ++ noted.inner_notes (scope_at self.now strict) (task_of goal.now.kind) (knowledge_of marks.old.items)) }
+            ≡ notes_told notes.old.items ++ noted.inner_notes (scope_at self.now strict) (expr_of goal.now.kind) (inst_map_of insts.old.items)) }
     {
         let at = Spot {
             line: goal.line,
             strict,
         };
         match &goal.kind {
-            GoalKind::Conj(goals) => self.check_each(alloc, marks, strict, goals.as_slice(), notes),
+            GoalKind::Conj(goals) => self.check_each(alloc, insts, strict, goals.as_slice(), notes),
             GoalKind::Disj(arms) => {
-                self.check_arms(alloc, marks, view, at, arms.as_slice(), notes)
+                self.check_arms(alloc, insts, view, at, arms.as_slice(), notes)
             }
             GoalKind::If(condition, then, otherwise) => {
-                self.check_condition(alloc, marks, view, goal.line, condition, notes)?;
-                let reach = self.check(alloc, marks, strict, then, notes)?;
+                self.check_condition(alloc, insts, view, goal.line, condition, notes)?;
+                let reach = self.check(alloc, insts, strict, then, notes)?;
                 let own = Own {
                     places: &view.outside.local.places,
                     before: view.before,
                 };
-                let joined = add_arm(alloc, view, own, None, marks, reach)?;
-                let reach = self.check(alloc, marks, strict, otherwise, notes)?;
-                let joined = add_arm(alloc, view, own, joined, marks, reach)?;
-                end_arms(view, joined, marks, goal.line)
+                let joined = add_arm(alloc, view, own, None, insts, reach)?;
+                let reach = self.check(alloc, insts, strict, otherwise, notes)?;
+                let joined = add_arm(alloc, view, own, joined, insts, reach)?;
+                end_arms(view, joined, insts, goal.line)
             }
-            GoalKind::Not(inner) => self.check_inside(alloc, marks, view, at, &[], inner, notes),
+            GoalKind::Not(inner) => self.check_inside(alloc, insts, view, at, &[], inner, notes),
             GoalKind::Some(quantified, inner) => {
-                self.check_inside(alloc, marks, view, at, quantified.as_slice(), inner, notes)
+                self.check_inside(alloc, insts, view, at, quantified.as_slice(), inner, notes)
             }
-            _ => self.check_leaf(marks, at, &goal.kind),
+            _ => self.check_atomic(insts, at, &goal.kind),
         }
     }
 
@@ -111,18 +111,18 @@ impl<'a, 'b> Clause<'a, 'b> {
     fn check_each(
         &self,
         alloc: Global,
-        marks: &mut Vec<Mark<'a>>,
+        insts: &mut Vec<Inst<'a>>,
         strict: bool,
         goals: &[Goal],
         notes: &mut Vec<Note>,
     ) -> Result<bool, ModeFault>
-        ensures reaches { Reaches result (knowledge_of marks.new.items) (spec.each (scope_at self.now strict) (gathered (parts_of goals.now)) (knowledge_of marks.old.items)) }
+        ensures reaches { Reaches result (inst_map_of insts.new.items) (spec.each (scope_at self.now strict) (gathered (goals_of goals.now)) (inst_map_of insts.old.items)) }
         ensures notes { IfOk result (λ reach. notes_told notes.new.items
-            ≡ notes_told notes.old.items ++ noted.each_notes (scope_at self.now strict) (gathered (parts_of goals.now)) (knowledge_of marks.old.items)) }
+            ≡ notes_told notes.old.items ++ noted.each_notes (scope_at self.now strict) (gathered (goals_of goals.now)) (inst_map_of insts.old.items)) }
     {
         let mut reach = true;
         for goal in goals {
-            let goes_on = self.check(alloc, marks, strict, goal, notes)?;
+            let goes_on = self.check(alloc, insts, strict, goal, notes)?;
             reach = both(reach, goes_on);
         }
         Ok(reach)
@@ -133,30 +133,30 @@ impl<'a, 'b> Clause<'a, 'b> {
     fn check_arms(
         &self,
         alloc: Global,
-        marks: &mut Vec<Mark<'a>>,
+        insts: &mut Vec<Inst<'a>>,
         view: View<'a, '_>,
         at: Spot,
         goals: &[Goal],
         notes: &mut Vec<Note>,
     ) -> Result<bool, ModeFault>
-        ensures reaches { IsViewOf self.now view.entry (parts_variables (gathered (parts_of goals.now))) (knowledge_of marks.old.items)
-            → Reaches result (knowledge_of marks.new.items) (spec.task (scope_at self.now at.strict) at.line (Either (gathered (parts_of goals.now))) (knowledge_of marks.old.items)) }
-        ensures notes { IsViewOf self.now view.entry (parts_variables (gathered (parts_of goals.now))) (knowledge_of marks.old.items)
+        ensures reaches { IsViewOf self.now view.entry (parts_variables (gathered (goals_of goals.now))) (inst_map_of insts.old.items)
+            → Reaches result (inst_map_of insts.new.items) (spec.expr (scope_at self.now at.strict) at.line (DisjGoal (gathered (goals_of goals.now))) (inst_map_of insts.old.items)) }
+        ensures notes { IsViewOf self.now view.entry (parts_variables (gathered (goals_of goals.now))) (inst_map_of insts.old.items)
             → IfOk result (λ reach. notes_told notes.new.items
-            ≡ notes_told notes.old.items ++ noted.arm_notes (scope_at self.now at.strict) (gathered (parts_of goals.now)) (knowledge_of marks.old.items)) }
+            ≡ notes_told notes.old.items ++ noted.arm_notes (scope_at self.now at.strict) (gathered (goals_of goals.now)) (inst_map_of insts.old.items)) }
     {
         let mut joined = None;
         for goal in goals {
             let local = Local::new(alloc, &goal.kind)?;
-            let before = seen(alloc, &local.places, marks)?;
-            let reach = self.check(alloc, marks, at.strict, goal, notes)?;
+            let before = seen(alloc, &local.places, insts)?;
+            let reach = self.check(alloc, insts, at.strict, goal, notes)?;
             let own = Own {
                 places: &local.places,
                 before: &before,
             };
-            joined = add_arm(alloc, view, own, joined, marks, reach)?;
+            joined = add_arm(alloc, view, own, joined, insts, reach)?;
         }
-        end_arms(view, joined, marks, at.line)
+        end_arms(view, joined, insts, at.line)
     }
 
     /// Checks a goal that may bind nothing that occurs outside, and neither may these variables occur there. Afterwards what
@@ -165,23 +165,23 @@ impl<'a, 'b> Clause<'a, 'b> {
     fn check_inside(
         &self,
         alloc: Global,
-        marks: &mut Vec<Mark<'a>>,
+        insts: &mut Vec<Inst<'a>>,
         view: View<'a, '_>,
         at: Spot,
         quantified: &[u32],
         inner: &Goal,
         notes: &mut Vec<Note>,
     ) -> Result<bool, ModeFault>
-        requires view { IsViewOf self.now view (quantified.now ++ spec.variables (part_of inner.now)) (knowledge_of marks.now.items) }
-        ensures reaches { Reaches result (knowledge_of marks.new.items) (spec.task (scope_at self.now at.strict) at.line (Once quantified.now (part_of inner.now)) (knowledge_of marks.old.items)) }
+        requires view { IsViewOf self.now view (quantified.now ++ spec.variables (goal_of inner.now)) (inst_map_of insts.now.items) }
+        ensures reaches { Reaches result (inst_map_of insts.new.items) (spec.expr (scope_at self.now at.strict) at.line (SomeGoal quantified.now (goal_of inner.now)) (inst_map_of insts.old.items)) }
         ensures notes { IfOk result (λ reach. notes_told notes.new.items
-            ≡ notes_told notes.old.items ++ noted.notes (scope_at self.now true) (part_of inner.now) (knowledge_of marks.old.items)) }
+            ≡ notes_told notes.old.items ++ noted.notes (scope_at self.now true) (goal_of inner.now) (inst_map_of insts.old.items)) }
     {
-        self.check_condition(alloc, marks, view, at.line, inner, notes)?;
+        self.check_condition(alloc, insts, view, at.line, inner, notes)?;
         if view.outside.has_some(quantified) {
             return Err(ModeFault::BranchBinds(at.line));
         }
-        put_all(marks, &view.outside.local.places, view.before);
+        put_all(insts, &view.outside.local.places, view.before);
         Ok(true)
     }
 
@@ -190,19 +190,19 @@ impl<'a, 'b> Clause<'a, 'b> {
     fn check_condition(
         &self,
         alloc: Global,
-        marks: &mut Vec<Mark<'a>>,
+        insts: &mut Vec<Inst<'a>>,
         view: View<'a, '_>,
         line: u32,
         goal: &Goal,
         notes: &mut Vec<Note>,
     ) -> Result<bool, ModeFault>
-        ensures reaches { (vars : List ℕ) → IsViewOf self.now view.entry vars (knowledge_of marks.old.items) → AreAmong (spec.variables (part_of goal.now)) vars
-            → Reaches result (knowledge_of marks.new.items) (inside (scope_at self.now true) line vars (part_of goal.now) (knowledge_of marks.old.items)) }
+        ensures reaches { (vars : List ℕ) → IsViewOf self.now view.entry vars (inst_map_of insts.old.items) → AreAmong (spec.variables (goal_of goal.now)) vars
+            → Reaches result (inst_map_of insts.new.items) (inside (scope_at self.now true) line vars (goal_of goal.now) (inst_map_of insts.old.items)) }
         ensures notes { IfOk result (λ reach. notes_told notes.new.items
-            ≡ notes_told notes.old.items ++ noted.notes (scope_at self.now true) (part_of goal.now) (knowledge_of marks.old.items)) }
+            ≡ notes_told notes.old.items ++ noted.notes (scope_at self.now true) (goal_of goal.now) (inst_map_of insts.old.items)) }
     {
-        let reach = self.check(alloc, marks, true, goal, notes)?;
-        let after = seen(alloc, &view.outside.local.places, marks)?;
+        let reach = self.check(alloc, insts, true, goal, notes)?;
+        let after = seen(alloc, &view.outside.local.places, insts)?;
         if binds_some(view.outside, view.before, &after) {
             return Err(ModeFault::BranchBinds(line));
         }
@@ -210,15 +210,15 @@ impl<'a, 'b> Clause<'a, 'b> {
     }
 
     /// Checks a goal that is no conjunction and no branch.
-    fn check_leaf(
+    fn check_atomic(
         &self,
-        marks: &mut Vec<Mark<'a>>,
+        insts: &mut Vec<Inst<'a>>,
         at: Spot,
         goal: &GoalKind,
     ) -> Result<bool, ModeFault>
-        ensures { Reaches result (knowledge_of marks.new.items) (spec.leaf_task (scope_at self.now at.strict) at.line (task_of goal.now) (knowledge_of marks.old.items)) }
+        ensures { Reaches result (inst_map_of insts.new.items) (spec.atomic_expr (scope_at self.now at.strict) at.line (expr_of goal.now) (inst_map_of insts.old.items)) }
     {
-        leaf(self.names, marks, at, goal)?;
+        atomic(self.names, insts, at, goal)?;
         Ok(goes_on_after(goal))
     }
 }
@@ -231,7 +231,7 @@ fn both(first: bool, second: bool) -> bool
 
 /// Whether the place after a goal is reachable; it isn't after `fail`.
 fn goes_on_after(goal: &GoalKind) -> bool
-    ensures { result ≡ spec.goes_on_after (task_of goal.now) }
+    ensures { result ≡ spec.goes_on_after (expr_of goal.now) }
 {
     match goal {
         GoalKind::Fail => false,

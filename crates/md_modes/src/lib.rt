@@ -17,7 +17,7 @@ mod local;
 mod main_predicate;
 mod moded;
 mod occurrences;
-mod outside;
+mod nonlocals;
 mod tally;
 #[cfg(test)]
 mod tests;
@@ -27,7 +27,7 @@ pub use check::check_modes;
 pub use class::{Class, Note};
 pub use local::Local;
 pub use main_predicate::is_main;
-pub use md_binding::ModeFault;
+pub use md_inst::ModeFault;
 pub use moded::Moded;
-pub use outside::Outside;
+pub use nonlocals::Nonlocals;
 pub use tally::{count_at, counts_of_clause};

@@ -1,9 +1,9 @@
 // The variables of one goal.
 ghost use Rattle.std.specs.Prelude.{◌≡◌, ◌<◌, ℕ, List, [], ◌∷◌, ◌++◌, length, slice_index, IfOk, OnOk};
 ghost use Rattle.std.specs.List.Sorted.{IsNonDecreasing};
-ghost use Rattle.md_hlds.specs.Part.{task_of};
-ghost use Rattle.md_binding.specs.Known.{times};
-ghost use Rattle.md_modes.specs.Goals.{task_variables};
+ghost use Rattle.md_hlds.specs.HldsGoal.{expr_of};
+ghost use Rattle.md_inst.specs.Instantiation.{times};
+ghost use Rattle.md_modes.specs.Goals.{expr_variables};
 ghost use Rattle.md_modes.specs.Views.{Rising};
 ghost use Rattle.md_modes.specs.Tally.{IsLocal, IsNoLess, ends_with, count_last};
 
@@ -23,7 +23,7 @@ pub struct Local {
 impl Local {
     /// The variables of a goal of this kind. Takes time and memory near linear in the goal.
     pub fn new(alloc: Global, goal: &GoalKind) -> Result<Local, NoMemory>
-        ensures { IfOk result (λ local. IsLocal local.places.items local.counts.items (task_variables (task_of goal.now))) }
+        ensures { IfOk result (λ local. IsLocal local.places.items local.counts.items (expr_variables (expr_of goal.now))) }
     {
         let mut vars = variables_of(alloc, goal)?;
         vars.sort_unstable();

@@ -1,10 +1,10 @@
 // The predicate with which a run begins.
 ghost use Rattle.std.specs.Prelude.{◌≡◌, ◌&&◌};
-ghost use Rattle.md_hlds.specs.Listing.{procedures_of, procedure_of, args_of, sort_of};
-ghost use Rattle.md_binding.specs.Sorts.{is_world};
+ghost use Rattle.md_hlds.specs.Hlds.{procedures_of, procedure_of, args_of, hlds_type_of};
+ghost use Rattle.md_inst.specs.HldsTypes.{is_world};
 ghost use Rattle.md_modes.specs.Modes as spec;
 
-use md_binding::{Kind, same_det};
+use md_inst::{Kind, same_det};
 use md_hlds::{Det, Mode, Pred, Ty};
 
 /// Whether a predicate `main(io::di, io::uo) is det` is declared.
@@ -46,13 +46,13 @@ fn are_main_args(args: &[(Ty, Mode)]) -> bool
 }
 
 fn is_before(arg: &(Ty, Mode)) -> bool
-    ensures { result ≡ (is_world (sort_of arg.now.0) && spec.is_di arg.now.1) }
+    ensures { result ≡ (is_world (hlds_type_of arg.now.0) && spec.is_di arg.now.1) }
 {
     Kind::new(&arg.0).is_world() && matches!(arg.1, Mode::Di)
 }
 
 fn is_after(arg: &(Ty, Mode)) -> bool
-    ensures { result ≡ (is_world (sort_of arg.now.0) && spec.is_uo arg.now.1) }
+    ensures { result ≡ (is_world (hlds_type_of arg.now.0) && spec.is_uo arg.now.1) }
 {
     Kind::new(&arg.0).is_world() && matches!(arg.1, Mode::Uo)
 }

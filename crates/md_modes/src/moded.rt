@@ -1,6 +1,6 @@
 // A program that the mode checks accept.
 ghost use Rattle.std.specs.Prelude.{◌≡◌, None, Some, slice_get, MatchOption};
-ghost use Rattle.md_hlds.specs.Listing.{listing_of};
+ghost use Rattle.md_hlds.specs.Hlds.{hlds_of};
 ghost use Rattle.md_modes.specs.Modes.{mode_fault};
 ghost use Rattle.md_modes.specs.Notes.{program_notes};
 ghost use Rattle.md_modes.specs.Classes.{notes_told, note_told, role_told, role_at, binds_at, state_at};
@@ -24,7 +24,7 @@ impl Model for Moded {
     ghost use Rattle.md_hlds.specs.declared.program.Program.{Program};
     ghost use Rattle.md_hlds.specs.contracts.goal.Goal as goal;
     ghost use Rattle.md_hlds.specs.contracts.types.Ty as ty;
-    ghost use Rattle.md_hlds.specs.Listing.{listing_of};
+    ghost use Rattle.md_hlds.specs.Hlds.{hlds_of};
     ghost use Rattle.md_modes.specs.Modes.{mode_fault};
     ghost use Rattle.md_modes.specs.Notes.{program_notes};
     ghost use Rattle.md_modes.specs.Classes.{notes_told};
@@ -35,15 +35,15 @@ impl Model for Moded {
 
     ghost view = { λ moded. moded.program };
 
-    ghost invariant = { λ moded. (mode_fault (listing_of moded.program) ≡ None)
-        × (notes_told moded.notes.items ≡ program_notes (listing_of moded.program)) };
+    ghost invariant = { λ moded. (mode_fault (hlds_of moded.program) ≡ None)
+        × (notes_told moded.notes.items ≡ program_notes (hlds_of moded.program)) };
 }
 
 impl Moded {
     /// A program with what was found at its goals.
     pub(crate) fn new(program: Program, notes: Vec<Note>) -> Moded
-        requires accepted { mode_fault (listing_of program) ≡ None }
-        requires notes { notes_told notes.items ≡ program_notes (listing_of program) }
+        requires accepted { mode_fault (hlds_of program) ≡ None }
+        requires notes { notes_told notes.items ≡ program_notes (hlds_of program) }
         ensures { result ≡ program }
     {
         Moded { program, notes }
@@ -52,7 +52,7 @@ impl Moded {
     /// The program, which has no fault of the mode checks.
     pub fn program(&self) -> &Program
         ensures program { result.now ≡ self.now }
-        ensures accepted { mode_fault (listing_of self.now) ≡ None }
+        ensures accepted { mode_fault (hlds_of self.now) ≡ None }
     {
         &self.program
     }
@@ -60,8 +60,8 @@ impl Moded {
     /// What the unification or the higher-order call of this number does, or `None` exactly where there is no such goal
     /// or it is of another kind.
     pub fn class(&self, goal: u32) -> Option<&Class>
-        ensures { MatchOption result (role_at (program_notes (listing_of self.now)) goal ≡ None)
-            (λ class. role_at (program_notes (listing_of self.now)) goal ≡ Some (role_told class.now)) }
+        ensures { MatchOption result (role_at (program_notes (hlds_of self.now)) goal ≡ None)
+            (λ class. role_at (program_notes (hlds_of self.now)) goal ≡ Some (role_told class.now)) }
     {
         match self.note(goal) {
             None => None,
@@ -72,7 +72,7 @@ impl Moded {
     /// The variables that are bound after the goal of this number and not before it, in rising order; none where the
     /// place after it isn't reachable, or there is no such goal.
     pub fn binds(&self, goal: u32) -> &[u32]
-        ensures { result.now ≡ binds_at (program_notes (listing_of self.now)) goal }
+        ensures { result.now ≡ binds_at (program_notes (hlds_of self.now)) goal }
     {
         match self.note(goal) {
             None => &[],
@@ -83,7 +83,7 @@ impl Moded {
     /// Whether the goal of this number names an io state: a variable of it is one before or after it, and it is no
     /// conjunction, disjunction or if-then-else.
     pub fn names_io(&self, goal: u32) -> bool
-        ensures { result ≡ state_at (program_notes (listing_of self.now)) goal }
+        ensures { result ≡ state_at (program_notes (hlds_of self.now)) goal }
     {
         match self.note(goal) {
             None => false,
@@ -93,8 +93,8 @@ impl Moded {
 
     /// What was found at the goal of this number.
     fn note(&self, goal: u32) -> Option<&Note>
-        ensures { MatchOption result (slice_get (program_notes (listing_of self.now)) goal ≡ None)
-            (λ note. slice_get (program_notes (listing_of self.now)) goal ≡ Some (note_told note.now)) }
+        ensures { MatchOption result (slice_get (program_notes (hlds_of self.now)) goal ≡ None)
+            (λ note. slice_get (program_notes (hlds_of self.now)) goal ≡ Some (note_told note.now)) }
     {
         self.notes.get(goal as usize)
     }

@@ -1,9 +1,9 @@
 // The variables of a goal or a clause, as often as they occur.
 ghost use Rattle.std.specs.Prelude.{◌≡◌, ◌++◌, IfOk, OnOk};
-ghost use Rattle.md_hlds.specs.Listing.{procedure_of};
-ghost use Rattle.md_hlds.specs.Part.{parts_of, task_of, gathered};
-ghost use Rattle.md_modes.specs.Goals.{task_variables, parts_variables, term_variables, clause_variables};
-ghost use Rattle.md_modes.specs.Tally.{leaf_variables};
+ghost use Rattle.md_hlds.specs.Hlds.{procedure_of};
+ghost use Rattle.md_hlds.specs.HldsGoal.{goals_of, expr_of, gathered};
+ghost use Rattle.md_modes.specs.Goals.{expr_variables, parts_variables, term_variables, clause_variables};
+ghost use Rattle.md_modes.specs.Tally.{atomic_variables};
 
 use md_base::NoMemory;
 use md_hlds::{Goal, GoalKind, Pred, Term};
@@ -11,7 +11,7 @@ use std::alloc::Global;
 
 /// The variables of a goal of this kind, in text order.
 pub fn variables_of(alloc: Global, goal: &GoalKind) -> Result<Vec<u32>, NoMemory>
-    ensures { IfOk result (λ vars. vars.items ≡ task_variables (task_of goal.now)) }
+    ensures { IfOk result (λ vars. vars.items ≡ expr_variables (expr_of goal.now)) }
 {
     let mut vars = Vec::new(alloc);
     add_goal(&mut vars, goal)?;
@@ -30,7 +30,7 @@ pub fn variables_of_clause(alloc: Global, pred: &Pred) -> Result<Vec<u32>, NoMem
 /// Adds the variables of a goal.
 #[cycle(goals)]
 fn add_goal(vars: &mut Vec<u32>, goal: &GoalKind) -> Result<(), NoMemory>
-    ensures { OnOk result (vars.new.items ≡ vars.old.items ++ task_variables (task_of goal.now)) }
+    ensures { OnOk result (vars.new.items ≡ vars.old.items ++ expr_variables (expr_of goal.now)) }
 {
     match goal {
         GoalKind::Conj(goals) => add_goals(vars, goals.as_slice()),
@@ -45,13 +45,13 @@ fn add_goal(vars: &mut Vec<u32>, goal: &GoalKind) -> Result<(), NoMemory>
             vars.extend_from_slice(quantified.as_slice())?;
             add_goal(vars, &inner.kind)
         }
-        _ => add_leaf(vars, goal),
+        _ => add_atomic(vars, goal),
     }
 }
 
 #[cycle(goals)]
 fn add_goals(vars: &mut Vec<u32>, goals: &[Goal]) -> Result<(), NoMemory>
-    ensures { OnOk result (vars.new.items ≡ vars.old.items ++ parts_variables (gathered (parts_of goals.now))) }
+    ensures { OnOk result (vars.new.items ≡ vars.old.items ++ parts_variables (gathered (goals_of goals.now))) }
 {
     for goal in goals {
         add_goal(vars, &goal.kind)?;
@@ -60,8 +60,8 @@ fn add_goals(vars: &mut Vec<u32>, goals: &[Goal]) -> Result<(), NoMemory>
 }
 
 /// Adds the variables of a goal that is no conjunction and no branch.
-fn add_leaf(vars: &mut Vec<u32>, goal: &GoalKind) -> Result<(), NoMemory>
-    ensures { OnOk result (vars.new.items ≡ vars.old.items ++ leaf_variables (task_of goal.now)) }
+fn add_atomic(vars: &mut Vec<u32>, goal: &GoalKind) -> Result<(), NoMemory>
+    ensures { OnOk result (vars.new.items ≡ vars.old.items ++ atomic_variables (expr_of goal.now)) }
 {
     match goal {
         GoalKind::Unify(x, term) => {

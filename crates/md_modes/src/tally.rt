@@ -1,6 +1,6 @@
 // How often each variable of a clause occurs.
 ghost use Rattle.std.specs.Prelude.{◌≡◌, ◌<◌, [], ◌∷◌, length, IfOk, OnOk, slice_index};
-ghost use Rattle.md_hlds.specs.Listing.{procedure_of};
+ghost use Rattle.md_hlds.specs.Hlds.{procedure_of};
 ghost use Rattle.md_modes.specs.Goals.{clause_variables};
 ghost use Rattle.md_modes.specs.Tally.{Adds, AreCounts};
 

@@ -1,5 +1,5 @@
 // Programs built by hand: an accepted one, and faults with their lines.
-use crate::{Class, Local, ModeFault, Outside, check_modes, count_at, counts_of_clause};
+use crate::{Class, Local, ModeFault, Nonlocals, check_modes, count_at, counts_of_clause};
 use md_base::{Name, SiteId, Text};
 use md_hlds::{
     Det, Functor, Goal, GoalKind, Mode, Pred, PredName, Program, Term, Ty, TypeDef, Variables,
@@ -215,7 +215,7 @@ fn variables_outside_a_goal_are_told(rt: HostRuntime) -> Result<(), Fail> {
     let counts = counts_of_clause(alloc, &pred)?;
     assert_eq!(rt; count_at(&counts, 1), 2);
     let local = Local::new(alloc, &pred.body.kind)?;
-    let outside = Outside {
+    let outside = Nonlocals {
         all: &counts,
         local: &local,
     };

@@ -11,7 +11,7 @@ use Rattle.md_hlds.specs.declared.program.Pred.{Pred}
 use Rattle.md_hlds.specs.declared.program.TypeDef.{TypeDef}
 use Rattle.md_hlds.specs.declared.goal.PredName.{PredName}
 use Rattle.md_hlds.specs.declared.types.Ty.{Ty}
-use Rattle.md_hlds.specs.Listing.{Construct, Family, Procedure, construct_of, constructs_of, family_of, families_of, sorts_of, procedure_of, procedures_of, find_procedure, is_called, same_qualifier}
+use Rattle.md_hlds.specs.Hlds.{HldsFunctor, HldsTypeDef, Procedure, hlds_functor_of, hlds_functors_of, type_def_of, type_defs_of, hlds_types_of, procedure_of, procedures_of, find_procedure, is_called, same_qualifier}
 use Rattle.md_names.specs.declared.key.FunctorKey.{FunctorKey}
 use Rattle.md_names.specs.declared.key.PredicateKey.{PredicateKey}
 use Rattle.md_names.specs.Named.{construct_among, found_in, is_type}
@@ -48,38 +48,38 @@ told_cond : (b : Bool) (v : Bor TypeDef × Bor Functor) (r : Option (Bor TypeDef
 told_cond true v r = refl
 told_cond false v r = refl
 
-length-sorts_of : (ts : List Ty) → length (sorts_of ts) ≡ length ts
-length-sorts_of [] = refl
-length-sorts_of (t ∷ ts) = ap suc (length-sorts_of ts)
+length-hlds_types_of : (ts : List Ty) → length (hlds_types_of ts) ≡ length ts
+length-hlds_types_of [] = refl
+length-hlds_types_of (t ∷ ts) = ap suc (length-hlds_types_of ts)
 
-found_cond : (b : Bool) (t : Family) (f : Construct) (r : Option Construct) (others : Option (Family × Construct))
+found_cond : (b : Bool) (t : HldsTypeDef) (f : HldsFunctor) (r : Option HldsFunctor) (others : Option (HldsTypeDef × HldsFunctor))
     → found_in t (cond b (Some f) r) others ≡ cond b (Some (t, f)) (found_in t r others)
 found_cond true t f r others = refl
 found_cond false t f r others = refl
 
 pub constructs-step : (fs : List Functor) (i n : ℕ) (f : Functor) → n ≡ suc i → i < length fs → f ≡ get_or fs i f
-    → constructs_of (drop i fs) ≡ construct_of f ∷ constructs_of (drop n fs)
+    → hlds_functors_of (drop i fs) ≡ hlds_functor_of f ∷ hlds_functors_of (drop n fs)
 constructs-step fs i n f at lt is =
     let front : drop i fs ≡ f ∷ drop (suc i) fs = drop-cons fs i f lt ∙ ap (λ (x : Functor). x ∷ drop (suc i) fs) (sym is) in
     rw (at, front) refl
 
 -- what a map has after a functor of a type is put in
 pub functor_put : (name : List ℕ) (arity : ℕ) (es : List (FunctorKey × (Bor TypeDef × Bor Functor))) (key : FunctorKey) (t : Bor TypeDef) (f : Bor Functor)
-    (fs : List Functor) (others : Option (Family × Construct))
+    (fs : List Functor) (others : Option (HldsTypeDef × HldsFunctor))
     → key.name.now ≡ f.now.name → key.arity ≡ length f.now.args.items
-    → functor_told (lookup (is_functor_key name arity) es) ≡ found_in (family_of t.now) (construct_among name arity (constructs_of fs)) others
+    → functor_told (lookup (is_functor_key name arity) es) ≡ found_in (type_def_of t.now) (construct_among name arity (hlds_functors_of fs)) others
     → functor_told (lookup (is_functor_key name arity) (insert_entry same_functor es key (t, f)))
-    ≡ found_in (family_of t.now) (construct_among name arity (construct_of f.now ∷ constructs_of fs)) others
+    ≡ found_in (type_def_of t.now) (construct_among name arity (hlds_functor_of f.now ∷ hlds_functors_of fs)) others
 functor_put name arity es key t f fs others named counted had =
-    let passes : is_functor_key name arity key ≡ (bytes_eq name f.now.name && nat_eq arity (length (sorts_of f.now.args.items)))
+    let passes : is_functor_key name arity key ≡ (bytes_eq name f.now.name && nat_eq arity (length (hlds_types_of f.now.args.items)))
     = ap (λ (xs : List ℕ). pointwise nat_eq name xs && nat_eq arity key.arity) named
     ∙ (ap (λ (b : Bool). b && nat_eq arity key.arity) (pointwise-bytes_eq name f.now.name)
-    ∙ ap (λ (n : ℕ). bytes_eq name f.now.name && nat_eq arity n) (counted ∙ sym (length-sorts_of f.now.args.items))) in
+    ∙ ap (λ (n : ℕ). bytes_eq name f.now.name && nat_eq arity n) (counted ∙ sym (length-hlds_types_of f.now.args.items))) in
     ap functor_told (lookup-insert (is_functor_key name arity) same_functor key (t, f) es (functor_fits name arity key))
     ∙ (told_cond (is_functor_key name arity key) (t, f) (lookup (is_functor_key name arity) es)
-    ∙ (ap (λ (r : Option (Family × Construct)). cond (is_functor_key name arity key) (Some (family_of t.now, construct_of f.now)) r) had
-    ∙ (ap (λ (b : Bool). cond b (Some (family_of t.now, construct_of f.now)) (found_in (family_of t.now) (construct_among name arity (constructs_of fs)) others)) passes
-    ∙ sym (found_cond (bytes_eq name f.now.name && nat_eq arity (length (sorts_of f.now.args.items))) (family_of t.now) (construct_of f.now) (construct_among name arity (constructs_of fs)) others))))
+    ∙ (ap (λ (r : Option (HldsTypeDef × HldsFunctor)). cond (is_functor_key name arity key) (Some (type_def_of t.now, hlds_functor_of f.now)) r) had
+    ∙ (ap (λ (b : Bool). cond b (Some (type_def_of t.now, hlds_functor_of f.now)) (found_in (type_def_of t.now) (construct_among name arity (hlds_functors_of fs)) others)) passes
+    ∙ sym (found_cond (bytes_eq name f.now.name && nat_eq arity (length (hlds_types_of f.now.args.items))) (type_def_of t.now) (hlds_functor_of f.now) (construct_among name arity (hlds_functors_of fs)) others))))
 
 -- ---- predicates
 
@@ -185,7 +185,7 @@ pub text_fits : (name : List ℕ) (a : Bor (List ℕ)) → Fits (λ (k : Bor (Li
 text_fits name a = record { alike = text_alike name a; apart = text_apart name a }
 
 pub families-step : (ts : List TypeDef) (i n : ℕ) (t : TypeDef) → n ≡ suc i → i < length ts → t ≡ get_or ts i t
-    → families_of (drop i ts) ≡ family_of t ∷ families_of (drop n ts)
+    → type_defs_of (drop i ts) ≡ type_def_of t ∷ type_defs_of (drop n ts)
 families-step ts i n t at lt is =
     let front : drop i ts ≡ t ∷ drop (suc i) ts = drop-cons ts i t lt ∙ ap (λ (x : TypeDef). x ∷ drop (suc i) ts) (sym is) in
     rw (at, front) refl

@@ -6,7 +6,7 @@ use Rattle.std.specs.Str.{bytes_eq}
 use Rattle.md_hlds.specs.declared.program.Functor.{Functor}
 use Rattle.md_hlds.specs.declared.program.Pred.{Pred}
 use Rattle.md_hlds.specs.declared.program.TypeDef.{TypeDef}
-use Rattle.md_hlds.specs.Listing.{Construct, Family, Procedure, construct_of, family_of, procedure_of, find_procedure, same_qualifier}
+use Rattle.md_hlds.specs.Hlds.{HldsFunctor, HldsTypeDef, Procedure, hlds_functor_of, type_def_of, procedure_of, find_procedure, same_qualifier}
 use Rattle.md_hlds.specs.declared.goal.PredName.{PredName}
 use Rattle.md_names.specs.declared.key.FunctorKey.{FunctorKey}
 use Rattle.md_names.specs.declared.key.PredicateKey.{PredicateKey}
@@ -16,18 +16,18 @@ use Rattle.indexmap.specs.IndexSet.{IndexSet, contains_by}
 
 -- ---- functors
 
-abbrev pub functor_told : Option (Bor TypeDef × Bor Functor) → Option (Family × Construct)
+abbrev pub functor_told : Option (Bor TypeDef × Bor Functor) → Option (HldsTypeDef × HldsFunctor)
 functor_told None = None
-functor_told (Some found) = Some (family_of found.0.now, construct_of found.1.now)
+functor_told (Some found) = Some (type_def_of found.0.now, hlds_functor_of found.1.now)
 
 abbrev pub is_functor_key : List ℕ → ℕ → FunctorKey → Bool
 is_functor_key name arity k = pointwise nat_eq name k.name.now && nat_eq arity k.arity
 
 -- what a map has at a name and an arity
-abbrev pub functor_in : {S : Type 0} → IndexMap FunctorKey (Bor TypeDef × Bor Functor) S → List ℕ → ℕ → Option (Family × Construct)
+abbrev pub functor_in : {S : Type 0} → IndexMap FunctorKey (Bor TypeDef × Bor Functor) S → List ℕ → ℕ → Option (HldsTypeDef × HldsFunctor)
 functor_in m name arity = functor_told (get_by (is_functor_key name arity) m)
 
-abbrev pub AreFunctors : {S : Type 0} → IndexMap FunctorKey (Bor TypeDef × Bor Functor) S → List Family → Type 0
+abbrev pub AreFunctors : {S : Type 0} → IndexMap FunctorKey (Bor TypeDef × Bor Functor) S → List HldsTypeDef → Type 0
 AreFunctors m ts = (name : List ℕ) → (arity : ℕ) → functor_in m name arity ≡ functor_found name arity ts
 
 -- ---- predicates
@@ -60,12 +60,12 @@ ArePredicates m ps = ArePredicatesFrom m 0 ps
 abbrev pub is_in : {S : Type 0} → IndexSet (Bor (List ℕ)) S → List ℕ → Bool
 is_in s name = contains_by (λ k. pointwise nat_eq name k.now) s
 
-abbrev pub AreTypeNames : {S : Type 0} → IndexSet (Bor (List ℕ)) S → List Family → Type 0
+abbrev pub AreTypeNames : {S : Type 0} → IndexSet (Bor (List ℕ)) S → List HldsTypeDef → Type 0
 AreTypeNames s ts = (name : List ℕ) → is_in s name ≡ is_type name ts
 
-abbrev pub AreFunctorNames : {S : Type 0} → IndexSet (Bor (List ℕ)) S → List Family → Type 0
+abbrev pub AreFunctorNames : {S : Type 0} → IndexSet (Bor (List ℕ)) S → List HldsTypeDef → Type 0
 AreFunctorNames s ts = (name : List ℕ) → is_in s name ≡ some_has_name name ts
 
 -- the names of these functors were added
-abbrev pub AddsNames : {S R : Type 0} → IndexSet (Bor (List ℕ)) S → IndexSet (Bor (List ℕ)) R → List Construct → Type 0
+abbrev pub AddsNames : {S R : Type 0} → IndexSet (Bor (List ℕ)) S → IndexSet (Bor (List ℕ)) R → List HldsFunctor → Type 0
 AddsNames s r fs = (name : List ℕ) → is_in r name ≡ (has_name name fs || is_in s name)

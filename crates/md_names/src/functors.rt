@@ -1,6 +1,6 @@
 // Functors by their names and arities.
 ghost use Rattle.std.specs.Prelude.{ℕ, ◌≡◌, List, IfOk, OnOk};
-ghost use Rattle.md_hlds.specs.Listing.{family_of, families_of};
+ghost use Rattle.md_hlds.specs.Hlds.{type_def_of, type_defs_of};
 ghost use Rattle.md_names.specs.Named.{construct_among, found_in, functor_found};
 ghost use Rattle.md_names.specs.Maps.{functor_in, AreFunctors};
 
@@ -15,7 +15,7 @@ pub fn functors_of<'a>(
     alloc: Global,
     program: &'a Program,
 ) -> Result<IndexMap<FunctorKey<'a>, (&'a TypeDef, &'a Functor)>, NoMemory>
-    ensures { IfOk result (λ functors. AreFunctors functors (families_of program.now.types.items)) }
+    ensures { IfOk result (λ functors. AreFunctors functors (type_defs_of program.now.types.items)) }
 {
     let mut functors = IndexMap::new(alloc);
     for place in (0..program.types.len()).rev() {
@@ -30,7 +30,7 @@ fn add_functors<'a>(
     family: &'a TypeDef,
 ) -> Result<(), NoMemory>
     ensures { OnOk result ((name : List ℕ) → (arity : ℕ) → functor_in functors.new name arity
-        ≡ found_in (family_of family.now) (construct_among name arity (family_of family.now).functors) (functor_in functors.old name arity)) }
+        ≡ found_in (type_def_of family.now) (construct_among name arity (type_def_of family.now).functors) (functor_in functors.old name arity)) }
 {
     for place in (0..family.functors.len()).rev() {
         let functor = &family.functors[place];

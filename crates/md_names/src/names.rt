@@ -1,6 +1,6 @@
 // The names of a program.
 ghost use Rattle.std.specs.Prelude.{◌≡◌, None, Some, IfOk, MatchOption};
-ghost use Rattle.md_hlds.specs.Listing.{listing_of, procedure_of, family_of, construct_of, procedure_called};
+ghost use Rattle.md_hlds.specs.Hlds.{hlds_of, procedure_of, type_def_of, hlds_functor_of, procedure_called};
 ghost use Rattle.md_names.specs.Named.{is_type, some_has_name, functor_found};
 
 use crate::functors::functors_of;
@@ -28,7 +28,7 @@ impl<'a> Model for Names<'a> {
     ghost use Rattle.md_hlds.specs.declared.program.Program.{Program};
     ghost use Rattle.md_hlds.specs.contracts.goal.Goal as goal;
     ghost use Rattle.md_hlds.specs.contracts.types.Ty as ty;
-    ghost use Rattle.md_hlds.specs.Listing.{listing_of};
+    ghost use Rattle.md_hlds.specs.Hlds.{hlds_of};
     ghost use Rattle.md_names.specs.Maps.{ArePredicates, AreFunctors, AreTypeNames, AreFunctorNames};
 
     ghost Value = { Program };
@@ -37,10 +37,10 @@ impl<'a> Model for Names<'a> {
 
     ghost view = { λ names. names.program.now };
 
-    ghost invariant = { λ names. ArePredicates names.predicates (listing_of names.program.now).procedures
-        × AreFunctors names.functors (listing_of names.program.now).types
-        × AreTypeNames names.type_names (listing_of names.program.now).types
-        × AreFunctorNames names.functor_names (listing_of names.program.now).types };
+    ghost invariant = { λ names. ArePredicates names.predicates (hlds_of names.program.now).procedures
+        × AreFunctors names.functors (hlds_of names.program.now).types
+        × AreTypeNames names.type_names (hlds_of names.program.now).types
+        × AreFunctorNames names.functor_names (hlds_of names.program.now).types };
 }
 
 impl<'a> Names<'a> {
@@ -70,8 +70,8 @@ impl<'a> Names<'a> {
 
     /// The predicate of this name with its number, or `None` exactly where the program has none.
     pub fn predicate(&self, name: &PredName) -> Option<(ProcId, &'a Pred)>
-        ensures { MatchOption result (procedure_called (listing_of self.now) name.now ≡ None)
-            (λ found. procedure_called (listing_of self.now) name.now ≡ Some (found.0, procedure_of found.1.now)) }
+        ensures { MatchOption result (procedure_called (hlds_of self.now) name.now ≡ None)
+            (λ found. procedure_called (hlds_of self.now) name.now ≡ Some (found.0, procedure_of found.1.now)) }
     {
         let key = key_of(&name.qualifier, &name.name);
         let (number, pred) = self.predicates.get(&key)?;
@@ -80,18 +80,18 @@ impl<'a> Names<'a> {
 
     /// The functor of this name and arity with its type, or `None` exactly where the program has none.
     pub fn functor(&self, name: &Name, arity: usize) -> Option<(&'a TypeDef, &'a Functor)>
-        ensures { MatchOption result (functor_found name.now arity (listing_of self.now).types ≡ None)
-            (λ found. functor_found name.now arity (listing_of self.now).types
-            ≡ Some (family_of found.0.now, construct_of found.1.now)) }
+        ensures { MatchOption result (functor_found name.now arity (hlds_of self.now).types ≡ None)
+            (λ found. functor_found name.now arity (hlds_of self.now).types
+            ≡ Some (type_def_of found.0.now, hlds_functor_of found.1.now)) }
     {
         self.functor_spelled(name.as_bytes(), arity)
     }
 
     /// The same of a name that is given as its bytes.
     pub fn functor_spelled(&self, name: &[u8], arity: usize) -> Option<(&'a TypeDef, &'a Functor)>
-        ensures { MatchOption result (functor_found name.now arity (listing_of self.now).types ≡ None)
-            (λ found. functor_found name.now arity (listing_of self.now).types
-            ≡ Some (family_of found.0.now, construct_of found.1.now)) }
+        ensures { MatchOption result (functor_found name.now arity (hlds_of self.now).types ≡ None)
+            (λ found. functor_found name.now arity (hlds_of self.now).types
+            ≡ Some (type_def_of found.0.now, hlds_functor_of found.1.now)) }
     {
         let key = FunctorKey { name, arity };
         let (family, functor) = self.functors.get(&key)?;
@@ -100,14 +100,14 @@ impl<'a> Names<'a> {
 
     /// Whether a type of this name is declared.
     pub fn has_type(&self, name: &Name) -> bool
-        ensures { result ≡ is_type name.now (listing_of self.now).types }
+        ensures { result ≡ is_type name.now (hlds_of self.now).types }
     {
         self.type_names.contains(name.as_bytes())
     }
 
     /// Whether a functor has this name, whatever its arity.
     pub fn has_functor_name(&self, name: &Name) -> bool
-        ensures { result ≡ some_has_name name.now (listing_of self.now).types }
+        ensures { result ≡ some_has_name name.now (hlds_of self.now).types }
     {
         self.functor_names.contains(name.as_bytes())
     }

@@ -1,6 +1,6 @@
 // Predicates by their names.
 ghost use Rattle.std.specs.Prelude.{◌≡◌, IfOk};
-ghost use Rattle.md_hlds.specs.Listing.{procedures_of};
+ghost use Rattle.md_hlds.specs.Hlds.{procedures_of};
 ghost use Rattle.md_names.specs.Maps.{slice_now, ArePredicates};
 
 use crate::key::PredicateKey;

@@ -1,6 +1,6 @@
 // The names of types, and those of functors whatever their arities.
 ghost use Rattle.std.specs.Prelude.{◌≡◌, IfOk, OnOk};
-ghost use Rattle.md_hlds.specs.Listing.{families_of, constructs_of};
+ghost use Rattle.md_hlds.specs.Hlds.{type_defs_of, hlds_functors_of};
 ghost use Rattle.md_names.specs.Maps.{AreTypeNames, AreFunctorNames, AddsNames};
 
 use indexmap::IndexSet;
@@ -10,7 +10,7 @@ use std::alloc::Global;
 
 /// The names of the types of a program.
 pub fn type_names<'a>(alloc: Global, program: &'a Program) -> Result<IndexSet<&'a [u8]>, NoMemory>
-    ensures { IfOk result (λ names. AreTypeNames names (families_of program.now.types.items)) }
+    ensures { IfOk result (λ names. AreTypeNames names (type_defs_of program.now.types.items)) }
 {
     let mut names = IndexSet::new(alloc);
     for place in (0..program.types.len()).rev() {
@@ -24,7 +24,7 @@ pub fn functor_names<'a>(
     alloc: Global,
     program: &'a Program,
 ) -> Result<IndexSet<&'a [u8]>, NoMemory>
-    ensures { IfOk result (λ names. AreFunctorNames names (families_of program.now.types.items)) }
+    ensures { IfOk result (λ names. AreFunctorNames names (type_defs_of program.now.types.items)) }
 {
     let mut names = IndexSet::new(alloc);
     for place in (0..program.types.len()).rev() {
@@ -35,7 +35,7 @@ pub fn functor_names<'a>(
 
 /// Adds the names of these functors.
 fn add_names<'a>(names: &mut IndexSet<&'a [u8]>, functors: &'a [Functor]) -> Result<(), NoMemory>
-    ensures { OnOk result (AddsNames names.old names.new (constructs_of functors.now)) }
+    ensures { OnOk result (AddsNames names.old names.new (hlds_functors_of functors.now)) }
 {
     for place in (0..functors.len()).rev() {
         names.insert(functors[place].name.as_bytes())?;

@@ -9,7 +9,7 @@ use Rattle.md_hlds.specs.declared.goal.Op.{Op}
 use Rattle.md_hlds.specs.declared.goal.Op.TheVariants as op
 use Rattle.md_hlds.specs.declared.goal.Cmp.{Cmp}
 use Rattle.md_hlds.specs.declared.goal.Cmp.TheVariants as cmp
-use Rattle.md_hlds.specs.Part.{Task, Plain, Unifies, WritesInt, WritesText, EndsLine}
+use Rattle.md_hlds.specs.HldsGoal.{GoalExpr, SimpleGoal, Unifies, WritesInt, WritesText, EndsLine}
 use Rattle.md_token.specs.declared.kind.Kind.{Kind}
 use Rattle.md_token.specs.declared.kind.Kind.TheVariants as kind
 use Rattle.md_token.specs.Literal.{string_value, number_of, inside}
@@ -24,7 +24,7 @@ use Rattle.md_reader.specs.Grammar.{Is, Sign, Listed, Enclosed}
 use Rattle.md_printer.specs.Layout.{Tokens}
 use Rattle.md_printer.specs.Printed as print
 use Rattle.md_printer.specs.Printed.{single}
-use Rattle.md_printer.specs.Lines.{task_on_line}
+use Rattle.md_printer.specs.Lines.{expr_on_line}
 use Rattle.md_printer.proofs.Onto.{onto, onto-append, at, Good, greatest, most_bytes, known, few_at}
 use Rattle.md_printer.proofs.Moves.{ok_parts, holds, fails, Still, still_to, still_on, sign_still, expect_still, onward, Within, variable_facts, variable_onward, variables_listed, site_onward, operator_still, comparison_still, term_onward, pred_name_facts, pred_name_still}
 use Rattle.md_printer.proofs.Takes.{token_fine, sign_takes, expect_takes, token_line, variable_read, variable_name, variable_again, printable, pred_name_takes, site_again, positive_takes, negated_takes, literal_takes}
@@ -127,29 +127,29 @@ comparison_again : (c : Cmp) (i j : Input) → g.Comparison c i j → (n : ℕ) 
 comparison_again c i j h n s = subst (λ (m : Input). g.Comparison c (at n (print.comparison c ++ 32 ∷ s) i) m) ((comparison_still c i j h).same n s) (comparison_at c n s i)
 
 -- what is printed after `X =` is spelled as the same term
-record TermAgain (vs : List (List ℕ)) (x : ℕ) (t : Task) (i j : Input) : Type 0 where
+record TermAgain (vs : List (List ℕ)) (x : ℕ) (t : GoalExpr) (i j : Input) : Type 0 where
   tokens : Tokens
-  here : (inner : Bool) → print.task_tokens vs inner t ≡ print.variable vs x ∷ codes "=" ∷ tokens
-  same : (n : ℕ) → task_on_line n t ≡ t
+  here : (inner : Bool) → print.expr_tokens vs inner t ≡ print.variable vs x ∷ codes "=" ∷ tokens
+  same : (n : ℕ) → expr_on_line n t ≡ t
   again : (n : ℕ) (s : List ℕ) → g.Term x t (at n (onto tokens s) i) (at n s j)
 
-number_again : (vs : List (List ℕ)) (x m : ℕ) (i j : Input) → nat_lt greatest m ≡ false → Still i j → TermAgain vs x (Plain (Unifies x (term.Int (pos m)))) i j
+number_again : (vs : List (List ℕ)) (x m : ℕ) (i j : Input) → nat_lt greatest m ≡ false → Still i j → TermAgain vs x (SimpleGoal (Unifies x (term.Int (pos m)))) i j
 number_again vs x m i j small st = record {
   tokens = decimal m ∷ [];
   here = λ inner. refl;
   same = λ n. refl;
   again = λ n s.
       let p = positive_takes x m small n s i in
-      g.Term.positive (Plain (Unifies x (term.Int (pos m)))) (at n (decimal m ++ 32 ∷ s) i) (at n s j) p.0
-      (subst (λ (k : Input). Is (rule.positive x) (Plain (Unifies x (term.Int (pos m)))) (at n (decimal m ++ 32 ∷ s) i) k) (st.same n s) p.1);
+      g.Term.positive (SimpleGoal (Unifies x (term.Int (pos m)))) (at n (decimal m ++ 32 ∷ s) i) (at n s j) p.0
+      (subst (λ (k : Input). Is (rule.positive x) (SimpleGoal (Unifies x (term.Int (pos m)))) (at n (decimal m ++ 32 ∷ s) i) k) (st.same n s) p.1);
 }
 
-positive_again : (vs : List (List ℕ)) (x : ℕ) (t : Task) (i j : Input) → Good i → Is (rule.positive x) t i j → TermAgain vs x t i j
+positive_again : (vs : List (List ℕ)) (x : ℕ) (t : GoalExpr) (i j : Input) → Good i → Is (rule.positive x) t i j → TermAgain vs x t i j
 unfolding rule.positive
 positive_again vs x t i j good h =
     let a = fails (nat_lt i.limits.integer (number_of (token i).text)) _ _ _ h in
-    let b = ok_parts (Plain (Unifies x (term.Int (pos (number_of (token i).text))))) t (next i) j a.1 in
-    subst (λ (t : Task). TermAgain vs x t i j) b.0 (number_again vs x (number_of (token i).text) i j (known (λ l. l.integer) i good (λ m. nat_lt m (number_of (token i).text) ≡ false) a.0) (still_to i j b.1))
+    let b = ok_parts (SimpleGoal (Unifies x (term.Int (pos (number_of (token i).text))))) t (next i) j a.1 in
+    subst (λ (t : GoalExpr). TermAgain vs x t i j) b.0 (number_again vs x (number_of (token i).text) i j (known (λ l. l.integer) i good (λ m. nat_lt m (number_of (token i).text) ≡ false) a.0) (still_to i j b.1))
 
 minus_by : (m : ℕ) (b : Bool) → b ≡ true → cond b (negsuc (suc m - 1)) (pos (0 - suc m)) ≡ negsuc m
 minus_by m true e = ap negsuc (omega arith)
@@ -158,52 +158,52 @@ minus_by m false e = absurd (cc)
 minus_suc : (m : ℕ) → rule.minus (suc m) ≡ negsuc m
 minus_suc m = minus_by m (nat_lt 0 (suc m)) (grind arith)
 
-minus_again : (vs : List (List ℕ)) (x m : ℕ) (i j k : Input) → Sign kind.Minus i j → nat_lt (suc greatest) m ≡ false → Still j k → TermAgain vs x (Plain (Unifies x (term.Int (rule.minus m)))) i k
+minus_again : (vs : List (List ℕ)) (x m : ℕ) (i j k : Input) → Sign kind.Minus i j → nat_lt (suc greatest) m ≡ false → Still j k → TermAgain vs x (SimpleGoal (Unifies x (term.Int (rule.minus m)))) i k
 minus_again vs x zero i j k sg small st = number_again vs x 0 i k refl (still_on i j k (sign_still kind.Minus i j sg) st)
 minus_again vs x (suc m) i j k sg small st = record {
   tokens = codes "-" ∷ decimal (suc m) ∷ [];
   here = λ inner. ap (λ (z : ℤ). print.variable vs x ∷ codes "=" ∷ print.integer z) (minus_suc m);
   same = λ n. refl;
   again = λ n s.
-      let t : Task = Plain (Unifies x (term.Int (rule.minus (suc m)))) in
+      let t : GoalExpr = SimpleGoal (Unifies x (term.Int (rule.minus (suc m)))) in
       g.Term.negative t (at n (codes "-" ++ 32 ∷ (decimal (suc m) ++ 32 ∷ s)) i) (at n (decimal (suc m) ++ 32 ∷ s) j) (at n s k)
       (sign_again kind.Minus (codes "-") spelled.reads_minus i j sg n (decimal (suc m) ++ 32 ∷ s))
       (subst (λ (z : Input). Is (rule.negated x) t (at n (decimal (suc m) ++ 32 ∷ s) j) z) (st.same n s) (negated_takes x (suc m) small n s j));
 }
 
-negated_again : (vs : List (List ℕ)) (x : ℕ) (t : Task) (i j k : Input) → Good j → Sign kind.Minus i j → Is (rule.negated x) t j k → TermAgain vs x t i k
+negated_again : (vs : List (List ℕ)) (x : ℕ) (t : GoalExpr) (i j k : Input) → Good j → Sign kind.Minus i j → Is (rule.negated x) t j k → TermAgain vs x t i k
 unfolding rule.negated
 negated_again vs x t i j k good sg h =
     let a = holds _ _ _ _ h in
     let c = fails (nat_lt (suc j.limits.integer) (number_of (token j).text)) _ _ _ a.1 in
-    let b = ok_parts (Plain (Unifies x (term.Int (rule.minus (number_of (token j).text))))) t (next j) k c.1 in
-    subst (λ (t : Task). TermAgain vs x t i k) b.0 (minus_again vs x (number_of (token j).text) i j k sg (known (λ l. l.integer) j good (λ m. nat_lt (suc m) (number_of (token j).text) ≡ false) c.0) (still_to j k b.1))
+    let b = ok_parts (SimpleGoal (Unifies x (term.Int (rule.minus (number_of (token j).text))))) t (next j) k c.1 in
+    subst (λ (t : GoalExpr). TermAgain vs x t i k) b.0 (minus_again vs x (number_of (token j).text) i j k sg (known (λ l. l.integer) j good (λ m. nat_lt (suc m) (number_of (token j).text) ≡ false) c.0) (still_to j k b.1))
 
-text_again : (vs : List (List ℕ)) (x : ℕ) (v w : List ℕ) (i j : Input) → Writes v w → nat_lt most_bytes (length v) ≡ false → Still i j → TermAgain vs x (Plain (Unifies x (term.Str v))) i j
+text_again : (vs : List (List ℕ)) (x : ℕ) (v w : List ℕ) (i j : Input) → Writes v w → nat_lt most_bytes (length v) ≡ false → Still i j → TermAgain vs x (SimpleGoal (Unifies x (term.Str v))) i j
 text_again vs x v w i j o short st = record {
   tokens = print.quoted v ∷ [];
   here = λ inner. refl;
   same = λ n. refl;
   again = λ n s.
       let p = literal_takes x v w o short n s i in
-      g.Term.literal (Plain (Unifies x (term.Str v))) (at n (print.quoted v ++ 32 ∷ s) i) (at n s j) p.0
-      (subst (λ (k : Input). Is (rule.literal x) (Plain (Unifies x (term.Str v))) (at n (print.quoted v ++ 32 ∷ s) i) k) (st.same n s) p.1);
+      g.Term.literal (SimpleGoal (Unifies x (term.Str v))) (at n (print.quoted v ++ 32 ∷ s) i) (at n s j) p.0
+      (subst (λ (k : Input). Is (rule.literal x) (SimpleGoal (Unifies x (term.Str v))) (at n (print.quoted v ++ 32 ∷ s) i) k) (st.same n s) p.1);
 }
 
 value_of : (v t : List ℕ) → Writes v (inside t) → string_value t ≡ v
 unfolding string_value
 value_of v t o = value_written v (inside t) o
 
-literal_again : (vs : List (List ℕ)) (x : ℕ) (t : Task) (i j : Input) → kind_at i ≡ kind.Text → Is (rule.literal x) t i j → Good i → TermAgain vs x t i j
+literal_again : (vs : List (List ℕ)) (x : ℕ) (t : GoalExpr) (i j : Input) → kind_at i ≡ kind.Text → Is (rule.literal x) t i j → Good i → TermAgain vs x t i j
 unfolding rule.literal
 literal_again vs x t i j k h good =
     let f = subst (λ (k : Kind). Fine k (token i).text) k (token_fine i good) in
     let a = fails (nat_lt i.limits.bytes (length (string_value (token i).text))) _ _ _ h in
-    let b = ok_parts (Plain (Unifies x (term.Str (string_value (token i).text)))) t (next i) j a.1 in
+    let b = ok_parts (SimpleGoal (Unifies x (term.Str (string_value (token i).text)))) t (next i) j a.1 in
     let o : Writes (string_value (token i).text) (inside (token i).text) = subst (λ (v : List ℕ). Writes v (inside (token i).text)) (sym (value_of f.0 (token i).text f.1)) f.1 in
-    subst (λ (t : Task). TermAgain vs x t i j) b.0 (text_again vs x (string_value (token i).text) (inside (token i).text) i j o (known (λ l. l.bytes) i good (λ m. nat_lt m (length (string_value (token i).text)) ≡ false) a.0) (still_to i j b.1))
+    subst (λ (t : GoalExpr). TermAgain vs x t i j) b.0 (text_again vs x (string_value (token i).text) (inside (token i).text) i j o (known (λ l. l.bytes) i good (λ m. nat_lt m (length (string_value (token i).text)) ≡ false) a.0) (still_to i j b.1))
 
-term_again : (vs : List (List ℕ)) (x : ℕ) (t : Task) (i j : Input) → g.Term x t i j → Good i → Within j.vars vs → TermAgain vs x t i j
+term_again : (vs : List (List ℕ)) (x : ℕ) (t : GoalExpr) (i j : Input) → g.Term x t i j → Good i → Within j.vars vs → TermAgain vs x t i j
 term_again vs x _ _ _ (g.Term.same y i j v) a w = record {
   tokens = print.variable vs y ∷ [];
   here = λ inner. refl;
@@ -243,13 +243,13 @@ term_again vs x _ _ _ (g.Term.application f ys i j k nm ar) a w = record {
 -- ---- goals without parts
 
 -- what is printed of a goal without parts is spelled as that goal, on the line where it begins
-pub record TaskAgain (R : Task → Input → Input → Type 0) (vs : List (List ℕ)) (t : Task) (i j : Input) : Type 0 where
-  pub flat : (inner : Bool) → print.task_tokens vs inner t ≡ print.task_tokens vs true t
-  pub same : (n : ℕ) → task_on_line n t ≡ t
-  pub line : (n : ℕ) (s : List ℕ) → (token (at n (onto (print.task_tokens vs true t) s) i)).line ≡ n
-  pub again : (n : ℕ) (s : List ℕ) → R t (at n (onto (print.task_tokens vs true t) s) i) (at n s j)
+pub record TaskAgain (R : GoalExpr → Input → Input → Type 0) (vs : List (List ℕ)) (t : GoalExpr) (i j : Input) : Type 0 where
+  pub flat : (inner : Bool) → print.expr_tokens vs inner t ≡ print.expr_tokens vs true t
+  pub same : (n : ℕ) → expr_on_line n t ≡ t
+  pub line : (n : ℕ) (s : List ℕ) → (token (at n (onto (print.expr_tokens vs true t) s) i)).line ≡ n
+  pub again : (n : ℕ) (s : List ℕ) → R t (at n (onto (print.expr_tokens vs true t) s) i) (at n s j)
 
-pub relation_again : (vs : List (List ℕ)) (t : Task) (i j : Input) → g.Relation t i j → Good i → Within j.vars vs → TaskAgain g.Relation vs t i j
+pub relation_again : (vs : List (List ℕ)) (t : GoalExpr) (i j : Input) → g.Relation t i j → Good i → Within j.vars vs → TaskAgain g.Relation vs t i j
 relation_again vs _ _ _ (g.Relation.unification x t i j k m v sg r) a w =
     let wk : Within k.vars vs = (term_onward x t k m r).names vs w in
     let wj : Within j.vars vs = (onward j k (sign_still kind.Equals j k sg)).names vs wk in
@@ -285,9 +285,9 @@ relation_again vs _ _ _ (g.Relation.comparison x y c i j k m v p q) a w =
     }
 
 -- a builtin goal is printed as its name with its variables
-record IsBuiltin (vs : List (List ℕ)) (q : PredName) (ys : List ℕ) (t : Task) : Type 0 where
-  tokens : (inner : Bool) → print.task_tokens vs inner t ≡ print.applied vs q ys
-  same : (n : ℕ) → task_on_line n t ≡ t
+record IsBuiltin (vs : List (List ℕ)) (q : PredName) (ys : List ℕ) (t : GoalExpr) : Type 0 where
+  tokens : (inner : Bool) → print.expr_tokens vs inner t ≡ print.applied vs q ys
+  same : (n : ℕ) → expr_on_line n t ≡ t
 
 chosen_some : {A : Type 0} (b : Bool) (x y : A) (z : Option A) → cond b (Some x) z ≡ Some y → ((b ≡ true) × (x ≡ y)) ⊎ (z ≡ Some y)
 chosen_some true x y z h = inl (refl, cc)
@@ -311,16 +311,16 @@ builtin_name p q h =
 none_is : {A : Type 0} (y : A) (X : Type 0) → ◌≡◌ {A = Option A} None (Some y) → X
 none_is y X h = absurd (cc)
 
-nl_is : (vs : List (List ℕ)) (q : PredName) (a b : ℕ) (t : Task) → rule.is_builtin (codes "nl") q ≡ true → Plain (EndsLine a b) ≡ t → IsBuiltin vs q (a ∷ b ∷ []) t
-nl_is vs q a b t h e = subst (λ (t : Task). IsBuiltin vs q (a ∷ b ∷ []) t) e (subst (λ (q : PredName). IsBuiltin vs q (a ∷ b ∷ []) (Plain (EndsLine a b))) (sym (builtin_name (codes "nl") q h)) (record { tokens = λ inner. refl; same = λ n. refl }))
+nl_is : (vs : List (List ℕ)) (q : PredName) (a b : ℕ) (t : GoalExpr) → rule.is_builtin (codes "nl") q ≡ true → SimpleGoal (EndsLine a b) ≡ t → IsBuiltin vs q (a ∷ b ∷ []) t
+nl_is vs q a b t h e = subst (λ (t : GoalExpr). IsBuiltin vs q (a ∷ b ∷ []) t) e (subst (λ (q : PredName). IsBuiltin vs q (a ∷ b ∷ []) (SimpleGoal (EndsLine a b))) (sym (builtin_name (codes "nl") q h)) (record { tokens = λ inner. refl; same = λ n. refl }))
 
-int_is : (vs : List (List ℕ)) (q : PredName) (x a b : ℕ) (t : Task) → rule.is_builtin (codes "write_int") q ≡ true → Plain (WritesInt x a b) ≡ t → IsBuiltin vs q (x ∷ a ∷ b ∷ []) t
-int_is vs q x a b t h e = subst (λ (t : Task). IsBuiltin vs q (x ∷ a ∷ b ∷ []) t) e (subst (λ (q : PredName). IsBuiltin vs q (x ∷ a ∷ b ∷ []) (Plain (WritesInt x a b))) (sym (builtin_name (codes "write_int") q h)) (record { tokens = λ inner. refl; same = λ n. refl }))
+int_is : (vs : List (List ℕ)) (q : PredName) (x a b : ℕ) (t : GoalExpr) → rule.is_builtin (codes "write_int") q ≡ true → SimpleGoal (WritesInt x a b) ≡ t → IsBuiltin vs q (x ∷ a ∷ b ∷ []) t
+int_is vs q x a b t h e = subst (λ (t : GoalExpr). IsBuiltin vs q (x ∷ a ∷ b ∷ []) t) e (subst (λ (q : PredName). IsBuiltin vs q (x ∷ a ∷ b ∷ []) (SimpleGoal (WritesInt x a b))) (sym (builtin_name (codes "write_int") q h)) (record { tokens = λ inner. refl; same = λ n. refl }))
 
-text_is : (vs : List (List ℕ)) (q : PredName) (x a b : ℕ) (t : Task) → rule.is_builtin (codes "write_string") q ≡ true → Plain (WritesText x a b) ≡ t → IsBuiltin vs q (x ∷ a ∷ b ∷ []) t
-text_is vs q x a b t h e = subst (λ (t : Task). IsBuiltin vs q (x ∷ a ∷ b ∷ []) t) e (subst (λ (q : PredName). IsBuiltin vs q (x ∷ a ∷ b ∷ []) (Plain (WritesText x a b))) (sym (builtin_name (codes "write_string") q h)) (record { tokens = λ inner. refl; same = λ n. refl }))
+text_is : (vs : List (List ℕ)) (q : PredName) (x a b : ℕ) (t : GoalExpr) → rule.is_builtin (codes "write_string") q ≡ true → SimpleGoal (WritesText x a b) ≡ t → IsBuiltin vs q (x ∷ a ∷ b ∷ []) t
+text_is vs q x a b t h e = subst (λ (t : GoalExpr). IsBuiltin vs q (x ∷ a ∷ b ∷ []) t) e (subst (λ (q : PredName). IsBuiltin vs q (x ∷ a ∷ b ∷ []) (SimpleGoal (WritesText x a b))) (sym (builtin_name (codes "write_string") q h)) (record { tokens = λ inner. refl; same = λ n. refl }))
 
-builtin_is : (vs : List (List ℕ)) (q : PredName) (ys : List ℕ) (t : Task) → rule.builtin q ys ≡ Some t → IsBuiltin vs q ys t
+builtin_is : (vs : List (List ℕ)) (q : PredName) (ys : List ℕ) (t : GoalExpr) → rule.builtin q ys ≡ Some t → IsBuiltin vs q ys t
 builtin_is vs q [] t h = absurd (cc)
 builtin_is vs q (a ∷ []) t h = absurd (cc)
 builtin_is vs q (a ∷ b ∷ []) t h =
@@ -338,7 +338,7 @@ builtin_is vs q (x ∷ a ∷ b ∷ []) t h =
     ]
 builtin_is vs q (x ∷ a ∷ b ∷ c ∷ ys) t h = absurd (cc)
 
-pub call_again : (vs : List (List ℕ)) (t : Task) (i j : Input) → g.Call t i j → Good i → Within j.vars vs → TaskAgain g.Call vs t i j
+pub call_again : (vs : List (List ℕ)) (t : GoalExpr) (i j : Input) → g.Call t i j → Good i → Within j.vars vs → TaskAgain g.Call vs t i j
 call_again vs _ _ _ (g.Call.builtin q ys t i j k nm ar e) a w =
     let b = builtin_is vs q ys t e in
     record {
@@ -368,7 +368,7 @@ call_again vs _ _ _ (g.Call.call q ys m i j k o nm ar e h) a w =
           (site_again m k o h n s);
     }
 
-pub closure_call_again : (vs : List (List ℕ)) (t : Task) (i j : Input) → g.ClosureCall t i j → Good i → Within j.vars vs → TaskAgain g.ClosureCall vs t i j
+pub closure_call_again : (vs : List (List ℕ)) (t : GoalExpr) (i j : Input) → g.ClosureCall t i j → Good i → Within j.vars vs → TaskAgain g.ClosureCall vs t i j
 closure_call_again vs _ _ _ (g.ClosureCall.closure_call f ys m i j k o p c sg v h) a w =
     let wo : Within o.vars vs = (site_onward m o p h).names vs w in
     let gk : Good k = (sign_still kind.Open j k sg).good ((sign_still kind.Call i j c).good a) in

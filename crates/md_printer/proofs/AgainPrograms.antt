@@ -6,7 +6,7 @@ use Rattle.std.proofs.lemmas.Grind.{flat_map-append}
 use Rattle.std.specs.List.{flat_map}
 use Rattle.std.specs.Str.{bytes_eq}
 use Rattle.md_hlds.specs.declared.goal.PredName.{PredName}
-use Rattle.md_hlds.specs.Listing.{Family, Procedure, Listing}
+use Rattle.md_hlds.specs.Hlds.{HldsTypeDef, Procedure, Hlds}
 use Rattle.md_token.specs.declared.kind.Kind.{Kind}
 use Rattle.md_token.specs.declared.kind.Kind.TheVariants as kind
 use Rattle.md_token.specs.Token.{tokens_of}
@@ -113,7 +113,7 @@ two_sentences a b s =
     ∙ ap (λ (u : List ℕ). onto a (46 ∷ 10 ∷ u)) (append_assoc (sentence b) [] s ∙ sentence_onto b s)
 
 predicate_again : (d : rule.Declaration) (c : rule.Clause) (line : ℕ) (i j k l : Input) → Is (expect kind.Declare) line i j → g.PredDeclaration d j k → g.PredClause d.name (length d.args) c k l → Good i
-    → (before : Listing) (n : ℕ) (s : List ℕ)
+    → (before : Hlds) (n : ℕ) (s : List ℕ)
     → g.Declared before (rule.with_procedure before (procedure_on_lines n (n + 1) (rule.procedure_from line d c))) (at n (flat_map sentence (procedure_sentences (rule.procedure_from line d c)) ++ s) i) (at (n + 1 + 1) s l)
 unfolding rule.procedure_from
 predicate_again d c line i j k l e h b a before n s =
@@ -129,8 +129,8 @@ predicate_again d c line i j k l e h b a before n s =
     (subst (λ (y : Input). g.PredDeclaration d (at n u2 j) y) (st.same (n + 1) u1) (declaration_again d j k h gj n u1))
     (clause_again d.name (length d.args) c k l b pr (st.good gj) (n + 1) s))
 
-family_again : (t : Family) (line : ℕ) (i j k : Input) → Is (expect kind.Declare) line i j → g.TypeDeclaration line t j k → Good i
-    → (before : Listing) (n : ℕ) (s : List ℕ) (m : Input)
+family_again : (t : HldsTypeDef) (line : ℕ) (i j k : Input) → Is (expect kind.Declare) line i j → g.TypeDeclaration line t j k → Good i
+    → (before : Hlds) (n : ℕ) (s : List ℕ) (m : Input)
     → g.Declared before (rule.with_family before (family_on_line n t)) (at n (sentence (type_tokens t) ++ s) m) (at (n + 1) s m)
 family_again t line i j k e h a before n s m =
     let u : List ℕ = onto (type_rest t) (46 ∷ 10 ∷ s) in
@@ -140,15 +140,15 @@ family_again t line i j k e h a before n s m =
     (type_again line t j k h ((expect_still kind.Declare line i j e).good a) n s m))
 
 -- a program with these declarations besides, from a line on; and the line past them
-abbrev add_types : ℕ → Listing → List Family → Listing
+abbrev add_types : ℕ → Hlds → List HldsTypeDef → Hlds
 add_types n b [] = b
 add_types n b (t ∷ ts) = add_types (n + 1) (rule.with_family b (family_on_line n t)) ts
 
-abbrev past_types : ℕ → List Family → ℕ
+abbrev past_types : ℕ → List HldsTypeDef → ℕ
 past_types n [] = n
 past_types n (t ∷ ts) = past_types (n + 1) ts
 
-abbrev add_procedures : ℕ → Listing → List Procedure → Listing
+abbrev add_procedures : ℕ → Hlds → List Procedure → Hlds
 add_procedures n b [] = b
 add_procedures n b (p ∷ ps) = add_procedures (n + 1 + 1) (rule.with_procedure b (procedure_on_lines n (n + 1) p)) ps
 
@@ -157,16 +157,16 @@ past_procedures n [] = n
 past_procedures n (p ∷ ps) = past_procedures (n + 1 + 1) ps
 
 -- what was declared, and how it is declared again: all types, in any state, and then all predicates
-record DeclaredAgain (before after : Listing) (i j : Input) : Type 0 where
-  types : List Family
+record DeclaredAgain (before after : Hlds) (i j : Input) : Type 0 where
+  types : List HldsTypeDef
   procedures : List Procedure
   types_are : after.types ≡ before.types ++ types
   procedures_are : after.procedures ≡ before.procedures ++ procedures
   name_is : after.module_name ≡ before.module_name
-  types_again : (b : Listing) (n : ℕ) (s : List ℕ) (m : Input) → g.Declarations b (add_types n b types) (at n (flat_map sentence (map type_tokens types) ++ s) m) (at (past_types n types) s m)
-  procedures_again : (b : Listing) (n : ℕ) (s : List ℕ) → g.Declarations b (add_procedures n b procedures) (at n (flat_map sentence (flat_map procedure_sentences procedures) ++ s) i) (at (past_procedures n procedures) s j)
+  types_again : (b : Hlds) (n : ℕ) (s : List ℕ) (m : Input) → g.Declarations b (add_types n b types) (at n (flat_map sentence (map type_tokens types) ++ s) m) (at (past_types n types) s m)
+  procedures_again : (b : Hlds) (n : ℕ) (s : List ℕ) → g.Declarations b (add_procedures n b procedures) (at n (flat_map sentence (flat_map procedure_sentences procedures) ++ s) i) (at (past_procedures n procedures) s j)
 
-no_more : (l : Listing) (i : Input) → DeclaredAgain l l i i
+no_more : (l : Hlds) (i : Input) → DeclaredAgain l l i i
 no_more l i = record {
   types = [];
   procedures = [];
@@ -177,7 +177,7 @@ no_more l i = record {
   procedures_again = λ b n s. g.Declarations.none b (at n s i);
 }
 
-type_more : (before after : Listing) (t : Family) (line : ℕ) (i j k m : Input) → Is (expect kind.Declare) line i j → g.TypeDeclaration line t j k → Good i → DeclaredAgain (rule.with_family before t) after k m → DeclaredAgain before after i m
+type_more : (before after : Hlds) (t : HldsTypeDef) (line : ℕ) (i j k m : Input) → Is (expect kind.Declare) line i j → g.TypeDeclaration line t j k → Good i → DeclaredAgain (rule.with_family before t) after k m → DeclaredAgain before after i m
 unfolding rule.with_family
 type_more before after t line i j k m e h a r = record {
   types = t ∷ r.types;
@@ -196,7 +196,7 @@ type_more before after t line i j k m e h a r = record {
       subst (λ (y : Input). g.Declarations b (add_procedures n b r.procedures) y (at (past_procedures n r.procedures) s m)) (sym (st.same n (flat_map sentence (flat_map procedure_sentences r.procedures) ++ s))) (r.procedures_again b n s);
 }
 
-predicate_more : (before after : Listing) (d : rule.Declaration) (c : rule.Clause) (line : ℕ) (i j k l m : Input) → Is (expect kind.Declare) line i j → g.PredDeclaration d j k → g.PredClause d.name (length d.args) c k l → Good i
+predicate_more : (before after : Hlds) (d : rule.Declaration) (c : rule.Clause) (line : ℕ) (i j k l m : Input) → Is (expect kind.Declare) line i j → g.PredDeclaration d j k → g.PredClause d.name (length d.args) c k l → Good i
     → DeclaredAgain (rule.with_procedure before (rule.procedure_from line d c)) after l m → DeclaredAgain before after i m
 unfolding rule.with_procedure
 predicate_more before after d c line i j k l m e h f a r =
@@ -217,7 +217,7 @@ predicate_more before after d c line i j k l m e h f a r =
           (r.procedures_again (rule.with_procedure b (procedure_on_lines n (n + 1) p)) (n + 1 + 1) s));
     }
 
-declarations_again : (before after : Listing) (i m : Input) → g.Declarations before after i m → Good i → DeclaredAgain before after i m
+declarations_again : (before after : Hlds) (i m : Input) → g.Declarations before after i m → Good i → DeclaredAgain before after i m
 declarations_again _ _ _ _ (g.Declarations.none l i) a = no_more l i
 declarations_again _ _ _ _ (g.Declarations.also before _ after i k m (g.Declared.type t line _ j _ e h) ds) a =
     type_more before after t line i j k m e h a (declarations_again (rule.with_family before t) after k m ds ((type_declaration_still line t j k h).good ((expect_still kind.Declare line i j e).good a)))
@@ -226,24 +226,24 @@ declarations_again _ _ _ _ (g.Declarations.also before _ after i l m (g.Declared
     (declarations_again (rule.with_procedure before (rule.procedure_from line d c)) after l m ds
     (clause_good d.name (length d.args) c k l f ((pred_declaration_still d j k h).good ((expect_still kind.Declare line i j e).good a))))
 
-declarations_joined : (a b c : Listing) (i j k : Input) → g.Declarations a b i j → g.Declarations b c j k → g.Declarations a c i k
+declarations_joined : (a b c : Hlds) (i j k : Input) → g.Declarations a b i j → g.Declarations b c j k → g.Declarations a c i k
 declarations_joined _ _ c _ _ k (g.Declarations.none l i) later = later
 declarations_joined _ _ c _ _ k (g.Declarations.also before l after i j m d ds) later = g.Declarations.also before l c i j k d (declarations_joined l after c j m k ds later)
 
 -- ---- lines that were lost
 
-abbrev made : List ℕ → List Family → List Procedure → Listing
+abbrev made : List ℕ → List HldsTypeDef → List Procedure → Hlds
 made m ts ps = record { module_name = m; module_line = 0; types = map (family_on_line 0) ts; procedures = map (procedure_on_lines 0 0) ps }
 
-types_added : (n : ℕ) (b : Listing) (ts : List Family) → unlined (add_types n b ts) ≡ made b.module_name (b.types ++ ts) b.procedures
+types_added : (n : ℕ) (b : Hlds) (ts : List HldsTypeDef) → unlined (add_types n b ts) ≡ made b.module_name (b.types ++ ts) b.procedures
 unfolding rule.with_family
-types_added n b [] = ap (λ (ts : List Family). made b.module_name ts b.procedures) (append_none b.types)
+types_added n b [] = ap (λ (ts : List HldsTypeDef). made b.module_name ts b.procedures) (append_none b.types)
 types_added n b (t ∷ ts) =
     types_added (n + 1) (rule.with_family b (family_on_line n t)) ts
-    ∙ ap (λ (xs : List Family). record { module_name = b.module_name; module_line = 0; types = xs; procedures = map (procedure_on_lines 0 0) b.procedures })
+    ∙ ap (λ (xs : List HldsTypeDef). record { module_name = b.module_name; module_line = 0; types = xs; procedures = map (procedure_on_lines 0 0) b.procedures })
     (ap (map (family_on_line 0)) (append_assoc b.types (family_on_line n t ∷ []) ts) ∙ map-append (family_on_line 0) b.types (family_on_line n t ∷ ts) ∙ sym (map-append (family_on_line 0) b.types (t ∷ ts)))
 
-procedures_added : (n : ℕ) (b : Listing) (ps : List Procedure) → unlined (add_procedures n b ps) ≡ made b.module_name b.types (b.procedures ++ ps)
+procedures_added : (n : ℕ) (b : Hlds) (ps : List Procedure) → unlined (add_procedures n b ps) ≡ made b.module_name b.types (b.procedures ++ ps)
 unfolding rule.with_procedure
 procedures_added n b [] = ap (λ (ps : List Procedure). made b.module_name b.types ps) (append_none b.procedures)
 procedures_added n b (p ∷ ps) =
@@ -306,7 +306,7 @@ module_takes m i j f a n s =
     subst (λ (y : Input). Is rule.module_name m (at n (m ++ 32 ∷ s) i) (at n s y)) f.on
     (subst (λ (y : Input). Is rule.module_name m y (at n s (record (next i) { home = m }))) (sym (at_token (token i).kind m (module_reads m i j f a) n s i)) (rw (f.allowed, known (λ l. l.items) i a (λ k. nat_lt k (length m) ≡ false) f.short) refl))
 
-abbrev heading : ℕ → List ℕ → Listing
+abbrev heading : ℕ → List ℕ → Hlds
 heading line m = record { module_name = m; module_line = line; types = []; procedures = [] }
 
 at_start : (s : List ℕ) (i : Input) → i.home ≡ [] → i.vars ≡ [] → i.sites ≡ 0 → rule.start (tokens_of s) ≡ at 1 s i
@@ -317,7 +317,7 @@ at_stop_sees : (n : ℕ) (i : Input) → sees kind.Stop (at n [] i) ≡ true
 unfolding sees token at
 at_stop_sees n i = same_itself kind.Stop
 
-text_is : (l : Listing) (m : List ℕ) (ts : List Family) (ps : List Procedure) → l.module_name ≡ m → l.types ≡ ts → l.procedures ≡ ps
+text_is : (l : Hlds) (m : List ℕ) (ts : List HldsTypeDef) (ps : List Procedure) → l.module_name ≡ m → l.types ≡ ts → l.procedures ≡ ps
     → printed l ≡ onto (module_tokens m) (46 ∷ 10 ∷ (flat_map sentence (map type_tokens ts) ++ (flat_map sentence (flat_map procedure_sentences ps) ++ [])))
 unfolding printed
 text_is l m ts ps n t p =
@@ -327,27 +327,27 @@ text_is l m ts ps n t p =
     (ap (λ (x : List ℕ). sentence (module_tokens m) ++ x) (flat_map-append sentence (map type_tokens ts) (flat_map procedure_sentences ps) ∙ ap (λ (x : List ℕ). us ++ x) (append_none vs))
     ∙ sentence_onto (module_tokens m) (us ++ (vs ++ [])))
 
-lines_lost : (b l : Listing) (m : List ℕ) (ts : List Family) (ps : List Procedure) → unlined b ≡ made m ([] ++ ts) [] → l.types ≡ [] ++ ts → l.procedures ≡ [] ++ ps → l.module_name ≡ m
+lines_lost : (b l : Hlds) (m : List ℕ) (ts : List HldsTypeDef) (ps : List Procedure) → unlined b ≡ made m ([] ++ ts) [] → l.types ≡ [] ++ ts → l.procedures ≡ [] ++ ps → l.module_name ≡ m
     → made b.module_name b.types (b.procedures ++ ps) ≡ unlined l
 lines_lost b l m ts ps e t p n =
-    let names : b.module_name ≡ m = ap (λ (x : Listing). x.module_name) e in
-    let types : map (family_on_line 0) b.types ≡ map (family_on_line 0) ts = ap (λ (x : Listing). x.types) e in
-    let none : map (procedure_on_lines 0 0) b.procedures ≡ [] = ap (λ (x : Listing). x.procedures) e in
+    let names : b.module_name ≡ m = ap (λ (x : Hlds). x.module_name) e in
+    let types : map (family_on_line 0) b.types ≡ map (family_on_line 0) ts = ap (λ (x : Hlds). x.types) e in
+    let none : map (procedure_on_lines 0 0) b.procedures ≡ [] = ap (λ (x : Hlds). x.procedures) e in
     let all : map (procedure_on_lines 0 0) (b.procedures ++ ps) ≡ map (procedure_on_lines 0 0) ps = map-append (procedure_on_lines 0 0) b.procedures ps ∙ ap (λ (xs : List Procedure). xs ++ map (procedure_on_lines 0 0) ps) none in
     rw (names, types, all, t, p, n) refl
 
 -- the declaration of the module, and what follows
-program_again : (l : Listing) (i p : Input) → g.Program l i p → Good i → i.home ≡ [] → i.vars ≡ [] → i.sites ≡ 0 → duplicate l ≡ None → SpellsUpToLines (printed l) l
+program_again : (l : Hlds) (i p : Input) → g.Program l i p → Good i → i.home ≡ [] → i.vars ≡ [] → i.sites ≡ 0 → duplicate l ≡ None → SpellsUpToLines (printed l) l
 program_again _ _ _ (g.Program.program m line at' l i j k n o p e w mn z ds) a h v st once =
     let gj : Good j = (expect_still kind.Declare line i j e).good a in
     let gk : Good k = (word_still (codes "module") at' j k w).good gj in
     let f = module_facts m k n mn in
     let go : Good o = (sign_still kind.End n o z).good (module_good m k n f gk) in
     let r = declarations_again (heading line m) l o p ds go in
-    let b1 : Listing = heading 1 m in
-    let b2 : Listing = add_types 2 b1 r.types in
+    let b1 : Hlds = heading 1 m in
+    let b2 : Hlds = add_types 2 b1 r.types in
     let n2 : ℕ = past_types 2 r.types in
-    let b3 : Listing = add_procedures n2 b2 r.procedures in
+    let b3 : Hlds = add_procedures n2 b2 r.procedures in
     let n3 : ℕ = past_procedures n2 r.procedures in
     let ts : List ℕ = flat_map sentence (map type_tokens r.types) in
     let ps : List ℕ = flat_map sentence (flat_map procedure_sentences r.procedures) in
@@ -378,11 +378,11 @@ program_again _ _ _ (g.Program.program m line at' l i j k n o p e w mn z ds) a h
       same = same;
     })
 
-spelled_again : (text : List ℕ) (l : Listing) → Spells text l → SpellsUpToLines (printed l) l
+spelled_again : (text : List ℕ) (l : Hlds) → Spells text l → SpellsUpToLines (printed l) l
 spelled_again text l q = program_again l (rule.start (tokens_of text)) q.end q.program (tokens_fine text, refl) refl refl refl q.once
 
 -- what some text spells, up to line numbers, its printed text spells, up to line numbers
-pub round_trip : (l : Listing) → IsSpelled l → SpellsUpToLines (printed l) l
+pub round_trip : (l : Hlds) → IsSpelled l → SpellsUpToLines (printed l) l
 round_trip l q =
     let k = q.spelled.listing in
     let r = spelled_again q.text k q.spelled.spelled in
@@ -394,7 +394,7 @@ round_trip l q =
     }
 
 -- the printed text spells no other program
-pub no_other : (l : Listing) → IsSpelled l → (k : Listing) → Spells (printed l) k → unlined k ≡ unlined l
+pub no_other : (l : Hlds) → IsSpelled l → (k : Hlds) → Spells (printed l) k → unlined k ≡ unlined l
 no_other l q k h =
     let r = round_trip l q in
     ap unlined (one_program (printed l) k r.listing h r.spelled) ∙ r.same

@@ -5,8 +5,8 @@ use Rattle.std.specs.Str.{bytes_eq}
 use Rattle.md_hlds.specs.declared.types.Mode.{Mode}
 use Rattle.md_hlds.specs.declared.types.Det.{Det}
 use Rattle.md_hlds.specs.declared.goal.PredName.{PredName}
-use Rattle.md_hlds.specs.Listing.{Sort, closure, gathered_sorts, Construct, Family}
-use Rattle.md_hlds.proofs.Bridge.{listed_sorts-gathered}
+use Rattle.md_hlds.specs.Hlds.{HldsType, closure, gathered_types, HldsFunctor, HldsTypeDef}
+use Rattle.md_hlds.proofs.Bridge.{listed_types-gathered}
 use Rattle.md_token.specs.declared.kind.Kind.{Kind}
 use Rattle.md_token.specs.declared.kind.Kind.TheVariants as kind
 use Rattle.md_token.proofs.Spelled as spelled
@@ -71,13 +71,13 @@ name_known f i j h a =
     let n = name_facts f i j h in
     (subst (Reads kind.Name) n.2 (name_read i a n.0), subst (λ (t : List ℕ). nat_lt most (length t) ≡ false) n.2 (known (λ l. l.items) i a (λ m. nat_lt m (length (token i).text) ≡ false) n.1))
 
-abbrev type_words : List Sort → Tokens
+abbrev type_words : List HldsType → Tokens
 type_words ts = closed (single print.type_word) (codes ")") ts
 
-sorts_again : (ts : List Sort) (i j : Input) → Enclosed (Is rule.sort) kind.Close ts i j → Good i → Again (Enclosed (Is rule.sort) kind.Close) type_words ts
+sorts_again : (ts : List HldsType) (i j : Input) → Enclosed (Is rule.sort) kind.Close ts i j → Good i → Again (Enclosed (Is rule.sort) kind.Close) type_words ts
 sorts_again ts i j e a = enclosed_again (Is rule.sort) kind.Close (codes ")") (single print.type_word) spelled.reads_close sort_again sort_still ts i j e a
 
-functor_arguments_again : (ts : List Sort) (i j : Input) → g.FunctorArguments ts i j → Good i → Again g.FunctorArguments (arguments (single print.type_word)) ts
+functor_arguments_again : (ts : List HldsType) (i j : Input) → g.FunctorArguments ts i j → Good i → Again g.FunctorArguments (arguments (single print.type_word)) ts
 functor_arguments_again _ _ _ (g.FunctorArguments.none i) a n s m = g.FunctorArguments.none (at n s m)
 functor_arguments_again _ _ _ (g.FunctorArguments.some ts i j k sg e) a n s m =
     subst (λ (u : Tokens). g.FunctorArguments ts (at n (onto u s) m) (at n s m)) (sym (arguments_are (Is rule.sort) kind.Close (single print.type_word) ts j k e))
@@ -85,17 +85,17 @@ functor_arguments_again _ _ _ (g.FunctorArguments.some ts i j k sg e) a n s m =
     (sign_takes kind.Open (codes "(") spelled.reads_open n (onto (type_words ts) s) m)
     (sorts_again ts j k e ((sign_still kind.Open i j sg).good a) n s m))
 
-functor_again : (f : Construct) (i j : Input) → g.Functor f i j → Good i → Again g.Functor print.functor_tokens f
+functor_again : (f : HldsFunctor) (i j : Input) → g.Functor f i j → Good i → Again g.Functor print.functor_tokens f
 functor_again _ _ _ (g.Functor.functor f ts i j k h e) a n s m =
     let kn = name_known f i j h a in
     let u : List ℕ = onto (arguments (single print.type_word) ts) s in
     g.Functor.functor f ts (at n (f ++ 32 ∷ u) m) (at n u m) (at n s m) (name_takes f kn.0 kn.1 n u m) (functor_arguments_again ts j k e ((name_still f i j h).good a) n s m)
 
 -- a type's declaration behind its `:-`
-abbrev pub type_rest : Family → Tokens
+abbrev pub type_rest : HldsTypeDef → Tokens
 type_rest t = codes "type" ∷ t.name ∷ codes "--->" ∷ separated print.functor_tokens (codes ";") t.functors
 
-pub type_again : (line : ℕ) (t : Family) (i j : Input) → g.TypeDeclaration line t i j → Good i → (n : ℕ) (s : List ℕ) (m : Input)
+pub type_again : (line : ℕ) (t : HldsTypeDef) (i j : Input) → g.TypeDeclaration line t i j → Good i → (n : ℕ) (s : List ℕ) (m : Input)
     → g.TypeDeclaration n (family_on_line n t) (at n (onto (type_rest t) (46 ∷ 10 ∷ s)) m) (at (n + 1) s m)
 type_again line _ _ _ (g.TypeDeclaration.type_declaration t fs l i j k o p q w tn y fl e) a n s m =
     let own = type_name_name t j k tn in
@@ -145,23 +145,23 @@ inst_again _ _ _ _ (g.Inst.inst ms d i j k l m n o p a b c e f h z) good q s w =
     (determinism_takes d q u1 w)
     (sign_takes kind.Close (codes ")") spelled.reads_close q s w))
 
-plain_tokens : (w : List ℕ) (t : Sort) (i j : Input) (m : Mode) → IsSort w i j t → print.argument_tokens (t, m) ≡ print.type_word t ∷ codes "::" ∷ print.mode_word m ∷ []
+plain_tokens : (w : List ℕ) (t : HldsType) (i j : Input) (m : Mode) → IsSort w i j t → print.argument_tokens (t, m) ≡ print.type_word t ∷ codes "::" ∷ print.mode_word m ∷ []
 plain_tokens w _ i j m (IsSort.int e) = refl
 plain_tokens w _ i j m (IsSort.string e) = refl
 plain_tokens w _ i j m (IsSort.io e) = refl
 plain_tokens w _ i j m (IsSort.other a b c d e) = refl
 
-higher_onto : (ts : List Sort) (m : Mode) (ms : List Mode) (d : Det) (s : List ℕ)
-    → onto (print.argument_tokens (closure (gathered_sorts ts) ms d, m)) s ≡ codes "pred" ++ 32 ∷ (codes "(" ++ 32 ∷ onto (type_words ts) (codes "::" ++ 32 ∷ (print.mode_word m ++ 32 ∷ onto (print.inst_tokens ms d) s)))
+higher_onto : (ts : List HldsType) (m : Mode) (ms : List Mode) (d : Det) (s : List ℕ)
+    → onto (print.argument_tokens (closure (gathered_types ts) ms d, m)) s ≡ codes "pred" ++ 32 ∷ (codes "(" ++ 32 ∷ onto (type_words ts) (codes "::" ++ 32 ∷ (print.mode_word m ++ 32 ∷ onto (print.inst_tokens ms d) s)))
 higher_onto ts m ms d s =
-    ap (λ (us : List Sort). onto (codes "pred" ∷ (in_parentheses (separated (single print.type_word) (codes ",") us) ++ codes "::" ∷ print.mode_word m ∷ print.inst_tokens ms d)) s) (listed_sorts-gathered ts)
+    ap (λ (us : List HldsType). onto (codes "pred" ∷ (in_parentheses (separated (single print.type_word) (codes ",") us) ++ codes "::" ∷ print.mode_word m ∷ print.inst_tokens ms d)) s) (listed_types-gathered ts)
     ∙ ap (λ (u : List ℕ). codes "pred" ++ 32 ∷ (codes "(" ++ 32 ∷ u)) (onto-append (type_words ts) (codes "::" ∷ print.mode_word m ∷ print.inst_tokens ms d) s)
 
 is_ho_mode : (m : Mode) (i j : Input) → Is rule.ho_mode m i j → IsHoMode m
 unfolding rule.ho_mode
 is_ho_mode m i j h = ho_mode_facts (token i).text m (word_facts (rule.ho_mode_named (token i).text) m i j h).0
 
-argument_again : (x : Sort × Mode) (i j : Input) → g.Argument x i j → Good i → Again g.Argument print.argument_tokens x
+argument_again : (x : HldsType × Mode) (i j : Input) → g.Argument x i j → Good i → Again g.Argument print.argument_tokens x
 argument_again _ _ _ (g.Argument.plain t m i j k l a b c) good n s w =
     let u1 : List ℕ = print.mode_word m ++ 32 ∷ s in
     let u2 : List ℕ = codes "::" ++ 32 ∷ u1 in
@@ -179,7 +179,7 @@ argument_again _ _ _ (g.Argument.higher_order ts m ms d i j k l n o p a b c e f 
     let gk : Good k = (sign_still kind.Open j k b).good ((sign_still kind.Pred i j a).good good) in
     let gn : Good n = (sign_still kind.HasMode l n e).good ((enclosed_still (Is rule.sort) kind.Close sort_still ts k l c).good gk) in
     let go : Good o = (ho_mode_still m n o f).good gn in
-    subst (λ (u : List ℕ). g.Argument (closure (gathered_sorts ts) ms d, m) (at q u w) (at q s w)) (sym (higher_onto ts m ms d s))
+    subst (λ (u : List ℕ). g.Argument (closure (gathered_types ts) ms d, m) (at q u w) (at q s w)) (sym (higher_onto ts m ms d s))
     (g.Argument.higher_order ts m ms d (at q (codes "pred" ++ 32 ∷ u5) w) (at q u5 w) (at q u4 w) (at q u3 w) (at q u2 w) (at q u1 w) (at q s w)
     (sign_takes kind.Pred (codes "pred") spelled.reads_pred q u5 w)
     (sign_takes kind.Open (codes "(") spelled.reads_open q u4 w)
@@ -188,7 +188,7 @@ argument_again _ _ _ (g.Argument.higher_order ts m ms d i j k l n o p a b c e f 
     (ho_mode_takes m (is_ho_mode m n o f) q u1 w)
     (inst_again ms d o p h go q s w))
 
-declared_arguments_again : (xs : List (Sort × Mode)) (i j : Input) → g.DeclaredArguments xs i j → Good i → Again g.DeclaredArguments (arguments print.argument_tokens) xs
+declared_arguments_again : (xs : List (HldsType × Mode)) (i j : Input) → g.DeclaredArguments xs i j → Good i → Again g.DeclaredArguments (arguments print.argument_tokens) xs
 declared_arguments_again _ _ _ (g.DeclaredArguments.none i) a n s m = g.DeclaredArguments.none (at n s m)
 declared_arguments_again _ _ _ (g.DeclaredArguments.some xs i j k sg e) a n s m =
     let u : List ℕ = onto (closed print.argument_tokens (codes ")") xs) s in

@@ -8,8 +8,8 @@ use Rattle.md_hlds.specs.declared.types.Det.{Det}
 use Rattle.md_hlds.specs.declared.goal.PredName.{PredName}
 use Rattle.md_hlds.specs.declared.goal.Op.{Op}
 use Rattle.md_hlds.specs.declared.goal.Cmp.{Cmp}
-use Rattle.md_hlds.specs.Part.{Part, Task}
-use Rattle.md_hlds.specs.Listing.{Sort, number, text, world, named, Construct, Family}
+use Rattle.md_hlds.specs.HldsGoal.{HldsGoal, GoalExpr}
+use Rattle.md_hlds.specs.Hlds.{HldsType, number, text, world, named, HldsFunctor, HldsTypeDef}
 use Rattle.md_token.specs.declared.kind.Kind.{Kind}
 use Rattle.md_token.specs.declared.kind.Kind.TheVariants as kind
 use Rattle.md_reader.specs.Input.{Input, Parser, Outcome, and_then, expect, name, word, variable, site, token, sees, next, take_name, with_variable, place_of}
@@ -113,24 +113,24 @@ chosen_at true p q i z h = inl (refl, h)
 chosen_at false p q i z h = inr (refl, h)
 
 -- a type is one of three words, or another name
-pub data IsSort (t : List ℕ) (i j : Input) : Sort → Type 0 where
+pub data IsSort (t : List ℕ) (i j : Input) : HldsType → Type 0 where
   int : next i ≡ j → IsSort t i j number
   string : next i ≡ j → IsSort t i j text
   io : next i ≡ j → IsSort t i j world
   other : bytes_eq t (codes "int") ≡ false → bytes_eq t (codes "string") ≡ false → bytes_eq t (codes "io") ≡ false → nat_lt i.limits.items (length t) ≡ false → next i ≡ j → IsSort t i j (named t)
 
-sort_word : (x t : Sort) (i j : Input) (w : List ℕ) → (next i ≡ j → IsSort w i j x) → ◌≡◌ {A = Outcome Sort} (Ok (x, next i)) (Ok (t, j)) → IsSort w i j t
-sort_word x t i j w f h = let a = ok_parts x t (next i) j h in subst (λ (t : Sort). IsSort w i j t) a.0 (f a.1)
+sort_word : (x t : HldsType) (i j : Input) (w : List ℕ) → (next i ≡ j → IsSort w i j x) → ◌≡◌ {A = Outcome HldsType} (Ok (x, next i)) (Ok (t, j)) → IsSort w i j t
+sort_word x t i j w f h = let a = ok_parts x t (next i) j h in subst (λ (t : HldsType). IsSort w i j t) a.0 (f a.1)
 
-sort_name : (w : List ℕ) (t : Sort) (i j : Input) → bytes_eq w (codes "int") ≡ false → bytes_eq w (codes "string") ≡ false → bytes_eq w (codes "io") ≡ false
+sort_name : (w : List ℕ) (t : HldsType) (i j : Input) → bytes_eq w (codes "int") ≡ false → bytes_eq w (codes "string") ≡ false → bytes_eq w (codes "io") ≡ false
     → and_then (take_name w i) (λ n k. Ok (named n, k)) ≡ Ok (t, j) → IsSort w i j t
 sort_name w t i j a b c h =
     let e = bind_ok (take_name w i) _ _ h in
     let f = take_facts w e.0.0 i e.0.1 e.1 in
     let r = ok_parts (named e.0.0) t e.0.1 j e.2 in
-    subst (λ (t : Sort). IsSort w i j t) (ap named f.1 ∙ r.0) (other a b c f.0 (f.2 ∙ r.1))
+    subst (λ (t : HldsType). IsSort w i j t) (ap named f.1 ∙ r.0) (other a b c f.0 (f.2 ∙ r.1))
 
-sort_facts_by : (w : List ℕ) (t : Sort) (i j : Input) → rule.sort_named w i ≡ Ok (t, j) → IsSort w i j t
+sort_facts_by : (w : List ℕ) (t : HldsType) (i j : Input) → rule.sort_named w i ≡ Ok (t, j) → IsSort w i j t
 sort_facts_by w t i j h =
     elim (chosen_at (bytes_eq w (codes "int")) _ _ i _ h) [
       | inl s ↦ sort_word number t i j w int s.1
@@ -143,19 +143,19 @@ sort_facts_by w t i j h =
       ]
     ]
 
-pub sort_facts : (t : Sort) (i j : Input) → Is rule.sort t i j → (sees kind.Name i ≡ true) × IsSort (token i).text i j t
+pub sort_facts : (t : HldsType) (i j : Input) → Is rule.sort t i j → (sees kind.Name i ≡ true) × IsSort (token i).text i j t
 unfolding rule.sort
 sort_facts t i j h =
     let a = holds (sees kind.Name i) _ _ _ h in
     (a.0, sort_facts_by (token i).text t i j a.1)
 
-sort_next : (w : List ℕ) (t : Sort) (i j : Input) → IsSort w i j t → next i ≡ j
+sort_next : (w : List ℕ) (t : HldsType) (i j : Input) → IsSort w i j t → next i ≡ j
 sort_next w _ i j (int e) = e
 sort_next w _ i j (string e) = e
 sort_next w _ i j (io e) = e
 sort_next w _ i j (other a b c d e) = e
 
-pub sort_still : (t : Sort) (i j : Input) → Is rule.sort t i j → Still i j
+pub sort_still : (t : HldsType) (i j : Input) → Is rule.sort t i j → Still i j
 sort_still t i j h = still_to i j (sort_next (token i).text t i j (sort_facts t i j h).1)
 
 -- ---- names of predicates
@@ -218,14 +218,14 @@ listed_still item k each _ _ _ (g.Listed.also x xs i j m n h s r) = still_on i j
 pub enclosed_still : {A : Type 0} (item : A → Input → Input → Type 0) (k : Kind) → ((x : A) (i j : Input) → item x i j → Still i j) → (xs : List A) (i j : Input) → Enclosed item k xs i j → Still i j
 enclosed_still item k each _ _ _ (g.Enclosed.enclosed xs i j m l few s) = still_on i j m (listed_still item kind.Comma each xs i j l) (sign_still k j m s)
 
-pub functor_arguments_still : (ts : List Sort) (i j : Input) → g.FunctorArguments ts i j → Still i j
+pub functor_arguments_still : (ts : List HldsType) (i j : Input) → g.FunctorArguments ts i j → Still i j
 functor_arguments_still _ _ _ (g.FunctorArguments.none i) = still_here i
 functor_arguments_still _ _ _ (g.FunctorArguments.some ts i j k s e) = still_on i j k (sign_still kind.Open i j s) (enclosed_still (Is rule.sort) kind.Close sort_still ts j k e)
 
-pub functor_still : (f : Construct) (i j : Input) → g.Functor f i j → Still i j
+pub functor_still : (f : HldsFunctor) (i j : Input) → g.Functor f i j → Still i j
 functor_still _ _ _ (g.Functor.functor f ts i j k n a) = still_on i j k (name_still f i j n) (functor_arguments_still ts j k a)
 
-pub type_declaration_still : (line : ℕ) (t : Family) (i j : Input) → g.TypeDeclaration line t i j → Still i j
+pub type_declaration_still : (line : ℕ) (t : HldsTypeDef) (i j : Input) → g.TypeDeclaration line t i j → Still i j
 type_declaration_still line _ _ _ (g.TypeDeclaration.type_declaration t fs l i j k m n o w tn y fl e) =
     still_on i j o (word_still (codes "type") l i j w)
     (still_on j k o (name_still t j k (type_name_name t j k tn).1)
@@ -241,7 +241,7 @@ inst_still _ _ _ _ (g.Inst.inst ms d i j k l m n o p a b c e f h c2) =
     (still_on m n p (sign_still kind.Is m n f)
     (still_on n o p (determinism_still d n o h) (sign_still kind.Close o p c2))))))
 
-pub argument_still : (a : Sort × Mode) (i j : Input) → g.Argument a i j → Still i j
+pub argument_still : (a : HldsType × Mode) (i j : Input) → g.Argument a i j → Still i j
 argument_still _ _ _ (g.Argument.plain t m i j k l a b c) = still_on i j l (sort_still t i j a) (still_on j k l (sign_still kind.HasMode j k b) (mode_still m k l c))
 argument_still _ _ _ (g.Argument.higher_order ts m ms d i j k l n o p a b c e f h) =
     still_on i j p (sign_still kind.Pred i j a)
@@ -250,7 +250,7 @@ argument_still _ _ _ (g.Argument.higher_order ts m ms d i j k l n o p a b c e f 
     (still_on l n p (sign_still kind.HasMode l n e)
     (still_on n o p (ho_mode_still m n o f) (inst_still ms d o p h)))))
 
-pub declared_arguments_still : (as' : List (Sort × Mode)) (i j : Input) → g.DeclaredArguments as' i j → Still i j
+pub declared_arguments_still : (as' : List (HldsType × Mode)) (i j : Input) → g.DeclaredArguments as' i j → Still i j
 declared_arguments_still _ _ _ (g.DeclaredArguments.none i) = still_here i
 declared_arguments_still _ _ _ (g.DeclaredArguments.some as' i j k s e) = still_on i j k (sign_still kind.Open i j s) (enclosed_still g.Argument kind.Close argument_still as' j k e)
 
@@ -351,19 +351,19 @@ operator_still o _ _ (g.Operator.operator k i j e s) = sign_still k i j s
 pub comparison_still : (c : Cmp) (i j : Input) → g.Comparison c i j → Still i j
 comparison_still c _ _ (g.Comparison.comparison k i j e s) = sign_still k i j s
 
-pub positive_still : (x : ℕ) (t : Task) (i j : Input) → Is (rule.positive x) t i j → Still i j
+pub positive_still : (x : ℕ) (t : GoalExpr) (i j : Input) → Is (rule.positive x) t i j → Still i j
 unfolding rule.positive
 positive_still x t i j h = still_to i j (ok_parts _ t (next i) j (fails _ _ _ _ h).1).1
 
-pub negated_still : (x : ℕ) (t : Task) (i j : Input) → Is (rule.negated x) t i j → Still i j
+pub negated_still : (x : ℕ) (t : GoalExpr) (i j : Input) → Is (rule.negated x) t i j → Still i j
 unfolding rule.negated
 negated_still x t i j h = still_to i j (ok_parts _ t (next i) j (fails _ _ _ _ (holds (sees kind.Integer i) _ _ _ h).1).1).1
 
-pub literal_still : (x : ℕ) (t : Task) (i j : Input) → Is (rule.literal x) t i j → Still i j
+pub literal_still : (x : ℕ) (t : GoalExpr) (i j : Input) → Is (rule.literal x) t i j → Still i j
 unfolding rule.literal
 literal_still x t i j h = still_to i j (ok_parts _ t (next i) j (fails _ _ _ _ h).1).1
 
-pub term_onward : (x : ℕ) (t : Task) (i j : Input) → g.Term x t i j → Onward i j
+pub term_onward : (x : ℕ) (t : GoalExpr) (i j : Input) → g.Term x t i j → Onward i j
 term_onward x _ _ _ (g.Term.same y i j v) = variable_onward (x ∷ []) y i j v
 term_onward x _ _ _ (g.Term.arithmetic y z o i j k m v p w) = on_to i j m (variable_onward (x ∷ []) y i j v) (from_still j k m (operator_still o j k p) (variable_onward (x ∷ y ∷ []) z k m w))
 term_onward x _ _ _ (g.Term.positive t i j e h) = onward i j (positive_still x t i j h)
@@ -371,20 +371,20 @@ term_onward x _ _ _ (g.Term.negative t i j k s h) = from_still i j k (sign_still
 term_onward x _ _ _ (g.Term.literal t i j e h) = onward i j (literal_still x t i j h)
 term_onward x _ _ _ (g.Term.application f ys i j k n a) = from_still i j k (pred_name_still f i j n) (arguments_onward (x ∷ []) ys j k a)
 
-pub relation_onward : (t : Task) (i j : Input) → g.Relation t i j → Onward i j
+pub relation_onward : (t : GoalExpr) (i j : Input) → g.Relation t i j → Onward i j
 relation_onward _ _ _ (g.Relation.unification x t i j k m v s r) = on_to i j m (variable_onward [] x i j v) (from_still j k m (sign_still kind.Equals j k s) (term_onward x t k m r))
 relation_onward _ _ _ (g.Relation.comparison x y c i j k m v s w) = on_to i j m (variable_onward [] x i j v) (from_still j k m (comparison_still c j k s) (variable_onward (x ∷ []) y k m w))
 
-pub call_onward : (t : Task) (i j : Input) → g.Call t i j → Onward i j
+pub call_onward : (t : GoalExpr) (i j : Input) → g.Call t i j → Onward i j
 call_onward _ _ _ (g.Call.builtin q ys t i j k n a e) = from_still i j k (pred_name_still q i j n) (arguments_onward [] ys j k a)
 call_onward _ _ _ (g.Call.call q ys s i j k m n a e h) = from_still i j m (pred_name_still q i j n) (on_to j k m (arguments_onward [] ys j k a) (site_onward s k m h))
 
-pub closure_call_onward : (t : Task) (i j : Input) → g.ClosureCall t i j → Onward i j
+pub closure_call_onward : (t : GoalExpr) (i j : Input) → g.ClosureCall t i j → Onward i j
 closure_call_onward _ _ _ (g.ClosureCall.closure_call f ys s i j k m n c o v h) =
     from_still i j n (sign_still kind.Call i j c) (from_still j k n (sign_still kind.Open j k o) (on_to k m n (variables_onward kind.Close [] (f ∷ ys) k m v) (site_onward s m n h)))
 
 mutual
-  pub goal_onward : (room : ℕ) (p : Part) (i j : Input) → g.Goal room p i j → Onward i j
+  pub goal_onward : (room : ℕ) (p : HldsGoal) (i j : Input) → g.Goal room p i j → Onward i j
   goal_onward _ _ _ _ (g.Goal.true room line i j e) = onward i j (expect_still kind.True line i j e)
   goal_onward _ _ _ _ (g.Goal.fail room line i j e) = onward i j (expect_still kind.Fail line i j e)
   goal_onward _ _ _ _ (g.Goal.relation room t i j r) = relation_onward t i j r
@@ -400,13 +400,13 @@ mutual
   goal_onward _ _ _ _ (g.Goal.quantification room line vs c i j k m n o p a b v d e z) =
       from_still i j p (expect_still kind.Some line i j a) (from_still j k p (sign_still kind.OpenList j k b) (on_to k m p (quantified_onward vs k m v) (from_still m n p (sign_still kind.Open m n d) (on_to n o p (conjunction_onward room c n o e) (onward o p (sign_still kind.Close o p z))))))
 
-  pub units_onward : (room : ℕ) (ps : List Part) (i j : Input) → g.Units room ps i j → Onward i j
+  pub units_onward : (room : ℕ) (ps : List HldsGoal) (i j : Input) → g.Units room ps i j → Onward i j
   units_onward _ _ _ _ (g.Units.last room p i j h) = goal_onward room p i j h
   units_onward _ _ _ _ (g.Units.also room p ps i j k m h s r) = on_to i j m (goal_onward room p i j h) (from_still j k m (sign_still kind.Comma j k s) (units_onward room ps k m r))
 
-  pub conjunction_onward : (room : ℕ) (p : Part) (i j : Input) → g.Conjunction room p i j → Onward i j
+  pub conjunction_onward : (room : ℕ) (p : HldsGoal) (i j : Input) → g.Conjunction room p i j → Onward i j
   conjunction_onward _ _ _ _ (g.Conjunction.conjunction room ps i j h) = units_onward room ps i j h
 
-  pub arms_onward : (room : ℕ) (ps : List Part) (i j : Input) → g.Arms room ps i j → Onward i j
+  pub arms_onward : (room : ℕ) (ps : List HldsGoal) (i j : Input) → g.Arms room ps i j → Onward i j
   arms_onward _ _ _ _ (g.Arms.last_arm room p i j h) = conjunction_onward room p i j h
   arms_onward _ _ _ _ (g.Arms.also_arm room p ps i j k m h s r) = on_to i j m (conjunction_onward room p i j h) (from_still j k m (sign_still kind.Semicolon j k s) (arms_onward room ps k m r))

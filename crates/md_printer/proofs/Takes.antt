@@ -14,8 +14,8 @@ use Rattle.md_hlds.specs.declared.types.Det.{Det}
 use Rattle.md_hlds.specs.declared.types.Det.TheVariants as det
 use Rattle.md_hlds.specs.declared.goal.PredName.{PredName}
 use Rattle.md_hlds.specs.declared.goal.Term.TheVariants as term
-use Rattle.md_hlds.specs.Part.{Plain, Unifies}
-use Rattle.md_hlds.specs.Listing.{Sort, number, text, world, named, same_qualifier}
+use Rattle.md_hlds.specs.HldsGoal.{SimpleGoal, Unifies}
+use Rattle.md_hlds.specs.Hlds.{HldsType, number, text, world, named, same_qualifier}
 use Rattle.md_token.specs.declared.kind.Kind.{Kind}
 use Rattle.md_token.specs.declared.kind.Kind.TheVariants as kind
 use Rattle.md_token.specs.Kinds.{same_kind}
@@ -145,14 +145,14 @@ determinism_takes det.Failure n s i = along (λ (j : Input). Is rule.determinism
 
 -- ---- types
 
-sort_takes : (w : List ℕ) (t : Sort) (i j : Input) → Good i → IsSort w i j t → Reads kind.Name w → (n : ℕ) (s : List ℕ) (k : Input) → Is rule.sort t (at n (print.type_word t ++ 32 ∷ s) k) (at n s k)
+sort_takes : (w : List ℕ) (t : HldsType) (i j : Input) → Good i → IsSort w i j t → Reads kind.Name w → (n : ℕ) (s : List ℕ) (k : Input) → Is rule.sort t (at n (print.type_word t ++ 32 ∷ s) k) (at n s k)
 unfolding rule.sort take_name sees token next at
 sort_takes w _ i j good (IsSort.int e) r n s k = along (λ (m : Input). Is rule.sort number m (at n s k)) kind.Name (codes "int") spelled.reads_word_int n s k (rw (same_itself kind.Name) refl)
 sort_takes w _ i j good (IsSort.string e) r n s k = along (λ (m : Input). Is rule.sort text m (at n s k)) kind.Name (codes "string") spelled.reads_word_string n s k (rw (same_itself kind.Name) refl)
 sort_takes w _ i j good (IsSort.io e) r n s k = along (λ (m : Input). Is rule.sort world m (at n s k)) kind.Name (codes "io") spelled.reads_word_io n s k (rw (same_itself kind.Name) refl)
 sort_takes w _ i j good (IsSort.other a b c d e) r n s k = along (λ (m : Input). Is rule.sort (named w) m (at n s k)) kind.Name w r n s k (rw (same_itself kind.Name, a, b, c, known (λ l. l.items) i good (λ m. nat_lt m (length w) ≡ false) d) refl)
 
-pub sort_again : (t : Sort) (i j : Input) → Is rule.sort t i j → Good i → (n : ℕ) (s : List ℕ) (k : Input) → Is rule.sort t (at n (print.type_word t ++ 32 ∷ s) k) (at n s k)
+pub sort_again : (t : HldsType) (i j : Input) → Is rule.sort t i j → Good i → (n : ℕ) (s : List ℕ) (k : Input) → Is rule.sort t (at n (print.type_word t ++ 32 ∷ s) k) (at n s k)
 sort_again t i j h a n s k =
     let f = sort_facts t i j h in
     sort_takes (token i).text t i j a f.1 (name_read i a f.0) n s k
@@ -307,23 +307,23 @@ end_clause_again vs i j h =
 
 -- ---- integers and strings
 
-pub positive_takes : (x m : ℕ) → nat_lt greatest m ≡ false → (n : ℕ) (s : List ℕ) (i : Input) → (kind_at (at n (decimal m ++ 32 ∷ s) i) ≡ kind.Integer) × Is (rule.positive x) (Plain (Unifies x (term.Int (pos m)))) (at n (decimal m ++ 32 ∷ s) i) (at n s i)
+pub positive_takes : (x m : ℕ) → nat_lt greatest m ≡ false → (n : ℕ) (s : List ℕ) (i : Input) → (kind_at (at n (decimal m ++ 32 ∷ s) i) ≡ kind.Integer) × Is (rule.positive x) (SimpleGoal (Unifies x (term.Int (pos m)))) (at n (decimal m ++ 32 ∷ s) i) (at n s i)
 unfolding rule.positive token next at
 positive_takes x m small n s i =
     let l : m < 2 ^ 64 = grind arith in
     let r : Reads kind.Integer (decimal m) = reads_digits (decimal m) (decimal_digits m l) in
     let e : number_of (decimal m) ≡ m = number_of-decimal m l in (
       token_kind kind.Integer (decimal m) r n s i,
-      along (λ (j : Input). Is (rule.positive x) (Plain (Unifies x (term.Int (pos m)))) j (at n s i)) kind.Integer (decimal m) r n s i (rw (e, small) refl),
+      along (λ (j : Input). Is (rule.positive x) (SimpleGoal (Unifies x (term.Int (pos m)))) j (at n s i)) kind.Integer (decimal m) r n s i (rw (e, small) refl),
     )
 
-pub negated_takes : (x m : ℕ) → nat_lt (suc greatest) m ≡ false → (n : ℕ) (s : List ℕ) (i : Input) → Is (rule.negated x) (Plain (Unifies x (term.Int (rule.minus m)))) (at n (decimal m ++ 32 ∷ s) i) (at n s i)
+pub negated_takes : (x m : ℕ) → nat_lt (suc greatest) m ≡ false → (n : ℕ) (s : List ℕ) (i : Input) → Is (rule.negated x) (SimpleGoal (Unifies x (term.Int (rule.minus m)))) (at n (decimal m ++ 32 ∷ s) i) (at n s i)
 unfolding rule.negated sees token next at
 negated_takes x m small n s i =
     let l : m < 2 ^ 64 = grind arith in
     let r : Reads kind.Integer (decimal m) = reads_digits (decimal m) (decimal_digits m l) in
     let e : number_of (decimal m) ≡ m = number_of-decimal m l in
-    along (λ (j : Input). Is (rule.negated x) (Plain (Unifies x (term.Int (rule.minus m)))) j (at n s i)) kind.Integer (decimal m) r n s i (rw (same_itself kind.Integer, e, small) refl)
+    along (λ (j : Input). Is (rule.negated x) (SimpleGoal (Unifies x (term.Int (rule.minus m)))) j (at n s i)) kind.Integer (decimal m) r n s i (rw (same_itself kind.Integer, e, small) refl)
 
 one_of_four : (a b c d : Bool) → (((a || b) || c) || d) ≡ true → (a ≡ true) ⊎ ((b ≡ true) ⊎ ((c ≡ true) ⊎ (d ≡ true)))
 one_of_four true b c d h = inl refl
@@ -358,12 +358,12 @@ writes_escaped _ _ Writes.none = Writes.none
 writes_escaped _ _ (Writes.plain b v w p q e r) = subst (λ (t : List ℕ). Writes (b ∷ v) (t ++ flat_map print.escaped v)) (sym (plain_is b p q e)) (Writes.plain b v (flat_map print.escaped v) p q e (writes_escaped v w r))
 writes_escaped _ _ (Writes.escape c v w h r) = subst (λ (t : List ℕ). Writes (meaning c ∷ v) (t ++ flat_map print.escaped v)) (sym (escape_is c h)) (Writes.escape c v (flat_map print.escaped v) h (writes_escaped v w r))
 
-pub literal_takes : (x : ℕ) (v w : List ℕ) → Writes v w → nat_lt most_bytes (length v) ≡ false → (n : ℕ) (s : List ℕ) (i : Input) → (kind_at (at n (print.quoted v ++ 32 ∷ s) i) ≡ kind.Text) × Is (rule.literal x) (Plain (Unifies x (term.Str v))) (at n (print.quoted v ++ 32 ∷ s) i) (at n s i)
+pub literal_takes : (x : ℕ) (v w : List ℕ) → Writes v w → nat_lt most_bytes (length v) ≡ false → (n : ℕ) (s : List ℕ) (i : Input) → (kind_at (at n (print.quoted v ++ 32 ∷ s) i) ≡ kind.Text) × Is (rule.literal x) (SimpleGoal (Unifies x (term.Str v))) (at n (print.quoted v ++ 32 ∷ s) i) (at n s i)
 unfolding rule.literal token next at print.quoted
 literal_takes x v w o short n s i =
     let e = writes_escaped v w o in
     let r : Reads kind.Text (print.quoted v) = reads_text v (flat_map print.escaped v) e in
     let is : string_value (print.quoted v) ≡ v = value_of_text v (flat_map print.escaped v) e in (
       token_kind kind.Text (print.quoted v) r n s i,
-      along (λ (j : Input). Is (rule.literal x) (Plain (Unifies x (term.Str v))) j (at n s i)) kind.Text (print.quoted v) r n s i (rw (is, short) refl),
+      along (λ (j : Input). Is (rule.literal x) (SimpleGoal (Unifies x (term.Str v))) j (at n s i)) kind.Text (print.quoted v) r n s i (rw (is, short) refl),
     )

@@ -12,38 +12,38 @@ use Rattle.md_hlds.specs.declared.goal.PredName.{PredName}
 use Rattle.md_hlds.specs.declared.goal.Term.TheVariants.{Var, Int, Str, Name}
 use Rattle.md_hlds.specs.declared.goal.Op.TheVariants.{Sub}
 use Rattle.md_hlds.specs.declared.goal.Cmp.TheVariants.{Le}
-use Rattle.md_hlds.specs.Part.{Part, At, Task, Plain, Invoke, Apply, Each, Either, Choose, Unless, Once, gathered, Succeeds, Fails, Unifies, Computes, Compares, WritesText}
-use Rattle.md_hlds.specs.Listing.{Listing, Procedure, Family, Sort, number, world, named, closure, gathered_sorts}
+use Rattle.md_hlds.specs.HldsGoal.{HldsGoal, At, GoalExpr, SimpleGoal, CallGoal, HoCallGoal, ConjGoal, DisjGoal, IfGoal, NotGoal, SomeGoal, gathered, Succeeds, Fails, Unifies, Computes, Compares, WritesText}
+use Rattle.md_hlds.specs.Hlds.{Hlds, Procedure, HldsTypeDef, HldsType, number, world, named, closure, gathered_types}
 use Rattle.md_printer.specs.Layout.{laid, sentence}
 use Rattle.md_printer.specs.Printed.{printed, integer, quoted, escaped, goal_tokens, argument_tokens}
 
 -- ---- words for writing programs
 
-abbrev pub goal : Task → Part
+abbrev pub goal : GoalExpr → HldsGoal
 goal t = At 0 t
 
-abbrev pub all : List Part → Part
-all ps = goal (Each (gathered ps))
+abbrev pub all : List HldsGoal → HldsGoal
+all ps = goal (ConjGoal (gathered ps))
 
 abbrev pub unqualified : List ℕ → PredName
 unqualified name = record { qualifier = None; name = name }
 
-abbrev pub is_number : ℕ → ℕ → Part
-is_number x n = goal (Plain (Unifies x (Int (pos n))))
+abbrev pub is_number : ℕ → ℕ → HldsGoal
+is_number x n = goal (SimpleGoal (Unifies x (Int (pos n))))
 
-abbrev pub is_text : ℕ → List ℕ → Part
-is_text x bytes = goal (Plain (Unifies x (Str bytes)))
+abbrev pub is_text : ℕ → List ℕ → HldsGoal
+is_text x bytes = goal (SimpleGoal (Unifies x (Str bytes)))
 
-abbrev pub same : ℕ → ℕ → Part
-same x y = goal (Plain (Unifies x (Var y)))
+abbrev pub same : ℕ → ℕ → HldsGoal
+same x y = goal (SimpleGoal (Unifies x (Var y)))
 
-abbrev pub made : ℕ → List ℕ → List ℕ → Part
-made x f ys = goal (Plain (Unifies x (Name (unqualified f) ys)))
+abbrev pub made : ℕ → List ℕ → List ℕ → HldsGoal
+made x f ys = goal (SimpleGoal (Unifies x (Name (unqualified f) ys)))
 
-abbrev pub call : List ℕ → List ℕ → Part
-call q ys = goal (Invoke 0 (unqualified q) ys)
+abbrev pub call : List ℕ → List ℕ → HldsGoal
+call q ys = goal (CallGoal 0 (unqualified q) ys)
 
-abbrev pub procedure : List ℕ → List (Sort × Mode) → Det → List (List ℕ) → List ℕ → Part → Procedure
+abbrev pub procedure : List ℕ → List (HldsType × Mode) → Det → List (List ℕ) → List ℕ → HldsGoal → Procedure
 procedure name as' det vars head body = record {
   qualifier = None;
   name = name;
@@ -56,16 +56,16 @@ procedure name as' det vars head body = record {
   body = body;
 }
 
-abbrev pub program : List Family → List Procedure → Listing
+abbrev pub program : List HldsTypeDef → List Procedure → Hlds
 program types procedures = record { module_name = codes "t"; module_line = 0; types = types; procedures = procedures }
 
 -- `main(io::di, io::uo) is det`, with the variables IO0 and IO and these
-abbrev pub main : List (List ℕ) → Part → Procedure
+abbrev pub main : List (List ℕ) → HldsGoal → Procedure
 main vars body = procedure (codes "main") ((world, mode.Di) ∷ (world, mode.Uo) ∷ []) One (codes "IO0" ∷ codes "IO" ∷ vars) (0 ∷ 1 ∷ []) body
 
 -- ---- a.m: one goal
 
-abbrev pub a : Listing
+abbrev pub a : Hlds
 a = program [] (main [] (same 1 0) ∷ [])
 
 a_text : printed a ≡ codes ":- module t .\n:- pred main ( io :: di , io :: uo ) is det .\nmain ( IO0 , IO ) :- IO = IO0 .\n"
@@ -74,7 +74,7 @@ a_text = refl
 
 -- ---- some.m: a type, a string, an if-then-else, a quantified goal and a disjunction
 
-abbrev pub lists : Family
+abbrev pub lists : HldsTypeDef
 lists = record {
   name = codes "list";
   line = 0;
@@ -87,8 +87,8 @@ some_main =
     (all (
     is_number 2 1
     ∷ made 3 (codes "nil") []
-    ∷ goal (Choose (goal (Once (4 ∷ []) (call (codes "member") (4 ∷ 3 ∷ [])))) (is_text 5 (codes "yes")) (is_text 5 (codes "no")))
-    ∷ goal (Plain (WritesText 5 0 1))
+    ∷ goal (IfGoal (goal (SomeGoal (4 ∷ []) (call (codes "member") (4 ∷ 3 ∷ [])))) (is_text 5 (codes "yes")) (is_text 5 (codes "no")))
+    ∷ goal (SimpleGoal (WritesText 5 0 1))
     ∷ []
     ))
 
@@ -98,11 +98,11 @@ member =
     (codes "X" ∷ codes "L" ∷ codes "H" ∷ codes "T" ∷ []) (0 ∷ 1 ∷ [])
     (all (
     made 1 (codes "cons") (2 ∷ 3 ∷ [])
-    ∷ goal (Either (gathered (same 0 2 ∷ call (codes "member") (0 ∷ 3 ∷ []) ∷ [])))
+    ∷ goal (DisjGoal (gathered (same 0 2 ∷ call (codes "member") (0 ∷ 3 ∷ []) ∷ [])))
     ∷ []
     ))
 
-abbrev pub some : Listing
+abbrev pub some : Hlds
 some = program (lists ∷ []) (some_main ∷ member ∷ [])
 
 some_text : printed some ≡ codes ":- module t .\n" ++ (codes ":- type list ---> nil ; cons ( int , list ) .\n" ++ (codes ":- pred main ( io :: di , io :: uo ) is det .\n" ++ (codes "main ( IO0 , IO ) :- A = 1 , L = nil , ( some [ X ] ( member ( X , L ) ) -> S = \"yes\" ; S = \"no\" ) , io.write_string ( S , IO0 , IO ) .\n" ++ (codes ":- pred member ( int :: out , list :: in ) is nondet .\n" ++ codes "member ( X , L ) :- L = cons ( H , T ) , ( X = H ; member ( X , T ) ) .\n"))))
@@ -111,8 +111,8 @@ some_text = refl
 
 -- ---- drive of ho.m: closures, arithmetic and a comparison
 
-abbrev pub higher : Sort
-higher = closure (gathered_sorts (number ∷ number ∷ [])) (mode.In ∷ mode.Out ∷ []) One
+abbrev pub higher : HldsType
+higher = closure (gathered_types (number ∷ number ∷ [])) (mode.In ∷ mode.Out ∷ []) One
 
 abbrev pub drive : Procedure
 drive =
@@ -120,11 +120,11 @@ drive =
     (codes "P" ∷ codes "N" ∷ codes "Z" ∷ codes "R" ∷ codes "D" ∷ codes "M" ∷ []) (0 ∷ 1 ∷ [])
     (all (
     is_number 2 0
-    ∷ goal (Choose (goal (Plain (Compares 1 Le 2))) (goal (Plain Succeeds))
+    ∷ goal (IfGoal (goal (SimpleGoal (Compares 1 Le 2))) (goal (SimpleGoal Succeeds))
     (all (
-    goal (Apply 0 0 (1 ∷ 3 ∷ []))
+    goal (HoCallGoal 0 0 (1 ∷ 3 ∷ []))
     ∷ is_number 4 1
-    ∷ goal (Plain (Computes 5 1 Sub 4))
+    ∷ goal (SimpleGoal (Computes 5 1 Sub 4))
     ∷ call (codes "drive") (0 ∷ 5 ∷ [])
     ∷ []
     )))
@@ -138,19 +138,19 @@ drive_text = refl
 -- ---- one rule at a time
 
 -- a conjunction in a conjunction has parentheses; parts of a disjunction and what is negated have none of their own
-inner_conjunction : laid (goal_tokens [] false (all (all (goal (Plain Succeeds) ∷ goal (Plain Fails) ∷ []) ∷ goal (Plain Fails) ∷ []))) ≡ codes "( true , fail ) , fail "
+inner_conjunction : laid (goal_tokens [] false (all (all (goal (SimpleGoal Succeeds) ∷ goal (SimpleGoal Fails) ∷ []) ∷ goal (SimpleGoal Fails) ∷ []))) ≡ codes "( true , fail ) , fail "
 unfolding laid
 inner_conjunction = refl
 
-arms : laid (goal_tokens [] true (goal (Either (gathered (all (goal (Plain Succeeds) ∷ goal (Plain Fails) ∷ []) ∷ goal (Plain Fails) ∷ []))))) ≡ codes "( true , fail ; fail ) "
+arms : laid (goal_tokens [] true (goal (DisjGoal (gathered (all (goal (SimpleGoal Succeeds) ∷ goal (SimpleGoal Fails) ∷ []) ∷ goal (SimpleGoal Fails) ∷ []))))) ≡ codes "( true , fail ; fail ) "
 unfolding laid
 arms = refl
 
-negated : laid (goal_tokens [] false (goal (Unless (all (goal (Plain Succeeds) ∷ goal (Plain Fails) ∷ []))))) ≡ codes "not ( true , fail ) "
+negated : laid (goal_tokens [] false (goal (NotGoal (all (goal (SimpleGoal Succeeds) ∷ goal (SimpleGoal Fails) ∷ []))))) ≡ codes "not ( true , fail ) "
 unfolding laid
 negated = refl
 
-quantified_by_none : laid (goal_tokens [] false (goal (Once [] (goal (Plain Succeeds))))) ≡ codes "some [ ] ( true ) "
+quantified_by_none : laid (goal_tokens [] false (goal (SomeGoal [] (goal (SimpleGoal Succeeds))))) ≡ codes "some [ ] ( true ) "
 unfolding laid
 quantified_by_none = refl
 
@@ -165,11 +165,11 @@ unfolding quoted escaped
 escapes = refl
 
 -- a qualifier that was kept
-qualified : laid (goal_tokens [] false (goal (Invoke 0 (record { qualifier = Some (codes "a"); name = codes "f" }) []))) ≡ codes "a.f "
+qualified : laid (goal_tokens [] false (goal (CallGoal 0 (record { qualifier = Some (codes "a"); name = codes "f" }) []))) ≡ codes "a.f "
 unfolding laid
 qualified = refl
 
 -- a higher-order argument with unequal lists
-unequal : laid (argument_tokens (closure (gathered_sorts (number ∷ number ∷ [])) (mode.In ∷ []) Semidet, mode.Out)) ≡ codes "pred ( int , int ) :: out ( pred ( in ) is semidet ) "
+unequal : laid (argument_tokens (closure (gathered_types (number ∷ number ∷ [])) (mode.In ∷ []) Semidet, mode.Out)) ≡ codes "pred ( int , int ) :: out ( pred ( in ) is semidet ) "
 unfolding laid
 unequal = refl

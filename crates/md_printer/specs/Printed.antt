@@ -12,8 +12,8 @@ use Rattle.md_hlds.specs.declared.goal.Op.{Op}
 use Rattle.md_hlds.specs.declared.goal.Op.TheVariants as op
 use Rattle.md_hlds.specs.declared.goal.Cmp.{Cmp}
 use Rattle.md_hlds.specs.declared.goal.Cmp.TheVariants as cmp
-use Rattle.md_hlds.specs.Part.{Part, At, Parts, nothing, also, Task, Plain, Invoke, Apply, Each, Either, Choose, Unless, Once, Simple, Succeeds, Fails, Unifies, Computes, Compares, WritesInt, WritesText, EndsLine}
-use Rattle.md_hlds.specs.Listing.{Sort, number, text, world, named, closure, listed_sorts, Construct, Family, Procedure, Listing}
+use Rattle.md_hlds.specs.HldsGoal.{HldsGoal, At, HldsGoals, nothing, also, GoalExpr, SimpleGoal, CallGoal, HoCallGoal, ConjGoal, DisjGoal, IfGoal, NotGoal, SomeGoal, Simple, Succeeds, Fails, Unifies, Computes, Compares, WritesInt, WritesText, EndsLine}
+use Rattle.md_hlds.specs.Hlds.{HldsType, number, text, world, named, closure, listed_types, HldsFunctor, HldsTypeDef, Procedure, Hlds}
 use Rattle.md_printer.specs.Layout.{Tokens, sentence, in_parentheses, separated, arguments}
 
 -- ---- names, integers and strings
@@ -102,42 +102,42 @@ quantified_tokens vs c = codes "some" ∷ codes "[" ∷ (vs ++ codes "]" ∷ in_
 
 -- a goal; `inner` says that it is a part of a conjunction
 abbrev mutual
-  pub goal_tokens : (names : List (List ℕ)) → (inner : Bool) → Part → Tokens
-  goal_tokens names inner (At line t) = task_tokens names inner t
+  pub goal_tokens : (names : List (List ℕ)) → (inner : Bool) → HldsGoal → Tokens
+  goal_tokens names inner (At line t) = expr_tokens names inner t
 
-  pub task_tokens : (names : List (List ℕ)) → (inner : Bool) → Task → Tokens
-  task_tokens names inner (Plain s) = simple_tokens names s
-  task_tokens names inner (Invoke site q ys) = applied names q ys
-  task_tokens names inner (Apply site f ys) = codes "call" ∷ variables_in_parentheses names (f ∷ ys)
-  task_tokens names inner (Each ps) = enclosed inner (parts_tokens names true (codes ",") ps)
-  task_tokens names inner (Either ps) = in_parentheses (parts_tokens names false (codes ";") ps)
-  task_tokens names inner (Choose c t e) = choice_tokens (goal_tokens names false c) (goal_tokens names false t) (goal_tokens names false e)
-  task_tokens names inner (Unless c) = codes "not" ∷ in_parentheses (goal_tokens names false c)
-  task_tokens names inner (Once xs c) = quantified_tokens (variables names xs) (goal_tokens names false c)
+  pub expr_tokens : (names : List (List ℕ)) → (inner : Bool) → GoalExpr → Tokens
+  expr_tokens names inner (SimpleGoal s) = simple_tokens names s
+  expr_tokens names inner (CallGoal site q ys) = applied names q ys
+  expr_tokens names inner (HoCallGoal site f ys) = codes "call" ∷ variables_in_parentheses names (f ∷ ys)
+  expr_tokens names inner (ConjGoal ps) = enclosed inner (goals_tokens names true (codes ",") ps)
+  expr_tokens names inner (DisjGoal ps) = in_parentheses (goals_tokens names false (codes ";") ps)
+  expr_tokens names inner (IfGoal c t e) = choice_tokens (goal_tokens names false c) (goal_tokens names false t) (goal_tokens names false e)
+  expr_tokens names inner (NotGoal c) = codes "not" ∷ in_parentheses (goal_tokens names false c)
+  expr_tokens names inner (SomeGoal xs c) = quantified_tokens (variables names xs) (goal_tokens names false c)
 
   -- goals with a sign between them
-  pub parts_tokens : (names : List (List ℕ)) → (inner : Bool) → (sign : List ℕ) → Parts → Tokens
-  parts_tokens names inner sign nothing = []
-  parts_tokens names inner sign (also p ps) = goal_tokens names inner p ++ further_parts names inner sign ps
+  pub goals_tokens : (names : List (List ℕ)) → (inner : Bool) → (sign : List ℕ) → HldsGoals → Tokens
+  goals_tokens names inner sign nothing = []
+  goals_tokens names inner sign (also p ps) = goal_tokens names inner p ++ further_parts names inner sign ps
 
-  pub further_parts : (names : List (List ℕ)) → (inner : Bool) → (sign : List ℕ) → Parts → Tokens
+  pub further_parts : (names : List (List ℕ)) → (inner : Bool) → (sign : List ℕ) → HldsGoals → Tokens
   further_parts names inner sign nothing = []
   further_parts names inner sign (also p ps) = sign ∷ (goal_tokens names inner p ++ further_parts names inner sign ps)
 
 -- ---- types
 
 -- the word of a type; a higher-order type begins with `pred`
-abbrev pub type_word : Sort → List ℕ
+abbrev pub type_word : HldsType → List ℕ
 type_word number = codes "int"
 type_word text = codes "string"
 type_word world = codes "io"
 type_word (named name) = name
 type_word (closure args modes d) = codes "pred"
 
-abbrev pub functor_tokens : Construct → Tokens
+abbrev pub functor_tokens : HldsFunctor → Tokens
 functor_tokens f = f.name ∷ arguments (single type_word) f.args
 
-abbrev pub type_tokens : Family → Tokens
+abbrev pub type_tokens : HldsTypeDef → Tokens
 type_tokens t = codes ":-" ∷ codes "type" ∷ t.name ∷ codes "--->" ∷ separated functor_tokens (codes ";") t.functors
 
 -- ---- predicates
@@ -156,19 +156,19 @@ determinism_word det.Nondet = codes "nondet"
 determinism_word det.Failure = codes "failure"
 
 -- the types of a higher-order type's arguments, behind its word
-abbrev pub inner_types : Sort → Tokens
-inner_types (closure args modes d) = in_parentheses (separated (single type_word) (codes ",") (listed_sorts args))
+abbrev pub inner_types : HldsType → Tokens
+inner_types (closure args modes d) = in_parentheses (separated (single type_word) (codes ",") (listed_types args))
 inner_types _ = []
 
 abbrev pub inst_tokens : List Mode → Det → Tokens
 inst_tokens modes d = in_parentheses (codes "pred" ∷ (in_parentheses (separated (single mode_word) (codes ",") modes) ++ codes "is" ∷ determinism_word d ∷ []))
 
 -- the modes of a higher-order type's arguments, with its determinism, behind the argument's own mode
-abbrev pub inner_modes : Sort → Tokens
+abbrev pub inner_modes : HldsType → Tokens
 inner_modes (closure args modes d) = inst_tokens modes d
 inner_modes _ = []
 
-abbrev pub argument_tokens : Sort × Mode → Tokens
+abbrev pub argument_tokens : HldsType × Mode → Tokens
 argument_tokens a = type_word a.0 ∷ (inner_types a.0 ++ codes "::" ∷ mode_word a.1 ∷ inner_modes a.0)
 
 abbrev pub declaration_tokens : Procedure → Tokens
@@ -186,8 +186,8 @@ abbrev pub procedure_sentences : Procedure → List Tokens
 procedure_sentences p = declaration_tokens p ∷ clause_tokens p ∷ []
 
 -- the module's declaration, all types, and all predicates, each with its clause
-abbrev pub sentences : Listing → List Tokens
+abbrev pub sentences : Hlds → List Tokens
 sentences l = module_tokens l.module_name ∷ (map type_tokens l.types ++ flat_map procedure_sentences l.procedures)
 
-unfoldable pub printed : Listing → List ℕ
+unfoldable pub printed : Hlds → List ℕ
 printed l = flat_map sentence (sentences l)

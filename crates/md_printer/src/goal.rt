@@ -1,6 +1,6 @@
 // Goals. The depth of the calls is that of the goals within goals.
 ghost use Rattle.std.specs.Prelude.{◌≡◌, ◌++◌, OnOk, codes, true, false, ◌∷◌};
-ghost use Rattle.md_hlds.specs.Part.{gathered, part_of, parts_of};
+ghost use Rattle.md_hlds.specs.HldsGoal.{gathered, goal_of, goals_of};
 ghost use Rattle.md_printer.specs.Layout.{in_parentheses, laid};
 ghost use Rattle.md_printer.specs.Printed as spec;
 
@@ -19,7 +19,7 @@ pub(crate) fn goal(
     inner: bool,
     printed: &Goal,
 ) -> Result<(), NoMemory>
-    ensures { OnOk result (text.new.items ≡ text.old.items ++ laid (spec.goal_tokens names.now inner (part_of printed.now))) }
+    ensures { OnOk result (text.new.items ≡ text.old.items ++ laid (spec.goal_tokens names.now inner (goal_of printed.now))) }
 {
     match &printed.kind {
         GoalKind::True => sign(text, "true"),
@@ -58,7 +58,7 @@ fn conjunction(
     inner: bool,
     goals: &[Goal],
 ) -> Result<(), NoMemory>
-    ensures { OnOk result (text.new.items ≡ text.old.items ++ laid (spec.enclosed inner (spec.parts_tokens names.now true (codes ",") (gathered (parts_of goals.now))))) }
+    ensures { OnOk result (text.new.items ≡ text.old.items ++ laid (spec.enclosed inner (spec.goals_tokens names.now true (codes ",") (gathered (goals_of goals.now))))) }
 {
     if inner {
         sign(text, "(")?;
@@ -72,7 +72,7 @@ fn conjunction(
 #[cycle(goals)]
 #[tactic(auto, unfolding(crate::specs::Layout::laid))]
 fn disjunction(text: &mut Vec<u8>, names: &[Name], goals: &[Goal]) -> Result<(), NoMemory>
-    ensures { OnOk result (text.new.items ≡ text.old.items ++ laid (in_parentheses (spec.parts_tokens names.now false (codes ";") (gathered (parts_of goals.now))))) }
+    ensures { OnOk result (text.new.items ≡ text.old.items ++ laid (in_parentheses (spec.goals_tokens names.now false (codes ";") (gathered (goals_of goals.now))))) }
 {
     sign(text, "(")?;
     parts(text, names, false, ";", goals)?;
@@ -89,7 +89,7 @@ fn parts(
     between: &str,
     goals: &[Goal],
 ) -> Result<(), NoMemory>
-    ensures { OnOk result (text.new.items ≡ text.old.items ++ laid (spec.parts_tokens names.now inner between.now (gathered (parts_of goals.now)))) }
+    ensures { OnOk result (text.new.items ≡ text.old.items ++ laid (spec.goals_tokens names.now inner between.now (gathered (goals_of goals.now)))) }
 {
     if let [first, rest @ ..] = goals {
         goal(text, names, inner, first)?;
@@ -110,7 +110,7 @@ fn alternative(
     before: &str,
     part: &Goal,
 ) -> Result<(), NoMemory>
-    ensures { OnOk result (text.new.items ≡ text.old.items ++ laid (before.now ∷ spec.goal_tokens names.now false (part_of part.now))) }
+    ensures { OnOk result (text.new.items ≡ text.old.items ++ laid (before.now ∷ spec.goal_tokens names.now false (goal_of part.now))) }
 {
     sign(text, before)?;
     goal(text, names, false, part)
@@ -119,7 +119,7 @@ fn alternative(
 #[cycle(goals)]
 #[tactic(auto, unfolding(crate::specs::Layout::laid))]
 fn negation(text: &mut Vec<u8>, names: &[Name], negated: &Goal) -> Result<(), NoMemory>
-    ensures { OnOk result (text.new.items ≡ text.old.items ++ laid (codes "not" ∷ in_parentheses (spec.goal_tokens names.now false (part_of negated.now)))) }
+    ensures { OnOk result (text.new.items ≡ text.old.items ++ laid (codes "not" ∷ in_parentheses (spec.goal_tokens names.now false (goal_of negated.now)))) }
 {
     sign(text, "not")?;
     sign(text, "(")?;
@@ -135,7 +135,7 @@ fn quantification(
     places: &Variables,
     quantified: &Goal,
 ) -> Result<(), NoMemory>
-    ensures { OnOk result (text.new.items ≡ text.old.items ++ laid (spec.quantified_tokens (spec.variables names.now places.now) (spec.goal_tokens names.now false (part_of quantified.now)))) }
+    ensures { OnOk result (text.new.items ≡ text.old.items ++ laid (spec.quantified_tokens (spec.variables names.now places.now) (spec.goal_tokens names.now false (goal_of quantified.now)))) }
 {
     sign(text, "some")?;
     sign(text, "[")?;

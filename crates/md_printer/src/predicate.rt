@@ -1,6 +1,6 @@
 // Predicates: declarations and clauses.
 ghost use Rattle.std.specs.Prelude.{◌≡◌, ◌++◌, OnOk, codes};
-ghost use Rattle.md_hlds.specs.Listing.{args_of, procedure_of, sort_of};
+ghost use Rattle.md_hlds.specs.Hlds.{args_of, procedure_of, hlds_type_of};
 ghost use Rattle.md_printer.specs.Layout.{arguments, further, laid, separated, spaced};
 ghost use Rattle.md_printer.specs.Printed as spec;
 
@@ -62,7 +62,7 @@ fn further_arguments(text: &mut Vec<u8>, declared: &[(Ty, Mode)]) -> Result<(), 
 
 #[tactic(auto, unfolding(crate::specs::Layout::laid))]
 fn argument(text: &mut Vec<u8>, declared: &(Ty, Mode)) -> Result<(), NoMemory>
-    ensures { OnOk result (text.new.items ≡ text.old.items ++ laid (spec.argument_tokens (sort_of declared.now.0, declared.now.1))) }
+    ensures { OnOk result (text.new.items ≡ text.old.items ++ laid (spec.argument_tokens (hlds_type_of declared.now.0, declared.now.1))) }
 {
     let (ty, own) = declared;
     type_word(text, ty)?;
@@ -75,7 +75,7 @@ fn argument(text: &mut Vec<u8>, declared: &(Ty, Mode)) -> Result<(), NoMemory>
 /// Adds the types of a higher-order type's arguments.
 #[tactic(auto, unfolding(crate::specs::Layout::laid))]
 fn inner_types(text: &mut Vec<u8>, ty: &Ty) -> Result<(), NoMemory>
-    ensures { OnOk result (text.new.items ≡ text.old.items ++ laid (spec.inner_types (sort_of ty.now))) }
+    ensures { OnOk result (text.new.items ≡ text.old.items ++ laid (spec.inner_types (hlds_type_of ty.now))) }
 {
     match ty {
         Ty::Ho(higher) => {
@@ -90,7 +90,7 @@ fn inner_types(text: &mut Vec<u8>, ty: &Ty) -> Result<(), NoMemory>
 /// Adds the modes of a higher-order type's arguments, with its determinism.
 #[tactic(auto, unfolding(crate::specs::Layout::laid))]
 fn inner_modes(text: &mut Vec<u8>, ty: &Ty) -> Result<(), NoMemory>
-    ensures { OnOk result (text.new.items ≡ text.old.items ++ laid (spec.inner_modes (sort_of ty.now))) }
+    ensures { OnOk result (text.new.items ≡ text.old.items ++ laid (spec.inner_modes (hlds_type_of ty.now))) }
 {
     match ty {
         Ty::Ho(higher) => inst(text, higher),

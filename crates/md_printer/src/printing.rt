@@ -1,7 +1,7 @@
 // A program to its printed text.
 ghost use Rattle.std.specs.Prelude.{◌≡◌, ◌++◌, IfOk, OnOk, map};
 ghost use Rattle.std.specs.List.{flat_map};
-ghost use Rattle.md_hlds.specs.Listing.{Listing, families_of, family_of, listing_of, procedure_of, procedures_of};
+ghost use Rattle.md_hlds.specs.Hlds.{Hlds, type_defs_of, type_def_of, hlds_of, procedure_of, procedures_of};
 ghost use Rattle.md_reader.specs.Grammar.{Spells};
 ghost use Rattle.md_printer.specs.Layout.{laid, sentence};
 ghost use Rattle.md_printer.specs.Lines.{IsSpelled, SpellsUpToLines, unlined};
@@ -21,9 +21,9 @@ use std::alloc::Global;
 /// spells it but for line numbers, and spells no other program.
 #[tactic(auto, unfolding(crate::specs::Printed::printed))]
 pub fn print(alloc: Global, program: &Program) -> Result<Vec<u8>, NoMemory>
-    ensures printed { IfOk result (λ text. text.items ≡ spec.printed (listing_of program.now)) }
-    ensures spelled { IfOk result (λ text. IsSpelled (listing_of program.now) → SpellsUpToLines text.items (listing_of program.now)) }
-    ensures no_other { IfOk result (λ text. IsSpelled (listing_of program.now) → (l : Listing) → Spells text.items l → unlined l ≡ unlined (listing_of program.now)) }
+    ensures printed { IfOk result (λ text. text.items ≡ spec.printed (hlds_of program.now)) }
+    ensures spelled { IfOk result (λ text. IsSpelled (hlds_of program.now) → SpellsUpToLines text.items (hlds_of program.now)) }
+    ensures no_other { IfOk result (λ text. IsSpelled (hlds_of program.now) → (l : Hlds) → Spells text.items l → unlined l ≡ unlined (hlds_of program.now)) }
 {
     let mut text = Vec::new(alloc);
     heading(&mut text, &program.module)?;
@@ -43,7 +43,7 @@ fn heading(text: &mut Vec<u8>, name: &Name) -> Result<(), NoMemory>
 }
 
 fn type_declarations(text: &mut Vec<u8>, types: &[TypeDef]) -> Result<(), NoMemory>
-    ensures { OnOk result (text.new.items ≡ text.old.items ++ flat_map sentence (map spec.type_tokens (families_of types.now))) }
+    ensures { OnOk result (text.new.items ≡ text.old.items ++ flat_map sentence (map spec.type_tokens (type_defs_of types.now))) }
 {
     for declared in types {
         type_sentence(text, declared)?;
@@ -53,7 +53,7 @@ fn type_declarations(text: &mut Vec<u8>, types: &[TypeDef]) -> Result<(), NoMemo
 
 #[tactic(auto, unfolding(crate::specs::Layout::sentence))]
 fn type_sentence(text: &mut Vec<u8>, declared: &TypeDef) -> Result<(), NoMemory>
-    ensures { OnOk result (text.new.items ≡ text.old.items ++ sentence (spec.type_tokens (family_of declared.now))) }
+    ensures { OnOk result (text.new.items ≡ text.old.items ++ sentence (spec.type_tokens (type_def_of declared.now))) }
 {
     type_declaration(text, declared)?;
     end(text)

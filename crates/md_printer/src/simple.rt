@@ -1,6 +1,6 @@
 // Goals without parts.
 ghost use Rattle.std.specs.Prelude.{◌≡◌, ◌++◌, [], ◌∷◌, OnOk, codes};
-ghost use Rattle.md_hlds.specs.Part.{Unifies, Computes, Compares};
+ghost use Rattle.md_hlds.specs.HldsGoal.{Unifies, Computes, Compares};
 ghost use Rattle.md_printer.specs.Layout.{laid, spaced};
 ghost use Rattle.md_printer.specs.Printed as spec;
 

@@ -1,6 +1,6 @@
 // Types and their declarations.
 ghost use Rattle.std.specs.Prelude.{◌≡◌, ◌++◌, OnOk, codes};
-ghost use Rattle.md_hlds.specs.Listing.{construct_of, constructs_of, family_of, sort_of, sorts_of};
+ghost use Rattle.md_hlds.specs.Hlds.{hlds_functor_of, hlds_functors_of, type_def_of, hlds_type_of, hlds_types_of};
 ghost use Rattle.md_printer.specs.Layout.{arguments, further, laid, separated, spaced};
 ghost use Rattle.md_printer.specs.Printed as spec;
 
@@ -11,7 +11,7 @@ use md_hlds::{Functor, Ty, TypeDef};
 /// Adds a type's declaration, up to its end sign.
 #[tactic(auto, unfolding(crate::specs::Layout::laid))]
 pub(crate) fn type_declaration(text: &mut Vec<u8>, declared: &TypeDef) -> Result<(), NoMemory>
-    ensures { OnOk result (text.new.items ≡ text.old.items ++ laid (spec.type_tokens (family_of declared.now))) }
+    ensures { OnOk result (text.new.items ≡ text.old.items ++ laid (spec.type_tokens (type_def_of declared.now))) }
 {
     sign(text, ":-")?;
     sign(text, "type")?;
@@ -23,7 +23,7 @@ pub(crate) fn type_declaration(text: &mut Vec<u8>, declared: &TypeDef) -> Result
 /// Adds functors with `;` between them.
 #[tactic(auto, unfolding(crate::specs::Layout::laid))]
 fn functors(text: &mut Vec<u8>, functors: &[Functor]) -> Result<(), NoMemory>
-    ensures { OnOk result (text.new.items ≡ text.old.items ++ laid (separated spec.functor_tokens (codes ";") (constructs_of functors.now))) }
+    ensures { OnOk result (text.new.items ≡ text.old.items ++ laid (separated spec.functor_tokens (codes ";") (hlds_functors_of functors.now))) }
 {
     if let [first, rest @ ..] = functors {
         functor(text, first)?;
@@ -34,7 +34,7 @@ fn functors(text: &mut Vec<u8>, functors: &[Functor]) -> Result<(), NoMemory>
 
 #[tactic(auto, unfolding(crate::specs::Layout::laid))]
 fn further_functors(text: &mut Vec<u8>, functors: &[Functor]) -> Result<(), NoMemory>
-    ensures { OnOk result (text.new.items ≡ text.old.items ++ laid (further spec.functor_tokens (codes ";") (constructs_of functors.now))) }
+    ensures { OnOk result (text.new.items ≡ text.old.items ++ laid (further spec.functor_tokens (codes ";") (hlds_functors_of functors.now))) }
 {
     for next in functors {
         sign(text, ";")?;
@@ -45,7 +45,7 @@ fn further_functors(text: &mut Vec<u8>, functors: &[Functor]) -> Result<(), NoMe
 
 #[tactic(auto, unfolding(crate::specs::Layout::laid))]
 fn functor(text: &mut Vec<u8>, functor: &Functor) -> Result<(), NoMemory>
-    ensures { OnOk result (text.new.items ≡ text.old.items ++ laid (spec.functor_tokens (construct_of functor.now))) }
+    ensures { OnOk result (text.new.items ≡ text.old.items ++ laid (spec.functor_tokens (hlds_functor_of functor.now))) }
 {
     token(text, functor.name.as_bytes())?;
     types_in_parentheses(text, &functor.args)
@@ -54,7 +54,7 @@ fn functor(text: &mut Vec<u8>, functor: &Functor) -> Result<(), NoMemory>
 /// Adds nothing, or the words of types in parentheses.
 #[tactic(auto, unfolding(crate::specs::Layout::laid))]
 fn types_in_parentheses(text: &mut Vec<u8>, types: &[Ty]) -> Result<(), NoMemory>
-    ensures { OnOk result (text.new.items ≡ text.old.items ++ laid (arguments (spec.single spec.type_word) (sorts_of types.now))) }
+    ensures { OnOk result (text.new.items ≡ text.old.items ++ laid (arguments (spec.single spec.type_word) (hlds_types_of types.now))) }
 {
     if let [first, rest @ ..] = types {
         sign(text, "(")?;
@@ -68,7 +68,7 @@ fn types_in_parentheses(text: &mut Vec<u8>, types: &[Ty]) -> Result<(), NoMemory
 /// Adds the words of types with commas between them.
 #[tactic(auto, unfolding(crate::specs::Layout::laid))]
 pub(crate) fn type_words(text: &mut Vec<u8>, types: &[Ty]) -> Result<(), NoMemory>
-    ensures { OnOk result (text.new.items ≡ text.old.items ++ laid (separated (spec.single spec.type_word) (codes ",") (sorts_of types.now))) }
+    ensures { OnOk result (text.new.items ≡ text.old.items ++ laid (separated (spec.single spec.type_word) (codes ",") (hlds_types_of types.now))) }
 {
     if let [first, rest @ ..] = types {
         type_word(text, first)?;
@@ -79,7 +79,7 @@ pub(crate) fn type_words(text: &mut Vec<u8>, types: &[Ty]) -> Result<(), NoMemor
 
 #[tactic(auto, unfolding(crate::specs::Layout::laid))]
 fn further_type_words(text: &mut Vec<u8>, types: &[Ty]) -> Result<(), NoMemory>
-    ensures { OnOk result (text.new.items ≡ text.old.items ++ laid (further (spec.single spec.type_word) (codes ",") (sorts_of types.now))) }
+    ensures { OnOk result (text.new.items ≡ text.old.items ++ laid (further (spec.single spec.type_word) (codes ",") (hlds_types_of types.now))) }
 {
     for next in types {
         sign(text, ",")?;
@@ -90,7 +90,7 @@ fn further_type_words(text: &mut Vec<u8>, types: &[Ty]) -> Result<(), NoMemory>
 
 /// Adds the word of a type: its name, or `pred` where it is higher-order.
 pub(crate) fn type_word(text: &mut Vec<u8>, ty: &Ty) -> Result<(), NoMemory>
-    ensures { OnOk result (text.new.items ≡ text.old.items ++ spaced (spec.type_word (sort_of ty.now))) }
+    ensures { OnOk result (text.new.items ≡ text.old.items ++ spaced (spec.type_word (hlds_type_of ty.now))) }
 {
     match ty {
         Ty::Int => sign(text, "int"),

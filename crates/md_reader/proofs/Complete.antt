@@ -2,8 +2,8 @@
 use Rattle.std.proofs.Common.{◌≡◌, ℕ, zero, suc, ◌+◌, ◌≤◌, ◌<◌, List, [], ◌∷◌, ◌++◌, length, refl, Bool, true, false, cond, ◌⊎◌, inl, inr, Option, Some, None, Ok, ap, ◌∙◌, arith, append_assoc, subst}
 use Rattle.md_hlds.specs.declared.goal.Op.{Op}
 use Rattle.md_hlds.specs.declared.goal.Cmp.{Cmp}
-use Rattle.md_hlds.specs.Part.{Task, Plain, Computes, Compares}
-use Rattle.md_hlds.specs.Listing.{Sort, Construct, Family}
+use Rattle.md_hlds.specs.HldsGoal.{GoalExpr, SimpleGoal, Computes, Compares}
+use Rattle.md_hlds.specs.Hlds.{HldsType, HldsFunctor, HldsTypeDef}
 use Rattle.md_token.specs.declared.kind.Kind.{Kind}
 use Rattle.md_token.specs.declared.kind.Kind.TheVariants as kind
 use Rattle.md_token.specs.Kinds.{same_kind}
@@ -69,11 +69,11 @@ module _ {A : Type 0} (R : A → Input → Input → Type 0) (item : Parser A) (
 
 -- ---- types
 
-pub sorts_complete : (ts : List Sort) (i j : Input) → Enclosed (Is rule.sort) kind.Close ts i j → rule.sorts i ≡ Ok (ts, j)
+pub sorts_complete : (ts : List HldsType) (i j : Input) → Enclosed (Is rule.sort) kind.Close ts i j → rule.sorts i ≡ Ok (ts, j)
 unfolding rule.sorts_from same_kind
 sorts_complete _ _ _ (enclosed ts i k j l few c) = listed_complete (Is rule.sort) rule.sort kind.Comma kind.Close refl (λ x i j m h _. h) rule.sorts_from (λ n found i. refl) i.limits.items [] ts i k j l few c
 
-functor_arguments_complete : (ts : List Sort) (i j : Input) → g.FunctorArguments ts i j → sees kind.Open j ≡ false → rule.functor_arguments i ≡ Ok (ts, j)
+functor_arguments_complete : (ts : List HldsType) (i j : Input) → g.FunctorArguments ts i j → sees kind.Open j ≡ false → rule.functor_arguments i ≡ Ok (ts, j)
 unfolding rule.functor_arguments
 functor_arguments_complete _ _ _ (g.FunctorArguments.none i) e = passes kind.Open rule.sorts (pure []) i e
 functor_arguments_complete _ _ _ (g.FunctorArguments.some ts i j k s l) e = eats kind.Open rule.sorts (pure []) i j s ∙ sorts_complete ts j k l
@@ -87,13 +87,13 @@ functor_complete : Reads g.Functor rule.functor kind.Semicolon kind.End
 unfolding rule.functor
 functor_complete _ _ _ m (g.Functor.functor f ts i j k n a) s = rw (n, functor_arguments_complete ts j k a (no_arguments k m s)) refl
 
-pub functors_complete : (fs : List Construct) (i k j : Input) → Listed g.Functor kind.Semicolon fs i k → Sign kind.End k j → rule.functors i ≡ Ok (fs, j)
+pub functors_complete : (fs : List HldsFunctor) (i k j : Input) → Listed g.Functor kind.Semicolon fs i k → Sign kind.End k j → rule.functors i ≡ Ok (fs, j)
 unfolding rule.functors rule.functors_from same_kind
 functors_complete fs i k j l c =
     listed_complete g.Functor rule.functor kind.Semicolon kind.End refl functor_complete rule.functors_from (λ n found i. refl) (turns i) [] fs i k j l
     (listed_few g.Functor rule.functor kind.Semicolon kind.End refl functor_complete (functor_steady 0 []) refl refl fs i k j l c) c
 
-pub family_complete : (line : ℕ) (t : Family) (i j : Input) → g.TypeDeclaration line t i j → rule.family line i ≡ Ok (t, j)
+pub family_complete : (line : ℕ) (t : HldsTypeDef) (i j : Input) → g.TypeDeclaration line t i j → rule.family line i ≡ Ok (t, j)
 unfolding rule.family
 family_complete line _ _ _ (g.TypeDeclaration.type_declaration t fs at i j k m n o w y s l c) =
     rw (w, y) (stepped kind.Yields _ k m s ∙ rw (functors_complete fs m n o l c) refl)
@@ -164,7 +164,7 @@ no_operator _ e = absurd (cc)
 unopened : (j : Input) → ends_goal (kind_at j) ≡ true → sees kind.Open j ≡ false
 unopened j e = unlike (kind_at j) kind.Open j refl (not_open (kind_at j) e)
 
-operator_complete : (x y z : ℕ) (o : Op) (j k m : Input) → g.Operator o j k → Is (variable (x ∷ y ∷ [])) z k m → rule.arithmetic x y (rule.operator (token j).kind) j ≡ Ok (Plain (Computes x y o z), m)
+operator_complete : (x y z : ℕ) (o : Op) (j k m : Input) → g.Operator o j k → Is (variable (x ∷ y ∷ [])) z k m → rule.arithmetic x y (rule.operator (token j).kind) j ≡ Ok (SimpleGoal (Computes x y o z), m)
 operator_complete x y z o j k m (g.Operator.operator kd _ _ e s) w =
     let t = signed kd j k s in
     let v = rw t.behind at w in
@@ -174,7 +174,7 @@ named_term : (x : ℕ) (i : Input) → (kind_at i ≡ kind.Name) ⊎ (kind_at i 
 named_term x i (inl e) = rw e refl
 named_term x i (inr e) = rw e refl
 
-pub term_complete : (x : ℕ) (t : Task) (i j : Input) → g.Term x t i j → ends_goal (kind_at j) ≡ true → rule.term_after x i ≡ Ok (t, j)
+pub term_complete : (x : ℕ) (t : GoalExpr) (i j : Input) → g.Term x t i j → ends_goal (kind_at j) ≡ true → rule.term_after x i ≡ Ok (t, j)
 unfolding rule.second rule.application
 term_complete x _ _ _ (g.Term.same y i j v) e = rw (variable_kind (x ∷ []) y i j v, v, no_operator (kind_at j) e) refl
 term_complete x _ _ _ (g.Term.arithmetic y z o i j k m v op w) e = rw (variable_kind (x ∷ []) y i j v, v) (operator_complete x y z o j k m op w)
@@ -185,20 +185,20 @@ term_complete x _ _ _ (g.Term.application f ys i j k n a) e = named_term x i (pr
 
 -- ---- relations and calls
 
-unified : (x : ℕ) (t : Task) (j k m : Input) → Sign kind.Equals j k → g.Term x t k m → ends_goal (kind_at m) ≡ true → rule.related x (token j).kind j ≡ Ok (t, m)
+unified : (x : ℕ) (t : GoalExpr) (j k m : Input) → Sign kind.Equals j k → g.Term x t k m → ends_goal (kind_at m) ≡ true → rule.related x (token j).kind j ≡ Ok (t, m)
 unified x t j k m s r e = let u = signed kind.Equals j k s in let h = term_complete x t k m r e in rw u.is (rw u.behind at h)
 
 compared : (x : ℕ) (kd : Kind) (c : Cmp) → rule.comparison kd ≡ Some c → (j : Input) → rule.related x kd j ≡ rule.compared x (Some c) j
 compared x kind.Equals c e j = absurd (cc)
 compared x kd c e j = ap (λ (o : Option Cmp). rule.compared x o j) e
 
-compares : (x y : ℕ) (c : Cmp) (j k m : Input) → g.Comparison c j k → Is (variable (x ∷ [])) y k m → rule.related x (token j).kind j ≡ Ok (Plain (Compares x c y), m)
+compares : (x y : ℕ) (c : Cmp) (j k m : Input) → g.Comparison c j k → Is (variable (x ∷ [])) y k m → rule.related x (token j).kind j ≡ Ok (SimpleGoal (Compares x c y), m)
 compares x y c j k m (g.Comparison.comparison kd _ _ e s) w =
     let t = signed kd j k s in
     let v = rw t.behind at w in
     rw t.is (compared x kd c e j ∙ rw v refl)
 
-pub relation_complete : (t : Task) (i j : Input) → g.Relation t i j → ends_goal (kind_at j) ≡ true → rule.relation i ≡ Ok (t, j)
+pub relation_complete : (t : GoalExpr) (i j : Input) → g.Relation t i j → ends_goal (kind_at j) ≡ true → rule.relation i ≡ Ok (t, j)
 unfolding rule.relation
 relation_complete _ _ _ (g.Relation.unification x t i j k m v s r) e = rw v (unified x t j k m s r e)
 relation_complete _ _ _ (g.Relation.comparison x y c i j k m v p w) e = rw v (compares x y c j k m p w)
@@ -208,12 +208,12 @@ site_stays : (s : ℕ) (k m : Input) → Is site s k m → kind_at k ≡ kind_at
 unfolding site token
 site_stays s k m h = ap (λ (n : Input). kind_at n) (ok_input k.sites s (record k { sites = k.sites + 1 }) m h)
 
-pub call_complete : (t : Task) (i j : Input) → g.Call t i j → ends_goal (kind_at j) ≡ true → rule.call i ≡ Ok (t, j)
+pub call_complete : (t : GoalExpr) (i j : Input) → g.Call t i j → ends_goal (kind_at j) ≡ true → rule.call i ≡ Ok (t, j)
 unfolding rule.call
 call_complete _ _ _ (g.Call.builtin q ys t i j k n a b) e = rw (n, arguments_complete [] ys j k a (unopened k e), b) refl
 call_complete _ _ _ (g.Call.call q ys s i j k m n a b w) e = rw (n, arguments_complete [] ys j k a (unopened k (rw (site_stays s k m w) e)), b, w) refl
 
-pub closure_call_complete : (t : Task) (i j : Input) → g.ClosureCall t i j → rule.closure_call i ≡ Ok (t, j)
+pub closure_call_complete : (t : GoalExpr) (i j : Input) → g.ClosureCall t i j → rule.closure_call i ≡ Ok (t, j)
 unfolding rule.closure_call same_kind
 closure_call_complete _ _ _ (g.ClosureCall.closure_call f ys s i j k m n c o v w) =
     stepped kind.Call _ i j c ∙ (stepped kind.Open _ j k o ∙ rw (variables_complete kind.Close refl [] (f ∷ ys) k m v, w) refl)

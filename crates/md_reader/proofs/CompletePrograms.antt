@@ -4,8 +4,8 @@ use Rattle.std.specs.Prelude.{codes}
 use Rattle.md_hlds.specs.declared.types.Mode.{Mode}
 use Rattle.md_hlds.specs.declared.types.Det.{Det}
 use Rattle.md_hlds.specs.declared.goal.PredName.{PredName}
-use Rattle.md_hlds.specs.Part.{Part}
-use Rattle.md_hlds.specs.Listing.{Sort, Family, Listing}
+use Rattle.md_hlds.specs.HldsGoal.{HldsGoal}
+use Rattle.md_hlds.specs.Hlds.{HldsType, HldsTypeDef, Hlds}
 use Rattle.md_token.specs.declared.kind.Kind.TheVariants as kind
 use Rattle.md_token.specs.Kinds.{same_kind}
 use Rattle.md_reader.specs.Input.{Input, pure, sees, after, kind_at, variable, word}
@@ -33,27 +33,27 @@ unfolding rule.inst
 inst_complete _ _ _ _ (g.Inst.inst ms d i j k l m n o p a b c e s h z) =
     stepped kind.Open _ i j a ∙ rw (inst_modes_complete ms j k l m b c e) (stepped kind.Is _ m n s ∙ rw h (shut kind.Close (ms, d) o p z))
 
-ho_types_complete : (ts : List Sort) (i j k l m : Input) → Sign kind.Pred i j → Sign kind.Open j k → Enclosed (Is rule.sort) kind.Close ts k l → Sign kind.HasMode l m → rule.ho_types i ≡ Ok (ts, m)
+ho_types_complete : (ts : List HldsType) (i j k l m : Input) → Sign kind.Pred i j → Sign kind.Open j k → Enclosed (Is rule.sort) kind.Close ts k l → Sign kind.HasMode l m → rule.ho_types i ≡ Ok (ts, m)
 unfolding rule.ho_types
 ho_types_complete ts i j k l m p o e s = stepped kind.Pred _ i j p ∙ (stepped kind.Open _ j k o ∙ rw (sorts_complete ts k l e) (shut kind.HasMode ts l m s))
 
-argument_complete : (x : Sort × Mode) (i j : Input) → g.Argument x i j → rule.argument i ≡ Ok (x, j)
+argument_complete : (x : HldsType × Mode) (i j : Input) → g.Argument x i j → rule.argument i ≡ Ok (x, j)
 unfolding rule.argument rule.plain_argument rule.ho_argument same_kind
 argument_complete _ _ _ (g.Argument.plain t m i j k l s h w) =
     rw (unlike kind.Name kind.Pred i (sort_kind t i j s) refl, s) (stepped kind.HasMode _ j k h ∙ rw w refl)
 argument_complete _ _ _ (g.Argument.higher_order ts m ms d i j k l n o p a b e h w x) =
     rw (seen_sign kind.Pred i j a, ho_types_complete ts i j k l n a b e h, w, inst_complete ms d o p x) refl
 
-arguments_complete : (xs : List (Sort × Mode)) (i j : Input) → Enclosed g.Argument kind.Close xs i j → rule.arguments_at_most i ≡ Ok (xs, j)
+arguments_complete : (xs : List (HldsType × Mode)) (i j : Input) → Enclosed g.Argument kind.Close xs i j → rule.arguments_at_most i ≡ Ok (xs, j)
 unfolding rule.arguments_from same_kind
 arguments_complete _ _ _ (enclosed xs i k j l few c) = listed_complete g.Argument rule.argument kind.Comma kind.Close refl (λ x i j m h _. argument_complete x i j h) rule.arguments_from (λ n found i. refl) i.limits.items [] xs i k j l few c
 
-declared_arguments_complete : (xs : List (Sort × Mode)) (i j : Input) → g.DeclaredArguments xs i j → sees kind.Open j ≡ false → rule.declared_arguments i ≡ Ok (xs, j)
+declared_arguments_complete : (xs : List (HldsType × Mode)) (i j : Input) → g.DeclaredArguments xs i j → sees kind.Open j ≡ false → rule.declared_arguments i ≡ Ok (xs, j)
 unfolding rule.declared_arguments
 declared_arguments_complete _ _ _ (g.DeclaredArguments.none i) e = passes kind.Open rule.arguments_at_most (pure []) i e
 declared_arguments_complete _ _ _ (g.DeclaredArguments.some xs i j k s l) e = eats kind.Open rule.arguments_at_most (pure []) i j s ∙ arguments_complete xs j k l
 
-before_is : (xs : List (Sort × Mode)) (i j k : Input) → g.DeclaredArguments xs i j → Sign kind.Is j k → rule.declared_arguments i ≡ Ok (xs, j)
+before_is : (xs : List (HldsType × Mode)) (i j k : Input) → g.DeclaredArguments xs i j → Sign kind.Is j k → rule.declared_arguments i ≡ Ok (xs, j)
 unfolding same_kind
 before_is xs i j k a s = declared_arguments_complete xs i j a (unlike kind.Is kind.Open j (signed kind.Is j k s).is refl)
 
@@ -91,7 +91,7 @@ head_complete _ _ _ _ (g.Head.some xs i j k l s h new c) =
     let count : length xs ≡ suc (length xs - 1) = omega (arith, some) in
     subst (λ (n : ℕ). rule.head n i ≡ Ok (xs, l)) (sym count) (head_opened (length xs - 1) xs i j k l count s h new c)
 
-body_complete : (p : Part) (i j k m : Input) → Sign kind.Declare i j → g.Conjunction j.limits.goals p j k → Sign kind.End k m → rule.body i ≡ Ok (p, m)
+body_complete : (p : HldsGoal) (i j k m : Input) → Sign kind.Declare i j → g.Conjunction j.limits.goals p j k → Sign kind.End k m → rule.body i ≡ Ok (p, m)
 unfolding rule.body
 body_complete p _ j k m (sign a i _ s) c z =
     rw (s, conjunction_complete j.limits.goals p j k c (rw (signed kind.End k m z).is refl)) (shut kind.End p k m z)
@@ -103,7 +103,7 @@ clause_complete q n _ _ _ (g.PredClause.pred_clause xs p vs i j k l m o z a h s 
 
 -- ---- declarations
 
-type_fewer : (line : ℕ) (t : Family) (i j : Input) → g.TypeDeclaration line t i j → length j.rest < length i.rest
+type_fewer : (line : ℕ) (t : HldsTypeDef) (i j : Input) → g.TypeDeclaration line t i j → length j.rest < length i.rest
 unfolding same_kind
 type_fewer line _ _ _ (g.TypeDeclaration.type_declaration t fs at i j k m n o w y s l c) =
     let a = stays (word (codes "type")) (word_steady 0 [] (codes "type")) at i j w in
@@ -123,19 +123,19 @@ pred_fewer _ _ _ (g.PredDeclaration.pred_declaration q as' d i j k l m n o a b c
     let x = sign_fewer kind.End n o z refl in
     omega (arith, e, f, u, v, w, x)
 
-type_first : (line : ℕ) (t : Family) (i j : Input) → g.TypeDeclaration line t i j → kind_at i ≡ kind.Name
+type_first : (line : ℕ) (t : HldsTypeDef) (i j : Input) → g.TypeDeclaration line t i j → kind_at i ≡ kind.Name
 type_first line _ _ _ (g.TypeDeclaration.type_declaration t fs at i j k m n o w y s l c) = word_kind (codes "type") at i j w
 
 pred_first : (x : rule.Declaration) (i j : Input) → g.PredDeclaration x i j → sees kind.Pred i ≡ true
 pred_first _ _ _ (g.PredDeclaration.pred_declaration q as' d i j k l m n o a b c s h z) = seen_sign kind.Pred i j a
 
-declared_complete : (before after : Listing) (i j : Input) → g.Declared before after i j → rule.declared before i ≡ Ok (after, j)
+declared_complete : (before after : Hlds) (i j : Input) → g.Declared before after i j → rule.declared before i ≡ Ok (after, j)
 unfolding rule.declared rule.declared_procedure rule.declared_family rule.procedure same_kind
 declared_complete before _ _ _ (g.Declared.type t line i j k h d) = rw (h, unlike kind.Name kind.Pred j (type_first line t j k d) refl, family_complete line t j k d) refl
 declared_complete before _ _ _ (g.Declared.predicate d c line i j k l h p q) = rw (h, pred_first d j k p, declaration_complete d j k p, clause_complete d.name (length d.args) c k l q) refl
 
 -- a declaration has more than one token
-declared_fewer : (before after : Listing) (i j : Input) → g.Declared before after i j → length j.rest + 1 < length i.rest
+declared_fewer : (before after : Hlds) (i j : Input) → g.Declared before after i j → length j.rest + 1 < length i.rest
 unfolding same_kind
 declared_fewer before _ _ _ (g.Declared.type t line i j k h d) = let a = sign_fewer kind.Declare i j (sign line i j h) refl in let b = type_fewer line t j k d in omega (arith, a, b)
 declared_fewer before _ _ _ (g.Declared.predicate d c line i j k l h p q) =
@@ -144,11 +144,11 @@ declared_fewer before _ _ _ (g.Declared.predicate d c line i j k l h p q) =
     let e = stays (rule.clause d.name (length d.args)) (clause_steady 0 [] d.name (length d.args)) c k l (clause_complete d.name (length d.args) c k l q) in
     omega (arith, a, b, e)
 
-declared_first : (before after : Listing) (i j : Input) → g.Declared before after i j → kind_at i ≡ kind.Declare
+declared_first : (before after : Hlds) (i j : Input) → g.Declared before after i j → kind_at i ≡ kind.Declare
 declared_first before _ _ _ (g.Declared.type t line i j k h d) = (expected kind.Declare line i j h).is
 declared_first before _ _ _ (g.Declared.predicate d c line i j k l h p q) = (expected kind.Declare line i j h).is
 
-pub declarations_complete : (n : ℕ) (before after : Listing) (i j : Input) → g.Declarations before after i j → sees kind.Stop j ≡ true → length i.rest < n + n → rule.declarations_from n before i ≡ Ok (after, j)
+pub declarations_complete : (n : ℕ) (before after : Hlds) (i j : Input) → g.Declarations before after i j → sees kind.Stop j ≡ true → length i.rest < n + n → rule.declarations_from n before i ≡ Ok (after, j)
 unfolding rule.declarations_from same_kind
 declarations_complete zero _ _ _ _ (g.Declarations.none l i) e few = absurd (omega arith)
 declarations_complete zero _ _ _ _ (g.Declarations.also before l after i j k d rest) e few = absurd (omega arith)

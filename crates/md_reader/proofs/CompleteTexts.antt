@@ -2,7 +2,7 @@
 use Rattle.std.proofs.Common.{◌≡◌, ℕ, ◌<◌, List, [], ◌∷◌, length, refl, true, Result, Ok, Err, sym, arith, subst}
 use Rattle.std.specs.Prelude.{codes}
 use Rattle.md_hlds.specs.declared.program.Program.{Program}
-use Rattle.md_hlds.specs.Listing.{Listing}
+use Rattle.md_hlds.specs.Hlds.{Hlds}
 use Rattle.md_token.specs.declared.kind.Kind.TheVariants as kind
 use Rattle.md_token.specs.Token.{Lexeme, tokens_of}
 use Rattle.md_token.proofs.Ends.{HasEnd, tokens_end}
@@ -24,10 +24,10 @@ some_end (t ∷ ts) h = omega arith
 
 heading_complete : (m : List ℕ) (line at : ℕ) (i j k n o : Input) → Is (expect kind.Declare) line i j → Is (word (codes "module")) at j k → Is rule.module_name m k n → Sign kind.End n o → rule.heading i ≡ Ok (record { module_name = m; module_line = line; types = []; procedures = [] }, o)
 unfolding rule.heading
-heading_complete m line at i j k n o h w y s = rw (h, w, y) (shut {A = Listing} kind.End (record { module_name = m; module_line = line; types = []; procedures = [] }) n o s)
+heading_complete m line at i j k n o h w y s = rw (h, w, y) (shut {A = Hlds} kind.End (record { module_name = m; module_line = line; types = []; procedures = [] }) n o s)
 
 -- behind the heading stands the end of the text, if not before it
-pub program_complete : (l : Listing) (i j : Input) → g.Program l i j → HasEnd i.rest → sees kind.Stop j ≡ true → rule.program i ≡ Ok (l, j)
+pub program_complete : (l : Hlds) (i j : Input) → g.Program l i j → HasEnd i.rest → sees kind.Stop j ≡ true → rule.program i ≡ Ok (l, j)
 unfolding rule.program rule.declarations
 program_complete _ _ _ (g.Program.program m line at l i j k n o p h w y s d) end stop =
     let read = heading_complete m line at i j k n o h w y s in
@@ -39,7 +39,7 @@ program_complete _ _ _ (g.Program.program m line at l i j k n o p h w y s d) end
 
 -- ---- texts
 
-pub reading_complete : (text : List ℕ) (l : Listing) → Spells text l → reading text ≡ Ok l
+pub reading_complete : (text : List ℕ) (l : Hlds) → Spells text l → reading text ≡ Ok l
 unfolding reading
 reading_complete text l s = rw (program_complete l (rule.start (tokens_of text)) s.end s.program (tokens_end text) s.whole, s.once) refl
 
@@ -47,15 +47,15 @@ pub reading_repeated : (text : List ℕ) (line : ℕ) → Repeats text line → 
 unfolding reading
 reading_repeated text line s = rw (program_complete s.listing (rule.start (tokens_of text)) s.end s.program (tokens_end text) s.whole, s.second) refl
 
-same_ok : (l m : Listing) (r : Result Listing Refused) → r ≡ Ok l → r ≡ Ok m → l ≡ m
+same_ok : (l m : Hlds) (r : Result Hlds Refused) → r ≡ Ok l → r ≡ Ok m → l ≡ m
 same_ok l m r a b = cc
 
-pub one_program : (text : List ℕ) (p q : Listing) → Spells text p → Spells text q → p ≡ q
+pub one_program : (text : List ℕ) (p q : Hlds) → Spells text p → Spells text q → p ≡ q
 one_program text p q a b = same_ok p q (reading text) (reading_complete text p a) (reading_complete text q b)
 
 -- ---- answers
 
-pub answer_read : (r : Result Program Refused) (text : List ℕ) (l : Listing) → IsAnswer r text → Spells text l → IsRead r l
+pub answer_read : (r : Result Program Refused) (text : List ℕ) (l : Hlds) → IsAnswer r text → Spells text l → IsRead r l
 answer_read (Ok p) text l h s = let e = reading_complete text l s in cc
 answer_read (Err refused.NoMemory) text l h s = refl
 answer_read (Err (refused.Syntax line)) text l h s = let e = reading_complete text l s in let f = h (λ q. absurd (cc)) in absurd (cc)

@@ -1,6 +1,6 @@
 -- The token at which a text is refused: a program begins with the tokens before it, or with it too, but none with it.
 use Rattle.std.proofs.Common.{◌⊎◌, ◌≡◌, ℕ, suc, ◌+◌, ◌-◌, ◌≤◌, ◌<◌, List, [], ◌∷◌, ◌++◌, length, take, drop, refl, inl, inr, Ok, Err, sym, ap, ◌∙◌, arith, subst, append_assoc, length-append, true}
-use Rattle.md_hlds.specs.Listing.{Listing}
+use Rattle.md_hlds.specs.Hlds.{Hlds}
 use Rattle.md_token.specs.Token.{Lexeme, tokens_of}
 use Rattle.md_token.specs.declared.kind.Kind.TheVariants as kind
 use Rattle.md_token.proofs.Ends.{HasEnd, is_final, tokens_end}
@@ -60,7 +60,7 @@ read_wider limits ts b =
     let ends = up_to_end_ends ts b.later in
     let read = read_at limits ts b in
     let same : whole_program i ≡ Ok (b.listing, b.end) = sym (program_is i ends) ∙ read in
-    let w : Took (λ _. Top) Every IsStop (λ n. whole_program) i b.listing b.end = subst (λ (r : Outcome Listing). Law (λ _. Top) Every IsStop (λ n. whole_program) i r) same (program_law i) in
+    let w : Took (λ _. Top) Every IsStop (λ n. whole_program) i b.listing b.end = subst (λ (r : Outcome Hlds). Law (λ _. Top) Every IsStop (λ n. whole_program) i r) same (program_law i) in
     let some : 0 < length b.end.rest = ended_some b.end.rest (left_behind rule.program (program_steady 0 []) b.listing i b.end read ends) in (
       w.run.bound,
       λ n le. subst (λ (vs : List Lexeme). whole_program (rule.start_within (all n) vs) ≡ Ok (b.listing, upon n b.end.rest b.end)) (sym w.whole) (w.run.runs n b.end.rest le (some, inr (refl, refl))),
@@ -94,12 +94,12 @@ as_long us vs (Limit place) a b = ap (λ (p : Place). p.left) (sym a ∙ b)
 as_long us vs NoMemory a b = absurd a
 
 -- tokens that are refused are refused whatever stands behind the stop
-pub stops : (ts : List Lexeme) (e : Refusal) (front : List Lexeme) (t : Lexeme) (later more : List Lexeme) (l : Listing) (end : Input) → rule.program (rule.start ts) ≡ Err e → ts ≡ front ++ t ∷ later → FaultAt (t ∷ later) e → rule.program (rule.start ((front ++ t ∷ []) ++ more)) ≡ Ok (l, end) → ⊥
+pub stops : (ts : List Lexeme) (e : Refusal) (front : List Lexeme) (t : Lexeme) (later more : List Lexeme) (l : Hlds) (end : Input) → rule.program (rule.start ts) ≡ Err e → ts ≡ front ++ t ∷ later → FaultAt (t ∷ later) e → rule.program (rule.start ((front ++ t ∷ []) ++ more)) ≡ Ok (l, end) → ⊥
 stops ts e front t later more l end r whole here read =
     let w = program_steady (length later) more (rule.start ts) in
     let stands : FaultAt w.stop e = subst (Stands w.stop) r w.stands in
     let long : length w.stop ≡ suc (length later) = as_long w.stop (t ∷ later) e stands here in
-    let other = subst (λ (q : Outcome Listing). Agree (length later) more q (rule.program (cut (length later) more (rule.start ts)))) r (w.agrees (omega (arith, long))) in
+    let other = subst (λ (q : Outcome Hlds). Agree (length later) more q (rule.program (cut (length later) more (rule.start ts)))) r (w.agrees (omega (arith, long))) in
     let same : recut (length later) more ts ≡ (front ++ t ∷ []) ++ more = ap (recut (length later) more) whole ∙ front_of front t later more in
     let refused : rule.program (rule.start ((front ++ t ∷ []) ++ more)) ≡ Err other.0 = ap (λ (us : List Lexeme). rule.program (rule.start us)) (sym same) ∙ other.1 in
     absurd (cc)
@@ -130,7 +130,7 @@ same_split (t ∷ a) b (u ∷ c) d e l =
     (rw (head, p.0) refl, p.1)
 
 -- what a reader of the whole text does
-kept_by : (text : List ℕ) (r : Outcome Listing) → rule.program (rule.start (tokens_of text)) ≡ r → kept.Case (λ _. named.Top) beginning (rule.start (tokens_of text)) r
+kept_by : (text : List ℕ) (r : Outcome Hlds) → rule.program (rule.start (tokens_of text)) ≡ r → kept.Case (λ _. named.Top) beginning (rule.start (tokens_of text)) r
 kept_by text r e =
     let good : kept.Good (rule.start (tokens_of text)) = record { limits = refl; proper = tokens_proper text; home = omega arith } in
     subst (kept.Case (λ _. named.Top) beginning (rule.start (tokens_of text))) e (named.program_keeps (rule.start (tokens_of text)) beginning good named.begins_top)
@@ -152,7 +152,7 @@ pub syntax_fault : (text : List ℕ) (place : Place) → rule.program (rule.star
 syntax_fault text place r =
     let i : Input = rule.start (tokens_of text) in
     let same : whole_program i ≡ Err (Syntax place) = sym (program_is i (tokens_end text)) ∙ r in
-    let w : Broke (λ _. Top) Every IsStop (λ n. whole_program) i place = subst (λ (r : Outcome Listing). Law (λ _. Top) Every IsStop (λ n. whole_program) i r) same (program_law i) in
+    let w : Broke (λ _. Top) Every IsStop (λ n. whole_program) i place = subst (λ (r : Outcome Hlds). Law (λ _. Top) Every IsStop (λ n. whole_program) i r) same (program_law i) in
     let s = some_left (tokens_of text) w.rest (Syntax place) r (tokens_end text) w.here in
     record {
       before = w.front;
@@ -169,7 +169,7 @@ pub limit_fault : (text : List ℕ) (place : Place) → rule.program (rule.start
 limit_fault text place r =
     let i : Input = rule.start (tokens_of text) in
     let same : whole_program i ≡ Err (Limit place) = sym (program_is i (tokens_end text)) ∙ r in
-    let w : Over (λ _. Top) Every IsStop (λ n. whole_program) i place = subst (λ (r : Outcome Listing). Law (λ _. Top) Every IsStop (λ n. whole_program) i r) same (program_law i) in
+    let w : Over (λ _. Top) Every IsStop (λ n. whole_program) i place = subst (λ (r : Outcome Hlds). Law (λ _. Top) Every IsStop (λ n. whole_program) i r) same (program_law i) in
     let s = some_left (tokens_of text) w.rest (Limit place) r (tokens_end text) w.here in
     let whole : tokens_of text ≡ w.front ++ s.0 ∷ s.1 = w.whole ∙ ap (λ (vs : List Lexeme). w.front ++ vs) s.2 in
     let done : Done (λ _. Top) (Or Every i) IsStop (λ n. whole_program) i (w.front ++ s.0 ∷ w.fill) = subst (λ (u : Lexeme). Done (λ _. Top) (Or Every i) IsStop (λ n. whole_program) i (w.front ++ u ∷ w.fill)) (ap first s.2) w.done in
@@ -197,7 +197,7 @@ text_begins ts b =
     let read : rule.program i ≡ Ok (b.listing, b.end) = program_complete b.listing i b.end b.program (tokens_end b.text) b.whole in
     let w = program_steady 0 (the_end ∷ []) i in
     let some : 0 < length w.stop = ended_some w.stop (w.behind.ends (tokens_end b.text)) in
-    let more : rule.program (cut 0 (the_end ∷ []) i) ≡ Ok (b.listing, cut 0 (the_end ∷ []) b.end) = subst (λ (q : Outcome Listing). Agree 0 (the_end ∷ []) q (rule.program (cut 0 (the_end ∷ []) i))) read (w.agrees some) in
+    let more : rule.program (cut 0 (the_end ∷ []) i) ≡ Ok (b.listing, cut 0 (the_end ∷ []) b.end) = subst (λ (q : Outcome Hlds). Agree 0 (the_end ∷ []) q (rule.program (cut 0 (the_end ∷ []) i))) read (w.agrees some) in
     let tokens : recut 0 (the_end ∷ []) (tokens_of b.text) ≡ up_to_end ts b.later = ap (λ (us : List Lexeme). us ++ the_end ∷ []) (take_whole (tokens_of b.text) ∙ b.tokens) ∙ append_assoc ts b.later (the_end ∷ []) in
     let moved : rule.program (rule.start (up_to_end ts b.later)) ≡ Ok (b.listing, cut 0 (the_end ∷ []) b.end) = subst (λ (us : List Lexeme). rule.program (rule.start us) ≡ Ok (b.listing, cut 0 (the_end ∷ []) b.end)) tokens more in
     let s = program_sound b.listing (rule.start (up_to_end ts b.later)) (cut 0 (the_end ∷ []) b.end) moved in
@@ -279,7 +279,7 @@ one_kind_of_fault text line other f g =
 
 -- ---- the tokens of a program are within the limits
 
-pub accepted_within : (text : List ℕ) (l : Listing) (end : Input) → rule.program (rule.start (tokens_of text)) ≡ Ok (l, end) → sees kind.Stop end ≡ true → AreWithin standard beginning (tokens_of text)
+pub accepted_within : (text : List ℕ) (l : Hlds) (end : Input) → rule.program (rule.start (tokens_of text)) ≡ Ok (l, end) → sees kind.Stop end ≡ true → AreWithin standard beginning (tokens_of text)
 unfolding token
 accepted_within text l end r seen =
     let w = kept_by text (Ok (l, end)) r in

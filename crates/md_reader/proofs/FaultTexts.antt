@@ -1,7 +1,7 @@
 -- The cause of each refusal, and what is answered where there is one.
 use Rattle.std.proofs.Common.{◌≡◌, ◌≢◌, ℕ, List, [], ◌∷◌, Err, sym, ◌∙◌, subst, true, append_assoc, Result, Ok, Option, Some, None, refl, ap}
 use Rattle.md_hlds.specs.declared.program.Program.{Program}
-use Rattle.md_hlds.specs.Listing.{Listing, listing_of}
+use Rattle.md_hlds.specs.Hlds.{Hlds, hlds_of}
 use Rattle.md_token.specs.declared.kind.Kind.TheVariants as kind
 use Rattle.md_token.specs.Token.{tokens_of}
 use Rattle.md_reader.specs.declared.refused.Refusal.{Refusal}
@@ -40,38 +40,38 @@ fault_cause (refusal.Limit place) text r = at_fault text (refusal.Limit place) (
 fault_cause refusal.NoMemory text r = tt
 
 -- the tokens of a text with a token at fault are no program's
-at_odds : (text : List ℕ) (line : ℕ) → IsAtFault text line → (l : Listing) (end : Input) → g.Program l (rule.start (tokens_of text)) end → sees kind.Stop end ≡ true → ⊥
+at_odds : (text : List ℕ) (line : ℕ) → IsAtFault text line → (l : Hlds) (end : Input) → g.Program l (rule.start (tokens_of text)) end → sees kind.Stop end ≡ true → ⊥
 at_odds text line f l end p w = f.none (record { text = text; later = f.later; listing = l; end = end; tokens = f.tokens ∙ sym (append_assoc f.before (f.token ∷ []) f.later); program = p; whole = w })
 
 pub answer_fault : (r : Result Program Refused) (text : List ℕ) (line : ℕ) → IsAnswer r text → IsAtFault text line → IsFault r
-answer_fault (Ok p) text line h f = let s = reading_sound text (listing_of p) h in at_odds text line f (listing_of p) s.end s.program s.whole
+answer_fault (Ok p) text line h f = let s = reading_sound text (hlds_of p) h in at_odds text line f (hlds_of p) s.end s.program s.whole
 answer_fault (Err (refused.Duplicate second)) text line h f = let s = reading_repeats text second (h (λ q. absurd (cc))) in at_odds text line f s.listing s.end s.program s.whole
 answer_fault (Err (refused.Syntax other)) text line h f = tt
 answer_fault (Err (refused.Limit other)) text line h f = tt
 answer_fault (Err refused.NoMemory) text line h f = tt
 
-said_line : (line other : ℕ) → ◌≡◌ {A = Result Listing Refused} (Err (refused.Syntax line)) (Err (refused.Syntax other)) → line ≡ other
+said_line : (line other : ℕ) → ◌≡◌ {A = Result Hlds Refused} (Err (refused.Syntax line)) (Err (refused.Syntax other)) → line ≡ other
 said_line line other e = cc
 
-said_limit : (line other : ℕ) → ◌≡◌ {A = Result Listing Refused} (Err (refused.Limit line)) (Err (refused.Limit other)) → line ≡ other
+said_limit : (line other : ℕ) → ◌≡◌ {A = Result Hlds Refused} (Err (refused.Limit line)) (Err (refused.Limit other)) → line ≡ other
 said_limit line other e = cc
 
-never_syntax : (l : Listing) (d : Option ℕ) (line : ℕ) → without_duplicate l d ≡ Err (refused.Syntax line) → ⊥
+never_syntax : (l : Hlds) (d : Option ℕ) (line : ℕ) → without_duplicate l d ≡ Err (refused.Syntax line) → ⊥
 never_syntax l None line h = absurd (cc)
 never_syntax l (Some second) line h = absurd (cc)
 
-never_limit : (l : Listing) (d : Option ℕ) (line : ℕ) → without_duplicate l d ≡ Err (refused.Limit line) → ⊥
+never_limit : (l : Hlds) (d : Option ℕ) (line : ℕ) → without_duplicate l d ≡ Err (refused.Limit line) → ⊥
 never_limit l None line h = absurd (cc)
 never_limit l (Some second) line h = absurd (cc)
 
 -- where the text is answered to be at fault for syntax or for a limit, it is
-syntax_said : (text : List ℕ) (r : Outcome Listing) (line : ℕ) → rule.program (rule.start (tokens_of text)) ≡ r → outcome_of r ≡ Err (refused.Syntax line) → IsSyntaxFault text line
+syntax_said : (text : List ℕ) (r : Outcome Hlds) (line : ℕ) → rule.program (rule.start (tokens_of text)) ≡ r → outcome_of r ≡ Err (refused.Syntax line) → IsSyntaxFault text line
 syntax_said text (Err (refusal.Syntax place)) line e h = subst (IsSyntaxFault text) (said_line place.line line h) (syntax_fault text place e)
 syntax_said text (Err (refusal.Limit place)) line e h = absurd (cc)
 syntax_said text (Err refusal.NoMemory) line e h = absurd (cc)
 syntax_said text (Ok p) line e h = absurd (never_syntax p.0 (duplicate p.0) line h)
 
-limit_said : (text : List ℕ) (r : Outcome Listing) (line : ℕ) → rule.program (rule.start (tokens_of text)) ≡ r → outcome_of r ≡ Err (refused.Limit line) → IsLimitFault text line
+limit_said : (text : List ℕ) (r : Outcome Hlds) (line : ℕ) → rule.program (rule.start (tokens_of text)) ≡ r → outcome_of r ≡ Err (refused.Limit line) → IsLimitFault text line
 limit_said text (Err (refusal.Limit place)) line e h = subst (IsLimitFault text) (said_limit place.line line h) (limit_fault text place e)
 limit_said text (Err (refusal.Syntax place)) line e h = absurd (cc)
 limit_said text (Err refusal.NoMemory) line e h = absurd (cc)
@@ -95,11 +95,11 @@ answer_syntax (Err (refused.Limit other)) text line h f = λ n. absurd (one_kind
 answer_syntax (Err refused.NoMemory) text line h f = λ n. absurd (n refl)
 
 -- the tokens of a program are within the limits
-pub program_within : (text : List ℕ) (l : Listing) (end : Input) → g.Program l (rule.start (tokens_of text)) end → sees kind.Stop end ≡ true → AreWithin standard beginning (tokens_of text)
+pub program_within : (text : List ℕ) (l : Hlds) (end : Input) → g.Program l (rule.start (tokens_of text)) end → sees kind.Stop end ≡ true → AreWithin standard beginning (tokens_of text)
 program_within text l end p w = accepted_within text l end (program_complete l (rule.start (tokens_of text)) end p (tokens_end text) w) w
 
 pub answer_limit : (r : Result Program Refused) (text : List ℕ) (line : ℕ) → IsAnswer r text → IsLimitFault text line → IsRefusedAs r (refused.Limit line)
-answer_limit (Ok p) text line h f = let s = reading_sound text (listing_of p) h in no_limit_fault text line (program_within text (listing_of p) s.end s.program s.whole) f
+answer_limit (Ok p) text line h f = let s = reading_sound text (hlds_of p) h in no_limit_fault text line (program_within text (hlds_of p) s.end s.program s.whole) f
 answer_limit (Err (refused.Duplicate second)) text line h f = λ n. absurd (let s = reading_repeats text second (h n) in no_limit_fault text line (program_within text s.listing s.end s.program s.whole) f)
 answer_limit (Err (refused.Syntax other)) text line h f = λ n. absurd (one_kind_of_fault text other line (reading_syntax text other (h n)) f)
 answer_limit (Err (refused.Limit other)) text line h f = λ n. ap refused.Limit (one_limit_fault text other line (reading_limit text other (h n)) f)

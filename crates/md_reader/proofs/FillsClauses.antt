@@ -1,7 +1,7 @@
 -- What a rule took can be filled up: declarations of predicates and their clauses.
 use Rattle.std.proofs.Common.{◌≡◌, ℕ, zero, suc, List, [], ◌∷◌, ◌++◌, length, refl, Ok, Err, sym, subst}
 use Rattle.md_hlds.specs.declared.goal.PredName.{PredName}
-use Rattle.md_hlds.specs.Listing.{Procedure}
+use Rattle.md_hlds.specs.Hlds.{Procedure}
 use Rattle.md_token.specs.declared.kind.Kind.TheVariants as kind
 use Rattle.md_token.specs.Token.{Lexeme}
 use Rattle.md_reader.specs.Input.{Input, Parser, Outcome, ◌>>=◌, ◌>>◌, and_then, pure, expect, variable, end_clause, token, kind_at}

@@ -1,6 +1,6 @@
 -- What a rule took can be filled up: goals.
 use Rattle.std.proofs.Common.{◌≡◌, ℕ, zero, suc, ◌-◌, ◌≤◌, List, [], ◌∷◌, ◌++◌, length, refl, Bool, true, false, cond, inl, inr, Ok, sym, ap, ◌∙◌, arith, subst}
-use Rattle.md_hlds.specs.Part.{Part, At, Task, Plain, Succeeds, Fails, Either, Choose, Unless, Once, gathered}
+use Rattle.md_hlds.specs.HldsGoal.{HldsGoal, At, GoalExpr, SimpleGoal, Succeeds, Fails, DisjGoal, IfGoal, NotGoal, SomeGoal, gathered}
 use Rattle.md_token.specs.declared.kind.Kind.{Kind}
 use Rattle.md_token.specs.declared.kind.Kind.TheVariants as kind
 use Rattle.md_token.specs.Kinds.{same_kind}
@@ -50,11 +50,11 @@ empty_kind : (ts : List Lexeme) → length ts ≡ 0 → first ts ≡ first []
 empty_kind [] e = refl
 empty_kind (t ∷ ts) e = absurd (omega (arith, e))
 
-unit_empty : (room : ℕ) (inner : Parser Part) (i : Input) → length i.rest ≡ 0 → rule.unit room inner i ≡ refuse i
+unit_empty : (room : ℕ) (inner : Parser HldsGoal) (i : Input) → length i.rest ≡ 0 → rule.unit room inner i ≡ refuse i
 unfolding rule.unit token
 unit_empty room inner i e = ap (λ (t : Lexeme). rule.unit_by room inner t.line t.kind i) (empty_kind i.rest e)
 
-units_empty : (room : ℕ) (inner : Parser Part) (l : ℕ) (i : Input) → length i.rest ≡ l → l ≡ 0 → rule.units_from room inner l [] i ≡ refuse i
+units_empty : (room : ℕ) (inner : Parser HldsGoal) (l : ℕ) (i : Input) → length i.rest ≡ l → l ≡ 0 → rule.units_from room inner l [] i ≡ refuse i
 unfolding rule.units_from
 units_empty room inner zero i e z = refl
 units_empty room inner (suc l) i e z = absurd (omega (arith, z))
@@ -88,26 +88,26 @@ arms_loop room = record {
   stop = refl;
 }
 
-abbrev pair : Part → Part → Part × Part
+abbrev pair : HldsGoal → HldsGoal → HldsGoal × HldsGoal
 pair t e = (t, e)
 
 -- ---- where the limits are n, within c goals that are open
 
 module _ (h : List ℕ) (c : ℕ) where
-  abbrev One : ℕ → Parser Part
+  abbrev One : ℕ → Parser HldsGoal
   One n = rule.unit (n - c) (rule.within (n - c))
 
-  abbrev Inner : ℕ → Parser Part
+  abbrev Inner : ℕ → Parser HldsGoal
   Inner n = rule.within (n - c)
 
-  true_is : (n : ℕ) (t : Lexeme) (tail : List Lexeme) (i : Input) → t.kind ≡ kind.True → One n (upon n (t ∷ tail) i) ≡ Ok (At t.line (Plain Succeeds), upon n tail i)
+  true_is : (n : ℕ) (t : Lexeme) (tail : List Lexeme) (i : Input) → t.kind ≡ kind.True → One n (upon n (t ∷ tail) i) ≡ Ok (At t.line (SimpleGoal Succeeds), upon n tail i)
   unfolding rule.unit token next
   true_is n t tail i e = rw e refl
 
   one_fill : (i : Input) → Home h i.home i.vars → Fill (λ _. Home h) Every BehindGoal One i
-  one_fill i s = filled_by (λ _. Home h) Every BehindGoal One i (mark kind.True i) (At (first i.rest).line (Plain Succeeds)) i.vars 0 tt s (λ n tail le. true_is n (mark kind.True i) tail i refl)
+  one_fill i s = filled_by (λ _. Home h) Every BehindGoal One i (mark kind.True i) (At (first i.rest).line (SimpleGoal Succeeds)) i.vars 0 tt s (λ n tail le. true_is n (mark kind.True i) tail i refl)
 
-  abbrev Units : ℕ → Parser (List Part)
+  abbrev Units : ℕ → Parser (List HldsGoal)
   Units n = λ i. rule.units_from (n - c) (rule.within (n - c)) (length i.rest) [] i
 
   units_fill : (i : Input) → Home h i.home i.vars → Fill (λ _. Home h) Every BehindGoals Units i
@@ -115,7 +115,7 @@ module _ (h : List ℕ) (c : ℕ) where
       turns_fill One kind.Comma pure (λ n. rule.units_from (n - c) (rule.within (n - c))) c (λ n le. units_loop (n - c)) (Home h) (λ _. Home h) Every BehindGoal BehindGoals BehindGoals refl (λ t e. goals_comma t.kind e) (λ t e. goals_goal t.kind e) one_fill
       (λ ps. given (Home h) (λ _. Home h) BehindGoals ps (λ home vars s. s)) [] i s
 
-  abbrev Goals : ℕ → Parser Part
+  abbrev Goals : ℕ → Parser HldsGoal
   Goals n = rule.conjunction (n - c)
 
   goals_are : (n : ℕ) (i : Input) → Goals n i ≡ (Units n >>= (λ ps. pure (rule.joined ps))) i
@@ -187,7 +187,7 @@ module _ (h : List ℕ) (c : ℕ) where
   -- ---- what stands inside a goal that was opened, and behind it
 
   -- the other tokens fill it up
-  behind_fill : {A : Type 0} (K : Lexeme → Type 0) (V : Part → ℕ → Parser A) → ((p : Part) (j : Input) → Home h j.home j.vars → Fill (λ _. Home h) BehindGoals K (V p) j) → (i : Input) → Home h i.home i.vars → Fill (λ _. Home h) Every K (λ n. Inner h c n >>= (λ p. V p n)) i
+  behind_fill : {A : Type 0} (K : Lexeme → Type 0) (V : HldsGoal → ℕ → Parser A) → ((p : HldsGoal) (j : Input) → Home h j.home j.vars → Fill (λ _. Home h) BehindGoals K (V p) j) → (i : Input) → Home h i.home i.vars → Fill (λ _. Home h) Every K (λ n. Inner h c n >>= (λ p. V p n)) i
   behind_fill K V f i s =
       let a = inner_fill i s in
       let b = f a.1.value a.1.end a.1.post in
@@ -197,7 +197,7 @@ module _ (h : List ℕ) (c : ℕ) where
   closes F K x f = sequel (Home h) (λ _. Home h) (λ _. Home h) F K K (expect kind.Close) (λ _. pure x) (expects (Home h) F K kind.Close refl (λ i. f (mark kind.Close i) refl)) (λ _. given (Home h) (λ _. Home h) K x (λ home vars s. s))
 
   -- where no more goals may be open, none is read
-  nothing_inside : {A : Type 0} (F K : Lexeme → Type 0) (f : ℕ → Part → Parser A) (V : ℕ → Part → ℕ → Parser A) (i : Input) → Law (λ _. Home h) F Every Opens i (rule.open_goal 0 i) → ((line : ℕ) (p : Part) (j : Input) → Home h j.home j.vars → Fill (λ _. Home h) BehindGoals K (V line p) j)
+  nothing_inside : {A : Type 0} (F K : Lexeme → Type 0) (f : ℕ → HldsGoal → Parser A) (V : ℕ → HldsGoal → ℕ → Parser A) (i : Input) → Law (λ _. Home h) F Every Opens i (rule.open_goal 0 i) → ((line : ℕ) (p : HldsGoal) (j : Input) → Home h j.home j.vars → Fill (λ _. Home h) BehindGoals K (V line p) j)
       → Law (λ _. Home h) F K (λ n. Opens n >>= (λ line. Inner h c n >>= (λ p. V line p n))) i ((rule.open_goal 0 >>= (λ line. rule.within 0 >>= (λ p. f line p))) i)
   nothing_inside F K f V i w g =
       bind_at (λ _. Home h) (λ _. Home h) F Every K Opens (λ line n. Inner h c n >>= (λ p. V line p n)) i (rule.open_goal 0 i) (λ line. rule.within 0 >>= (λ p. f line p)) w
@@ -207,7 +207,7 @@ module _ (h : List ℕ) (c : ℕ) where
     inside : Fills (Home h) (λ _. Home h) Every BehindGoals (rule.within (suc room)) (Inner h c)
     inside = record { law = law; fill = inner_fill }
 
-    something_inside : {A : Type 0} (F K : Lexeme → Type 0) (f : ℕ → Part → Parser A) (V : ℕ → Part → ℕ → Parser A) (i : Input) → Law (λ _. Home h) F Every Opens i (rule.open_goal (suc room) i) → ((line : ℕ) (p : Part) → Fills (Home h) (λ _. Home h) BehindGoals K (f line p) (V line p))
+    something_inside : {A : Type 0} (F K : Lexeme → Type 0) (f : ℕ → HldsGoal → Parser A) (V : ℕ → HldsGoal → ℕ → Parser A) (i : Input) → Law (λ _. Home h) F Every Opens i (rule.open_goal (suc room) i) → ((line : ℕ) (p : HldsGoal) → Fills (Home h) (λ _. Home h) BehindGoals K (f line p) (V line p))
         → Law (λ _. Home h) F K (λ n. Opens n >>= (λ line. Inner h c n >>= (λ p. V line p n))) i ((rule.open_goal (suc room) >>= (λ line. rule.within (suc room) >>= (λ p. f line p))) i)
     something_inside F K f V i w g =
         bind_at (λ _. Home h) (λ _. Home h) F Every K Opens (λ line n. Inner h c n >>= (λ p. V line p n)) i (rule.open_goal (suc room) i) (λ line. rule.within (suc room) >>= (λ p. f line p)) w
@@ -216,20 +216,20 @@ module _ (h : List ℕ) (c : ℕ) where
 
     -- ---- parentheses around more than one conjunction
 
-    arms : (K : Lexeme → Type 0) (first : Part) → Fills (Home h) (λ _. Home h) Every K (rule.arms (rule.within (suc room)) first) (λ n. rule.arms (Inner h c n) first)
+    arms : (K : Lexeme → Type 0) (first : HldsGoal) → Fills (Home h) (λ _. Home h) Every K (rule.arms (rule.within (suc room)) first) (λ n. rule.arms (Inner h c n) first)
     unfolding rule.arms
     arms K first =
         turns (Inner h c) kind.Semicolon (λ ps. expect kind.Close >> pure ps) (λ n. rule.arms_from (Inner h c n)) c (λ n le. arms_loop (n - c)) (Home h) (λ _. Home h) Every BehindGoals IsClose K refl close_semicolon close_goals inner_fill (λ ps. closes IsClose K ps (λ t e. e))
         (rule.within (suc room)) (rule.arms_from (rule.within (suc room))) (arms_loop (suc room)) law (first ∷ [])
 
-    disjunction_at : (K : Lexeme → Type 0) (line : ℕ) (first : Part) (i : Input) → kind_at i ≡ kind.Semicolon → Home h i.home i.vars → Law (λ _. Home h) Never K (λ n. rule.disjunction (Inner h c n) line first) i (rule.disjunction (rule.within (suc room)) line first i)
+    disjunction_at : (K : Lexeme → Type 0) (line : ℕ) (first : HldsGoal) (i : Input) → kind_at i ≡ kind.Semicolon → Home h i.home i.vars → Law (λ _. Home h) Never K (λ n. rule.disjunction (Inner h c n) line first) i (rule.disjunction (rule.within (suc room)) line first i)
     unfolding rule.disjunction
     disjunction_at K line first i e s =
-        let rest = bound (Home h) (λ _. Home h) (λ _. Home h) Every K K (rule.arms (rule.within (suc room)) first) (λ n. rule.arms (Inner h c n) first) (λ ps. pure (At line (Either (gathered ps)))) (λ ps n. pure (At line (Either (gathered ps)))) (arms K first) (λ ps. given (Home h) (λ _. Home h) K (At line (Either (gathered ps))) (λ home vars s. s)) in
-        bind_at (λ _. Home h) (λ _. Home h) Never Every K (λ n. expect kind.Semicolon) (λ _ n. rule.arms (Inner h c n) first >>= (λ ps. pure (At line (Either (gathered ps))))) i (expect kind.Semicolon i) (λ _. rule.arms (rule.within (suc room)) first >>= (λ ps. pure (At line (Either (gathered ps)))))
+        let rest = bound (Home h) (λ _. Home h) (λ _. Home h) Every K K (rule.arms (rule.within (suc room)) first) (λ n. rule.arms (Inner h c n) first) (λ ps. pure (At line (DisjGoal (gathered ps)))) (λ ps n. pure (At line (DisjGoal (gathered ps)))) (arms K first) (λ ps. given (Home h) (λ _. Home h) K (At line (DisjGoal (gathered ps))) (λ home vars s. s)) in
+        bind_at (λ _. Home h) (λ _. Home h) Never Every K (λ n. expect kind.Semicolon) (λ _ n. rule.arms (Inner h c n) first >>= (λ ps. pure (At line (DisjGoal (gathered ps))))) i (expect kind.Semicolon i) (λ _. rule.arms (rule.within (suc room)) first >>= (λ ps. pure (At line (DisjGoal (gathered ps)))))
         (expect_at (Home h) Never Every kind.Semicolon i refl e s) (λ u j r q. rest.law j q) (λ u j q. rest.fill j q)
 
-    elses : (K : Lexeme → Type 0) (t : Part) → Fills (Home h) (λ _. Home h) BehindGoals BehindGoals (expect kind.Semicolon >> (rule.within (suc room) >>= (λ e. pure (pair t e)))) (λ n. expect kind.Semicolon >> (Inner h c n >>= (λ e. pure (pair t e))))
+    elses : (K : Lexeme → Type 0) (t : HldsGoal) → Fills (Home h) (λ _. Home h) BehindGoals BehindGoals (expect kind.Semicolon >> (rule.within (suc room) >>= (λ e. pure (pair t e)))) (λ n. expect kind.Semicolon >> (Inner h c n >>= (λ e. pure (pair t e))))
     elses K t =
         bound (Home h) (λ _. Home h) (λ _. Home h) BehindGoals Every BehindGoals (expect kind.Semicolon) (λ n. expect kind.Semicolon) (λ _. rule.within (suc room) >>= (λ e. pure (pair t e))) (λ _ n. Inner h c n >>= (λ e. pure (pair t e))) (expects (Home h) BehindGoals Every kind.Semicolon refl (λ i. refl))
         (λ _. bound (Home h) (λ _. Home h) (λ _. Home h) Every BehindGoals BehindGoals (rule.within (suc room)) (Inner h c) (λ e. pure (pair t e)) (λ e n. pure (pair t e)) inside (λ e. given (Home h) (λ _. Home h) BehindGoals (pair t e) (λ home vars s. s)))
@@ -241,22 +241,22 @@ module _ (h : List ℕ) (c : ℕ) where
         bind_at (λ _. Home h) (λ _. Home h) Never Every BehindGoals (λ n. expect kind.Then) (λ _ n. Inner h c n >>= (λ t. expect kind.Semicolon >> (Inner h c n >>= (λ e. pure (pair t e))))) i (expect kind.Then i) (λ _. rule.within (suc room) >>= (λ t. expect kind.Semicolon >> (rule.within (suc room) >>= (λ e. pure (pair t e)))))
         (expect_at (Home h) Never Every kind.Then i refl e s) (λ u j r q. rest.law j q) (λ u j q. rest.fill j q)
 
-    choice_at : (K : Lexeme → Type 0) (line : ℕ) (first : Part) (i : Input) → kind_at i ≡ kind.Then → Home h i.home i.vars → Law (λ _. Home h) Never K (λ n. rule.choice (Inner h c n) line first) i (rule.choice (rule.within (suc room)) line first i)
+    choice_at : (K : Lexeme → Type 0) (line : ℕ) (first : HldsGoal) (i : Input) → kind_at i ≡ kind.Then → Home h i.home i.vars → Law (λ _. Home h) Never K (λ n. rule.choice (Inner h c n) line first) i (rule.choice (rule.within (suc room)) line first i)
     unfolding rule.choice
     choice_at K line first i e s =
-        bind_at (λ _. Home h) (λ _. Home h) Never BehindGoals K (λ n. rule.branches (Inner h c n)) (λ b n. expect kind.Close >> pure (At line (Choose first b.0 b.1))) i (rule.branches (rule.within (suc room)) i) (λ b. expect kind.Close >> pure (At line (Choose first b.0 b.1)))
-        (branches_at i e s) (λ b j r q. (closes BehindGoals K (At line (Choose first b.0 b.1)) close_goals).law j q) (λ b j q. (closes BehindGoals K (At line (Choose first b.0 b.1)) close_goals).fill j q)
+        bind_at (λ _. Home h) (λ _. Home h) Never BehindGoals K (λ n. rule.branches (Inner h c n)) (λ b n. expect kind.Close >> pure (At line (IfGoal first b.0 b.1))) i (rule.branches (rule.within (suc room)) i) (λ b. expect kind.Close >> pure (At line (IfGoal first b.0 b.1)))
+        (branches_at i e s) (λ b j r q. (closes BehindGoals K (At line (IfGoal first b.0 b.1)) close_goals).law j q) (λ b j q. (closes BehindGoals K (At line (IfGoal first b.0 b.1)) close_goals).fill j q)
 
 -- what stands behind the first conjunction in parentheses, by the next token
-abbrev Grouped : (h : List ℕ) (c line : ℕ) (first : Part) → ℕ → Parser Part
+abbrev Grouped : (h : List ℕ) (c line : ℕ) (first : HldsGoal) → ℕ → Parser HldsGoal
 Grouped h c line p n = λ i. rule.grouped (Inner h c n) line p (first i.rest).kind i
 
-grouped_fill : (h : List ℕ) (c line : ℕ) (p : Part) (i : Input) → Home h i.home i.vars → Fill (λ _. Home h) BehindGoals BehindGoal (Grouped h c line p) i
+grouped_fill : (h : List ℕ) (c line : ℕ) (p : HldsGoal) (i : Input) → Home h i.home i.vars → Fill (λ _. Home h) BehindGoals BehindGoal (Grouped h c line p) i
 unfolding next
 grouped_fill h c line p i s = filled_by (λ _. Home h) BehindGoals BehindGoal (Grouped h c line p) i (mark kind.Close i) p i.vars 0 refl s (λ n tail le. refl)
 
-module _ (h : List ℕ) (c room : ℕ) (law : (i : Input) → Home h i.home i.vars → Law (λ _. Home h) Every BehindGoals (Inner h c) i (rule.within (suc room) i)) (line : ℕ) (p : Part) where
-  grouped_chosen : (i : Input) (k : Kind) → (first i.rest).kind ≡ k → (r : Outcome Part) → Law (λ _. Home h) Never BehindGoal (λ n. rule.grouped (Inner h c n) line p k) i r → Law (λ _. Home h) BehindGoals BehindGoal (Grouped h c line p) i r
+module _ (h : List ℕ) (c room : ℕ) (law : (i : Input) → Home h i.home i.vars → Law (λ _. Home h) Every BehindGoals (Inner h c) i (rule.within (suc room) i)) (line : ℕ) (p : HldsGoal) where
+  grouped_chosen : (i : Input) (k : Kind) → (first i.rest).kind ≡ k → (r : Outcome HldsGoal) → Law (λ _. Home h) Never BehindGoal (λ n. rule.grouped (Inner h c n) line p k) i r → Law (λ _. Home h) BehindGoals BehindGoal (Grouped h c line p) i r
   grouped_chosen i k e r w = chosen_kind (λ _. Home h) BehindGoals BehindGoal (λ l k n. rule.grouped (Inner h c n) line p k) i k e r w
 
   shut_at : (i : Input) → kind_at i ≡ kind.Close → Home h i.home i.vars → Law (λ _. Home h) Never BehindGoal (λ n. advance >> pure p) i ((advance >> pure p) i)
@@ -275,13 +275,13 @@ module _ (h : List ℕ) (c room : ℕ) (law : (i : Input) → Home h i.home i.va
 -- ---- units
 
 module _ (h : List ℕ) (c room : ℕ) (law : (r : ℕ) → room ≡ suc r → (i : Input) → Home h i.home i.vars → Law (λ _. Home h) Every BehindGoals (Inner h c) i (rule.within (suc r) i)) where
-  inside_at : {A : Type 0} (r : ℕ) → room ≡ r → (F K : Lexeme → Type 0) (f : ℕ → ℕ → Part → Parser A) (V : ℕ → Part → ℕ → Parser A) (i : Input) → Law (λ _. Home h) F Every (Opens h c) i (rule.open_goal r i) → ((line : ℕ) (p : Part) (j : Input) → Home h j.home j.vars → Fill (λ _. Home h) BehindGoals K (V line p) j)
-      → ((q : ℕ) → room ≡ suc q → (line : ℕ) (p : Part) → Fills (Home h) (λ _. Home h) BehindGoals K (f (suc q) line p) (V line p))
+  inside_at : {A : Type 0} (r : ℕ) → room ≡ r → (F K : Lexeme → Type 0) (f : ℕ → ℕ → HldsGoal → Parser A) (V : ℕ → HldsGoal → ℕ → Parser A) (i : Input) → Law (λ _. Home h) F Every (Opens h c) i (rule.open_goal r i) → ((line : ℕ) (p : HldsGoal) (j : Input) → Home h j.home j.vars → Fill (λ _. Home h) BehindGoals K (V line p) j)
+      → ((q : ℕ) → room ≡ suc q → (line : ℕ) (p : HldsGoal) → Fills (Home h) (λ _. Home h) BehindGoals K (f (suc q) line p) (V line p))
       → Law (λ _. Home h) F K (λ n. Opens h c n >>= (λ line. Inner h c n >>= (λ p. V line p n))) i ((rule.open_goal r >>= (λ line. rule.within r >>= (λ p. f r line p))) i)
   inside_at zero e F K f V i w g fs = nothing_inside h c F K (f 0) V i w g
   inside_at (suc q) e F K f V i w g fs = something_inside h c q (law q e) F K (f (suc q)) V i w (fs q e)
 
-  inside_fill : {A : Type 0} (K : Lexeme → Type 0) (V : ℕ → Part → ℕ → Parser A) (i : Input) → Home h i.home i.vars → ((line : ℕ) (p : Part) (j : Input) → Home h j.home j.vars → Fill (λ _. Home h) BehindGoals K (V line p) j) → Fill (λ _. Home h) Every K (λ n. Opens h c n >>= (λ line. Inner h c n >>= (λ p. V line p n))) i
+  inside_fill : {A : Type 0} (K : Lexeme → Type 0) (V : ℕ → HldsGoal → ℕ → Parser A) (i : Input) → Home h i.home i.vars → ((line : ℕ) (p : HldsGoal) (j : Input) → Home h j.home j.vars → Fill (λ _. Home h) BehindGoals K (V line p) j) → Fill (λ _. Home h) Every K (λ n. Opens h c n >>= (λ line. Inner h c n >>= (λ p. V line p n))) i
   inside_fill K V i s g =
       let a = (opens h c Every room).fill i s in
       let b = behind_fill h c K (V a.1.value) (λ p j u. g a.1.value p j u) a.1.end a.1.post in
@@ -294,28 +294,28 @@ module _ (h : List ℕ) (c room : ℕ) (law : (r : ℕ) → room ≡ suc r → (
       (λ q e line p. groupeds h c q (law q e) line p)
 
   -- the end of a goal with one conjunction inside
-  ends_at : (f : Part → Part) → (q : ℕ) → room ≡ suc q → (line : ℕ) (p : Part) → Fills (Home h) (λ _. Home h) BehindGoals BehindGoal (expect kind.Close >> pure (f p)) (λ n. expect kind.Close >> pure (f p))
+  ends_at : (f : HldsGoal → HldsGoal) → (q : ℕ) → room ≡ suc q → (line : ℕ) (p : HldsGoal) → Fills (Home h) (λ _. Home h) BehindGoals BehindGoal (expect kind.Close >> pure (f p)) (λ n. expect kind.Close >> pure (f p))
   ends_at f q e line p = closes h c BehindGoals BehindGoal (f p) close_goals
 
   negation_at : (i : Input) → kind_at i ≡ kind.Not → Home h i.home i.vars → Law (λ _. Home h) Never BehindGoal (λ n. rule.negation (n - c) (Inner h c n)) i (rule.negation room (rule.within room) i)
   unfolding rule.negation
   negation_at i e s =
-      bind_at (λ _. Home h) (λ _. Home h) Never Every BehindGoal (λ n. expect kind.Not) (λ line n. Opens h c n >>= (λ _. Inner h c n >>= (λ p. expect kind.Close >> pure (At line (Unless p))))) i (expect kind.Not i) (λ line. rule.open_goal room >>= (λ _. rule.within room >>= (λ p. expect kind.Close >> pure (At line (Unless p)))))
+      bind_at (λ _. Home h) (λ _. Home h) Never Every BehindGoal (λ n. expect kind.Not) (λ line n. Opens h c n >>= (λ _. Inner h c n >>= (λ p. expect kind.Close >> pure (At line (NotGoal p))))) i (expect kind.Not i) (λ line. rule.open_goal room >>= (λ _. rule.within room >>= (λ p. expect kind.Close >> pure (At line (NotGoal p)))))
       (expect_at (Home h) Never Every kind.Not i refl e s)
-      (λ line j r q. inside_at room refl Every BehindGoal (λ r _ p. expect kind.Close >> pure (At line (Unless p))) (λ _ p n. expect kind.Close >> pure (At line (Unless p))) j ((opens h c Every room).law j q) (λ _ p m u. (closes h c BehindGoals BehindGoal (At line (Unless p)) close_goals).fill m u) (λ k e l p. closes h c BehindGoals BehindGoal (At line (Unless p)) close_goals))
-      (λ line j q. inside_fill BehindGoal (λ _ p n. expect kind.Close >> pure (At line (Unless p))) j q (λ _ p m u. (closes h c BehindGoals BehindGoal (At line (Unless p)) close_goals).fill m u))
+      (λ line j r q. inside_at room refl Every BehindGoal (λ r _ p. expect kind.Close >> pure (At line (NotGoal p))) (λ _ p n. expect kind.Close >> pure (At line (NotGoal p))) j ((opens h c Every room).law j q) (λ _ p m u. (closes h c BehindGoals BehindGoal (At line (NotGoal p)) close_goals).fill m u) (λ k e l p. closes h c BehindGoals BehindGoal (At line (NotGoal p)) close_goals))
+      (λ line j q. inside_fill BehindGoal (λ _ p n. expect kind.Close >> pure (At line (NotGoal p))) j q (λ _ p m u. (closes h c BehindGoals BehindGoal (At line (NotGoal p)) close_goals).fill m u))
 
   module _ (line : ℕ) where
-    abbrev Scoped : List ℕ → ℕ → Parser Part
-    Scoped vs n = Opens h c n >>= (λ _. Inner h c n >>= (λ p. expect kind.Close >> pure (At line (Once vs p))))
+    abbrev Scoped : List ℕ → ℕ → Parser HldsGoal
+    Scoped vs n = Opens h c n >>= (λ _. Inner h c n >>= (λ p. expect kind.Close >> pure (At line (SomeGoal vs p))))
 
-    abbrev scoped : List ℕ → Parser Part
-    scoped vs = rule.open_goal room >>= (λ _. rule.within room >>= (λ p. expect kind.Close >> pure (At line (Once vs p))))
+    abbrev scoped : List ℕ → Parser HldsGoal
+    scoped vs = rule.open_goal room >>= (λ _. rule.within room >>= (λ p. expect kind.Close >> pure (At line (SomeGoal vs p))))
 
     scopes : (vs : List ℕ) → Fills (Home h) (λ _. Home h) Every BehindGoal (scoped vs) (Scoped vs)
     scopes vs = record {
-      law = λ j q. inside_at room refl Every BehindGoal (λ r _ p. expect kind.Close >> pure (At line (Once vs p))) (λ _ p n. expect kind.Close >> pure (At line (Once vs p))) j ((opens h c Every room).law j q) (λ _ p m u. (closes h c BehindGoals BehindGoal (At line (Once vs p)) close_goals).fill m u) (λ k e l p. closes h c BehindGoals BehindGoal (At line (Once vs p)) close_goals);
-      fill = λ j q. inside_fill BehindGoal (λ _ p n. expect kind.Close >> pure (At line (Once vs p))) j q (λ _ p m u. (closes h c BehindGoals BehindGoal (At line (Once vs p)) close_goals).fill m u);
+      law = λ j q. inside_at room refl Every BehindGoal (λ r _ p. expect kind.Close >> pure (At line (SomeGoal vs p))) (λ _ p n. expect kind.Close >> pure (At line (SomeGoal vs p))) j ((opens h c Every room).law j q) (λ _ p m u. (closes h c BehindGoals BehindGoal (At line (SomeGoal vs p)) close_goals).fill m u) (λ k e l p. closes h c BehindGoals BehindGoal (At line (SomeGoal vs p)) close_goals);
+      fill = λ j q. inside_fill BehindGoal (λ _ p n. expect kind.Close >> pure (At line (SomeGoal vs p))) j q (λ _ p m u. (closes h c BehindGoals BehindGoal (At line (SomeGoal vs p)) close_goals).fill m u);
     }
 
     quantifies : Fills (Home h) (λ _. Home h) Every BehindGoal (expect kind.OpenList >> (rule.quantified >>= scoped)) (λ n. expect kind.OpenList >> (rule.quantified >>= (λ vs. Scoped vs n)))
@@ -329,12 +329,12 @@ module _ (h : List ℕ) (c room : ℕ) (law : (r : ℕ) → room ≡ suc r → (
       bind_at (λ _. Home h) (λ _. Home h) Never Every BehindGoal (λ n. expect kind.Some) (λ line n. expect kind.OpenList >> (rule.quantified >>= (λ vs. Scoped line vs n))) i (expect kind.Some i) (λ line. expect kind.OpenList >> (rule.quantified >>= scoped line))
       (expect_at (Home h) Never Every kind.Some i refl e s) (λ line j r q. (quantifies line).law j q) (λ line j q. (quantifies line).fill j q)
 
-  on_line : (line : ℕ) (i : Input) (p : Parser Task) → Law (λ _. Home h) Never BehindGoal (λ n. p) i (p i) → Law (λ _. Home h) Never BehindGoal (λ n. p >>= (λ t. pure (At line t))) i ((p >>= (λ t. pure (At line t))) i)
+  on_line : (line : ℕ) (i : Input) (p : Parser GoalExpr) → Law (λ _. Home h) Never BehindGoal (λ n. p) i (p i) → Law (λ _. Home h) Never BehindGoal (λ n. p >>= (λ t. pure (At line t))) i ((p >>= (λ t. pure (At line t))) i)
   on_line line i p w =
       bind_at (λ _. Home h) (λ _. Home h) Never BehindGoal BehindGoal (λ n. p) (λ t n. pure (At line t)) i (p i) (λ t. pure (At line t)) w
       (λ t j r q. (given (Home h) (λ _. Home h) BehindGoal (At line t) (λ home vars s. s)).law j q) (λ t j q. (given (Home h) (λ _. Home h) BehindGoal (At line t) (λ home vars s. s)).fill j q)
 
-  unit_chosen : (i : Input) (k : Kind) → (first i.rest).kind ≡ k → (r : Outcome Part) → Law (λ _. Home h) Never BehindGoal (λ n. rule.unit_by (n - c) (Inner h c n) (first i.rest).line k) i r → Law (λ _. Home h) Every BehindGoal (One h c) i r
+  unit_chosen : (i : Input) (k : Kind) → (first i.rest).kind ≡ k → (r : Outcome HldsGoal) → Law (λ _. Home h) Never BehindGoal (λ n. rule.unit_by (n - c) (Inner h c n) (first i.rest).line k) i r → Law (λ _. Home h) Every BehindGoal (One h c) i r
   unfolding rule.unit token
   unit_chosen i k e r w = chosen_kind (λ _. Home h) Every BehindGoal (λ line k n. rule.unit_by (n - c) (Inner h c n) line k) i k e r w
 
@@ -346,8 +346,8 @@ module _ (h : List ℕ) (c room : ℕ) (law : (r : ℕ) → room ≡ suc r → (
 
   unit_law_by : (k : Kind) (i : Input) → (first i.rest).kind ≡ k → Home h i.home i.vars → Law (λ _. Home h) Every BehindGoal (One h c) i (rule.unit_by room (rule.within room) (first i.rest).line k i)
   unfolding token
-  unit_law_by kind.True i e s = unit_chosen i kind.True e (rule.unit_by room (rule.within room) (first i.rest).line kind.True i) (one_word h (At (first i.rest).line (Plain Succeeds)) i (ap live e) s)
-  unit_law_by kind.Fail i e s = unit_chosen i kind.Fail e (rule.unit_by room (rule.within room) (first i.rest).line kind.Fail i) (one_word h (At (first i.rest).line (Plain Fails)) i (ap live e) s)
+  unit_law_by kind.True i e s = unit_chosen i kind.True e (rule.unit_by room (rule.within room) (first i.rest).line kind.True i) (one_word h (At (first i.rest).line (SimpleGoal Succeeds)) i (ap live e) s)
+  unit_law_by kind.Fail i e s = unit_chosen i kind.Fail e (rule.unit_by room (rule.within room) (first i.rest).line kind.Fail i) (one_word h (At (first i.rest).line (SimpleGoal Fails)) i (ap live e) s)
   unit_law_by kind.Open i e s = unit_chosen i kind.Open e (rule.unit_by room (rule.within room) (first i.rest).line kind.Open i) (group_at i e s)
   unit_law_by kind.Not i e s = unit_chosen i kind.Not e (rule.unit_by room (rule.within room) (first i.rest).line kind.Not i) (negation_at i e s)
   unit_law_by kind.Some i e s = unit_chosen i kind.Some e (rule.unit_by room (rule.within room) (first i.rest).line kind.Some i) (quantification_at i e s)
@@ -372,7 +372,7 @@ module _ (h : List ℕ) (c room : ℕ) (law : (r : ℕ) → room ≡ suc r → (
   goals_law_by : (i : Input) → Home h i.home i.vars → Law (λ _. Home h) Every BehindGoals (Goals h c) i (rule.conjunction room i)
   goals_law_by i s =
       law_like (λ _. Home h) Every BehindGoals (Goals h c) (λ n. Units h c n >>= (λ ps. pure (rule.joined ps))) i 0 (rule.conjunction room i) (λ n ts le fit. goals_are h c n (upon n ts i))
-      (subst (λ (r : Outcome Part). Law (λ _. Home h) Every BehindGoals (λ n. Units h c n >>= (λ ps. pure (rule.joined ps))) i r) (sym (conjunction_is room i))
+      (subst (λ (r : Outcome HldsGoal). Law (λ _. Home h) Every BehindGoals (λ n. Units h c n >>= (λ ps. pure (rule.joined ps))) i r) (sym (conjunction_is room i))
       ((bound (Home h) (λ _. Home h) (λ _. Home h) Every BehindGoals BehindGoals (rule.units room (rule.within room)) (Units h c) (λ ps. pure (rule.joined ps)) (λ ps n. pure (rule.joined ps)) units (λ ps. given (Home h) (λ _. Home h) BehindGoals (rule.joined ps) (λ home vars s. s))).law i s))
 
 inner_law : (h : List ℕ) (c r : ℕ) (i : Input) → Law (λ _. Home h) Every BehindGoals (Goals h (suc c)) i (rule.conjunction r i) → Law (λ _. Home h) Every BehindGoals (Inner h c) i (rule.within (suc r) i)

@@ -7,8 +7,8 @@ use Rattle.std.proofs.lemmas.Slice.Eq.{bytes_eq-Decides}
 use Rattle.std.proofs.lemmas.List.Sums.{prefix_len-le-length}
 use Rattle.md_hlds.specs.declared.goal.PredName.{PredName}
 use Rattle.md_hlds.specs.declared.goal.Term.TheVariants as term
-use Rattle.md_hlds.specs.Part.{Plain, Unifies}
-use Rattle.md_hlds.specs.Listing.{same_qualifier}
+use Rattle.md_hlds.specs.HldsGoal.{SimpleGoal, Unifies}
+use Rattle.md_hlds.specs.Hlds.{same_qualifier}
 use Rattle.md_token.specs.declared.kind.Kind.{Kind}
 use Rattle.md_token.specs.declared.kind.Kind.TheVariants as kind
 use Rattle.md_token.specs.Kinds.{same_kind}
@@ -286,33 +286,33 @@ this_lines h K q = record {
 
 -- ---- values
 
-positive_by : (S : State) (F K : Lexeme → Type 0) (x : ℕ) (i : Input) (b : Bool) → live (kind_at i) ≡ true → S i.home i.vars → Law (λ _. S) F K (λ n. rule.positive x) i (cond b (limit i) (Ok (Plain (Unifies x (term.Int (pos (number_of (token i).text)))), next i)))
+positive_by : (S : State) (F K : Lexeme → Type 0) (x : ℕ) (i : Input) (b : Bool) → live (kind_at i) ≡ true → S i.home i.vars → Law (λ _. S) F K (λ n. rule.positive x) i (cond b (limit i) (Ok (SimpleGoal (Unifies x (term.Int (pos (number_of (token i).text)))), next i)))
 unfolding rule.positive token next
-positive_by S F K x i true l s = over_at (λ _. S) F K (λ n. rule.positive x) i (Plain (Unifies x (term.Int (pos (number_of (first i.rest).text))))) i.vars (number_of (first i.rest).text) (λ n tail le. rw (not_less n (number_of (first i.rest).text) le) refl) s
-positive_by S F K x i false l s = taken_at (λ _. S) F K (λ n. rule.positive x) i (Plain (Unifies x (term.Int (pos (number_of (first i.rest).text))))) i.vars (number_of (first i.rest).text) (λ n tail le. rw (not_less n (number_of (first i.rest).text) le) refl) l s
+positive_by S F K x i true l s = over_at (λ _. S) F K (λ n. rule.positive x) i (SimpleGoal (Unifies x (term.Int (pos (number_of (first i.rest).text))))) i.vars (number_of (first i.rest).text) (λ n tail le. rw (not_less n (number_of (first i.rest).text) le) refl) s
+positive_by S F K x i false l s = taken_at (λ _. S) F K (λ n. rule.positive x) i (SimpleGoal (Unifies x (term.Int (pos (number_of (first i.rest).text))))) i.vars (number_of (first i.rest).text) (λ n tail le. rw (not_less n (number_of (first i.rest).text) le) refl) l s
 
 pub positive_at : (S : State) (F K : Lexeme → Type 0) (x : ℕ) (i : Input) → live (kind_at i) ≡ true → S i.home i.vars → Law (λ _. S) F K (λ n. rule.positive x) i (rule.positive x i)
 unfolding rule.positive
 positive_at S F K x i l s = positive_by S F K x i (nat_lt i.limits.integer (number_of (token i).text)) l s
 
-literal_by : (S : State) (F K : Lexeme → Type 0) (x : ℕ) (i : Input) (b : Bool) → live (kind_at i) ≡ true → S i.home i.vars → Law (λ _. S) F K (λ n. rule.literal x) i (cond b (limit i) (Ok (Plain (Unifies x (term.Str (string_value (token i).text))), next i)))
+literal_by : (S : State) (F K : Lexeme → Type 0) (x : ℕ) (i : Input) (b : Bool) → live (kind_at i) ≡ true → S i.home i.vars → Law (λ _. S) F K (λ n. rule.literal x) i (cond b (limit i) (Ok (SimpleGoal (Unifies x (term.Str (string_value (token i).text))), next i)))
 unfolding rule.literal token next
-literal_by S F K x i true l s = over_at (λ _. S) F K (λ n. rule.literal x) i (Plain (Unifies x (term.Str (string_value (first i.rest).text)))) i.vars (length (string_value (first i.rest).text)) (λ n tail le. rw (not_less n (length (string_value (first i.rest).text)) le) refl) s
-literal_by S F K x i false l s = taken_at (λ _. S) F K (λ n. rule.literal x) i (Plain (Unifies x (term.Str (string_value (first i.rest).text)))) i.vars (length (string_value (first i.rest).text)) (λ n tail le. rw (not_less n (length (string_value (first i.rest).text)) le) refl) l s
+literal_by S F K x i true l s = over_at (λ _. S) F K (λ n. rule.literal x) i (SimpleGoal (Unifies x (term.Str (string_value (first i.rest).text)))) i.vars (length (string_value (first i.rest).text)) (λ n tail le. rw (not_less n (length (string_value (first i.rest).text)) le) refl) s
+literal_by S F K x i false l s = taken_at (λ _. S) F K (λ n. rule.literal x) i (SimpleGoal (Unifies x (term.Str (string_value (first i.rest).text)))) i.vars (length (string_value (first i.rest).text)) (λ n tail le. rw (not_less n (length (string_value (first i.rest).text)) le) refl) l s
 
 pub literal_at : (S : State) (F K : Lexeme → Type 0) (x : ℕ) (i : Input) → live (kind_at i) ≡ true → S i.home i.vars → Law (λ _. S) F K (λ n. rule.literal x) i (rule.literal x i)
 unfolding rule.literal
 literal_at S F K x i l s = literal_by S F K x i (nat_lt i.limits.bytes (length (string_value (token i).text))) l s
 
 module _ (S : State) (F K : Lexeme → Type 0) (x : ℕ) (i : Input) (s : S i.home i.vars) where
-  minus_by : (b : Bool) → sees kind.Integer i ≡ true → Law (λ _. S) F K (λ n. rule.negated x) i (cond b (limit i) (Ok (Plain (Unifies x (term.Int (rule.minus (number_of (token i).text)))), next i)))
+  minus_by : (b : Bool) → sees kind.Integer i ≡ true → Law (λ _. S) F K (λ n. rule.negated x) i (cond b (limit i) (Ok (SimpleGoal (Unifies x (term.Int (rule.minus (number_of (token i).text)))), next i)))
   unfolding rule.negated sees token next
-  minus_by true e = over_at (λ _. S) F K (λ n. rule.negated x) i (Plain (Unifies x (term.Int (rule.minus (number_of (first i.rest).text))))) i.vars (number_of (first i.rest).text) (λ n tail le. rw (e, not_less (suc n) (number_of (first i.rest).text) (omega (arith, le))) refl) s
-  minus_by false e = taken_at (λ _. S) F K (λ n. rule.negated x) i (Plain (Unifies x (term.Int (rule.minus (number_of (first i.rest).text))))) i.vars (number_of (first i.rest).text) (λ n tail le. rw (e, not_less (suc n) (number_of (first i.rest).text) (omega (arith, le))) refl) (seen_live kind.Integer i e refl) s
+  minus_by true e = over_at (λ _. S) F K (λ n. rule.negated x) i (SimpleGoal (Unifies x (term.Int (rule.minus (number_of (first i.rest).text))))) i.vars (number_of (first i.rest).text) (λ n tail le. rw (e, not_less (suc n) (number_of (first i.rest).text) (omega (arith, le))) refl) s
+  minus_by false e = taken_at (λ _. S) F K (λ n. rule.negated x) i (SimpleGoal (Unifies x (term.Int (rule.minus (number_of (first i.rest).text))))) i.vars (number_of (first i.rest).text) (λ n tail le. rw (e, not_less (suc n) (number_of (first i.rest).text) (omega (arith, le))) refl) (seen_live kind.Integer i e refl) s
 
   negated_fill : F (spelled kind.Integer (codes "1") i) → Fill (λ _. S) F K (λ n. rule.negated x) i
   unfolding rule.negated sees token next
-  negated_fill f = filled_by (λ _. S) F K (λ n. rule.negated x) i (spelled kind.Integer (codes "1") i) (Plain (Unifies x (term.Int (rule.minus (number_of (codes "1")))))) i.vars (number_of (codes "1")) f s (λ n tail le. rw (same_itself kind.Integer, not_less (suc n) (number_of (codes "1")) (omega (arith, le))) refl)
+  negated_fill f = filled_by (λ _. S) F K (λ n. rule.negated x) i (spelled kind.Integer (codes "1") i) (SimpleGoal (Unifies x (term.Int (rule.minus (number_of (codes "1")))))) i.vars (number_of (codes "1")) f s (λ n tail le. rw (same_itself kind.Integer, not_less (suc n) (number_of (codes "1")) (omega (arith, le))) refl)
 
   negated_by : (b : Bool) → sees kind.Integer i ≡ b → Fill (λ _. S) (Or F i) K (λ n. rule.negated x) i → Law (λ _. S) F K (λ n. rule.negated x) i (cond b (rule.take_negative x (number_of (token i).text) i) (refuse i))
   unfolding rule.negated sees token

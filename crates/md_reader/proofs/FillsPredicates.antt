@@ -1,7 +1,7 @@
 -- What a rule took can be filled up: predicates.
 use Rattle.std.proofs.Common.{◌≡◌, ℕ, suc, ◌-◌, List, [], ◌∷◌, ◌++◌, length, drop, refl, Bool, true, false, cond, inl, inr, Option, Some, None, Ok, Err, sym, ap, ◌∙◌, arith, subst, length-append}
 use Rattle.md_hlds.specs.declared.types.Mode.{Mode}
-use Rattle.md_hlds.specs.Listing.{Sort, closure, gathered_sorts}
+use Rattle.md_hlds.specs.Hlds.{HldsType, closure, gathered_types}
 use Rattle.md_token.specs.declared.kind.Kind.{Kind}
 use Rattle.md_token.specs.declared.kind.Kind.TheVariants as kind
 use Rattle.md_token.specs.Kinds.{same_kind}
@@ -119,7 +119,7 @@ plains S K =
     (λ _. sequel S (λ _. S) (λ _. S) Every K K rule.mode_word (λ m. pure (t, m)) (mode_words S K)
     (λ m. given S (λ _. S) K (t, m) (λ home vars s. s))))
 
-abbrev HoRest : Parser (List Sort)
+abbrev HoRest : Parser (List HldsType)
 HoRest = expect kind.Open >> (rule.sorts >>= (λ ts. expect kind.HasMode >> pure ts))
 
 ho_rest : (S : State) → Fills S (λ _. S) Every Every HoRest (λ n. HoRest)
@@ -134,14 +134,14 @@ ho_types_at S i e s =
     bind_at (λ _. S) (λ _. S) Never Every Every (λ n. expect kind.Pred) (λ _ n. HoRest) i (expect kind.Pred i) (λ _. HoRest) (expect_at S Never Every kind.Pred i refl e s)
     (λ x j r q. (ho_rest S).law j q) (λ x j q. (ho_rest S).fill j q)
 
-abbrev HoMode : List Sort → Parser (Sort × Mode)
-HoMode ts = rule.ho_mode >>= (λ m. rule.inst >>= (λ n. pure (closure (gathered_sorts ts) n.0 n.1, m)))
+abbrev HoMode : List HldsType → Parser (HldsType × Mode)
+HoMode ts = rule.ho_mode >>= (λ m. rule.inst >>= (λ n. pure (closure (gathered_types ts) n.0 n.1, m)))
 
-ho_mode_rest : (S : State) (K : Lexeme → Type 0) (ts : List Sort) → Fills S (λ _. S) Every K (HoMode ts) (λ n. HoMode ts)
+ho_mode_rest : (S : State) (K : Lexeme → Type 0) (ts : List HldsType) → Fills S (λ _. S) Every K (HoMode ts) (λ n. HoMode ts)
 ho_mode_rest S K ts =
-    sequel S (λ _. S) (λ _. S) Every Every K rule.ho_mode (λ m. rule.inst >>= (λ n. pure (closure (gathered_sorts ts) n.0 n.1, m))) (ho_modes S Every)
-    (λ m. sequel S (λ _. S) (λ _. S) Every K K rule.inst (λ n. pure (closure (gathered_sorts ts) n.0 n.1, m)) (insts S K)
-    (λ n. given S (λ _. S) K (closure (gathered_sorts ts) n.0 n.1, m) (λ home vars s. s)))
+    sequel S (λ _. S) (λ _. S) Every Every K rule.ho_mode (λ m. rule.inst >>= (λ n. pure (closure (gathered_types ts) n.0 n.1, m))) (ho_modes S Every)
+    (λ m. sequel S (λ _. S) (λ _. S) Every K K rule.inst (λ n. pure (closure (gathered_types ts) n.0 n.1, m)) (insts S K)
+    (λ n. given S (λ _. S) K (closure (gathered_types ts) n.0 n.1, m) (λ home vars s. s)))
 
 ho_argument_at : (S : State) (K : Lexeme → Type 0) (i : Input) → kind_at i ≡ kind.Pred → S i.home i.vars → Law (λ _. S) Never K (λ n. rule.ho_argument) i (rule.ho_argument i)
 unfolding rule.ho_argument
@@ -186,11 +186,11 @@ pred_begun : (S : State) (i : Input) → sees kind.Pred i ≡ true → (place : 
 unfolding rule.argument rule.ho_argument rule.ho_types expect sees token next place same_kind
 pred_begun S i e = (record { line = 0; left = 1 }, rw e refl, refl)
 
-plain_stuck : (t : Sort) (m : ℕ) (i j : Input) → rule.sort (upon m (first i.rest ∷ stop ∷ []) i) ≡ Ok (t, upon m (stop ∷ []) j) → rule.plain_argument (upon m (first i.rest ∷ stop ∷ []) i) ≡ Err (Syntax (record { line = 0; left = 1 }))
+plain_stuck : (t : HldsType) (m : ℕ) (i j : Input) → rule.sort (upon m (first i.rest ∷ stop ∷ []) i) ≡ Ok (t, upon m (stop ∷ []) j) → rule.plain_argument (upon m (first i.rest ∷ stop ∷ []) i) ≡ Err (Syntax (record { line = 0; left = 1 }))
 unfolding rule.plain_argument expect sees token place same_kind
 plain_stuck t m i j e = rw e refl
 
-plain_begun : (S : State) (i : Input) (t : Sort) (j : Input) → sees kind.Pred i ≡ false → Took (λ _. S) Every Every (λ n. rule.sort) i t j → i.rest ≡ first i.rest ∷ j.rest → (m : ℕ) × (rule.argument (upon m (first i.rest ∷ stop ∷ []) i) ≡ Err (Syntax (record { line = 0; left = 1 })))
+plain_begun : (S : State) (i : Input) (t : HldsType) (j : Input) → sees kind.Pred i ≡ false → Took (λ _. S) Every Every (λ n. rule.sort) i t j → i.rest ≡ first i.rest ∷ j.rest → (m : ℕ) × (rule.argument (upon m (first i.rest ∷ stop ∷ []) i) ≡ Err (Syntax (record { line = 0; left = 1 })))
 unfolding rule.argument sees token
 plain_begun S i t j e w one =
     let alone : w.front ≡ first i.rest ∷ [] = single w.front j.rest (first i.rest) (sym one ∙ w.whole) in
@@ -198,7 +198,7 @@ plain_begun S i t j e w one =
     let here : rule.sort (upon w.run.bound (first i.rest ∷ stop ∷ []) i) ≡ Ok (t, upon w.run.bound (stop ∷ []) j) = subst (λ (ts : List Lexeme). rule.sort (upon w.run.bound (ts ++ stop ∷ []) i) ≡ Ok (t, upon w.run.bound (stop ∷ []) j)) alone read in
     (w.run.bound, rw e (plain_stuck t w.run.bound i j here))
 
-abbrev more_args : List (Sort × Mode) → Sort × Mode → List (Sort × Mode)
+abbrev more_args : List (HldsType × Mode) → HldsType × Mode → List (HldsType × Mode)
 more_args xs x = xs ++ x ∷ []
 
 argument_lists : (S : State) → Lists (λ _. rule.argument) more_args more_args kind.Close rule.arguments_from (λ _. S) (λ _. S) Every
@@ -211,8 +211,8 @@ argument_lists S = record {
   posts = λ x a home vars s. s;
 }
 
-module _ (S : State) (K : Lexeme → Type 0) (c : ℕ) (xs : List (Sort × Mode)) (i : Input) (s : S i.home i.vars) where
-  abbrev Args : ℕ → Parser (List (Sort × Mode))
+module _ (S : State) (K : Lexeme → Type 0) (c : ℕ) (xs : List (HldsType × Mode)) (i : Input) (s : S i.home i.vars) where
+  abbrev Args : ℕ → Parser (List (HldsType × Mode))
   Args = Body (λ _. rule.argument) more_args more_args kind.Close rule.arguments_from (λ _. S) (λ _. S) Every c xs
 
   over_by : (fill : List Lexeme) × Done (λ _. S) (Or Every i) Every (λ n. rule.argument) i (first i.rest ∷ fill) → Law (λ _. S) Every K Args i (limit i)
@@ -239,10 +239,10 @@ module _ (S : State) (K : Lexeme → Type 0) (c : ℕ) (xs : List (Sort × Mode)
   sort_refused : (e : Refusal) → rule.sort i ≡ Err e → sees kind.Pred i ≡ false → Law (λ _. S) Every K Args i (Err e)
   sort_refused e h f =
       bind_at (λ _. S) (λ _. S) Every Every K (λ n. rule.argument) (λ a m. Item (λ _. rule.argument) more_args more_args kind.Close rule.arguments_from (λ _. S) (λ _. S) Every (m - suc c) xs a) i (Err e) (λ _. limit)
-      (subst (λ (r : Outcome (Sort × Mode)). Law (λ _. S) Every Every (λ n. rule.argument) i r) (plain_refused e h f) ((argument_fills S Every).law i s))
+      (subst (λ (r : Outcome (HldsType × Mode)). Law (λ _. S) Every Every (λ n. rule.argument) i r) (plain_refused e h f) ((argument_fills S Every).law i s))
       (λ a j q r. absurd (cc)) (λ a j r. item_fill (λ _. rule.argument) more_args more_args kind.Close rule.arguments_from (λ _. S) (λ _. S) Every (argument_lists S) K c xs a j r)
 
-  sort_over : (r : Outcome Sort) → rule.sort i ≡ r → sees kind.Pred i ≡ false → Law (λ _. S) Every Every (λ n. rule.sort) i r → Law (λ _. S) Every K Args i (and_then r (λ t j. limit i))
+  sort_over : (r : Outcome HldsType) → rule.sort i ≡ r → sees kind.Pred i ≡ false → Law (λ _. S) Every Every (λ n. rule.sort) i r → Law (λ _. S) Every K Args i (and_then r (λ t j. limit i))
   sort_over (Ok p) e f w =
       let b = plain_begun S i p.0 p.1 f w (sort_one p.0 i p.1 e) in
       over_by (begun S Every rule.argument i b.0 (record { line = 0; left = 1 }) _ b.1 refl ((argument_fills S Every).law (upon b.0 (first i.rest ∷ stop ∷ []) i) s))
@@ -256,7 +256,7 @@ module _ (S : State) (K : Lexeme → Type 0) (c : ℕ) (xs : List (Sort × Mode)
   unfolding rule.arguments_from rule.excess
   excess_law = excess_forked (sees kind.Pred i) refl
 
-arguments_within : (S : State) (K : Lexeme → Type 0) (n c : ℕ) (xs : List (Sort × Mode)) → Fills S (λ _. S) Every K (rule.arguments_from n xs) (λ m. rule.arguments_from (m - c) xs)
+arguments_within : (S : State) (K : Lexeme → Type 0) (n c : ℕ) (xs : List (HldsType × Mode)) → Fills S (λ _. S) Every K (rule.arguments_from n xs) (λ m. rule.arguments_from (m - c) xs)
 arguments_within S K n c xs =
     lists (λ _. rule.argument) more_args more_args kind.Close rule.arguments_from (λ _. S) (λ _. S) Every (argument_lists S) K (λ c xs i s. excess_law S K c xs i s)
     n c xs

@@ -2,7 +2,7 @@
 use Rattle.std.proofs.Common.{◌≡◌, ℕ, zero, suc, ◌≤◌, ◌<◌, List, [], ◌∷◌, length, drop, refl, Bool, true, false, cond, not, ◌&&◌, inl, inr, Ok, sym, ap, ◌∙◌, arith, subst, nat_lt}
 use Rattle.std.specs.Prelude.{⊤, codes}
 use Rattle.std.specs.Str.{bytes_eq}
-use Rattle.md_hlds.specs.Listing.{Listing}
+use Rattle.md_hlds.specs.Hlds.{Hlds}
 use Rattle.md_token.specs.declared.kind.Kind.{Kind}
 use Rattle.md_token.specs.declared.kind.Kind.TheVariants as kind
 use Rattle.md_token.specs.Kinds.{same_kind}
@@ -78,8 +78,8 @@ headings =
 abbrev IsDeclare : Lexeme → Type 0
 IsDeclare t = t.kind ≡ kind.Declare
 
-module _ (h : List ℕ) (l : Listing) where
-  abbrev either : ℕ → Parser Listing
+module _ (h : List ℕ) (l : Hlds) where
+  abbrev either : ℕ → Parser Hlds
   either line = λ i. cond (sees kind.Pred i) (rule.declared_procedure l line i) (rule.declared_family l line i)
 
   procedure_way : (line : ℕ) (i : Input) → sees kind.Pred i ≡ true → Home h i.home i.vars → Law (λ _. Home h) Never Every (λ n. rule.declared_procedure l line) i (rule.declared_procedure l line i)
@@ -104,15 +104,15 @@ module _ (h : List ℕ) (l : Listing) where
 -- ---- all declarations
 
 -- the declarations up to the end of the text, of which the text may have none
-abbrev all_from : ℕ → Listing → Parser Listing
+abbrev all_from : ℕ → Hlds → Parser Hlds
 all_from zero l = λ i. cond (sees kind.Stop i) (Ok (l, i)) (refuse i)
 all_from (suc n) l = λ i. cond (sees kind.Stop i) (Ok (l, i)) ((rule.declared l >>= all_from n) i)
 
-abbrev all_declared : Listing → Parser Listing
+abbrev all_declared : Hlds → Parser Hlds
 all_declared l = λ i. all_from (length i.rest) l i
 
 -- a declaration takes tokens
-declared_fewer : (l m : Listing) (i j : Input) → rule.declared l i ≡ Ok (m, j) → length j.rest < length i.rest
+declared_fewer : (l m : Hlds) (i j : Input) → rule.declared l i ≡ Ok (m, j) → length j.rest < length i.rest
 unfolding rule.declared same_kind
 declared_fewer l m i j e =
     let b = bind_ok (expect kind.Declare i) (λ line. λ k. cond (sees kind.Pred k) (rule.declared_procedure l line k) (rule.declared_family l line k)) (m, j) e in
@@ -136,7 +136,7 @@ stopped : {A : Type 0} (b : Bool) (x y z : A) → b ≡ true → cond b x y ≡ 
 stopped true x y z e = refl
 stopped false x y z e = absurd (cc)
 
-enough : (n m : ℕ) (l : Listing) (i : Input) → length i.rest ≤ n → length i.rest ≤ m → all_from n l i ≡ all_from m l i
+enough : (n m : ℕ) (l : Hlds) (i : Input) → length i.rest ≤ n → length i.rest ≤ m → all_from n l i ≡ all_from m l i
 enough zero zero l i a b = refl
 enough zero (suc m) l i a b = stopped (sees kind.Stop i) (Ok (l, i)) (refuse i) ((rule.declared l >>= all_from m) i) (empty_stop i (omega (arith, a)))
 enough (suc n) zero l i a b = stopped (sees kind.Stop i) (Ok (l, i)) ((rule.declared l >>= all_from n) i) (refuse i) (empty_stop i (omega (arith, b)))
@@ -144,13 +144,13 @@ enough (suc n) (suc m) l i a b =
     same_else (sees kind.Stop i) (Ok (l, i)) ((rule.declared l >>= all_from n) i) ((rule.declared l >>= all_from m) i)
     (λ e. follows (rule.declared l i) (all_from n) (all_from m) (λ k j r. let f = declared_fewer l k i j r in enough n m k j (omega (arith, a, f)) (omega (arith, b, f))))
 
-all_by : (s : ℕ) (l : Listing) (i : Input) → length i.rest ≡ s → all_from s l i ≡ cond (sees kind.Stop i) (Ok (l, i)) ((rule.declared l >>= all_declared) i)
+all_by : (s : ℕ) (l : Hlds) (i : Input) → length i.rest ≡ s → all_from s l i ≡ cond (sees kind.Stop i) (Ok (l, i)) ((rule.declared l >>= all_declared) i)
 all_by zero l i e = stopped (sees kind.Stop i) (Ok (l, i)) (refuse i) ((rule.declared l >>= all_declared) i) (empty_stop i e)
 all_by (suc s) l i e =
     same_else (sees kind.Stop i) (Ok (l, i)) ((rule.declared l >>= all_from s) i) ((rule.declared l >>= all_declared) i)
     (λ _. follows (rule.declared l i) (all_from s) all_declared (λ k j r. let f = declared_fewer l k i j r in enough s (length j.rest) k j (omega (arith, e, f)) (omega arith)))
 
-all_is : (l : Listing) (i : Input) → all_declared l i ≡ cond (sees kind.Stop i) (Ok (l, i)) ((rule.declared l >>= all_declared) i)
+all_is : (l : Hlds) (i : Input) → all_declared l i ≡ cond (sees kind.Stop i) (Ok (l, i)) ((rule.declared l >>= all_declared) i)
 all_is l i = all_by (length i.rest) l i refl
 
 -- ---- where the text has an end, these are the declarations
@@ -161,7 +161,7 @@ left_behind p P x i j e h =
     let here : j.rest ≡ w.stop = subst (Stands w.stop) e w.stands in
     subst HasEnd (sym here) (w.behind.ends h)
 
-declared_steady : (l : Listing) → Steady 0 [] (rule.declared l)
+declared_steady : (l : Hlds) → Steady 0 [] (rule.declared l)
 unfolding rule.declared
 declared_steady l = bound 0 [] (expect kind.Declare) (λ line. λ k. cond (sees kind.Pred k) (rule.declared_procedure l line k) (rule.declared_family l line k)) (expected 0 [] kind.Declare refl) (λ line. declared_rest_steady 0 [] l line)
 
@@ -169,14 +169,14 @@ pub ended_some : (ts : List Lexeme) → HasEnd ts → 0 < length ts
 ended_some [] h = absurd h
 ended_some (t ∷ ts) h = omega arith
 
-ended : (n : ℕ) (l : Listing) (i : Input) → HasEnd i.rest → length i.rest ≤ n → rule.declarations_from n l i ≡ all_from n l i
+ended : (n : ℕ) (l : Hlds) (i : Input) → HasEnd i.rest → length i.rest ≤ n → rule.declarations_from n l i ≡ all_from n l i
 unfolding rule.declarations_from
 ended zero l i h le = absurd (let s = ended_some i.rest h in omega (arith, le, s))
 ended (suc n) l i h le =
     same_else (sees kind.Stop i) (Ok (l, i)) ((rule.declared l >>= rule.declarations_from n) i) ((rule.declared l >>= all_from n) i)
     (λ _. follows (rule.declared l i) (rule.declarations_from n) (all_from n) (λ k j r. let f = declared_fewer l k i j r in ended n k j (left_behind (rule.declared l) (declared_steady l) k i j r h) (omega (arith, le, f))))
 
-abbrev pub whole_program : Parser Listing
+abbrev pub whole_program : Parser Hlds
 whole_program = rule.heading >>= all_declared
 
 pub program_is : (i : Input) → HasEnd i.rest → rule.program i ≡ whole_program i
@@ -191,11 +191,11 @@ IsStop t = t.kind ≡ kind.Stop
 stop_seen : (t : Lexeme) → IsStop t → same_kind t.kind kind.Stop ≡ true
 stop_seen t e = rw e (same_itself kind.Stop)
 
-at_stop : (l : Listing) (n : ℕ) (ts : List Lexeme) (i : Input) → same_kind (first ts).kind kind.Stop ≡ true → all_declared l (upon n ts i) ≡ Ok (l, upon n ts i)
+at_stop : (l : Hlds) (n : ℕ) (ts : List Lexeme) (i : Input) → same_kind (first ts).kind kind.Stop ≡ true → all_declared l (upon n ts i) ≡ Ok (l, upon n ts i)
 unfolding sees token
 at_stop l n ts i e = all_is l (upon n ts i) ∙ rw e refl
 
-past_stop : (l : Listing) (n : ℕ) (ts : List Lexeme) (i : Input) → same_kind (first ts).kind kind.Stop ≡ false → all_declared l (upon n ts i) ≡ (rule.declared l >>= all_declared) (upon n ts i)
+past_stop : (l : Hlds) (n : ℕ) (ts : List Lexeme) (i : Input) → same_kind (first ts).kind kind.Stop ≡ false → all_declared l (upon n ts i) ≡ (rule.declared l >>= all_declared) (upon n ts i)
 unfolding sees token
 past_stop l n ts i e = all_is l (upon n ts i) ∙ rw e refl
 
@@ -204,10 +204,10 @@ unfolding same_kind
 declare_stop t e = rw e refl
 
 module _ (h : List ℕ) where
-  all_fill : (l : Listing) (i : Input) → Home h i.home i.vars → Fill (λ _. Home h) IsStop IsStop (λ n. all_declared l) i
+  all_fill : (l : Hlds) (i : Input) → Home h i.home i.vars → Fill (λ _. Home h) IsStop IsStop (λ n. all_declared l) i
   all_fill l i s = ([], record { value = l; end = i; post = s; run = record { bound = 0; runs = λ n tail le fit. at_stop l n tail i (stop_seen (first tail) fit.1); starts = λ tail fit. fit } })
 
-  all_more : (l : Listing) (i : Input) → Home h i.home i.vars → Fill (λ _. Home h) Every IsStop (λ n. all_declared l) i
+  all_more : (l : Hlds) (i : Input) → Home h i.home i.vars → Fill (λ _. Home h) Every IsStop (λ n. all_declared l) i
   all_more l i s = let f = all_fill l i s in (f.0, done_wider (λ _. Home h) IsStop Every IsStop (λ n. all_declared l) i f.0 (λ t e. tt) f.1)
 
   like_stop : (i : Input) (ts : List Lexeme) → same_kind (first i.rest).kind kind.Stop ≡ true → Fit (Or IsStop i) ts → same_kind (first ts).kind kind.Stop ≡ true
@@ -222,7 +222,7 @@ module _ (h : List ℕ) where
     | inr s ↦ rw s.0 e
   ]
 
-  all_law_by : (b : Bool) (l : Listing) (i : Input) → sees kind.Stop i ≡ b → Home h i.home i.vars → ((m : Listing) (j : Input) → rule.declared l i ≡ Ok (m, j) → Home h j.home j.vars → Law (λ _. Home h) Every IsStop (λ n. all_declared m) j (all_declared m j))
+  all_law_by : (b : Bool) (l : Hlds) (i : Input) → sees kind.Stop i ≡ b → Home h i.home i.vars → ((m : Hlds) (j : Input) → rule.declared l i ≡ Ok (m, j) → Home h j.home j.vars → Law (λ _. Home h) Every IsStop (λ n. all_declared m) j (all_declared m j))
       → Law (λ _. Home h) Every IsStop (λ n. all_declared l) i (cond b (Ok (l, i)) ((rule.declared l >>= all_declared) i))
   unfolding sees token
   all_law_by true l i e s rec = record { front = []; whole = refl; post = s; run = record { bound = 0; runs = λ n tail le fit. at_stop l n tail i (like_stop i tail e fit); starts = λ tail fit. (fit.0, inl tt) } }
@@ -231,18 +231,18 @@ module _ (h : List ℕ) where
       (law_like (λ _. Home h) IsDeclare IsStop (λ n. all_declared l) (λ n. rule.declared l >>= all_declared) i 0 ((rule.declared l >>= all_declared) i) (λ n ts le fit. past_stop l n ts i (like_other i ts e fit))
       (bind_at (λ _. Home h) (λ _. Home h) IsDeclare Every IsStop (λ n. rule.declared l) (λ m n. all_declared m) i (rule.declared l i) all_declared ((declareds h l).law i s) (λ m j r q. rec m j r q) (λ m j q. all_more m j q)))
 
-  all_law : (s : ℕ) (l : Listing) (i : Input) → length i.rest ≤ s → Home h i.home i.vars → Law (λ _. Home h) Every IsStop (λ n. all_declared l) i (all_declared l i)
+  all_law : (s : ℕ) (l : Hlds) (i : Input) → length i.rest ≤ s → Home h i.home i.vars → Law (λ _. Home h) Every IsStop (λ n. all_declared l) i (all_declared l i)
   all_law zero l i le q =
-      subst (λ (r : Outcome Listing). Law (λ _. Home h) Every IsStop (λ n. all_declared l) i r) (sym (all_is l i))
+      subst (λ (r : Outcome Hlds). Law (λ _. Home h) Every IsStop (λ n. all_declared l) i r) (sym (all_is l i))
       (all_law_by (sees kind.Stop i) l i refl q (λ m j r u. absurd (let f = declared_fewer l m i j r in omega (arith, le, f))))
   all_law (suc s) l i le q =
-      subst (λ (r : Outcome Listing). Law (λ _. Home h) Every IsStop (λ n. all_declared l) i r) (sym (all_is l i))
+      subst (λ (r : Outcome Hlds). Law (λ _. Home h) Every IsStop (λ n. all_declared l) i r) (sym (all_is l i))
       (all_law_by (sees kind.Stop i) l i refl q (λ m j r u. all_law s m j (let f = declared_fewer l m i j r in omega (arith, le, f)) u))
 
-law_top : (h : List ℕ) (l : Listing) (j : Input) → Law (λ _. Home h) Every IsStop (λ n. all_declared l) j (all_declared l j) → Law (λ _. Top) Every IsStop (λ n. all_declared l) j (all_declared l j)
+law_top : (h : List ℕ) (l : Hlds) (j : Input) → Law (λ _. Home h) Every IsStop (λ n. all_declared l) j (all_declared l j) → Law (λ _. Top) Every IsStop (λ n. all_declared l) j (all_declared l j)
 law_top h l j w = law_restated (λ _. Home h) (λ _. Top) Every IsStop (λ n. all_declared l) j (all_declared l j) (λ x home vars s. tt) w
 
-fill_top : (h : List ℕ) (l : Listing) (j : Input) → Fill (λ _. Home h) Every IsStop (λ n. all_declared l) j → Fill (λ _. Top) Every IsStop (λ n. all_declared l) j
+fill_top : (h : List ℕ) (l : Hlds) (j : Input) → Fill (λ _. Home h) Every IsStop (λ n. all_declared l) j → Fill (λ _. Top) Every IsStop (λ n. all_declared l) j
 fill_top h l j c = (c.0, record { value = c.1.value; end = c.1.end; post = tt; run = c.1.run })
 
 -- what a program begins with can be filled up to a program

@@ -6,7 +6,7 @@ use Rattle.md_hlds.specs.declared.goal.Op.{Op}
 use Rattle.md_hlds.specs.declared.goal.Cmp.{Cmp}
 use Rattle.md_hlds.specs.declared.goal.Cmp.TheVariants as cmp
 use Rattle.md_hlds.specs.declared.goal.Term.TheVariants as term
-use Rattle.md_hlds.specs.Part.{Task, Plain, Apply, Invoke, Unifies, Computes, Compares}
+use Rattle.md_hlds.specs.HldsGoal.{GoalExpr, SimpleGoal, HoCallGoal, CallGoal, Unifies, Computes, Compares}
 use Rattle.md_token.specs.declared.kind.Kind.{Kind}
 use Rattle.md_token.specs.declared.kind.Kind.TheVariants as kind
 use Rattle.md_token.specs.Kinds.{same_kind}
@@ -125,16 +125,16 @@ operator_live_at i o e = operator_live (first i.rest).kind o e
 
 module _ (h : List ℕ) (x y : ℕ) where
   -- what stands behind `X = Y`, by the next token
-  abbrev more : Parser Task
+  abbrev more : Parser GoalExpr
   more = λ i. rule.arithmetic x y (rule.operator (first i.rest).kind) i
 
-  computed : (o : Op) → Fills (Seen h (x ∷ y ∷ [])) (λ _. Home h) Every BehindGoal (variable (x ∷ y ∷ []) >>= (λ z. pure (Plain (Computes x y o z)))) (λ n. variable (x ∷ y ∷ []) >>= (λ z. pure (Plain (Computes x y o z))))
+  computed : (o : Op) → Fills (Seen h (x ∷ y ∷ [])) (λ _. Home h) Every BehindGoal (variable (x ∷ y ∷ []) >>= (λ z. pure (SimpleGoal (Computes x y o z)))) (λ n. variable (x ∷ y ∷ []) >>= (λ z. pure (SimpleGoal (Computes x y o z))))
   computed o =
       sequel (Seen h (x ∷ y ∷ [])) (λ z. Seen h ((x ∷ y ∷ []) ++ z ∷ [])) (λ _. Home h) Every BehindGoal BehindGoal (variable (x ∷ y ∷ [])) _ (variables h Every BehindGoal (x ∷ y ∷ []) (λ i. tt))
-      (λ z. given (Seen h ((x ∷ y ∷ []) ++ z ∷ [])) (λ _. Home h) BehindGoal (Plain (Computes x y o z)) (λ home vars s. s.0))
+      (λ z. given (Seen h ((x ∷ y ∷ []) ++ z ∷ [])) (λ _. Home h) BehindGoal (SimpleGoal (Computes x y o z)) (λ home vars s. s.0))
 
   -- no operator
-  plain_more : (ts : List Lexeme) (n : ℕ) (i : Input) → rule.operator (first ts).kind ≡ None → more (upon n ts i) ≡ Ok (Plain (Unifies x (term.Var y)), upon n ts i)
+  plain_more : (ts : List Lexeme) (n : ℕ) (i : Input) → rule.operator (first ts).kind ≡ None → more (upon n ts i) ≡ Ok (SimpleGoal (Unifies x (term.Var y)), upon n ts i)
   plain_more ts n i e = rw e refl
 
   more_by : (o : Option Op) (i : Input) → rule.operator (first i.rest).kind ≡ o → Seen h (x ∷ y ∷ []) i.home i.vars → Law (λ _. Home h) BehindGoal BehindGoal (λ n. more) i (rule.arithmetic x y o i)
@@ -154,7 +154,7 @@ module _ (h : List ℕ) (x y : ℕ) where
   more_by (Some o) i e s =
       chosen_at (λ _. Home h) BehindGoal BehindGoal (λ line k n. rule.arithmetic x y (rule.operator k)) i _
       (subst (λ (p : Option Op). Law (λ _. Home h) Never BehindGoal (λ n. rule.arithmetic x y p) i (rule.arithmetic x y (Some o) i)) (sym e)
-      (bind_at (λ _. Seen h (x ∷ y ∷ [])) (λ _. Home h) Never Every BehindGoal (λ n. advance) (λ _ n. variable (x ∷ y ∷ []) >>= (λ z. pure (Plain (Computes x y o z)))) i (advance i) (λ _. variable (x ∷ y ∷ []) >>= (λ z. pure (Plain (Computes x y o z))))
+      (bind_at (λ _. Seen h (x ∷ y ∷ [])) (λ _. Home h) Never Every BehindGoal (λ n. advance) (λ _ n. variable (x ∷ y ∷ []) >>= (λ z. pure (SimpleGoal (Computes x y o z)))) i (advance i) (λ _. variable (x ∷ y ∷ []) >>= (λ z. pure (SimpleGoal (Computes x y o z))))
       (advance_at (Seen h (x ∷ y ∷ [])) Never Every i (operator_live_at i o e) s)
       (λ u j r q. (computed o).law j q) (λ u j q. (computed o).fill j q)))
 
@@ -164,7 +164,7 @@ module _ (h : List ℕ) (x y : ℕ) where
     fill = λ i s. (
       [],
       record {
-        value = Plain (Unifies x (term.Var y));
+        value = SimpleGoal (Unifies x (term.Var y));
         end = i;
         post = s.0;
         run = record { bound = 0; runs = λ n tail le fit. plain_more tail n i (goal_operator (first tail).kind fit.1); starts = λ tail fit. fit };
@@ -183,13 +183,13 @@ module _ (h : List ℕ) (x : ℕ) (i : Input) (s : Seen h (x ∷ []) i.home i.va
       (λ y j r q. (mores h x y).law j q) (λ y j q. (mores h x y).fill j q)
 
   -- a functor and its arguments
-  abbrev applied : PredName → Parser Task
-  applied f = rule.arguments (x ∷ []) >>= (λ ys. pure (Plain (Unifies x (term.Name f ys))))
+  abbrev applied : PredName → Parser GoalExpr
+  applied f = rule.arguments (x ∷ []) >>= (λ ys. pure (SimpleGoal (Unifies x (term.Name f ys))))
 
   applications : (f : PredName) → Fills One (λ _. Home h) BehindGoal BehindGoal (applied f) (λ n. applied f)
   applications f =
       sequel One (λ _. Home h) (λ _. Home h) BehindGoal BehindGoal BehindGoal (rule.arguments (x ∷ [])) _ (arguments h (x ∷ []))
-      (λ ys. given (Home h) (λ _. Home h) BehindGoal (Plain (Unifies x (term.Name f ys))) (λ home vars s. s))
+      (λ ys. given (Home h) (λ _. Home h) BehindGoal (SimpleGoal (Unifies x (term.Name f ys))) (λ home vars s. s))
 
   application_at : (F : Lexeme → Type 0) → Law (λ _. One) F BehindGoal (λ n. rule.pred_name) i (rule.pred_name i) → Law (λ _. Home h) F BehindGoal (λ n. rule.application x) i (rule.application x i)
   unfolding rule.application
@@ -201,7 +201,7 @@ module _ (h : List ℕ) (x : ℕ) (i : Input) (s : Seen h (x ∷ []) i.home i.va
       (bind_at (λ _. One) (λ _. One) Never Every BehindGoal (λ n. advance) (λ _ n. rule.negated x) i (advance i) (λ _. rule.negated x) (advance_at One Never Every i (ap live e) s)
       (λ u j r q. (negated One BehindGoal x).law j q) (λ u j q. (negated One BehindGoal x).fill j q))
 
-  home_only : (P : ℕ → Parser Task) (r : Outcome Task) → Law (λ _. One) Never BehindGoal P i r → Law (λ _. Home h) Never BehindGoal P i r
+  home_only : (P : ℕ → Parser GoalExpr) (r : Outcome GoalExpr) → Law (λ _. One) Never BehindGoal P i r → Law (λ _. Home h) Never BehindGoal P i r
   home_only P r w = law_restated (λ _. One) (λ _. Home h) Never BehindGoal P i r (λ t home vars q. q.0) w
 
 abbrev pub IsName : Lexeme → Type 0
@@ -212,17 +212,17 @@ IsEquals t = t.kind ≡ kind.Equals
 
 module _ (h : List ℕ) (x : ℕ) where
   -- what stands behind `X =`, by the next token
-  abbrev Right : ℕ → Parser Task
+  abbrev Right : ℕ → Parser GoalExpr
   Right n = λ i. rule.term_by x (first i.rest).kind i
 
   right_fill : (i : Input) → Seen h (x ∷ []) i.home i.vars → Fill (λ _. Home h) Every BehindGoal Right i
   unfolding rule.application
   right_fill i s =
-      let f = (sequel (Seen h (x ∷ [])) (λ _. Seen h (x ∷ [])) (λ _. Home h) IsName BehindGoal BehindGoal rule.pred_name (λ f. rule.arguments (x ∷ []) >>= (λ ys. pure (Plain (Unifies x (term.Name f ys))))) (pred_names (Seen h (x ∷ [])) IsName BehindGoal (λ j. refl)) (λ f. applications h x i s f)).fill i s in
+      let f = (sequel (Seen h (x ∷ [])) (λ _. Seen h (x ∷ [])) (λ _. Home h) IsName BehindGoal BehindGoal rule.pred_name (λ f. rule.arguments (x ∷ []) >>= (λ ys. pure (SimpleGoal (Unifies x (term.Name f ys))))) (pred_names (Seen h (x ∷ [])) IsName BehindGoal (λ j. refl)) (λ f. applications h x i s f)).fill i s in
       let g = fill_like (λ _. Home h) IsName BehindGoal Right (λ n. rule.application x) i 0 (λ n ts le fit. ap (λ (k : Kind). rule.term_by x k (upon n ts i)) fit.1) f in
       (g.0, done_wider (λ _. Home h) IsName Every BehindGoal Right i g.0 (λ t e. tt) g.1)
 
-  right_chosen : (i : Input) (k : Kind) → (first i.rest).kind ≡ k → (r : Outcome Task) → Law (λ _. Home h) Never BehindGoal (λ n. rule.term_by x k) i r → Law (λ _. Home h) Every BehindGoal Right i r
+  right_chosen : (i : Input) (k : Kind) → (first i.rest).kind ≡ k → (r : Outcome GoalExpr) → Law (λ _. Home h) Never BehindGoal (λ n. rule.term_by x k) i r → Law (λ _. Home h) Every BehindGoal Right i r
   right_chosen i k e r w = chosen_kind (λ _. Home h) Every BehindGoal (λ line k n. rule.term_by x k) i k e r w
 
   right_by : (k : Kind) (i : Input) → (first i.rest).kind ≡ k → Seen h (x ∷ []) i.home i.vars → Law (λ _. Home h) Every BehindGoal Right i (rule.term_by x k i)
@@ -242,7 +242,7 @@ module _ (h : List ℕ) (x : ℕ) where
   -- ---- relations
 
   -- what stands behind `X`, by the next token
-  abbrev Related : ℕ → Parser Task
+  abbrev Related : ℕ → Parser GoalExpr
   Related n = λ i. rule.related x (first i.rest).kind i
 
   equals_is : (n : ℕ) (ts : List Lexeme) (i : Input) → (first ts).kind ≡ kind.Equals → Related n (upon n ts i) ≡ (expect kind.Equals >> rule.term_after x) (upon n ts i)
@@ -255,16 +255,16 @@ module _ (h : List ℕ) (x : ℕ) where
       let g = fill_like (λ _. Home h) IsEquals BehindGoal Related (λ n. expect kind.Equals >> rule.term_after x) i 0 (λ n ts le fit. equals_is n ts i fit.1) f in
       (g.0, done_wider (λ _. Home h) IsEquals Every BehindGoal Related i g.0 (λ t e. tt) g.1)
 
-  related_chosen : (i : Input) (k : Kind) → (first i.rest).kind ≡ k → (r : Outcome Task) → Law (λ _. Home h) Never BehindGoal (λ n. rule.related x k) i r → Law (λ _. Home h) Every BehindGoal Related i r
+  related_chosen : (i : Input) (k : Kind) → (first i.rest).kind ≡ k → (r : Outcome GoalExpr) → Law (λ _. Home h) Never BehindGoal (λ n. rule.related x k) i r → Law (λ _. Home h) Every BehindGoal Related i r
   related_chosen i k e r w = chosen_kind (λ _. Home h) Every BehindGoal (λ line k n. rule.related x k) i k e r w
 
   compared_at : (c : Cmp) (i : Input) → live (first i.rest).kind ≡ true → Seen h (x ∷ []) i.home i.vars → Law (λ _. Home h) Never BehindGoal (λ n. rule.compared x (Some c)) i (rule.compared x (Some c) i)
   unfolding token
   compared_at c i l s =
-      let rest : Fills (Seen h (x ∷ [])) (λ _. Home h) Every BehindGoal (variable (x ∷ []) >>= (λ y. pure (Plain (Compares x c y)))) (λ n. variable (x ∷ []) >>= (λ y. pure (Plain (Compares x c y)))) =
+      let rest : Fills (Seen h (x ∷ [])) (λ _. Home h) Every BehindGoal (variable (x ∷ []) >>= (λ y. pure (SimpleGoal (Compares x c y)))) (λ n. variable (x ∷ []) >>= (λ y. pure (SimpleGoal (Compares x c y)))) =
       sequel (Seen h (x ∷ [])) (λ y. Seen h (x ∷ y ∷ [])) (λ _. Home h) Every BehindGoal BehindGoal (variable (x ∷ [])) _ (variables h Every BehindGoal (x ∷ []) (λ j. tt))
-      (λ y. given (Seen h (x ∷ y ∷ [])) (λ _. Home h) BehindGoal (Plain (Compares x c y)) (λ home vars s. s.0)) in
-      bind_at (λ _. Seen h (x ∷ [])) (λ _. Home h) Never Every BehindGoal (λ n. advance) (λ _ n. variable (x ∷ []) >>= (λ y. pure (Plain (Compares x c y)))) i (advance i) (λ _. variable (x ∷ []) >>= (λ y. pure (Plain (Compares x c y)))) (advance_at (Seen h (x ∷ [])) Never Every i l s)
+      (λ y. given (Seen h (x ∷ y ∷ [])) (λ _. Home h) BehindGoal (SimpleGoal (Compares x c y)) (λ home vars s. s.0)) in
+      bind_at (λ _. Seen h (x ∷ [])) (λ _. Home h) Never Every BehindGoal (λ n. advance) (λ _ n. variable (x ∷ []) >>= (λ y. pure (SimpleGoal (Compares x c y)))) i (advance i) (λ _. variable (x ∷ []) >>= (λ y. pure (SimpleGoal (Compares x c y)))) (advance_at (Seen h (x ∷ [])) Never Every i l s)
       (λ u j r q. rest.law j q) (λ u j q. rest.fill j q)
 
   equals_at : (i : Input) → live (first i.rest).kind ≡ true → Seen h (x ∷ []) i.home i.vars → Law (λ _. Home h) Never BehindGoal (λ n. advance >> rule.term_after x) i ((advance >> rule.term_after x) i)
@@ -290,11 +290,11 @@ module _ (h : List ℕ) (i : Input) (s : Home h i.home i.vars) where
 
   -- ---- calls
 
-  called : (q : PredName) (ys : List ℕ) (o : Option Task) → Fills (Home h) (λ _. Home h) BehindGoal BehindGoal (rule.called q ys o) (λ n. rule.called q ys o)
+  called : (q : PredName) (ys : List ℕ) (o : Option GoalExpr) → Fills (Home h) (λ _. Home h) BehindGoal BehindGoal (rule.called q ys o) (λ n. rule.called q ys o)
   called q ys (Some t) = given (Home h) (λ _. Home h) BehindGoal t (λ home vars s. s)
-  called q ys None = sequel (Home h) (λ _. Home h) (λ _. Home h) BehindGoal BehindGoal BehindGoal site _ (sites (Home h) BehindGoal) (λ n. given (Home h) (λ _. Home h) BehindGoal (Invoke n q ys) (λ home vars s. s))
+  called q ys None = sequel (Home h) (λ _. Home h) (λ _. Home h) BehindGoal BehindGoal BehindGoal site _ (sites (Home h) BehindGoal) (λ n. given (Home h) (λ _. Home h) BehindGoal (CallGoal n q ys) (λ home vars s. s))
 
-  abbrev Called : PredName → Parser Task
+  abbrev Called : PredName → Parser GoalExpr
   Called q = rule.arguments [] >>= (λ ys. rule.called q ys (rule.builtin q ys))
 
   called_with : (q : PredName) → Fills (Home h) (λ _. Home h) BehindGoal BehindGoal (Called q) (λ n. Called q)
@@ -309,9 +309,9 @@ module _ (h : List ℕ) (i : Input) (s : Home h i.home i.vars) where
 
   applied_by : (ys : List ℕ) → Fills (Filled h ys) (λ _. Home h) BehindGoal BehindGoal (rule.applied ys) (λ n. rule.applied ys)
   applied_by [] = record { law = λ j s. absurd (let l = s.1 in omega (arith, l)); fill = λ j s. absurd (let l = s.1 in omega (arith, l)) }
-  applied_by (f ∷ ys) = sequel (Filled h (f ∷ ys)) (λ _. Filled h (f ∷ ys)) (λ _. Home h) BehindGoal BehindGoal BehindGoal site _ (sites (Filled h (f ∷ ys)) BehindGoal) (λ n. given (Filled h (f ∷ ys)) (λ _. Home h) BehindGoal (Apply n f ys) (λ home vars s. s.0))
+  applied_by (f ∷ ys) = sequel (Filled h (f ∷ ys)) (λ _. Filled h (f ∷ ys)) (λ _. Home h) BehindGoal BehindGoal BehindGoal site _ (sites (Filled h (f ∷ ys)) BehindGoal) (λ n. given (Filled h (f ∷ ys)) (λ _. Home h) BehindGoal (HoCallGoal n f ys) (λ home vars s. s.0))
 
-  abbrev Closure : Parser Task
+  abbrev Closure : Parser GoalExpr
   Closure = expect kind.Open >> (rule.variables kind.Close [] >>= rule.applied)
 
   closures : Fills (Home h) (λ _. Home h) Every BehindGoal Closure (λ n. Closure)

@@ -4,7 +4,7 @@ use Rattle.std.specs.Prelude.{codes}
 use Rattle.std.specs.Str.{bytes_eq}
 use Rattle.md_hlds.specs.declared.types.Mode.TheVariants as mode
 use Rattle.md_hlds.specs.declared.types.Det.TheVariants as det
-use Rattle.md_hlds.specs.Listing.{Sort, named, number as int_sort, text as string_sort, world as io_sort}
+use Rattle.md_hlds.specs.Hlds.{HldsType, named, number as int_sort, text as string_sort, world as io_sort}
 use Rattle.md_token.specs.declared.kind.Kind.TheVariants as kind
 use Rattle.md_token.specs.Kinds.{same_kind}
 use Rattle.md_token.specs.Token.{Lexeme}
@@ -111,23 +111,23 @@ type_names S K = record {
 pub one_token : (ts us : List Lexeme) → live (first ts).kind ≡ true → us ≡ drop 1 ts → ts ≡ first ts ∷ us
 one_token ts us l e = front_live ts l ∙ ap (λ (vs : List Lexeme). first ts ∷ vs) (sym e)
 
-own_behind : (b : Bool) (w : List ℕ) (t : Sort) (i j : Input) → and_then (cond b (limit i) (Ok (w, next i))) (λ n. pure (named n)) ≡ Ok (t, j) → next i ≡ j
+own_behind : (b : Bool) (w : List ℕ) (t : HldsType) (i j : Input) → and_then (cond b (limit i) (Ok (w, next i))) (λ n. pure (named n)) ≡ Ok (t, j) → next i ≡ j
 own_behind true w t i j h = absurd (cc)
 own_behind false w t i j h = ok_input (named w) t (next i) j h
 
-named_behind : (a b c : Bool) (w : List ℕ) (t : Sort) (i j : Input) → cond a (advance >> pure int_sort) (cond b (advance >> pure string_sort) (cond c (advance >> pure io_sort) (take_name w >>= (λ n. pure (named n))))) i ≡ Ok (t, j) → next i ≡ j
+named_behind : (a b c : Bool) (w : List ℕ) (t : HldsType) (i j : Input) → cond a (advance >> pure int_sort) (cond b (advance >> pure string_sort) (cond c (advance >> pure io_sort) (take_name w >>= (λ n. pure (named n))))) i ≡ Ok (t, j) → next i ≡ j
 unfolding take_name
 named_behind true b c w t i j h = ok_input int_sort t (next i) j h
 named_behind false true c w t i j h = ok_input string_sort t (next i) j h
 named_behind false false true w t i j h = ok_input io_sort t (next i) j h
 named_behind false false false w t i j h = own_behind (nat_lt i.limits.items (length w)) w t i j h
 
-sort_behind : (b : Bool) (t : Sort) (i j : Input) → sees kind.Name i ≡ b → cond b (rule.sort_named (token i).text i) (refuse i) ≡ Ok (t, j) → i.rest ≡ first i.rest ∷ j.rest
+sort_behind : (b : Bool) (t : HldsType) (i j : Input) → sees kind.Name i ≡ b → cond b (rule.sort_named (token i).text i) (refuse i) ≡ Ok (t, j) → i.rest ≡ first i.rest ∷ j.rest
 unfolding next
 sort_behind true t i j e h = one_token i.rest j.rest (seen_live kind.Name i e refl) (sym (ap (λ (m : Input). m.rest) (named_behind (bytes_eq (token i).text (codes "int")) (bytes_eq (token i).text (codes "string")) (bytes_eq (token i).text (codes "io")) (token i).text t i j h)))
 sort_behind false t i j e h = absurd (cc)
 
-pub sort_one : (t : Sort) (i j : Input) → rule.sort i ≡ Ok (t, j) → i.rest ≡ first i.rest ∷ j.rest
+pub sort_one : (t : HldsType) (i j : Input) → rule.sort i ≡ Ok (t, j) → i.rest ≡ first i.rest ∷ j.rest
 unfolding rule.sort
 sort_one t i j h = sort_behind (sees kind.Name i) t i j refl h
 
@@ -141,7 +141,7 @@ sort_lists S = record {
   posts = λ x a home vars s. s;
 }
 
-sorts_within : (S : State) (K : Lexeme → Type 0) (n c : ℕ) (ts : List Sort) → Fills S (λ _. S) Every K (rule.sorts_from n ts) (λ m. rule.sorts_from (m - c) ts)
+sorts_within : (S : State) (K : Lexeme → Type 0) (n c : ℕ) (ts : List HldsType) → Fills S (λ _. S) Every K (rule.sorts_from n ts) (λ m. rule.sorts_from (m - c) ts)
 unfolding rule.sorts_from
 sorts_within S K n c ts =
     lists (λ _. rule.sort) (λ ts t. ts ++ t ∷ []) (λ ts t. ts ++ t ∷ []) kind.Close rule.sorts_from (λ _. S) (λ _. S) Every (sort_lists S) K

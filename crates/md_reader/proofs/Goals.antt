@@ -1,16 +1,16 @@
 -- Conjunctions of one goal and of more, and the depth of goals.
 use Rattle.std.proofs.Common.{◌≡◌, ◌≢◌, ℕ, zero, suc, ◌<◌, ◌-◌, List, [], ◌∷◌, length, get_or, refl, arith}
 use Rattle.md_hlds.specs.declared.goal.Goal.{Goal}
-use Rattle.md_hlds.specs.Part.{At, Each, gathered, part_of, parts_of}
+use Rattle.md_hlds.specs.HldsGoal.{At, ConjGoal, gathered, goal_of, goals_of}
 use Rattle.md_reader.specs.Input.{Input}
 use Rattle.md_reader.specs.Rules.{joined, first_line, conjunction, conjunction_with, within}
 
-pub joined_many : (gs : List Goal) → length gs ≢ 1 → joined (parts_of gs) ≡ At (first_line (parts_of gs)) (Each (gathered (parts_of gs)))
+pub joined_many : (gs : List Goal) → length gs ≢ 1 → joined (goals_of gs) ≡ At (first_line (goals_of gs)) (ConjGoal (gathered (goals_of gs)))
 joined_many [] h = refl
 joined_many (g ∷ []) h = absurd (h refl)
 joined_many (g ∷ k ∷ gs) h = refl
 
-pub joined_one : (gs : List Goal) (g : Goal) → length gs ≡ 1 → g ≡ get_or gs 0 g → part_of g ≡ joined (parts_of gs)
+pub joined_one : (gs : List Goal) (g : Goal) → length gs ≡ 1 → g ≡ get_or gs 0 g → goal_of g ≡ joined (goals_of gs)
 joined_one [] g h e = absurd (omega arith)
 joined_one (k ∷ []) g h e = rw e refl
 joined_one (k ∷ l ∷ gs) g h e = absurd (omega arith)

@@ -5,26 +5,26 @@ use Rattle.md_hlds.specs.declared.types.Mode.{Mode}
 use Rattle.md_hlds.specs.declared.program.Functor.{Functor}
 use Rattle.md_hlds.specs.declared.program.TypeDef.{TypeDef}
 use Rattle.md_hlds.specs.declared.program.Pred.{Pred}
-use Rattle.md_hlds.specs.Listing.{sort_of, sorts_of, construct_of, constructs_of, args_of, family_of, families_of, procedure_of, procedures_of}
+use Rattle.md_hlds.specs.Hlds.{hlds_type_of, hlds_types_of, hlds_functor_of, hlds_functors_of, args_of, type_def_of, type_defs_of, procedure_of, procedures_of}
 use Rattle.md_reader.specs.declared.program.Draft.{Draft}
 use Rattle.md_reader.specs.Views.{draft_of}
 use Rattle.md_reader.specs.Rules.{with_procedure, with_family}
 
-pub sorts_of-append : (ts us : List Ty) → sorts_of (ts ++ us) ≡ sorts_of ts ++ sorts_of us
-sorts_of-append [] us = refl
-sorts_of-append (t ∷ ts) us = ap (λ xs. sort_of t ∷ xs) (sorts_of-append ts us)
+pub hlds_types_of-append : (ts us : List Ty) → hlds_types_of (ts ++ us) ≡ hlds_types_of ts ++ hlds_types_of us
+hlds_types_of-append [] us = refl
+hlds_types_of-append (t ∷ ts) us = ap (λ xs. hlds_type_of t ∷ xs) (hlds_types_of-append ts us)
 
-pub constructs_of-append : (ts us : List Functor) → constructs_of (ts ++ us) ≡ constructs_of ts ++ constructs_of us
-constructs_of-append [] us = refl
-constructs_of-append (t ∷ ts) us = ap (λ xs. construct_of t ∷ xs) (constructs_of-append ts us)
+pub hlds_functors_of-append : (ts us : List Functor) → hlds_functors_of (ts ++ us) ≡ hlds_functors_of ts ++ hlds_functors_of us
+hlds_functors_of-append [] us = refl
+hlds_functors_of-append (t ∷ ts) us = ap (λ xs. hlds_functor_of t ∷ xs) (hlds_functors_of-append ts us)
 
 pub args_of-append : (ts us : List (Ty × Mode)) → args_of (ts ++ us) ≡ args_of ts ++ args_of us
 args_of-append [] us = refl
-args_of-append (t ∷ ts) us = ap (λ xs. (sort_of t.0, t.1) ∷ xs) (args_of-append ts us)
+args_of-append (t ∷ ts) us = ap (λ xs. (hlds_type_of t.0, t.1) ∷ xs) (args_of-append ts us)
 
-pub families_of-append : (ts us : List TypeDef) → families_of (ts ++ us) ≡ families_of ts ++ families_of us
-families_of-append [] us = refl
-families_of-append (t ∷ ts) us = ap (λ xs. family_of t ∷ xs) (families_of-append ts us)
+pub type_defs_of-append : (ts us : List TypeDef) → type_defs_of (ts ++ us) ≡ type_defs_of ts ++ type_defs_of us
+type_defs_of-append [] us = refl
+type_defs_of-append (t ∷ ts) us = ap (λ xs. type_def_of t ∷ xs) (type_defs_of-append ts us)
 
 pub procedures_of-append : (ts us : List Pred) → procedures_of (ts ++ us) ≡ procedures_of ts ++ procedures_of us
 procedures_of-append [] us = refl
@@ -35,14 +35,14 @@ pub with_one_procedure : (before after : Draft) (p : Pred) → after.module ≡ 
 unfolding with_procedure
 with_one_procedure before after p m l t e = rw (m, l, t, e, procedures_of-append before.preds.items (p ∷ [])) refl
 
-pub with_one_family : (before after : Draft) (t : TypeDef) → after.module ≡ before.module → after.module_line ≡ before.module_line → after.preds ≡ before.preds → after.types.items ≡ before.types.items ++ t ∷ [] → draft_of after ≡ with_family (draft_of before) (family_of t)
+pub with_one_family : (before after : Draft) (t : TypeDef) → after.module ≡ before.module → after.module_line ≡ before.module_line → after.preds ≡ before.preds → after.types.items ≡ before.types.items ++ t ∷ [] → draft_of after ≡ with_family (draft_of before) (type_def_of t)
 unfolding with_family
-with_one_family before after t m l p e = rw (m, l, p, e, families_of-append before.types.items (t ∷ [])) refl
+with_one_family before after t m l p e = rw (m, l, p, e, type_defs_of-append before.types.items (t ∷ [])) refl
 
 pub length_args_of : (as' : List (Ty × Mode)) → length (args_of as') ≡ length as'
 length_args_of [] = refl
 length_args_of (a ∷ as') = ap suc (length_args_of as')
 
-pub length_sorts_of : (ts : List Ty) → length (sorts_of ts) ≡ length ts
+pub length_sorts_of : (ts : List Ty) → length (hlds_types_of ts) ≡ length ts
 length_sorts_of [] = refl
 length_sorts_of (t ∷ ts) = ap suc (length_sorts_of ts)

@@ -5,7 +5,7 @@ use Rattle.std.specs.Option.{option_map, option_eq}
 use Rattle.std.specs.Cmp.Lexicographic.{pointwise}
 use Rattle.std.proofs.lemmas.List.{map-append}
 use Rattle.std.proofs.Math.Seq.{take-suc}
-use Rattle.md_hlds.specs.Listing.{same_qualifier}
+use Rattle.md_hlds.specs.Hlds.{same_qualifier}
 use Rattle.md_reader.specs.declared.duplicates.Key.{Key}
 use Rattle.md_reader.specs.declared.duplicates.Declared.{Declared as Entry}
 use Rattle.md_reader.specs.contracts.duplicates.KeyPartialEq.TheImpl.{eq-value}

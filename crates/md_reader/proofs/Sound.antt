@@ -5,8 +5,8 @@ use Rattle.md_hlds.specs.declared.types.Mode.{Mode}
 use Rattle.md_hlds.specs.declared.goal.PredName.{PredName}
 use Rattle.md_hlds.specs.declared.goal.Op.{Op}
 use Rattle.md_hlds.specs.declared.goal.Cmp.{Cmp}
-use Rattle.md_hlds.specs.Part.{Task}
-use Rattle.md_hlds.specs.Listing.{Sort, Construct, Family}
+use Rattle.md_hlds.specs.HldsGoal.{GoalExpr}
+use Rattle.md_hlds.specs.Hlds.{HldsType, HldsFunctor, HldsTypeDef}
 use Rattle.md_token.specs.declared.kind.Kind.{Kind}
 use Rattle.md_token.specs.declared.kind.Kind.TheVariants as kind
 use Rattle.md_reader.specs.Input.{Input, next, token, kind_at, expect, variable, name, word, turns, site}
@@ -17,7 +17,7 @@ use Rattle.md_reader.proofs.Steps.{bind_ok, closed, made, sign_of, eaten, Found,
 
 -- ---- lists
 
-pub sorts_found : (n : ℕ) (found xs : List Sort) (i j : Input) → rule.sorts_from n found i ≡ Ok (xs, j) → Found (Is rule.sort) kind.Comma kind.Close n found xs i j
+pub sorts_found : (n : ℕ) (found xs : List HldsType) (i j : Input) → rule.sorts_from n found i ≡ Ok (xs, j) → Found (Is rule.sort) kind.Comma kind.Close n found xs i j
 unfolding rule.sorts_from
 sorts_found zero found xs i j h = let a = bind_ok (rule.sort i) _ _ h in absurd (let e = a.2 in cc)
 sorts_found (suc n) found xs i j h =
@@ -39,7 +39,7 @@ modes_found (suc n) found xs i j h =
 
 -- ---- types
 
-pub functor_arguments_sound : (ts : List Sort) (i j : Input) → rule.functor_arguments i ≡ Ok (ts, j) → g.FunctorArguments ts i j
+pub functor_arguments_sound : (ts : List HldsType) (i j : Input) → rule.functor_arguments i ≡ Ok (ts, j) → g.FunctorArguments ts i j
 unfolding rule.functor_arguments
 functor_arguments_sound ts i j h =
     elim (eaten kind.Open i _ _ _ h) [
@@ -47,14 +47,14 @@ functor_arguments_sound ts i j h =
       | inr q ↦ nothing (λ ts. g.FunctorArguments ts i) [] ts i j q (g.FunctorArguments.none i)
     ]
 
-pub functor_sound : (f : Construct) (i j : Input) → rule.functor i ≡ Ok (f, j) → g.Functor f i j
+pub functor_sound : (f : HldsFunctor) (i j : Input) → rule.functor i ≡ Ok (f, j) → g.Functor f i j
 unfolding rule.functor
 functor_sound f i j h =
     let a = bind_ok (name i) _ _ h in
     let b = made rule.functor_arguments (λ ts. record { name = a.0.0; args = ts }) f a.0.1 j a.2 in
-    subst (λ (f : Construct). g.Functor f i j) (sym b.2) (g.Functor.functor a.0.0 b.0 i a.0.1 j a.1 (functor_arguments_sound b.0 a.0.1 j b.1))
+    subst (λ (f : HldsFunctor). g.Functor f i j) (sym b.2) (g.Functor.functor a.0.0 b.0 i a.0.1 j a.1 (functor_arguments_sound b.0 a.0.1 j b.1))
 
-pub functors_found : (n : ℕ) (found xs : List Construct) (i j : Input) → rule.functors_from n found i ≡ Ok (xs, j) → Found g.Functor kind.Semicolon kind.End n found xs i j
+pub functors_found : (n : ℕ) (found xs : List HldsFunctor) (i j : Input) → rule.functors_from n found i ≡ Ok (xs, j) → Found g.Functor kind.Semicolon kind.End n found xs i j
 unfolding rule.functors_from
 functors_found zero found xs i j h = absurd (cc)
 functors_found (suc n) found xs i j h =
@@ -64,7 +64,7 @@ functors_found (suc n) found xs i j h =
       | inr q ↦ let b = closed kind.End (found ++ a.0.0 ∷ []) xs a.0.1 j q in found_last g.Functor kind.Semicolon kind.End n found xs a.0.0 i a.0.1 j (functor_sound a.0.0 i a.0.1 a.1) b.0 b.1
     ]
 
-pub family_sound : (line : ℕ) (t : Family) (i j : Input) → rule.family line i ≡ Ok (t, j) → g.TypeDeclaration line t i j
+pub family_sound : (line : ℕ) (t : HldsTypeDef) (i j : Input) → rule.family line i ≡ Ok (t, j) → g.TypeDeclaration line t i j
 unfolding rule.family rule.functors
 family_sound line t i j h =
     let a = bind_ok (word (codes "type") i) _ _ h in
@@ -72,8 +72,8 @@ family_sound line t i j h =
     let c = bind_ok (expect kind.Yields b.0.1) _ _ b.2 in
     let d = made rule.functors (λ fs. record { name = b.0.0; line = line; functors = fs }) t c.0.1 j c.2 in
     let f = functors_found (turns c.0.1) [] d.0 c.0.1 j d.1 in
-    subst (λ (t : Family). g.TypeDeclaration line t i j) (sym d.2)
-    (subst (λ (fs : List Construct). g.TypeDeclaration line (record { name = b.0.0; line = line; functors = fs }) i j) (sym f.all)
+    subst (λ (t : HldsTypeDef). g.TypeDeclaration line t i j) (sym d.2)
+    (subst (λ (fs : List HldsFunctor). g.TypeDeclaration line (record { name = b.0.0; line = line; functors = fs }) i j) (sym f.all)
     (g.TypeDeclaration.type_declaration b.0.0 f.more a.0.0 i a.0.1 b.0.1 c.0.1 f.end j a.1 b.1 (sign_of kind.Yields c.0.0 b.0.1 c.0.1 c.1) f.listed f.close))
 
 -- ---- variables
@@ -116,26 +116,26 @@ quantified_sound xs i j h =
 
 -- ---- terms and calls
 
-arithmetic_sound : (x y : ℕ) (o : Option Op) (t : Task) (i k j : Input) → Is (variable (x ∷ [])) y i k → rule.operator (token k).kind ≡ o → rule.arithmetic x y o k ≡ Ok (t, j) → g.Term x t i j
+arithmetic_sound : (x y : ℕ) (o : Option Op) (t : GoalExpr) (i k j : Input) → Is (variable (x ∷ [])) y i k → rule.operator (token k).kind ≡ o → rule.arithmetic x y o k ≡ Ok (t, j) → g.Term x t i j
 arithmetic_sound x y None t i k j v e h = nothing (λ t. g.Term x t i) _ t k j h (g.Term.same y i k v)
 arithmetic_sound x y (Some o) t i k j v e h =
     let b = made (variable (x ∷ y ∷ [])) _ t (next k) j h in
-    subst (λ (t : Task). g.Term x t i j) (sym b.2) (g.Term.arithmetic y b.0 o i k (next k) j v (g.Operator.operator (token k).kind k (next k) e (sign_at (token k).kind k refl)) b.1)
+    subst (λ (t : GoalExpr). g.Term x t i j) (sym b.2) (g.Term.arithmetic y b.0 o i k (next k) j v (g.Operator.operator (token k).kind k (next k) e (sign_at (token k).kind k refl)) b.1)
 
-application_sound : (x : ℕ) (t : Task) (i j : Input) → rule.application x i ≡ Ok (t, j) → g.Term x t i j
+application_sound : (x : ℕ) (t : GoalExpr) (i j : Input) → rule.application x i ≡ Ok (t, j) → g.Term x t i j
 unfolding rule.application
 application_sound x t i j h =
     let a = bind_ok (rule.pred_name i) _ _ h in
     let b = made (rule.arguments (x ∷ [])) _ t a.0.1 j a.2 in
-    subst (λ (t : Task). g.Term x t i j) (sym b.2) (g.Term.application a.0.0 b.0 i a.0.1 j a.1 (arguments_sound (x ∷ []) b.0 a.0.1 j b.1))
+    subst (λ (t : GoalExpr). g.Term x t i j) (sym b.2) (g.Term.application a.0.0 b.0 i a.0.1 j a.1 (arguments_sound (x ∷ []) b.0 a.0.1 j b.1))
 
-second_sound : (x : ℕ) (t : Task) (i j : Input) → rule.second x i ≡ Ok (t, j) → g.Term x t i j
+second_sound : (x : ℕ) (t : GoalExpr) (i j : Input) → rule.second x i ≡ Ok (t, j) → g.Term x t i j
 unfolding rule.second
 second_sound x t i j h =
     let a = bind_ok (variable (x ∷ []) i) _ _ h in
     arithmetic_sound x a.0.0 _ t i a.0.1 j a.1 refl a.2
 
-term_sound_by : (k : Kind) (x : ℕ) (t : Task) (i j : Input) → kind_at i ≡ k → rule.term_by x k i ≡ Ok (t, j) → g.Term x t i j
+term_sound_by : (k : Kind) (x : ℕ) (t : GoalExpr) (i j : Input) → kind_at i ≡ k → rule.term_by x k i ≡ Ok (t, j) → g.Term x t i j
 term_sound_by kind.Variable x t i j e h = second_sound x t i j h
 term_sound_by kind.Minus x t i j e h = g.Term.negative t i (next i) j (sign_at kind.Minus i e) h
 term_sound_by kind.Integer x t i j e h = g.Term.positive t i j e h
@@ -144,16 +144,16 @@ term_sound_by kind.Name x t i j e h = application_sound x t i j h
 term_sound_by kind.Qualified x t i j e h = application_sound x t i j h
 term_sound_by _ x t i j e h = absurd (cc)
 
-pub term_sound : (x : ℕ) (t : Task) (i j : Input) → rule.term_after x i ≡ Ok (t, j) → g.Term x t i j
+pub term_sound : (x : ℕ) (t : GoalExpr) (i j : Input) → rule.term_after x i ≡ Ok (t, j) → g.Term x t i j
 term_sound x t i j h = term_sound_by (kind_at i) x t i j refl h
 
-compared_sound : (x : ℕ) (c : Option Cmp) (t : Task) (i k j : Input) → Is (variable []) x i k → rule.comparison (token k).kind ≡ c → rule.compared x c k ≡ Ok (t, j) → g.Relation t i j
+compared_sound : (x : ℕ) (c : Option Cmp) (t : GoalExpr) (i k j : Input) → Is (variable []) x i k → rule.comparison (token k).kind ≡ c → rule.compared x c k ≡ Ok (t, j) → g.Relation t i j
 compared_sound x None t i k j v e h = absurd (cc)
 compared_sound x (Some c) t i k j v e h =
     let b = made (variable (x ∷ [])) _ t (next k) j h in
-    subst (λ (t : Task). g.Relation t i j) (sym b.2) (g.Relation.comparison x b.0 c i k (next k) j v (g.Comparison.comparison (token k).kind k (next k) e (sign_at (token k).kind k refl)) b.1)
+    subst (λ (t : GoalExpr). g.Relation t i j) (sym b.2) (g.Relation.comparison x b.0 c i k (next k) j v (g.Comparison.comparison (token k).kind k (next k) e (sign_at (token k).kind k refl)) b.1)
 
-related_sound : (k : Kind) (x : ℕ) (t : Task) (i m j : Input) → Is (variable []) x i m → (token m).kind ≡ k → rule.related x k m ≡ Ok (t, j) → g.Relation t i j
+related_sound : (k : Kind) (x : ℕ) (t : GoalExpr) (i m j : Input) → Is (variable []) x i m → (token m).kind ≡ k → rule.related x k m ≡ Ok (t, j) → g.Relation t i j
 related_sound kind.Equals x t i m j v e h = g.Relation.unification x t i m (next m) j v (sign_at kind.Equals m e) (term_sound x t (next m) j h)
 related_sound kind.Less x t i m j v e h = compared_sound x _ t i m j v (ap rule.comparison e) h
 related_sound kind.AtMost x t i m j v e h = compared_sound x _ t i m j v (ap rule.comparison e) h
@@ -161,32 +161,32 @@ related_sound kind.Greater x t i m j v e h = compared_sound x _ t i m j v (ap ru
 related_sound kind.AtLeast x t i m j v e h = compared_sound x _ t i m j v (ap rule.comparison e) h
 related_sound _ x t i m j v e h = absurd (cc)
 
-pub relation_sound : (t : Task) (i j : Input) → rule.relation i ≡ Ok (t, j) → g.Relation t i j
+pub relation_sound : (t : GoalExpr) (i j : Input) → rule.relation i ≡ Ok (t, j) → g.Relation t i j
 unfolding rule.relation
 relation_sound t i j h =
     let a = bind_ok (variable [] i) _ _ h in
     related_sound (token a.0.1).kind a.0.0 t i a.0.1 j a.1 refl a.2
 
-called_sound : (q : PredName) (ys : List ℕ) (b : Option Task) (t : Task) (i k m j : Input) → Is rule.pred_name q i k → g.Arguments [] ys k m → rule.builtin q ys ≡ b → rule.called q ys b m ≡ Ok (t, j) → g.Call t i j
+called_sound : (q : PredName) (ys : List ℕ) (b : Option GoalExpr) (t : GoalExpr) (i k m j : Input) → Is rule.pred_name q i k → g.Arguments [] ys k m → rule.builtin q ys ≡ b → rule.called q ys b m ≡ Ok (t, j) → g.Call t i j
 called_sound q ys (Some u) t i k m j n a e h = nothing (λ t. g.Call t i) u t m j h (g.Call.builtin q ys u i k m n a e)
 called_sound q ys None t i k m j n a e h =
     let b = made site _ t m j h in
-    subst (λ (t : Task). g.Call t i j) (sym b.2) (g.Call.call q ys b.0 i k m j n a e b.1)
+    subst (λ (t : GoalExpr). g.Call t i j) (sym b.2) (g.Call.call q ys b.0 i k m j n a e b.1)
 
-pub call_sound : (t : Task) (i j : Input) → rule.call i ≡ Ok (t, j) → g.Call t i j
+pub call_sound : (t : GoalExpr) (i j : Input) → rule.call i ≡ Ok (t, j) → g.Call t i j
 unfolding rule.call
 call_sound t i j h =
     let a = bind_ok (rule.pred_name i) _ _ h in
     let b = bind_ok (rule.arguments [] a.0.1) _ _ a.2 in
     called_sound a.0.0 b.0.0 _ t i a.0.1 b.0.1 j a.1 (arguments_sound [] b.0.0 a.0.1 b.0.1 b.1) refl b.2
 
-applied_sound : (ys : List ℕ) (t : Task) (i k m n j : Input) → Sign kind.Call i k → Sign kind.Open k m → g.Variables kind.Close [] ys m n → rule.applied ys n ≡ Ok (t, j) → g.ClosureCall t i j
+applied_sound : (ys : List ℕ) (t : GoalExpr) (i k m n j : Input) → Sign kind.Call i k → Sign kind.Open k m → g.Variables kind.Close [] ys m n → rule.applied ys n ≡ Ok (t, j) → g.ClosureCall t i j
 applied_sound [] t i k m n j c o v h = absurd (cc)
 applied_sound (f ∷ ys) t i k m n j c o v h =
     let b = made site _ t n j h in
-    subst (λ (t : Task). g.ClosureCall t i j) (sym b.2) (g.ClosureCall.closure_call f ys b.0 i k m n j c o v b.1)
+    subst (λ (t : GoalExpr). g.ClosureCall t i j) (sym b.2) (g.ClosureCall.closure_call f ys b.0 i k m n j c o v b.1)
 
-pub closure_call_sound : (t : Task) (i j : Input) → rule.closure_call i ≡ Ok (t, j) → g.ClosureCall t i j
+pub closure_call_sound : (t : GoalExpr) (i j : Input) → rule.closure_call i ≡ Ok (t, j) → g.ClosureCall t i j
 unfolding rule.closure_call
 closure_call_sound t i j h =
     let a = bind_ok (expect kind.Call i) _ _ h in

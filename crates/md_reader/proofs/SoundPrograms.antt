@@ -4,8 +4,8 @@ use Rattle.std.specs.Prelude.{codes}
 use Rattle.md_hlds.specs.declared.types.Mode.{Mode}
 use Rattle.md_hlds.specs.declared.types.Det.{Det}
 use Rattle.md_hlds.specs.declared.goal.PredName.{PredName}
-use Rattle.md_hlds.specs.Part.{Part}
-use Rattle.md_hlds.specs.Listing.{Sort, closure, gathered_sorts, Procedure, Listing}
+use Rattle.md_hlds.specs.HldsGoal.{HldsGoal}
+use Rattle.md_hlds.specs.Hlds.{HldsType, closure, gathered_types, Procedure, Hlds}
 use Rattle.md_token.specs.declared.kind.Kind.TheVariants as kind
 use Rattle.md_reader.specs.Input.{Input, Outcome, and_then, pure, limit, sees, next, after, token, expect, variable, word, turns, end_clause}
 use Rattle.md_reader.specs.Rules as rule
@@ -38,7 +38,7 @@ inst_sound x i j h =
     subst (λ (x : List Mode × Det). g.Inst x.0 x.1 i j) (sym e.1)
     (g.Inst.inst b.0.0 d.0.0 i a.0.1 b1.0.1 b2.0.1 b.0.1 c.0.1 d.0.1 j (sign_of kind.Open a.0.0 i a.0.1 a.1) (sign_of kind.Pred b1.0.0 a.0.1 b1.0.1 b1.1) (sign_of kind.Open b2.0.0 b1.0.1 b2.0.1 b2.1) ms (sign_of kind.Is c.0.0 b.0.1 c.0.1 c.1) d.1 e.0)
 
-ho_argument_sound : (x : Sort × Mode) (i j : Input) → rule.ho_argument i ≡ Ok (x, j) → g.Argument x i j
+ho_argument_sound : (x : HldsType × Mode) (i j : Input) → rule.ho_argument i ≡ Ok (x, j) → g.Argument x i j
 unfolding rule.ho_argument rule.ho_types
 ho_argument_sound x i j h =
     let a = bind_ok (rule.ho_types i) _ _ h in
@@ -48,21 +48,21 @@ ho_argument_sound x i j h =
     let a4 = closed kind.HasMode a3.0.0 a.0.0 a3.0.1 a.0.1 a3.2 in
     let ts = enclosed_found (Is rule.sort) kind.Close a3.0.0 a2.0.1 a3.0.1 (sorts_found a2.0.1.limits.items [] a3.0.0 a2.0.1 a3.0.1 a3.1) in
     let b = bind_ok (rule.ho_mode a.0.1) _ _ a.2 in
-    let c = made rule.inst (λ n. (closure (gathered_sorts a.0.0) n.0 n.1, b.0.0)) x b.0.1 j b.2 in
-    subst (λ (x : Sort × Mode). g.Argument x i j) (sym c.2)
-    (subst (λ (ts : List Sort). g.Argument (closure (gathered_sorts ts) c.0.0 c.0.1, b.0.0) i j) (sym a4.1)
+    let c = made rule.inst (λ n. (closure (gathered_types a.0.0) n.0 n.1, b.0.0)) x b.0.1 j b.2 in
+    subst (λ (x : HldsType × Mode). g.Argument x i j) (sym c.2)
+    (subst (λ (ts : List HldsType). g.Argument (closure (gathered_types ts) c.0.0 c.0.1, b.0.0) i j) (sym a4.1)
     (g.Argument.higher_order a3.0.0 b.0.0 c.0.0 c.0.1 i a1.0.1 a2.0.1 a3.0.1 a.0.1 b.0.1 j (sign_of kind.Pred a1.0.0 i a1.0.1 a1.1) (sign_of kind.Open a2.0.0 a1.0.1 a2.0.1 a2.1) ts a4.0 b.1 (inst_sound c.0 b.0.1 j c.1)))
 
-plain_argument_sound : (x : Sort × Mode) (i j : Input) → rule.plain_argument i ≡ Ok (x, j) → g.Argument x i j
+plain_argument_sound : (x : HldsType × Mode) (i j : Input) → rule.plain_argument i ≡ Ok (x, j) → g.Argument x i j
 unfolding rule.plain_argument
 plain_argument_sound x i j h =
     let a = bind_ok (rule.sort i) _ _ h in
     let b = bind_ok (expect kind.HasMode a.0.1) _ _ a.2 in
     let c = made rule.mode_word (λ m. (a.0.0, m)) x b.0.1 j b.2 in
-    subst (λ (x : Sort × Mode). g.Argument x i j) (sym c.2)
+    subst (λ (x : HldsType × Mode). g.Argument x i j) (sym c.2)
     (g.Argument.plain a.0.0 c.0 i a.0.1 b.0.1 j a.1 (sign_of kind.HasMode b.0.0 a.0.1 b.0.1 b.1) c.1)
 
-argument_sound : (x : Sort × Mode) (i j : Input) → rule.argument i ≡ Ok (x, j) → g.Argument x i j
+argument_sound : (x : HldsType × Mode) (i j : Input) → rule.argument i ≡ Ok (x, j) → g.Argument x i j
 unfolding rule.argument
 argument_sound x i j h =
     elim (chosen (sees kind.Pred i) (rule.ho_argument i) (rule.plain_argument i) (Ok (x, j)) h) [
@@ -70,12 +70,12 @@ argument_sound x i j h =
       | inr r ↦ plain_argument_sound x i j r.1
     ]
 
-excess_none : (i : Input) (x : List (Sort × Mode) × Input) → rule.excess i ≡ Ok x → ⊥
+excess_none : (i : Input) (x : List (HldsType × Mode) × Input) → rule.excess i ≡ Ok x → ⊥
 unfolding rule.excess
 excess_none i x h =
     elim (chosen (sees kind.Pred i) (limit i) (and_then (rule.sort i) (λ t j. limit i)) (Ok x) h) [ inl l ↦ cc | inr r ↦ let a = bind_ok (rule.sort i) _ _ r.1 in (let e = a.2 in cc) ]
 
-arguments_found : (n : ℕ) (found xs : List (Sort × Mode)) (i j : Input) → rule.arguments_from n found i ≡ Ok (xs, j) → Found g.Argument kind.Comma kind.Close n found xs i j
+arguments_found : (n : ℕ) (found xs : List (HldsType × Mode)) (i j : Input) → rule.arguments_from n found i ≡ Ok (xs, j) → Found g.Argument kind.Comma kind.Close n found xs i j
 unfolding rule.arguments_from
 arguments_found zero found xs i j h = absurd (excess_none i (xs, j) h)
 arguments_found (suc n) found xs i j h =
@@ -86,7 +86,7 @@ arguments_found (suc n) found xs i j h =
       | inr q ↦ let b = closed kind.Close (found ++ a.0.0 ∷ []) xs a.0.1 j q in found_last g.Argument kind.Comma kind.Close n found xs a.0.0 i a.0.1 j p b.0 b.1
     ]
 
-declared_arguments_sound : (xs : List (Sort × Mode)) (i j : Input) → rule.declared_arguments i ≡ Ok (xs, j) → g.DeclaredArguments xs i j
+declared_arguments_sound : (xs : List (HldsType × Mode)) (i j : Input) → rule.declared_arguments i ≡ Ok (xs, j) → g.DeclaredArguments xs i j
 unfolding rule.declared_arguments
 declared_arguments_sound xs i j h =
     elim (eaten kind.Open i _ _ _ h) [
@@ -160,12 +160,12 @@ clause_sound q n c i j h =
     let d3 = closed kind.End d2.0.0 d.0.0 d2.0.1 d.0.1 d2.2 in
     let e = made end_clause (λ vs. record { line = (token i).line; head = b.0.0; body = d.0.0; vars = vs }) c d.0.1 j d.2 in
     subst (λ (c : rule.Clause). g.PredClause q n c i j) (sym e.2)
-    (subst (λ (p : Part). g.PredClause q n (record { line = (token i).line; head = b.0.0; body = p; vars = e.0 }) i j) (sym d3.1)
+    (subst (λ (p : HldsGoal). g.PredClause q n (record { line = (token i).line; head = b.0.0; body = p; vars = e.0 }) i j) (sym d3.1)
     (g.PredClause.pred_clause b.0.0 d2.0.0 e.0 i a.0.1 b.0.1 d1.0.1 d2.0.1 d.0.1 j a.1 (head_sound n b.0.0 a.0.1 b.0.1 b.1) (sign_of kind.Declare d1.0.0 b.0.1 d1.0.1 d1.1) (conjunction_sound d1.0.1.limits.goals d2.0.0 d1.0.1 d2.0.1 d2.1) d3.0 e.1))
 
 -- ---- programs
 
-declared_sound : (before after : Listing) (i j : Input) → rule.declared before i ≡ Ok (after, j) → g.Declared before after i j
+declared_sound : (before after : Hlds) (i j : Input) → rule.declared before i ≡ Ok (after, j) → g.Declared before after i j
 unfolding rule.declared rule.declared_procedure rule.declared_family rule.procedure
 declared_sound before after i j h =
     let a = bind_ok (expect kind.Declare i) _ _ h in
@@ -174,16 +174,16 @@ declared_sound before after i j h =
           let b = made (rule.procedure a.0.0) (rule.with_procedure before) after a.0.1 j l.1 in
           let d = bind_ok (rule.declaration a.0.1) _ _ b.1 in
           let c = made (rule.clause d.0.0.name (length d.0.0.args)) (rule.procedure_from a.0.0 d.0.0) b.0 d.0.1 j d.2 in
-          subst (λ (l : Listing). g.Declared before l i j) (sym b.2)
+          subst (λ (l : Hlds). g.Declared before l i j) (sym b.2)
           (subst (λ (p : Procedure). g.Declared before (rule.with_procedure before p) i j) (sym c.2)
           (g.Declared.predicate d.0.0 c.0 a.0.0 i a.0.1 d.0.1 j a.1 (declaration_sound d.0.0 a.0.1 d.0.1 d.1) (clause_sound d.0.0.name (length d.0.0.args) c.0 d.0.1 j c.1)))
       | inr r ↦
           let b = made (rule.family a.0.0) (rule.with_family before) after a.0.1 j r.1 in
-          subst (λ (l : Listing). g.Declared before l i j) (sym b.2)
+          subst (λ (l : Hlds). g.Declared before l i j) (sym b.2)
           (g.Declared.type b.0 a.0.0 i a.0.1 j a.1 (family_sound a.0.0 b.0 a.0.1 j b.1))
     ]
 
-declarations_sound : (n : ℕ) (before after : Listing) (i j : Input) → rule.declarations_from n before i ≡ Ok (after, j) → g.Declarations before after i j × (sees kind.Stop j ≡ true)
+declarations_sound : (n : ℕ) (before after : Hlds) (i j : Input) → rule.declarations_from n before i ≡ Ok (after, j) → g.Declarations before after i j × (sees kind.Stop j ≡ true)
 unfolding rule.declarations_from
 declarations_sound zero before after i j h = absurd (cc)
 declarations_sound (suc n) before after i j h =
@@ -195,23 +195,23 @@ declarations_sound (suc n) before after i j h =
           (g.Declarations.also before a.0.0 after i a.0.1 j (declared_sound before a.0.0 i a.0.1 a.1) d.0, d.1)
     ]
 
-pub program_sound : (l : Listing) (i j : Input) → rule.program i ≡ Ok (l, j) → g.Program l i j × (sees kind.Stop j ≡ true)
+pub program_sound : (l : Hlds) (i j : Input) → rule.program i ≡ Ok (l, j) → g.Program l i j × (sees kind.Stop j ≡ true)
 unfolding rule.program rule.heading rule.declarations
 program_sound l i j h =
     let w = bind_ok (rule.heading i) _ _ h in
     let a = bind_ok (expect kind.Declare i) _ _ w.1 in
     let b = bind_ok (word (codes "module") a.0.1) _ _ a.2 in
     let c = bind_ok (rule.module_name b.0.1) _ _ b.2 in
-    let start : List ℕ → Listing = λ m. record { module_name = m; module_line = a.0.0; types = []; procedures = [] } in
+    let start : List ℕ → Hlds = λ m. record { module_name = m; module_line = a.0.0; types = []; procedures = [] } in
     let d = closed kind.End (start c.0.0) w.0.0 c.0.1 w.0.1 c.2 in
     let e = declarations_sound (turns w.0.1) w.0.0 l w.0.1 j w.2 in
-    (g.Program.program c.0.0 a.0.0 b.0.0 l i a.0.1 b.0.1 c.0.1 w.0.1 j a.1 b.1 c.1 d.0 (subst (λ (s : Listing). g.Declarations s l w.0.1 j) d.1 e.0), e.1)
+    (g.Program.program c.0.0 a.0.0 b.0.0 l i a.0.1 b.0.1 c.0.1 w.0.1 j a.1 b.1 c.1 d.0 (subst (λ (s : Hlds). g.Declarations s l w.0.1 j) d.1 e.0), e.1)
 
-once_of : (m l : Listing) (d : Option ℕ) → duplicate m ≡ d → without_duplicate m d ≡ Ok l → (m ≡ l) × (duplicate m ≡ None)
+once_of : (m l : Hlds) (d : Option ℕ) → duplicate m ≡ d → without_duplicate m d ≡ Ok l → (m ≡ l) × (duplicate m ≡ None)
 once_of m l None e h = (cc, e)
 once_of m l (Some line) e h = absurd (cc)
 
-read_sound : (text : List ℕ) (r : Outcome Listing) (l : Listing) → rule.program (rule.start (tokens_of text)) ≡ r → outcome_of r ≡ Ok l → Spells text l
+read_sound : (text : List ℕ) (r : Outcome Hlds) (l : Hlds) → rule.program (rule.start (tokens_of text)) ≡ r → outcome_of r ≡ Ok l → Spells text l
 read_sound text (Err f) l e h = absurd (cc)
 read_sound text (Ok p) l e h =
     let o = once_of p.0 l (duplicate p.0) refl h in
@@ -219,15 +219,15 @@ read_sound text (Ok p) l e h =
     subst (Spells text) o.0 (record { end = p.1; program = s.0; whole = s.1; once = o.1 })
 
 -- what a text is read as, it spells
-pub reading_sound : (text : List ℕ) (l : Listing) → reading text ≡ Ok l → Spells text l
+pub reading_sound : (text : List ℕ) (l : Hlds) → reading text ≡ Ok l → Spells text l
 unfolding reading
 reading_sound text l h = read_sound text (rule.program (rule.start (tokens_of text))) l refl h
 
-twice_of : (m : Listing) (line : ℕ) (d : Option ℕ) → duplicate m ≡ d → without_duplicate m d ≡ Err (refused.Duplicate line) → duplicate m ≡ Some line
+twice_of : (m : Hlds) (line : ℕ) (d : Option ℕ) → duplicate m ≡ d → without_duplicate m d ≡ Err (refused.Duplicate line) → duplicate m ≡ Some line
 twice_of m line None e h = absurd (cc)
 twice_of m line (Some other) e h = cc
 
-read_repeats : (text : List ℕ) (r : Outcome Listing) (line : ℕ) → rule.program (rule.start (tokens_of text)) ≡ r → outcome_of r ≡ Err (refused.Duplicate line) → Repeats text line
+read_repeats : (text : List ℕ) (r : Outcome Hlds) (line : ℕ) → rule.program (rule.start (tokens_of text)) ≡ r → outcome_of r ≡ Err (refused.Duplicate line) → Repeats text line
 read_repeats text (Err (refusal.Syntax place)) line e h = absurd (cc)
 read_repeats text (Err (refusal.Limit place)) line e h = absurd (cc)
 read_repeats text (Err refusal.NoMemory) line e h = absurd (cc)

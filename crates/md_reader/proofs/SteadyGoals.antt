@@ -1,6 +1,6 @@
 -- Each rule looks no further than where it stops: goals.
 use Rattle.std.proofs.Common.{◌≡◌, ℕ, zero, suc, List, [], ◌∷◌, ◌++◌, refl, cond, ap}
-use Rattle.md_hlds.specs.Part.{Part, At, Task, Plain, Succeeds, Fails, Either, Choose, Unless, Once, gathered}
+use Rattle.md_hlds.specs.HldsGoal.{HldsGoal, At, GoalExpr, SimpleGoal, Succeeds, Fails, DisjGoal, IfGoal, NotGoal, SomeGoal, gathered}
 use Rattle.md_token.specs.declared.kind.Kind.{Kind}
 use Rattle.md_token.specs.declared.kind.Kind.TheVariants as kind
 use Rattle.md_token.specs.Kinds.{same_kind}
@@ -15,26 +15,26 @@ module _ (d : ℕ) (more : List Lexeme) where
   abbrev Stable : {A : Type 0} → Parser A → Type 0
   Stable p = Steady d more p
 
-  module _ (inner : Parser Part) (I : Stable inner) where
-    arms_steady : (first : Part) → Stable (rule.arms inner first)
+  module _ (inner : Parser HldsGoal) (I : Stable inner) where
+    arms_steady : (first : HldsGoal) → Stable (rule.arms inner first)
     unfolding rule.arms rule.arms_from same_kind
     arms_steady first =
         turned d more (rule.arms_from inner) (λ s i. refl)
         (λ n m s i rec. turns_on d more inner kind.Semicolon (λ p. rule.arms_from inner n (s ++ p ∷ [])) (λ p. rule.arms_from inner m (s ++ p ∷ [])) (λ p. expect kind.Close >> pure (s ++ p ∷ [])) i I refl refl (λ p j lt. rec (s ++ p ∷ []) j lt) (λ p. ending d more kind.Close refl (s ++ p ∷ []))) (first ∷ [])
 
-    disjunction_steady : (line : ℕ) (first : Part) → Stable (rule.disjunction inner line first)
+    disjunction_steady : (line : ℕ) (first : HldsGoal) → Stable (rule.disjunction inner line first)
     unfolding rule.disjunction
-    disjunction_steady line first = bound d more (expect kind.Semicolon) _ (expected d more kind.Semicolon refl) (λ _. bound d more (rule.arms inner first) _ (arms_steady first) (λ ps. given d more (At line (Either (gathered ps)))))
+    disjunction_steady line first = bound d more (expect kind.Semicolon) _ (expected d more kind.Semicolon refl) (λ _. bound d more (rule.arms inner first) _ (arms_steady first) (λ ps. given d more (At line (DisjGoal (gathered ps)))))
 
     branches_steady : Stable (rule.branches inner)
     unfolding rule.branches
     branches_steady = bound d more (expect kind.Then) _ (expected d more kind.Then refl) (λ _. bound d more inner _ I (λ t. bound d more (expect kind.Semicolon) _ (expected d more kind.Semicolon refl) (λ _. bound d more inner _ I (λ e. given d more (t, e)))))
 
-    choice_steady : (line : ℕ) (c : Part) → Stable (rule.choice inner line c)
+    choice_steady : (line : ℕ) (c : HldsGoal) → Stable (rule.choice inner line c)
     unfolding rule.choice
-    choice_steady line c = bound d more (rule.branches inner) _ branches_steady (λ b. ending d more kind.Close refl (At line (Choose c b.0 b.1)))
+    choice_steady line c = bound d more (rule.branches inner) _ branches_steady (λ b. ending d more kind.Close refl (At line (IfGoal c b.0 b.1)))
 
-    grouped_at : (line : ℕ) (first : Part) (k : Kind) (i : Input) → kind_at i ≡ k → Same d more i.rest (rule.grouped inner line first k i) (rule.grouped inner line first k (cut d more i))
+    grouped_at : (line : ℕ) (first : HldsGoal) (k : Kind) (i : Input) → kind_at i ≡ k → Same d more i.rest (rule.grouped inner line first k i) (rule.grouped inner line first k (cut d more i))
     grouped_at line first kind.Close i e = passing d more (pure first) i (goes_by i (ap is_final e)) (given d more first)
     grouped_at line first kind.Semicolon i e = disjunction_steady line first i
     grouped_at line first kind.Then i e = choice_steady line first i
@@ -45,25 +45,25 @@ module _ (d : ℕ) (more : List Lexeme) where
   open_goal_steady zero = by_token d more (λ t i. cond (same_kind t.kind kind.Open) (limit i) (refuse i)) (λ t i e. tested d more i.rest (same_kind t.kind kind.Open) _ _ _ _ (limited d more {A = ℕ} i) (faulty d more {A = ℕ} i))
   open_goal_steady (suc room) = expected d more kind.Open refl
 
-  module _ (room : ℕ) (inner : Parser Part) (I : Stable inner) where
+  module _ (room : ℕ) (inner : Parser HldsGoal) (I : Stable inner) where
     group_steady : Stable (rule.group room inner)
     unfolding rule.group
     group_steady = bound d more (rule.open_goal room) _ (open_goal_steady room) (λ line. bound d more inner _ I (λ first. by_token d more (λ t. rule.grouped inner line first t.kind) (λ t i e. grouped_at inner I line first t.kind i (kind_is d more t i e))))
 
     negation_steady : Stable (rule.negation room inner)
     unfolding rule.negation
-    negation_steady = bound d more (expect kind.Not) _ (expected d more kind.Not refl) (λ line. bound d more (rule.open_goal room) _ (open_goal_steady room) (λ _. bound d more inner _ I (λ c. ending d more kind.Close refl (At line (Unless c)))))
+    negation_steady = bound d more (expect kind.Not) _ (expected d more kind.Not refl) (λ line. bound d more (rule.open_goal room) _ (open_goal_steady room) (λ _. bound d more inner _ I (λ c. ending d more kind.Close refl (At line (NotGoal c)))))
 
     quantification_steady : Stable (rule.quantification room inner)
     unfolding rule.quantification
-    quantification_steady = bound d more (expect kind.Some) _ (expected d more kind.Some refl) (λ line. bound d more (expect kind.OpenList) _ (expected d more kind.OpenList refl) (λ _. bound d more rule.quantified _ (quantified_steady d more) (λ vs. bound d more (rule.open_goal room) _ (open_goal_steady room) (λ _. bound d more inner _ I (λ c. ending d more kind.Close refl (At line (Once vs c)))))))
+    quantification_steady = bound d more (expect kind.Some) _ (expected d more kind.Some refl) (λ line. bound d more (expect kind.OpenList) _ (expected d more kind.OpenList refl) (λ _. bound d more rule.quantified _ (quantified_steady d more) (λ vs. bound d more (rule.open_goal room) _ (open_goal_steady room) (λ _. bound d more inner _ I (λ c. ending d more kind.Close refl (At line (SomeGoal vs c)))))))
 
-    at_steady : (line : ℕ) (p : Parser Task) → Stable p → Stable (rule.at room inner line p)
+    at_steady : (line : ℕ) (p : Parser GoalExpr) → Stable p → Stable (rule.at room inner line p)
     at_steady line p P = bound d more p (λ t. pure (At line t)) P (λ t. given d more (At line t))
 
     unit_by_at : (line : ℕ) (k : Kind) (i : Input) → kind_at i ≡ k → Same d more i.rest (rule.unit_by room inner line k i) (rule.unit_by room inner line k (cut d more i))
-    unit_by_at line kind.True i e = passing d more (pure (At line (Plain Succeeds))) i (goes_by i (ap is_final e)) (given d more (At line (Plain Succeeds)))
-    unit_by_at line kind.Fail i e = passing d more (pure (At line (Plain Fails))) i (goes_by i (ap is_final e)) (given d more (At line (Plain Fails)))
+    unit_by_at line kind.True i e = passing d more (pure (At line (SimpleGoal Succeeds))) i (goes_by i (ap is_final e)) (given d more (At line (SimpleGoal Succeeds)))
+    unit_by_at line kind.Fail i e = passing d more (pure (At line (SimpleGoal Fails))) i (goes_by i (ap is_final e)) (given d more (At line (SimpleGoal Fails)))
     unit_by_at line kind.Open i e = group_steady i
     unit_by_at line kind.Not i e = negation_steady i
     unit_by_at line kind.Some i e = quantification_steady i

@@ -2,7 +2,7 @@
 use Rattle.std.proofs.Common.{◌≡◌, ℕ, zero, suc, ◌<◌, List, [], ◌∷◌, ◌++◌, length, refl, Bool, true, false, cond, not, ◌&&◌, Option, Some, None, Ok, sym, ap, ◌∙◌}
 use Rattle.md_hlds.specs.declared.types.Mode.{Mode}
 use Rattle.md_hlds.specs.declared.goal.PredName.{PredName}
-use Rattle.md_hlds.specs.Listing.{Sort, closure, gathered_sorts, Listing}
+use Rattle.md_hlds.specs.Hlds.{HldsType, closure, gathered_types, Hlds}
 use Rattle.md_token.specs.declared.kind.Kind.TheVariants as kind
 use Rattle.md_token.specs.Kinds.{same_kind}
 use Rattle.md_token.specs.Token.{Lexeme}
@@ -67,7 +67,7 @@ module _ (d : ℕ) (more : List Lexeme) where
 
   ho_argument_steady : Stable rule.ho_argument
   unfolding rule.ho_argument
-  ho_argument_steady = bound d more rule.ho_types _ ho_types_steady (λ ts. bound d more rule.ho_mode _ ho_mode_steady (λ m. bound d more rule.inst _ inst_steady (λ n. given d more (closure (gathered_sorts ts) n.0 n.1, m))))
+  ho_argument_steady = bound d more rule.ho_types _ ho_types_steady (λ ts. bound d more rule.ho_mode _ ho_mode_steady (λ m. bound d more rule.inst _ inst_steady (λ n. given d more (closure (gathered_types ts) n.0 n.1, m))))
 
   plain_argument_steady : Stable rule.plain_argument
   unfolding rule.plain_argument
@@ -77,11 +77,11 @@ module _ (d : ℕ) (more : List Lexeme) where
   unfolding rule.argument sees
   argument_steady = by_token d more (λ t i. cond (same_kind t.kind kind.Pred) (rule.ho_argument i) (rule.plain_argument i)) (λ t i e. tested d more i.rest (same_kind t.kind kind.Pred) _ _ _ _ (ho_argument_steady i) (plain_argument_steady i))
 
-  excess_steady : Stable {A = List (Sort × Mode)} rule.excess
+  excess_steady : Stable {A = List (HldsType × Mode)} rule.excess
   unfolding rule.excess sees
-  excess_steady = by_token d more (λ t i. cond (same_kind t.kind kind.Pred) (limit i) (and_then (rule.sort i) (λ t j. limit i))) (λ t i e. tested d more i.rest (same_kind t.kind kind.Pred) _ _ _ _ (limited d more {A = List (Sort × Mode)} i) (excess d more rule.sort (sort_steady d more) i))
+  excess_steady = by_token d more (λ t i. cond (same_kind t.kind kind.Pred) (limit i) (and_then (rule.sort i) (λ t j. limit i))) (λ t i e. tested d more i.rest (same_kind t.kind kind.Pred) _ _ _ _ (limited d more {A = List (HldsType × Mode)} i) (excess d more rule.sort (sort_steady d more) i))
 
-  arguments_from_steady : (n : ℕ) (found : List (Sort × Mode)) → Stable (rule.arguments_from n found)
+  arguments_from_steady : (n : ℕ) (found : List (HldsType × Mode)) → Stable (rule.arguments_from n found)
   unfolding rule.arguments_from
   arguments_from_steady zero found = excess_steady
   arguments_from_steady (suc n) found = going d more rule.argument kind.Comma kind.Close refl refl (λ t. rule.arguments_from n (found ++ t ∷ [])) (λ t. found ++ t ∷ []) argument_steady (λ t. arguments_from_steady n (found ++ t ∷ []))
@@ -122,15 +122,15 @@ module _ (d : ℕ) (more : List Lexeme) where
 
   -- ---- programs
 
-  declared_procedure_steady : (l : Listing) (line : ℕ) → Stable (rule.declared_procedure l line)
+  declared_procedure_steady : (l : Hlds) (line : ℕ) → Stable (rule.declared_procedure l line)
   unfolding rule.declared_procedure
   declared_procedure_steady l line = bound d more (rule.procedure line) _ (procedure_steady line) (λ p. given d more (rule.with_procedure l p))
 
-  declared_family_steady : (l : Listing) (line : ℕ) → Stable (rule.declared_family l line)
+  declared_family_steady : (l : Hlds) (line : ℕ) → Stable (rule.declared_family l line)
   unfolding rule.declared_family
   declared_family_steady l line = bound d more (rule.family line) _ (family_steady d more line) (λ t. given d more (rule.with_family l t))
 
-  pub declared_rest_steady : (l : Listing) (line : ℕ) → Stable (λ i. cond (sees kind.Pred i) (rule.declared_procedure l line i) (rule.declared_family l line i))
+  pub declared_rest_steady : (l : Hlds) (line : ℕ) → Stable (λ i. cond (sees kind.Pred i) (rule.declared_procedure l line i) (rule.declared_family l line i))
   unfolding sees
   declared_rest_steady l line = by_token d more (λ t i. cond (same_kind t.kind kind.Pred) (rule.declared_procedure l line i) (rule.declared_family l line i)) (λ t i e. tested d more i.rest (same_kind t.kind kind.Pred) _ _ _ _ (declared_procedure_steady l line i) (declared_family_steady l line i))
 
@@ -159,7 +159,7 @@ module _ (d : ℕ) (more : List Lexeme) where
   heading_steady = bound d more (expect kind.Declare) _ (expected d more kind.Declare refl) (λ line. bound d more (word (codes "module")) _ (word_steady d more (codes "module")) (λ _. bound d more rule.module_name _ module_name_steady (λ m. ending d more kind.End refl (record { module_name = m; module_line = line; types = []; procedures = [] }))))
 
   -- the end of the text, or a declaration and more of them
-  declaring : (n m : ℕ) (l : Listing) (i : Input) → ((k : Listing) (j : Input) → length j.rest < length i.rest → Same d more j.rest (rule.declarations_from n k j) (rule.declarations_from m k (cut d more j)))
+  declaring : (n m : ℕ) (l : Hlds) (i : Input) → ((k : Hlds) (j : Input) → length j.rest < length i.rest → Same d more j.rest (rule.declarations_from n k j) (rule.declarations_from m k (cut d more j)))
       → Same d more i.rest (rule.declarations_from (suc n) l i) (rule.declarations_from (suc m) l (cut d more i))
   unfolding rule.declarations_from rule.declared sees same_kind
   declaring n m l i rec =
@@ -168,7 +168,7 @@ module _ (d : ℕ) (more : List Lexeme) where
       (tested d more i.rest (same_kind (token i).kind kind.Stop) _ _ _ _ (given d more l i)
       (begun d more kind.Declare i (λ line k. cond (sees kind.Pred k) (rule.declared_procedure l line k) (rule.declared_family l line k)) (rule.declarations_from n) (rule.declarations_from m) refl refl (declared_rest_steady l) rec))
 
-  declarations_steady : (l : Listing) → Stable (rule.declarations l)
+  declarations_steady : (l : Hlds) → Stable (rule.declarations l)
   unfolding rule.declarations rule.declarations_from rule.declared same_kind
   declarations_steady l =
       turned d more rule.declarations_from (λ s i. refl)

@@ -7,8 +7,8 @@ use Rattle.md_hlds.specs.declared.goal.PredName.{PredName}
 use Rattle.md_hlds.specs.declared.goal.Op.{Op}
 use Rattle.md_hlds.specs.declared.goal.Cmp.{Cmp}
 use Rattle.md_hlds.specs.declared.goal.Term.TheVariants as term
-use Rattle.md_hlds.specs.Part.{Task, Plain, Unifies, Computes, Compares}
-use Rattle.md_hlds.specs.Listing.{Sort, number as int_sort, text as string_sort, world as io_sort, named}
+use Rattle.md_hlds.specs.HldsGoal.{GoalExpr, SimpleGoal, Unifies, Computes, Compares}
+use Rattle.md_hlds.specs.Hlds.{HldsType, number as int_sort, text as string_sort, world as io_sort, named}
 use Rattle.md_token.specs.declared.kind.Kind.{Kind}
 use Rattle.md_token.specs.declared.kind.Kind.TheVariants as kind
 use Rattle.md_token.specs.Kinds.{same_kind}
@@ -145,23 +145,23 @@ module _ (d : ℕ) (more : List Lexeme) where
   operator_goes _ o h = absurd (cc)
 
   arithmetic_at : (x y : ℕ) (o : Option Op) (i : Input) → rule.operator (kind_at i) ≡ o → Same d more i.rest (rule.arithmetic x y o i) (rule.arithmetic x y o (cut d more i))
-  arithmetic_at x y None i h = given d more (Plain (Unifies x (term.Var y))) i
-  arithmetic_at x y (Some o) i h = passing d more (variable (x ∷ y ∷ []) >>= (λ z. pure (Plain (Computes x y o z)))) i (goes_by i (operator_goes (kind_at i) o h)) (bound d more (variable (x ∷ y ∷ [])) _ (variable_steady (x ∷ y ∷ [])) (λ z. given d more (Plain (Computes x y o z))))
+  arithmetic_at x y None i h = given d more (SimpleGoal (Unifies x (term.Var y))) i
+  arithmetic_at x y (Some o) i h = passing d more (variable (x ∷ y ∷ []) >>= (λ z. pure (SimpleGoal (Computes x y o z)))) i (goes_by i (operator_goes (kind_at i) o h)) (bound d more (variable (x ∷ y ∷ [])) _ (variable_steady (x ∷ y ∷ [])) (λ z. given d more (SimpleGoal (Computes x y o z))))
 
   positive_at : (x : ℕ) (i : Input) → Goes i → Same d more i.rest (rule.positive x i) (rule.positive x (cut d more i))
   unfolding rule.positive
-  positive_at x i g = by_token_at d more (λ t i. cond (nat_lt i.limits.integer (number_of t.text)) (limit i) (Ok (Plain (Unifies x (term.Int (pos (number_of t.text)))), next i))) i (tested d more i.rest (nat_lt i.limits.integer (number_of (token i).text)) _ _ _ _ (limited d more {A = Task} i) (taking d more (Plain (Unifies x (term.Int (pos (number_of (token i).text))))) i g))
+  positive_at x i g = by_token_at d more (λ t i. cond (nat_lt i.limits.integer (number_of t.text)) (limit i) (Ok (SimpleGoal (Unifies x (term.Int (pos (number_of t.text)))), next i))) i (tested d more i.rest (nat_lt i.limits.integer (number_of (token i).text)) _ _ _ _ (limited d more {A = GoalExpr} i) (taking d more (SimpleGoal (Unifies x (term.Int (pos (number_of (token i).text))))) i g))
 
   take_negative_at : (x n : ℕ) (i : Input) → Goes i → Same d more i.rest (rule.take_negative x n i) (rule.take_negative x n (cut d more i))
-  take_negative_at x n i g = tested d more i.rest (nat_lt (suc i.limits.integer) n) _ _ _ _ (limited d more {A = Task} i) (taking d more (Plain (Unifies x (term.Int (rule.minus n)))) i g)
+  take_negative_at x n i g = tested d more i.rest (nat_lt (suc i.limits.integer) n) _ _ _ _ (limited d more {A = GoalExpr} i) (taking d more (SimpleGoal (Unifies x (term.Int (rule.minus n)))) i g)
 
   negated_steady : (x : ℕ) → Stable (rule.negated x)
   unfolding rule.negated sees
-  negated_steady x = by_token d more (λ t i. cond (same_kind t.kind kind.Integer) (rule.take_negative x (number_of t.text) i) (refuse i)) (λ t i e. tested_by d more i.rest (same_kind t.kind kind.Integer) _ _ _ _ (λ s. take_negative_at x (number_of t.text) i (goes kind.Integer t i e s refl)) (λ _. faulty d more {A = Task} i))
+  negated_steady x = by_token d more (λ t i. cond (same_kind t.kind kind.Integer) (rule.take_negative x (number_of t.text) i) (refuse i)) (λ t i e. tested_by d more i.rest (same_kind t.kind kind.Integer) _ _ _ _ (λ s. take_negative_at x (number_of t.text) i (goes kind.Integer t i e s refl)) (λ _. faulty d more {A = GoalExpr} i))
 
   literal_at : (x : ℕ) (i : Input) → Goes i → Same d more i.rest (rule.literal x i) (rule.literal x (cut d more i))
   unfolding rule.literal
-  literal_at x i g = by_token_at d more (λ t i. cond (nat_lt i.limits.bytes (length (string_value t.text))) (limit i) (Ok (Plain (Unifies x (term.Str (string_value t.text))), next i))) i (tested d more i.rest (nat_lt i.limits.bytes (length (string_value (token i).text))) _ _ _ _ (limited d more {A = Task} i) (taking d more (Plain (Unifies x (term.Str (string_value (token i).text)))) i g))
+  literal_at x i g = by_token_at d more (λ t i. cond (nat_lt i.limits.bytes (length (string_value t.text))) (limit i) (Ok (SimpleGoal (Unifies x (term.Str (string_value t.text))), next i))) i (tested d more i.rest (nat_lt i.limits.bytes (length (string_value (token i).text))) _ _ _ _ (limited d more {A = GoalExpr} i) (taking d more (SimpleGoal (Unifies x (term.Str (string_value (token i).text)))) i g))
 
   application_steady : (x : ℕ) → Stable (rule.application x)
   unfolding rule.application
@@ -189,7 +189,7 @@ module _ (d : ℕ) (more : List Lexeme) where
 
   -- ---- calls and relations
 
-  called_steady : (q : PredName) (ys : List ℕ) (b : Option Task) → Stable (rule.called q ys b)
+  called_steady : (q : PredName) (ys : List ℕ) (b : Option GoalExpr) → Stable (rule.called q ys b)
   called_steady q ys (Some t) = given d more t
   called_steady q ys None = bound d more site _ site_steady (λ s. given d more _)
 
@@ -214,7 +214,7 @@ module _ (d : ℕ) (more : List Lexeme) where
 
   compared_at : (x : ℕ) (c : Option Cmp) (i : Input) → rule.comparison (kind_at i) ≡ c → Same d more i.rest (rule.compared x c i) (rule.compared x c (cut d more i))
   compared_at x None i h = faulty d more i
-  compared_at x (Some c) i h = passing d more (variable (x ∷ []) >>= (λ y. pure (Plain (Compares x c y)))) i (goes_by i (comparison_goes (kind_at i) c h)) (bound d more (variable (x ∷ [])) _ (variable_steady (x ∷ [])) (λ y. given d more (Plain (Compares x c y))))
+  compared_at x (Some c) i h = passing d more (variable (x ∷ []) >>= (λ y. pure (SimpleGoal (Compares x c y)))) i (goes_by i (comparison_goes (kind_at i) c h)) (bound d more (variable (x ∷ [])) _ (variable_steady (x ∷ [])) (λ y. given d more (SimpleGoal (Compares x c y))))
 
   related_at : (x : ℕ) (k : Kind) (i : Input) → kind_at i ≡ k → Same d more i.rest (rule.related x k i) (rule.related x k (cut d more i))
   related_at x kind.Equals i e = passing d more (rule.term_after x) i (goes_by i (ap is_final e)) (term_steady x)
@@ -226,7 +226,7 @@ module _ (d : ℕ) (more : List Lexeme) where
 
   -- ---- types
 
-  sort_word : (t : Sort) (i : Input) → Goes i → Same d more i.rest ((advance >> pure t) i) ((advance >> pure t) (cut d more i))
+  sort_word : (t : HldsType) (i : Input) → Goes i → Same d more i.rest ((advance >> pure t) i) ((advance >> pure t) (cut d more i))
   sort_word t i g = passing d more (pure t) i g (given d more t)
 
   sort_named_at : (t : List ℕ) (i : Input) → Goes i → Same d more i.rest (rule.sort_named t i) (rule.sort_named t (cut d more i))
@@ -238,9 +238,9 @@ module _ (d : ℕ) (more : List Lexeme) where
 
   pub sort_steady : Stable rule.sort
   unfolding rule.sort sees
-  sort_steady = by_token d more (λ t i. cond (same_kind t.kind kind.Name) (rule.sort_named t.text i) (refuse i)) (λ t i e. tested_by d more i.rest (same_kind t.kind kind.Name) _ _ _ _ (λ s. sort_named_at t.text i (goes kind.Name t i e s refl)) (λ _. faulty d more {A = Sort} i))
+  sort_steady = by_token d more (λ t i. cond (same_kind t.kind kind.Name) (rule.sort_named t.text i) (refuse i)) (λ t i e. tested_by d more i.rest (same_kind t.kind kind.Name) _ _ _ _ (λ s. sort_named_at t.text i (goes kind.Name t i e s refl)) (λ _. faulty d more {A = HldsType} i))
 
-  sorts_from_steady : (n : ℕ) (found : List Sort) → Stable (rule.sorts_from n found)
+  sorts_from_steady : (n : ℕ) (found : List HldsType) → Stable (rule.sorts_from n found)
   unfolding rule.sorts_from
   sorts_from_steady zero found = excess d more rule.sort sort_steady
   sorts_from_steady (suc n) found = going rule.sort kind.Comma kind.Close refl refl (λ t. rule.sorts_from n (found ++ t ∷ [])) (λ t. found ++ t ∷ []) sort_steady (λ t. sorts_from_steady n (found ++ t ∷ []))

@@ -4,7 +4,7 @@ use Rattle.std.specs.List.{list_any}
 use Rattle.std.specs.Str.{bytes_eq}
 use denote.Enum.Bare.{same_true}
 use Rattle.md_hlds.specs.declared.goal.PredName.{PredName}
-use Rattle.md_hlds.specs.Listing.{Sort}
+use Rattle.md_hlds.specs.Hlds.{HldsType}
 use Rattle.md_token.specs.contracts.kind.Kind.{the_type}
 use Rattle.md_token.specs.declared.kind.Kind.{Kind}
 use Rattle.md_token.specs.declared.kind.Kind.TheVariants as kind
@@ -96,7 +96,7 @@ variable_kind seen x i j h =
     let p = past_three (not (sees kind.Variable i)) (list_any (λ y. y == place_of (token i).text i.vars) seen) (nat_lt i.limits.items (length (token i).text)) _ _ _ _ _ h in
     kind_seen kind.Variable i (turned (sees kind.Variable i) p.0)
 
-pub sort_kind : (t : Sort) (i j : Input) → rule.sort i ≡ Ok (t, j) → kind_at i ≡ kind.Name
+pub sort_kind : (t : HldsType) (i j : Input) → rule.sort i ≡ Ok (t, j) → kind_at i ≡ kind.Name
 unfolding rule.sort
 sort_kind t i j h =
     elim (chosen (sees kind.Name i) (rule.sort_named (token i).text i) (refuse i) (Ok (t, j)) h) [

@@ -1,6 +1,6 @@
 -- Rules keep within the limits: goals.
 use Rattle.std.proofs.Common.{◌≡◌, ℕ, zero, suc, ◌+◌, List, [], ◌∷◌, ◌++◌, length, refl, Bool, true, false, ap, arith}
-use Rattle.md_hlds.specs.Part.{Part, At, Task, Plain, Succeeds, Fails, Either, Choose, Unless, Once, gathered}
+use Rattle.md_hlds.specs.HldsGoal.{HldsGoal, At, GoalExpr, SimpleGoal, Succeeds, Fails, DisjGoal, IfGoal, NotGoal, SomeGoal, gathered}
 use Rattle.md_token.specs.declared.kind.Kind.{Kind}
 use Rattle.md_token.specs.declared.kind.Kind.TheVariants as kind
 use Rattle.md_token.proofs.Ends.{is_final}
@@ -63,7 +63,7 @@ part_step k o final m leads e other = flat_step k any starts o final m leads e o
 
 -- ---- goals in parentheses, by the goals inside them
 
-module _ (o : List Opened) (inner : Parser Part) (I : Keeps (Sits starts (AGoal ∷ o)) inner (λ _. Sits any (AGoal ∷ o))) where
+module _ (o : List Opened) (inner : Parser HldsGoal) (I : Keeps (Sits starts (AGoal ∷ o)) inner (λ _. Sits any (AGoal ∷ o))) where
   abbrev In : Point → Type 0
   In = Sits starts (AGoal ∷ o)
 
@@ -76,21 +76,21 @@ module _ (o : List Opened) (inner : Parser Part) (I : Keeps (Sits starts (AGoal 
   semicolon : Step kind.Semicolon Out In
   semicolon = part_step kind.Semicolon (AGoal ∷ o) refl refl (λ l. refl) refl refl
 
-  arms_from_keep : (n : ℕ) (found : List Part) → Keeps In (rule.arms_from inner n found) (λ _. Done)
+  arms_from_keep : (n : ℕ) (found : List HldsGoal) → Keeps In (rule.arms_from inner n found) (λ _. Done)
   unfolding rule.arms_from
-  arms_from_keep zero found = faulty In (λ (_ : List Part). Done)
+  arms_from_keep zero found = faulty In (λ (_ : List HldsGoal). Done)
   arms_from_keep (suc n) found =
       bound In (λ _. Out) (λ _. Done) inner _ I
       (λ p. perhaps kind.Semicolon Out In semicolon (λ _. Done) (rule.arms_from inner n (found ++ p ∷ [])) (expect kind.Close >> pure (found ++ p ∷ [])) (arms_from_keep n (found ++ p ∷ []))
       (ending kind.Close Out Done (close_goal o) (λ _. Done) (found ++ p ∷ []) (λ s w. w)))
 
-  arms_keep : (first : Part) → Keeps In (rule.arms inner first) (λ _. Done)
+  arms_keep : (first : HldsGoal) → Keeps In (rule.arms inner first) (λ _. Done)
   unfolding rule.arms
   arms_keep first i s g w = arms_from_keep (length i.rest) (first ∷ []) i s g w
 
-  disjunction_keeps : (line : ℕ) (first : Part) → Keeps Out (rule.disjunction inner line first) (λ _. Done)
+  disjunction_keeps : (line : ℕ) (first : HldsGoal) → Keeps Out (rule.disjunction inner line first) (λ _. Done)
   unfolding rule.disjunction
-  disjunction_keeps line first = then kind.Semicolon Out In semicolon (λ _. Done) _ (λ _. bound In (λ _. Done) (λ _. Done) (rule.arms inner first) _ (arms_keep first) (λ ps. given Done (λ _. Done) (At line (Either (gathered ps))) (λ s w. w)))
+  disjunction_keeps line first = then kind.Semicolon Out In semicolon (λ _. Done) _ (λ _. bound In (λ _. Done) (λ _. Done) (rule.arms inner first) _ (arms_keep first) (λ ps. given Done (λ _. Done) (At line (DisjGoal (gathered ps))) (λ s w. w)))
 
   branches_keep : Keeps Out (rule.branches inner) (λ _. Out)
   unfolding rule.branches
@@ -99,15 +99,15 @@ module _ (o : List Opened) (inner : Parser Part) (I : Keeps (Sits starts (AGoal 
       (λ _. bound In (λ _. Out) (λ _. Out) inner _ I
       (λ t. then kind.Semicolon Out In semicolon (λ _. Out) _ (λ _. bound In (λ _. Out) (λ _. Out) inner _ I (λ e. given Out (λ _. Out) (t, e) (λ s w. w)))))
 
-  choice_keeps : (line : ℕ) (c : Part) → Keeps Out (rule.choice inner line c) (λ _. Done)
+  choice_keeps : (line : ℕ) (c : HldsGoal) → Keeps Out (rule.choice inner line c) (λ _. Done)
   unfolding rule.choice
-  choice_keeps line c = bound Out (λ _. Out) (λ _. Done) (rule.branches inner) _ branches_keep (λ b. ending kind.Close Out Done (close_goal o) (λ _. Done) (At line (Choose c b.0 b.1)) (λ s w. w))
+  choice_keeps line c = bound Out (λ _. Out) (λ _. Done) (rule.branches inner) _ branches_keep (λ b. ending kind.Close Out Done (close_goal o) (λ _. Done) (At line (IfGoal c b.0 b.1)) (λ s w. w))
 
-  grouped_at : (line : ℕ) (first : Part) (k : Kind) (i : Input) (s : Point) → kind_at i ≡ k → Good i → Out s → Case (λ _. Done) s i (rule.grouped inner line first k i)
+  grouped_at : (line : ℕ) (first : HldsGoal) (k : Kind) (i : Input) (s : Point) → kind_at i ≡ k → Good i → Out s → Case (λ _. Done) s i (rule.grouped inner line first k i)
   grouped_at line first kind.Close i s e g w = passed kind.Close Out Done (close_goal o) (λ _. Done) (pure first) i s g w e (given Done (λ _. Done) first (λ s w. w))
   grouped_at line first kind.Semicolon i s e g w = disjunction_keeps line first i s g w
   grouped_at line first kind.Then i s e g w = choice_keeps line first i s g w
-  grouped_at line first _ i s e g w = faulty_at (λ (_ : Part). Done) s i
+  grouped_at line first _ i s e g w = faulty_at (λ (_ : HldsGoal). Done) s i
 
   module _ (room : ℕ) (few : goals o + room ≡ standard.goals) (flat : is_list o ≡ false) where
     abbrev Here : Point → Type 0
@@ -121,31 +121,31 @@ module _ (o : List Opened) (inner : Parser Part) (I : Keeps (Sits starts (AGoal 
         (λ p i s g w. grouped_at line p (kind_at i) i s refl g w))
 
     -- a `(`, what stands inside and the `)`
-    inside_keeps : (f : Part → Part) → Keeps Here (rule.open_goal room >>= (λ _. inner >>= (λ c. expect kind.Close >> pure (f c)))) (λ _. Done)
+    inside_keeps : (f : HldsGoal → HldsGoal) → Keeps Here (rule.open_goal room >>= (λ _. inner >>= (λ c. expect kind.Close >> pure (f c)))) (λ _. Done)
     inside_keeps f =
         bound Here (λ _. In) (λ _. Done) (rule.open_goal room) _ (open_goal_keeps room o few)
         (λ _. bound In (λ _. Out) (λ _. Done) inner _ I (λ c. ending kind.Close Out Done (close_goal o) (λ _. Done) (f c) (λ s w. w)))
 
     negation_keeps : Keeps Here (rule.negation room inner) (λ _. Done)
     unfolding rule.negation
-    negation_keeps = then kind.Not Here Here (flat_step kind.Not starts starts o refl refl (λ l. refl) refl refl) (λ _. Done) _ (λ line. inside_keeps (λ c. At line (Unless c)))
+    negation_keeps = then kind.Not Here Here (flat_step kind.Not starts starts o refl refl (λ l. refl) refl refl) (λ _. Done) _ (λ line. inside_keeps (λ c. At line (NotGoal c)))
 
     quantification_keeps : Keeps Here (rule.quantification room inner) (λ _. Done)
     unfolding rule.quantification
     quantification_keeps =
         then kind.Some Here Done (flat_step kind.Some starts any o refl refl (λ l. refl) refl refl) (λ _. Done) _
         (λ line. then kind.OpenList Done (Sits any (AList 0 ∷ o)) (sign_step kind.OpenList any any o (AList 0 ∷ o) refl refl (λ l. refl) refl refl) (λ _. Done) _
-        (λ _. bound (Sits any (AList 0 ∷ o)) (λ _. Here) (λ _. Done) rule.quantified _ (quantified_keeps starts o refl) (λ vs. inside_keeps (λ c. At line (Once vs c)))))
+        (λ _. bound (Sits any (AList 0 ∷ o)) (λ _. Here) (λ _. Done) rule.quantified _ (quantified_keeps starts o refl) (λ vs. inside_keeps (λ c. At line (SomeGoal vs c)))))
 
-    at_keeps : (line : ℕ) (p : Parser Task) → Keeps Done p (λ _. Done) → Keeps Here (rule.at room inner line p) (λ _. Done)
+    at_keeps : (line : ℕ) (p : Parser GoalExpr) → Keeps Done p (λ _. Done) → Keeps Here (rule.at room inner line p) (λ _. Done)
     at_keeps line p a i s g w = bound Done (λ _. Done) (λ _. Done) p (λ t. pure (At line t)) a (λ t. given Done (λ _. Done) (At line t) (λ s w. w)) i s g (sits_any starts o s w)
 
     word_step : (k : Kind) → is_final k ≡ false → mute k ≡ true → ((l : Kind) → open_behind k l o ≡ o) → is_comma k ≡ false → Step k Here Done
     word_step k final m leads other = flat_step k starts any o final m leads refl other
 
     unit_at : (line : ℕ) (k : Kind) (i : Input) (s : Point) → kind_at i ≡ k → Good i → Here s → Case (λ _. Done) s i (rule.unit_by room inner line k i)
-    unit_at line kind.True i s e g w = passed kind.True Here Done (word_step kind.True refl refl (λ l. refl) refl) (λ _. Done) (pure (At line (Plain Succeeds))) i s g w e (given Done (λ _. Done) (At line (Plain Succeeds)) (λ s w. w))
-    unit_at line kind.Fail i s e g w = passed kind.Fail Here Done (word_step kind.Fail refl refl (λ l. refl) refl) (λ _. Done) (pure (At line (Plain Fails))) i s g w e (given Done (λ _. Done) (At line (Plain Fails)) (λ s w. w))
+    unit_at line kind.True i s e g w = passed kind.True Here Done (word_step kind.True refl refl (λ l. refl) refl) (λ _. Done) (pure (At line (SimpleGoal Succeeds))) i s g w e (given Done (λ _. Done) (At line (SimpleGoal Succeeds)) (λ s w. w))
+    unit_at line kind.Fail i s e g w = passed kind.Fail Here Done (word_step kind.Fail refl refl (λ l. refl) refl) (λ _. Done) (pure (At line (SimpleGoal Fails))) i s g w e (given Done (λ _. Done) (At line (SimpleGoal Fails)) (λ s w. w))
     unit_at line kind.Open i s e g w = group_keeps i s g w
     unit_at line kind.Not i s e g w = negation_keeps i s g w
     unit_at line kind.Some i s e g w = quantification_keeps i s g w
@@ -153,7 +153,7 @@ module _ (o : List Opened) (inner : Parser Part) (I : Keeps (Sits starts (AGoal 
     unit_at line kind.Call i s e g w = at_keeps line rule.closure_call (closure_call_keeps o) i s g w
     unit_at line kind.Name i s e g w = at_keeps line rule.call (call_keeps o) i s g w
     unit_at line kind.Qualified i s e g w = at_keeps line rule.call (call_keeps o) i s g w
-    unit_at line _ i s e g w = faulty_at (λ (_ : Part). Done) s i
+    unit_at line _ i s e g w = faulty_at (λ (_ : HldsGoal). Done) s i
 
     unit_keeps : Keeps Here (rule.unit room inner) (λ _. Done)
     unfolding rule.unit
@@ -162,9 +162,9 @@ module _ (o : List Opened) (inner : Parser Part) (I : Keeps (Sits starts (AGoal 
     comma_step : Step kind.Comma Done Here
     comma_step = sign_step kind.Comma any starts o o refl refl (λ l. no_comma o flat) refl (never_full standard.items o flat)
 
-    units_from_keep : (n : ℕ) (found : List Part) → Keeps Here (rule.units_from room inner n found) (λ _. Done)
+    units_from_keep : (n : ℕ) (found : List HldsGoal) → Keeps Here (rule.units_from room inner n found) (λ _. Done)
     unfolding rule.units_from
-    units_from_keep zero found = faulty Here (λ (_ : List Part). Done)
+    units_from_keep zero found = faulty Here (λ (_ : List HldsGoal). Done)
     units_from_keep (suc n) found =
         bound Here (λ _. Done) (λ _. Done) (rule.unit room inner) _ unit_keeps
         (λ p. perhaps kind.Comma Done Here comma_step (λ _. Done) (rule.units_from room inner n (found ++ p ∷ [])) (pure (found ++ p ∷ [])) (units_from_keep n (found ++ p ∷ [])) (given Done (λ _. Done) (found ++ p ∷ []) (λ s w. w)))
@@ -179,5 +179,5 @@ module _ (o : List Opened) (inner : Parser Part) (I : Keeps (Sits starts (AGoal 
 -- so many goals may still be opened
 pub conjunction_keeps : (room : ℕ) (o : List Opened) → goals o + room ≡ standard.goals → is_list o ≡ false → Keeps (Sits starts o) (rule.conjunction room) (λ _. Sits any o)
 unfolding rule.conjunction
-conjunction_keeps zero o few flat = conjunction_with_keeps o refuse (faulty (Sits starts (AGoal ∷ o)) (λ (_ : Part). Sits any (AGoal ∷ o))) zero few flat
+conjunction_keeps zero o few flat = conjunction_with_keeps o refuse (faulty (Sits starts (AGoal ∷ o)) (λ (_ : HldsGoal). Sits any (AGoal ∷ o))) zero few flat
 conjunction_keeps (suc room) o few flat = conjunction_with_keeps o (rule.conjunction room) (conjunction_keeps room (AGoal ∷ o) (omega (arith, few)) refl) (suc room) few flat

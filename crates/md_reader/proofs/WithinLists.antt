@@ -5,8 +5,8 @@ use Rattle.md_hlds.specs.declared.goal.PredName.{PredName}
 use Rattle.md_hlds.specs.declared.goal.Op.{Op}
 use Rattle.md_hlds.specs.declared.goal.Cmp.{Cmp}
 use Rattle.md_hlds.specs.declared.goal.Term.TheVariants as term
-use Rattle.md_hlds.specs.Part.{Task, Plain, Unifies, Computes, Compares}
-use Rattle.md_hlds.specs.Listing.{Sort, Construct}
+use Rattle.md_hlds.specs.HldsGoal.{GoalExpr, SimpleGoal, Unifies, Computes, Compares}
+use Rattle.md_hlds.specs.Hlds.{HldsType, HldsFunctor}
 use Rattle.md_token.specs.declared.kind.Kind.{Kind}
 use Rattle.md_token.specs.declared.kind.Kind.TheVariants as kind
 use Rattle.md_token.proofs.Ends.{is_final}
@@ -113,11 +113,11 @@ operator_step kind.Minus p o h = flat_step kind.Minus any any o refl refl (λ l.
 operator_step kind.Times p o h = flat_step kind.Times any any o refl refl (λ l. refl) refl refl
 operator_step _ p o h = absurd (cc)
 
-arithmetic_at : (x y : ℕ) (p : Option Op) (o : List Opened) (i : Input) (s : Point) → rule.operator (kind_at i) ≡ p → Good i → Sits any o s → Case (λ (_ : Task). Sits any o) s i (rule.arithmetic x y p i)
-arithmetic_at x y None o i s h g w = given_at (λ _. Sits any o) (Plain (Unifies x (term.Var y))) i s g w
+arithmetic_at : (x y : ℕ) (p : Option Op) (o : List Opened) (i : Input) (s : Point) → rule.operator (kind_at i) ≡ p → Good i → Sits any o s → Case (λ (_ : GoalExpr). Sits any o) s i (rule.arithmetic x y p i)
+arithmetic_at x y None o i s h g w = given_at (λ _. Sits any o) (SimpleGoal (Unifies x (term.Var y))) i s g w
 arithmetic_at x y (Some p) o i s h g w =
-    passed (kind_at i) (Sits any o) (Sits any o) (operator_step (kind_at i) p o h) (λ _. Sits any o) (variable (x ∷ y ∷ []) >>= (λ z. pure (Plain (Computes x y p z)))) i s g w refl
-    (bound (Sits any o) (λ _. Sits any o) (λ _. Sits any o) (variable (x ∷ y ∷ [])) (λ z. pure (Plain (Computes x y p z))) (variable_keeps o (x ∷ y ∷ [])) (λ z. given (Sits any o) (λ _. Sits any o) _ (λ s w. w)))
+    passed (kind_at i) (Sits any o) (Sits any o) (operator_step (kind_at i) p o h) (λ _. Sits any o) (variable (x ∷ y ∷ []) >>= (λ z. pure (SimpleGoal (Computes x y p z)))) i s g w refl
+    (bound (Sits any o) (λ _. Sits any o) (λ _. Sits any o) (variable (x ∷ y ∷ [])) (λ z. pure (SimpleGoal (Computes x y p z))) (variable_keeps o (x ∷ y ∷ [])) (λ z. given (Sits any o) (λ _. Sits any o) _ (λ s w. w)))
 
 second_keeps : (x : ℕ) (o : List Opened) → Keeps (Sits any o) (rule.second x) (λ _. Sits any o)
 unfolding rule.second
@@ -131,8 +131,8 @@ pred_name_keeps o = only any opens_list NameFits o rule.pred_name pred_name_one
 application_keeps : (x : ℕ) (o : List Opened) → Keeps (Sits any o) (rule.application x) (λ _. Sits any o)
 unfolding rule.application
 application_keeps x o =
-    bound (Sits any o) (λ _. Sits opens_list o) (λ _. Sits any o) rule.pred_name (λ f. rule.arguments (x ∷ []) >>= (λ ys. pure (Plain (Unifies x (term.Name f ys))))) (pred_name_keeps o)
-    (λ f. bound (Sits opens_list o) (λ _. Sits any o) (λ _. Sits any o) (rule.arguments (x ∷ [])) (λ ys. pure (Plain (Unifies x (term.Name f ys)))) (arguments_keep any o (x ∷ []) refl) (λ ys. given (Sits any o) (λ _. Sits any o) _ (λ s w. w)))
+    bound (Sits any o) (λ _. Sits opens_list o) (λ _. Sits any o) rule.pred_name (λ f. rule.arguments (x ∷ []) >>= (λ ys. pure (SimpleGoal (Unifies x (term.Name f ys))))) (pred_name_keeps o)
+    (λ f. bound (Sits opens_list o) (λ _. Sits any o) (λ _. Sits any o) (rule.arguments (x ∷ [])) (λ ys. pure (SimpleGoal (Unifies x (term.Name f ys)))) (arguments_keep any o (x ∷ []) refl) (λ ys. given (Sits any o) (λ _. Sits any o) _ (λ s w. w)))
 
 pub sits_any : (c : Kind → Bool) (o : List Opened) (s : Point) → Sits c o s → Sits any o s
 sits_any c o s w = record { around = w.around; last = refl; ready = w.ready }
@@ -141,16 +141,16 @@ sits_any c o s w = record { around = w.around; last = refl; ready = w.ready }
 solo_keeps : {A : Type 0} (c : Kind → Bool) (o : List Opened) (i : Input) (s : Point) (r : Outcome A) → Sits c o s → Solo any (λ (_ : A). ⊤) s.last i r → Case (λ (_ : A). Sits any o) s i r
 solo_keeps {A} c o i s r w a = case_wider (λ (_ : A) u. ⊤ × Sits any o u) (λ (_ : A). Sits any o) s i r (λ x u h. h.1) (solo_at c any (λ (_ : A). ⊤) o i s r w a)
 
-term_at : (x : ℕ) (k : Kind) (o : List Opened) (i : Input) (s : Point) → kind_at i ≡ k → Good i → Sits unsigned o s → Case (λ (_ : Task). Sits any o) s i (rule.term_by x k i)
+term_at : (x : ℕ) (k : Kind) (o : List Opened) (i : Input) (s : Point) → kind_at i ≡ k → Good i → Sits unsigned o s → Case (λ (_ : GoalExpr). Sits any o) s i (rule.term_by x k i)
 term_at x kind.Variable o i s e g w = second_keeps x o i s g (sits_any unsigned o s w)
 term_at x kind.Minus o i s e g w =
     passed kind.Minus (Sits unsigned o) (Sits is_minus o) (flat_step kind.Minus unsigned is_minus o refl refl (λ l. refl) refl refl) (λ _. Sits any o) (rule.negated x) i s g w e
-    (only is_minus any (λ (_ : Task). ⊤) o (rule.negated x) (negated_one x))
+    (only is_minus any (λ (_ : GoalExpr). ⊤) o (rule.negated x) (negated_one x))
 term_at x kind.Integer o i s e g w = solo_keeps unsigned o i s (rule.positive x i) w (positive_solo x i s.last g w.last e)
 term_at x kind.Text o i s e g w = solo_keeps unsigned o i s (rule.literal x i) w (literal_solo x i s.last g e)
 term_at x kind.Name o i s e g w = application_keeps x o i s g (sits_any unsigned o s w)
 term_at x kind.Qualified o i s e g w = application_keeps x o i s g (sits_any unsigned o s w)
-term_at x _ o i s e g w = faulty_at (λ (_ : Task). Sits any o) s i
+term_at x _ o i s e g w = faulty_at (λ (_ : GoalExpr). Sits any o) s i
 
 term_keeps : (x : ℕ) (o : List Opened) → Keeps (Sits unsigned o) (rule.term_after x) (λ _. Sits any o)
 term_keeps x o i s g w = term_at x (kind_at i) o i s refl g w
@@ -161,7 +161,7 @@ site_keeps : (o : List Opened) → Keeps (Sits any o) site (λ _. Sits any o)
 unfolding site
 site_keeps o i s g w = record { front = []; whole = refl; within = tt; post = w; good = record { limits = g.limits; proper = g.proper; home = g.home } }
 
-called_keeps : (q : PredName) (ys : List ℕ) (b : Option Task) (o : List Opened) → Keeps (Sits any o) (rule.called q ys b) (λ _. Sits any o)
+called_keeps : (q : PredName) (ys : List ℕ) (b : Option GoalExpr) (o : List Opened) → Keeps (Sits any o) (rule.called q ys b) (λ _. Sits any o)
 called_keeps q ys (Some t) o = given (Sits any o) (λ _. Sits any o) t (λ s w. w)
 called_keeps q ys None o = bound (Sits any o) (λ _. Sits any o) (λ _. Sits any o) site _ (site_keeps o) (λ n. given (Sits any o) (λ _. Sits any o) _ (λ s w. w))
 
@@ -172,7 +172,7 @@ call_keeps o =
     (λ q. bound (Sits opens_list o) (λ _. Sits any o) (λ _. Sits any o) (rule.arguments []) (λ ys. rule.called q ys (rule.builtin q ys)) (arguments_keep any o [] refl) (λ ys. called_keeps q ys (rule.builtin q ys) o))
 
 applied_keeps : (ys : List ℕ) (o : List Opened) → Keeps (Sits any o) (rule.applied ys) (λ _. Sits any o)
-applied_keeps [] o = faulty (Sits any o) (λ (_ : Task). Sits any o)
+applied_keeps [] o = faulty (Sits any o) (λ (_ : GoalExpr). Sits any o)
 applied_keeps (f ∷ ys) o = bound (Sits any o) (λ _. Sits any o) (λ _. Sits any o) site _ (site_keeps o) (λ n. given (Sits any o) (λ _. Sits any o) _ (λ s w. w))
 
 pub closure_call_keeps : (o : List Opened) → Keeps (Sits any o) rule.closure_call (λ _. Sits any o)
@@ -189,13 +189,13 @@ comparison_step kind.Greater c o h = flat_step kind.Greater any any o refl refl 
 comparison_step kind.AtLeast c o h = flat_step kind.AtLeast any any o refl refl (λ l. refl) refl refl
 comparison_step _ c o h = absurd (cc)
 
-compared_at : (x : ℕ) (c : Option Cmp) (o : List Opened) (i : Input) (s : Point) → rule.comparison (kind_at i) ≡ c → Good i → Sits any o s → Case (λ (_ : Task). Sits any o) s i (rule.compared x c i)
-compared_at x None o i s h g w = faulty_at (λ (_ : Task). Sits any o) s i
+compared_at : (x : ℕ) (c : Option Cmp) (o : List Opened) (i : Input) (s : Point) → rule.comparison (kind_at i) ≡ c → Good i → Sits any o s → Case (λ (_ : GoalExpr). Sits any o) s i (rule.compared x c i)
+compared_at x None o i s h g w = faulty_at (λ (_ : GoalExpr). Sits any o) s i
 compared_at x (Some c) o i s h g w =
-    passed (kind_at i) (Sits any o) (Sits any o) (comparison_step (kind_at i) c o h) (λ _. Sits any o) (variable (x ∷ []) >>= (λ y. pure (Plain (Compares x c y)))) i s g w refl
-    (bound (Sits any o) (λ _. Sits any o) (λ _. Sits any o) (variable (x ∷ [])) (λ y. pure (Plain (Compares x c y))) (variable_keeps o (x ∷ [])) (λ y. given (Sits any o) (λ _. Sits any o) _ (λ s w. w)))
+    passed (kind_at i) (Sits any o) (Sits any o) (comparison_step (kind_at i) c o h) (λ _. Sits any o) (variable (x ∷ []) >>= (λ y. pure (SimpleGoal (Compares x c y)))) i s g w refl
+    (bound (Sits any o) (λ _. Sits any o) (λ _. Sits any o) (variable (x ∷ [])) (λ y. pure (SimpleGoal (Compares x c y))) (variable_keeps o (x ∷ [])) (λ y. given (Sits any o) (λ _. Sits any o) _ (λ s w. w)))
 
-related_at : (x : ℕ) (k : Kind) (o : List Opened) (i : Input) (s : Point) → kind_at i ≡ k → Good i → Sits any o s → Case (λ (_ : Task). Sits any o) s i (rule.related x k i)
+related_at : (x : ℕ) (k : Kind) (o : List Opened) (i : Input) (s : Point) → kind_at i ≡ k → Good i → Sits any o s → Case (λ (_ : GoalExpr). Sits any o) s i (rule.related x k i)
 related_at x kind.Equals o i s e g w =
     passed kind.Equals (Sits any o) (Sits unsigned o) (flat_step kind.Equals any unsigned o refl refl (λ l. refl) refl refl) (λ _. Sits any o) (rule.term_after x) i s g w e (term_keeps x o)
 related_at x k o i s e g w = compared_at x (rule.comparison k) o i s (ap rule.comparison e) g w
@@ -209,11 +209,11 @@ relation_keeps o =
 -- ---- types
 
 pub sort_keeps : (o : List Opened) → Keeps (Sits any o) rule.sort (λ _. Sits any o)
-sort_keeps o = only any any (λ (_ : Sort). ⊤) o rule.sort sort_one
+sort_keeps o = only any any (λ (_ : HldsType). ⊤) o rule.sort sort_one
 
-sorts_from_keeps : (o : List Opened) (n commas : ℕ) (found : List Sort) → commas + n ≡ standard.items → Keeps (Turn commas n o) (rule.sorts_from n found) (λ _. Sits any o)
+sorts_from_keeps : (o : List Opened) (n commas : ℕ) (found : List HldsType) → commas + n ≡ standard.items → Keeps (Turn commas n o) (rule.sorts_from n found) (λ _. Sits any o)
 unfolding rule.sorts_from
-sorts_from_keeps o zero commas found e i s g w = excess any (λ (_ : Sort). ⊤) (λ (_ : List Sort). Sits any o) rule.sort sort_one i s g (turn_full commas o s e w)
+sorts_from_keeps o zero commas found e i s g w = excess any (λ (_ : HldsType). ⊤) (λ (_ : List HldsType). Sits any o) rule.sort sort_one i s g (turn_full commas o s e w)
 sorts_from_keeps o (suc n) commas found e i s g w =
     listed any any commas n o kind.Close (λ _. Sits any o) rule.sort (λ t. rule.sorts_from n (found ++ t ∷ [])) (λ t. found ++ t ∷ []) e (close_step any any commas o refl) (sort_keeps (AList commas ∷ o))
     (λ t. sorts_from_keeps o n (suc commas) (found ++ t ∷ []) (omega (arith, e))) (λ x s w. w) i s g w
@@ -234,9 +234,9 @@ functor_keeps o =
     (λ f. bound (Sits opens_list o) (λ _. Sits any o) (λ _. Sits any o) rule.functor_arguments _ (functor_arguments_keep o) (λ ts. given (Sits any o) (λ _. Sits any o) _ (λ s w. w)))
 
 -- between declarations nothing is open
-functors_from_keeps : (n : ℕ) (found : List Construct) → Keeps (Sits any []) (rule.functors_from n found) (λ _. Sits any [])
+functors_from_keeps : (n : ℕ) (found : List HldsFunctor) → Keeps (Sits any []) (rule.functors_from n found) (λ _. Sits any [])
 unfolding rule.functors_from
-functors_from_keeps zero found = faulty (Sits any []) (λ (_ : List Construct). Sits any [])
+functors_from_keeps zero found = faulty (Sits any []) (λ (_ : List HldsFunctor). Sits any [])
 functors_from_keeps (suc n) found =
     bound (Sits any []) (λ _. Sits any []) (λ _. Sits any []) rule.functor _ (functor_keeps [])
     (λ f. perhaps kind.Semicolon (Sits any []) (Sits any []) (flat_step kind.Semicolon any any [] refl refl (λ l. refl) refl refl) (λ _. Sits any []) (rule.functors_from n (found ++ f ∷ [])) (expect kind.End >> pure (found ++ f ∷ []))

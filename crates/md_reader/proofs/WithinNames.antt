@@ -11,8 +11,8 @@ use Rattle.md_hlds.specs.declared.types.Det.{Det}
 use Rattle.md_hlds.specs.declared.types.Det.TheVariants as det
 use Rattle.md_hlds.specs.declared.goal.PredName.{PredName}
 use Rattle.md_hlds.specs.declared.goal.Term.TheVariants as term
-use Rattle.md_hlds.specs.Part.{Task, Plain, Unifies}
-use Rattle.md_hlds.specs.Listing.{Sort, number as int_sort, text as string_sort, world as io_sort, named, same_qualifier}
+use Rattle.md_hlds.specs.HldsGoal.{GoalExpr, SimpleGoal, Unifies}
+use Rattle.md_hlds.specs.Hlds.{HldsType, number as int_sort, text as string_sort, world as io_sort, named, same_qualifier}
 use Rattle.md_token.specs.declared.kind.Kind.{Kind}
 use Rattle.md_token.specs.declared.kind.Kind.TheVariants as kind
 use Rattle.md_token.specs.Kinds.{same_kind}
@@ -229,11 +229,11 @@ integer_at i g = ap (λ l. l.integer) g.limits
 no_minus : (last : Kind) → unsigned last ≡ true → last ≢ kind.Minus
 no_minus last u e = let n : unsigned kind.Minus ≡ true = ap unsigned (sym e) ∙ u in absurd (cc)
 
-pub positive_solo : (x : ℕ) (i : Input) (last : Kind) → Good i → unsigned last ≡ true → kind_at i ≡ kind.Integer → Solo any (λ (_ : Task). ⊤) last i (rule.positive x i)
+pub positive_solo : (x : ℕ) (i : Input) (last : Kind) → Good i → unsigned last ≡ true → kind_at i ≡ kind.Integer → Solo any (λ (_ : GoalExpr). ⊤) last i (rule.positive x i)
 unfolding rule.positive
 positive_solo x i last g u k =
     let n = number_of (token i).text in
-    solo_by any (λ (_ : Task). ⊤) last i (nat_lt i.limits.integer n) (limit i) (Ok (Plain (Unifies x (term.Int (pos n))), next i))
+    solo_by any (λ (_ : GoalExpr). ⊤) last i (nat_lt i.limits.integer n) (limit i) (Ok (SimpleGoal (Unifies x (term.Int (pos n))), next i))
     (λ h. (refl, great k (no_minus last u) (is_less standard.integer n (standing (λ j. j.limits.integer) i true n standard.integer (integer_at i g) h))))
     (λ h.
     let most : n ≤ standard.integer = is_most standard.integer n (standing (λ j. j.limits.integer) i false n standard.integer (integer_at i g) h) in
@@ -249,10 +249,10 @@ minus_only : (last : Kind) → is_minus last ≡ true → last ≡ kind.Minus
 minus_only kind.Minus e = refl
 minus_only _ e = absurd (cc)
 
-negative_solo : (x : ℕ) (i : Input) (last : Kind) → Good i → last ≡ kind.Minus → kind_at i ≡ kind.Integer → Solo any (λ (_ : Task). ⊤) last i (rule.take_negative x (number_of (token i).text) i)
+negative_solo : (x : ℕ) (i : Input) (last : Kind) → Good i → last ≡ kind.Minus → kind_at i ≡ kind.Integer → Solo any (λ (_ : GoalExpr). ⊤) last i (rule.take_negative x (number_of (token i).text) i)
 negative_solo x i last g m k =
     let n = number_of (token i).text in
-    solo_by any (λ (_ : Task). ⊤) last i (nat_lt (suc i.limits.integer) n) (limit i) (Ok (Plain (Unifies x (term.Int (rule.minus n))), next i))
+    solo_by any (λ (_ : GoalExpr). ⊤) last i (nat_lt (suc i.limits.integer) n) (limit i) (Ok (SimpleGoal (Unifies x (term.Int (rule.minus n))), next i))
     (λ h. (refl, small k m (is_less (suc standard.integer) n (standing (λ j. suc j.limits.integer) i true n (suc standard.integer) (ap suc (integer_at i g)) h))))
     (λ h.
     let most : n ≤ suc standard.integer = is_most (suc standard.integer) n (standing (λ j. suc j.limits.integer) i false n (suc standard.integer) (ap suc (integer_at i g)) h) in
@@ -264,19 +264,19 @@ negative_solo x i last g m k =
       good = good_next i g;
     })
 
-pub negated_one : (x : ℕ) → One is_minus any (λ (_ : Task). ⊤) (rule.negated x)
+pub negated_one : (x : ℕ) → One is_minus any (λ (_ : GoalExpr). ⊤) (rule.negated x)
 unfolding rule.negated
 negated_one x i last g m =
-    solo_by any (λ (_ : Task). ⊤) last i (sees kind.Integer i) (rule.take_negative x (number_of (token i).text) i) (refuse i)
+    solo_by any (λ (_ : GoalExpr). ⊤) last i (sees kind.Integer i) (rule.take_negative x (number_of (token i).text) i) (refuse i)
     (λ e. negative_solo x i last g (minus_only last m) (kind_seen kind.Integer i e))
     (λ e. refl)
 
-pub literal_solo : (x : ℕ) (i : Input) (last : Kind) → Good i → kind_at i ≡ kind.Text → Solo any (λ (_ : Task). ⊤) last i (rule.literal x i)
+pub literal_solo : (x : ℕ) (i : Input) (last : Kind) → Good i → kind_at i ≡ kind.Text → Solo any (λ (_ : GoalExpr). ⊤) last i (rule.literal x i)
 unfolding rule.literal
 literal_solo x i last g k =
     let n = length (string_value (token i).text) in
     let bytes : i.limits.bytes ≡ standard.bytes = ap (λ l. l.bytes) g.limits in
-    solo_by any (λ (_ : Task). ⊤) last i (nat_lt i.limits.bytes n) (limit i) (Ok (Plain (Unifies x (term.Str (string_value (token i).text))), next i))
+    solo_by any (λ (_ : GoalExpr). ⊤) last i (nat_lt i.limits.bytes n) (limit i) (Ok (SimpleGoal (Unifies x (term.Str (string_value (token i).text))), next i))
     (λ h. (refl, long_string k (is_less standard.bytes n (standing (λ j. j.limits.bytes) i true n standard.bytes bytes h))))
     (λ h.
     let most : n ≤ standard.bytes = is_most standard.bytes n (standing (λ j. j.limits.bytes) i false n standard.bytes bytes h) in
@@ -373,19 +373,19 @@ determinism_one i last g h = code_solo rule.det_named det_code (rule.det_named (
 
 -- ---- types
 
-sort_single : (t : Sort) (i : Input) (last : Kind) → Good i → kind_at i ≡ kind.Name → length (token i).text ≤ standard.items → Single any (λ (_ : Sort). ⊤) last i t (next i)
+sort_single : (t : HldsType) (i : Input) (last : Kind) → Good i → kind_at i ≡ kind.Name → length (token i).text ≤ standard.items → Single any (λ (_ : HldsType). ⊤) last i t (next i)
 sort_single t i last g k l = record { is = (ap flat k, refl); fits = subst (λ (k : Kind). Fits k last (token i).text) (sym k) l; value = tt; rest = refl; good = good_next i g }
 
-own_sort : (i : Input) (last : Kind) (r : Outcome (List ℕ)) → Solo any (λ (x : List ℕ). length x ≤ standard.items) last i r → Solo any (λ (_ : Sort). ⊤) last i (and_then r (λ n. pure (named n)))
+own_sort : (i : Input) (last : Kind) (r : Outcome (List ℕ)) → Solo any (λ (x : List ℕ). length x ≤ standard.items) last i r → Solo any (λ (_ : HldsType). ⊤) last i (and_then r (λ n. pure (named n)))
 own_sort i last (Ok p) a = record { is = a.is; fits = a.fits; value = tt; rest = a.rest; good = a.good }
 own_sort i last (Err (Syntax at)) a = a
 own_sort i last (Err (Limit at)) a = a
 own_sort i last (Err NoMemory) a = a
 
-pub sort_one : One any any (λ (_ : Sort). ⊤) rule.sort
+pub sort_one : One any any (λ (_ : HldsType). ⊤) rule.sort
 unfolding rule.sort
 sort_one i last g h =
-    solo_by any (λ (_ : Sort). ⊤) last i (sees kind.Name i) (rule.sort_named (token i).text i) (refuse i)
+    solo_by any (λ (_ : HldsType). ⊤) last i (sees kind.Name i) (rule.sort_named (token i).text i) (refuse i)
     (λ e. let k = kind_seen kind.Name i e in sort_by (bytes_eq (token i).text (codes "int")) (bytes_eq (token i).text (codes "string")) (bytes_eq (token i).text (codes "io")) refl refl refl k)
     (λ e. refl)
   where
@@ -393,7 +393,7 @@ sort_one i last g h =
     short_text w e l = subst (λ (x : List ℕ). length x ≤ standard.items) (sym (same_text (token i).text w e)) l
 
     sort_by : (a b c : Bool) → bytes_eq (token i).text (codes "int") ≡ a → bytes_eq (token i).text (codes "string") ≡ b → bytes_eq (token i).text (codes "io") ≡ c → kind_at i ≡ kind.Name
-        → Solo any (λ (_ : Sort). ⊤) last i (cond a (advance >> pure int_sort) (cond b (advance >> pure string_sort) (cond c (advance >> pure io_sort) (take_name (token i).text >>= (λ n. pure (named n))))) i)
+        → Solo any (λ (_ : HldsType). ⊤) last i (cond a (advance >> pure int_sort) (cond b (advance >> pure string_sort) (cond c (advance >> pure io_sort) (take_name (token i).text >>= (λ n. pure (named n))))) i)
     sort_by true b c d e f k = sort_single int_sort i last g k (short_text (codes "int") d (omega arith))
     sort_by false true c d e f k = sort_single string_sort i last g k (short_text (codes "string") e (omega arith))
     sort_by false false true d e f k = sort_single io_sort i last g k (short_text (codes "io") f (omega arith))

@@ -4,7 +4,7 @@ use Rattle.std.specs.Prelude.{⊤, codes}
 use Rattle.md_hlds.specs.declared.types.Mode.{Mode}
 use Rattle.md_hlds.specs.declared.types.Det.{Det}
 use Rattle.md_hlds.specs.declared.goal.PredName.{PredName}
-use Rattle.md_hlds.specs.Listing.{Sort, closure, gathered_sorts, Listing}
+use Rattle.md_hlds.specs.Hlds.{HldsType, closure, gathered_types, Hlds}
 use Rattle.md_token.specs.declared.kind.Kind.{Kind}
 use Rattle.md_token.specs.declared.kind.Kind.TheVariants as kind
 use Rattle.md_reader.specs.Input.{Limits, ◌>>=◌, and_then, pure, limit, standard, sees, word, variable, peek, end_clause}
@@ -77,7 +77,7 @@ unfolding rule.ho_argument
 ho_argument_keeps o =
     bound (Sits any o) (λ _. Sits any o) (λ _. Sits any o) rule.ho_types _ (ho_types_keep o)
     (λ ts. bound (Sits any o) (λ _. Sits opens_list o) (λ _. Sits any o) rule.ho_mode _ (only any opens_list (λ (_ : Mode). ⊤) o rule.ho_mode ho_mode_one)
-    (λ m. bound (Sits opens_list o) (λ _. Sits any o) (λ _. Sits any o) rule.inst _ (inst_keeps o) (λ n. given (Sits any o) (λ _. Sits any o) (closure (gathered_sorts ts) n.0 n.1, m) (λ s w. w))))
+    (λ m. bound (Sits opens_list o) (λ _. Sits any o) (λ _. Sits any o) rule.inst _ (inst_keeps o) (λ n. given (Sits any o) (λ _. Sits any o) (closure (gathered_types ts) n.0 n.1, m) (λ s w. w))))
 
 plain_argument_keeps : (o : List Opened) → Keeps (Sits any o) rule.plain_argument (λ _. Sits any o)
 unfolding rule.plain_argument
@@ -90,20 +90,20 @@ argument_keeps : (o : List Opened) → Keeps (Sits any o) rule.argument (λ _. S
 unfolding rule.argument
 argument_keeps o i s g w = either_by (λ _. Sits any o) s i (sees kind.Pred i) (rule.ho_argument i) (rule.plain_argument i) (λ e. ho_argument_keeps o i s g w) (λ e. plain_argument_keeps o i s g w)
 
-excess_keeps : (Q : List (Sort × Mode) → Point → Type 0) → Keeps IsFull rule.excess Q
+excess_keeps : (Q : List (HldsType × Mode) → Point → Type 0) → Keeps IsFull rule.excess Q
 unfolding rule.excess
 excess_keeps Q i s g w =
     either_by Q s i (sees kind.Pred i) (limit i) (and_then (rule.sort i) (λ t j. limit i))
-    (λ e. over_here s i (item w.last w.full)) (λ e. excess any (λ (_ : Sort). ⊤) Q rule.sort sort_one i s g w)
+    (λ e. over_here s i (item w.last w.full)) (λ e. excess any (λ (_ : HldsType). ⊤) Q rule.sort sort_one i s g w)
 
 -- no more than a list may have
-abbrev pub Few : List (Sort × Mode) → List Opened → Point → Type 0
+abbrev pub Few : List (HldsType × Mode) → List Opened → Point → Type 0
 Few found o s = (length found ≤ standard.items) × Sits any o s
 
 one_more : {A : Type 0} (found : List A) (x : A) → length (found ++ x ∷ []) ≡ suc (length found)
 one_more found x = let l = length-append found (x ∷ []) in omega (arith, l)
 
-arguments_from_keep : (o : List Opened) (n commas : ℕ) (found : List (Sort × Mode)) → length found ≡ commas → commas + n ≡ standard.items → Keeps (Turn commas n o) (rule.arguments_from n found) (λ xs. Few xs o)
+arguments_from_keep : (o : List Opened) (n commas : ℕ) (found : List (HldsType × Mode)) → length found ≡ commas → commas + n ≡ standard.items → Keeps (Turn commas n o) (rule.arguments_from n found) (λ xs. Few xs o)
 unfolding rule.arguments_from
 arguments_from_keep o zero commas found l e i s g w = excess_keeps (λ xs. Few xs o) i s g (turn_full commas o s e w)
 arguments_from_keep o (suc n) commas found l e i s g w =
@@ -213,7 +213,7 @@ heading_keeps =
     (λ _. bound Top (λ _. Top) (λ _. Top) rule.module_name _ module_name_keeps
     (λ m. ending kind.End Top Top (flat_step kind.End any any [] refl refl (λ l. refl) refl refl) (λ _. Top) _ (λ s w. w))))
 
-declared_keeps : (l : Listing) → Keeps Top (rule.declared l) (λ _. Top)
+declared_keeps : (l : Hlds) → Keeps Top (rule.declared l) (λ _. Top)
 unfolding rule.declared rule.declared_procedure rule.declared_family
 declared_keeps l =
     then kind.Declare Top Top declare_step (λ _. Top) _
@@ -221,15 +221,15 @@ declared_keeps l =
     (λ e. bound Top (λ _. Top) (λ _. Top) (rule.procedure line) _ (procedure_keeps line) (λ p. given Top (λ _. Top) (rule.with_procedure l p) (λ s w. w)) i s g w)
     (λ e. bound Top (λ _. Top) (λ _. Top) (rule.family line) _ (family_keeps line) (λ t. given Top (λ _. Top) (rule.with_family l t) (λ s w. w)) i s g w))
 
-declarations_from_keep : (n : ℕ) (l : Listing) → Keeps Top (rule.declarations_from n l) (λ _. Top)
+declarations_from_keep : (n : ℕ) (l : Hlds) → Keeps Top (rule.declarations_from n l) (λ _. Top)
 unfolding rule.declarations_from
-declarations_from_keep zero l i s g w = faulty Top (λ (_ : Listing). Top) i s g w
+declarations_from_keep zero l i s g w = faulty Top (λ (_ : Hlds). Top) i s g w
 declarations_from_keep (suc n) l i s g w =
     either_by (λ _. Top) s i (sees kind.Stop i) (Ok (l, i)) ((rule.declared l >>= rule.declarations_from n) i)
     (λ e. given_at (λ _. Top) l i s g w)
     (λ e. bound Top (λ _. Top) (λ _. Top) (rule.declared l) (rule.declarations_from n) (declared_keeps l) (λ k. declarations_from_keep n k) i s g w)
 
-declarations_keep : (l : Listing) → Keeps Top (rule.declarations l) (λ _. Top)
+declarations_keep : (l : Hlds) → Keeps Top (rule.declarations l) (λ _. Top)
 unfolding rule.declarations
 declarations_keep l i s g w = declarations_from_keep (length i.rest) l i s g w
 

@@ -4,8 +4,8 @@ use Rattle.std.proofs.Common.{◌≡◌, refl, take, arith, [], ◌∷◌, Ok, E
 use Rattle.std.specs.Prelude.{codes}
 use Rattle.md_hlds.specs.declared.types.Det.TheVariants.{Det as One}
 use Rattle.md_hlds.specs.declared.goal.Term.TheVariants.{Int}
-use Rattle.md_hlds.specs.Part.{At, Plain, Unifies, Invoke, Each, gathered}
-use Rattle.md_hlds.specs.Listing.{Listing}
+use Rattle.md_hlds.specs.HldsGoal.{At, SimpleGoal, Unifies, CallGoal, ConjGoal, gathered}
+use Rattle.md_hlds.specs.Hlds.{Hlds}
 use Rattle.md_token.specs.declared.kind.Kind.TheVariants as kind
 use Rattle.md_token.specs.Kinds.{same_kind}
 use Rattle.md_token.specs.Token.{Lexeme, tokens_of}
@@ -25,7 +25,7 @@ use Rattle.md_reader.proofs.SoundPrograms.{reading_sound, reading_repeats}
 use Rattle.md_reader.proofs.FaultTexts.{at_fault}
 
 -- the program without types and predicates
-abbrev empty : Listing
+abbrev empty : Hlds
 empty = record { module_name = codes "t"; module_line = 2; types = []; procedures = [] }
 
 empty_read : reading (codes "\n:- module t.") ≡ Ok empty
@@ -36,7 +36,7 @@ pub spells_the_empty_program : Spells (codes "\n:- module t.") empty
 spells_the_empty_program = reading_sound (codes "\n:- module t.") empty empty_read
 
 -- a conjunction with an integer, and a call by the own module's name
-abbrev loops : Listing
+abbrev loops : Hlds
 loops = record {
   module_name = codes "t";
   module_line = 1;
@@ -50,7 +50,7 @@ loops = record {
     det = One;
     vars = codes "X" ∷ [];
     head = [];
-    body = At 3 (Each (gathered (At 3 (Plain (Unifies 0 (Int (negsuc 4)))) ∷ At 4 (Invoke 0 (record { qualifier = None; name = codes "p" }) []) ∷ [])));
+    body = At 3 (ConjGoal (gathered (At 3 (SimpleGoal (Unifies 0 (Int (negsuc 4)))) ∷ At 4 (CallGoal 0 (record { qualifier = None; name = codes "p" }) []) ∷ [])));
   } ∷ [];
 }
 

@@ -2,7 +2,7 @@
 use Rattle.std.specs.Prelude.{ℕ, Bool, true, false, ◌&&◌, ◌==◌, if◌then◌else◌, min, List, [], ◌∷◌, ◌++◌, length, map, Option, Some, None}
 use Rattle.std.specs.List.{flat_map}
 use Rattle.std.specs.Str.{bytes_eq}
-use Rattle.md_hlds.specs.Listing.{Family, Construct, Procedure, Listing, same_qualifier}
+use Rattle.md_hlds.specs.Hlds.{HldsTypeDef, HldsFunctor, Procedure, Hlds, same_qualifier}
 
 -- what is declared, and the line of the declaration's `:-`
 pub record Declared : Type 0 where
@@ -23,13 +23,13 @@ abbrev pub first_second : (seen : List Declared) → List Declared → Option �
 first_second seen [] = None
 first_second seen (d ∷ ds) = if is_among d seen then Some d.line else first_second (seen ++ d ∷ []) ds
 
-abbrev pub declared_family : Family → Declared
+abbrev pub declared_family : HldsTypeDef → Declared
 declared_family t = record { qualifier = None; name = t.name; arity = 0; line = t.line }
 
-abbrev pub declared_construct : (line : ℕ) → Construct → Declared
+abbrev pub declared_construct : (line : ℕ) → HldsFunctor → Declared
 declared_construct line f = record { qualifier = None; name = f.name; arity = length f.args; line = line }
 
-abbrev pub declared_constructs : Family → List Declared
+abbrev pub declared_constructs : HldsTypeDef → List Declared
 declared_constructs t = map (declared_construct t.line) t.functors
 
 -- the arity of a predicate is no part of what it is declared as
@@ -41,15 +41,15 @@ earlier None b = b
 earlier (Some a) None = Some a
 earlier (Some a) (Some b) = Some (min a b)
 
-unfoldable pub second_family : Listing → Option ℕ
+unfoldable pub second_family : Hlds → Option ℕ
 second_family l = first_second [] (map declared_family l.types)
 
-unfoldable pub second_construct : Listing → Option ℕ
+unfoldable pub second_construct : Hlds → Option ℕ
 second_construct l = first_second [] (flat_map declared_constructs l.types)
 
-unfoldable pub second_procedure : Listing → Option ℕ
+unfoldable pub second_procedure : Hlds → Option ℕ
 second_procedure l = first_second [] (map declared_procedure l.procedures)
 
 -- the line of the first second declaration
-unfoldable pub duplicate : Listing → Option ℕ
+unfoldable pub duplicate : Hlds → Option ℕ
 duplicate l = earlier (second_family l) (earlier (second_construct l) (second_procedure l))

@@ -1,6 +1,6 @@
 -- Which token of a text is at fault, and for what, by the grammar alone.
 use Rattle.std.specs.Prelude.{◌≡◌, ℕ, true as yes, List, [], ◌∷◌, ◌++◌}
-use Rattle.md_hlds.specs.Listing.{Listing}
+use Rattle.md_hlds.specs.Hlds.{Hlds}
 use Rattle.md_token.specs.declared.kind.Kind.TheVariants as kind
 use Rattle.md_token.specs.Token.{Lexeme, tokens_of}
 use Rattle.md_reader.specs.Input.{Input, Limits, standard, sees}
@@ -18,7 +18,7 @@ the_end = record { kind = kind.Stop; text = []; line = 0 }
 -- by the grammar.
 pub record BeginsWithin (limits : Limits) (ts : List Lexeme) : Type 0 where
   pub later : List Lexeme
-  pub listing : Listing
+  pub listing : Hlds
   pub end : Input
   pub program : Program listing (start_within limits (ts ++ (later ++ the_end ∷ []))) end
   pub whole : sees kind.Stop end ≡ yes
@@ -61,7 +61,7 @@ pub record IsLimitFault (text : List ℕ) (line : ℕ) : Type 0 where
 pub record TextBegins (ts : List Lexeme) : Type 0 where
   pub text : List ℕ
   pub later : List Lexeme
-  pub listing : Listing
+  pub listing : Hlds
   pub end : Input
   pub tokens : tokens_of text ≡ ts ++ later
   pub program : Program listing (start (tokens_of text)) end

@@ -8,8 +8,8 @@ use Rattle.md_hlds.specs.declared.goal.PredName.{PredName}
 use Rattle.md_hlds.specs.declared.goal.Term.TheVariants as term
 use Rattle.md_hlds.specs.declared.goal.Op.{Op}
 use Rattle.md_hlds.specs.declared.goal.Cmp.{Cmp}
-use Rattle.md_hlds.specs.Part.{Part, At, Task, Plain, Invoke, Apply, Either, Choose, Unless, Once, gathered, Succeeds, Fails, Unifies, Computes, Compares}
-use Rattle.md_hlds.specs.Listing.{Sort, closure, gathered_sorts, Construct, Family, Listing}
+use Rattle.md_hlds.specs.HldsGoal.{HldsGoal, At, GoalExpr, SimpleGoal, CallGoal, HoCallGoal, DisjGoal, IfGoal, NotGoal, SomeGoal, gathered, Succeeds, Fails, Unifies, Computes, Compares}
+use Rattle.md_hlds.specs.Hlds.{HldsType, closure, gathered_types, HldsFunctor, HldsTypeDef, Hlds}
 use Rattle.md_token.specs.declared.kind.Kind.{Kind}
 use Rattle.md_token.specs.declared.kind.Kind.TheVariants as kind
 use Rattle.md_token.specs.Token.{tokens_of}
@@ -64,70 +64,70 @@ pub data Comparison (c : Cmp) : Input → Input → Type 0 where
   comparison : (k : Kind) (i j : Input) → rule.comparison k ≡ Some c → Sign k i j → Comparison c i j
 
 -- what stands after `X =`, with the goal that it makes
-pub data Term (x : ℕ) : Task → Input → Input → Type 0 where
-  same : (y : ℕ) (i j : Input) → Is (variable (x ∷ [])) y i j → Term x (Plain (Unifies x (term.Var y))) i j
-  arithmetic : (y z : ℕ) (o : Op) (i j k m : Input) → Is (variable (x ∷ [])) y i j → Operator o j k → Is (variable (x ∷ y ∷ [])) z k m → Term x (Plain (Computes x y o z)) i m
-  positive : (t : Task) (i j : Input) → kind_at i ≡ kind.Integer → Is (rule.positive x) t i j → Term x t i j
-  negative : (t : Task) (i j k : Input) → Sign kind.Minus i j → Is (rule.negated x) t j k → Term x t i k
-  literal : (t : Task) (i j : Input) → kind_at i ≡ kind.Text → Is (rule.literal x) t i j → Term x t i j
-  application : (f : PredName) (ys : List ℕ) (i j k : Input) → Is rule.pred_name f i j → Arguments (x ∷ []) ys j k → Term x (Plain (Unifies x (term.Name f ys))) i k
+pub data Term (x : ℕ) : GoalExpr → Input → Input → Type 0 where
+  same : (y : ℕ) (i j : Input) → Is (variable (x ∷ [])) y i j → Term x (SimpleGoal (Unifies x (term.Var y))) i j
+  arithmetic : (y z : ℕ) (o : Op) (i j k m : Input) → Is (variable (x ∷ [])) y i j → Operator o j k → Is (variable (x ∷ y ∷ [])) z k m → Term x (SimpleGoal (Computes x y o z)) i m
+  positive : (t : GoalExpr) (i j : Input) → kind_at i ≡ kind.Integer → Is (rule.positive x) t i j → Term x t i j
+  negative : (t : GoalExpr) (i j k : Input) → Sign kind.Minus i j → Is (rule.negated x) t j k → Term x t i k
+  literal : (t : GoalExpr) (i j : Input) → kind_at i ≡ kind.Text → Is (rule.literal x) t i j → Term x t i j
+  application : (f : PredName) (ys : List ℕ) (i j k : Input) → Is rule.pred_name f i j → Arguments (x ∷ []) ys j k → Term x (SimpleGoal (Unifies x (term.Name f ys))) i k
 
 -- ---- goals
 
 -- a goal that begins with a variable
-pub data Relation : Task → Input → Input → Type 0 where
-  unification : (x : ℕ) (t : Task) (i j k m : Input) → Is (variable []) x i j → Sign kind.Equals j k → Term x t k m → Relation t i m
-  comparison : (x y : ℕ) (c : Cmp) (i j k m : Input) → Is (variable []) x i j → Comparison c j k → Is (variable (x ∷ [])) y k m → Relation (Plain (Compares x c y)) i m
+pub data Relation : GoalExpr → Input → Input → Type 0 where
+  unification : (x : ℕ) (t : GoalExpr) (i j k m : Input) → Is (variable []) x i j → Sign kind.Equals j k → Term x t k m → Relation t i m
+  comparison : (x y : ℕ) (c : Cmp) (i j k m : Input) → Is (variable []) x i j → Comparison c j k → Is (variable (x ∷ [])) y k m → Relation (SimpleGoal (Compares x c y)) i m
 
 -- a builtin goal, or else a call at the next site
-pub data Call : Task → Input → Input → Type 0 where
-  builtin : (q : PredName) (ys : List ℕ) (t : Task) (i j k : Input) → Is rule.pred_name q i j → Arguments [] ys j k → rule.builtin q ys ≡ Some t → Call t i k
-  call : (q : PredName) (ys : List ℕ) (s : ℕ) (i j k m : Input) → Is rule.pred_name q i j → Arguments [] ys j k → rule.builtin q ys ≡ None → Is site s k m → Call (Invoke s q ys) i m
+pub data Call : GoalExpr → Input → Input → Type 0 where
+  builtin : (q : PredName) (ys : List ℕ) (t : GoalExpr) (i j k : Input) → Is rule.pred_name q i j → Arguments [] ys j k → rule.builtin q ys ≡ Some t → Call t i k
+  call : (q : PredName) (ys : List ℕ) (s : ℕ) (i j k m : Input) → Is rule.pred_name q i j → Arguments [] ys j k → rule.builtin q ys ≡ None → Is site s k m → Call (CallGoal s q ys) i m
 
-pub data ClosureCall : Task → Input → Input → Type 0 where
-  closure_call : (f : ℕ) (ys : List ℕ) (s : ℕ) (i j k m n : Input) → Sign kind.Call i j → Sign kind.Open j k → Variables kind.Close [] (f ∷ ys) k m → Is site s m n → ClosureCall (Apply s f ys) i n
+pub data ClosureCall : GoalExpr → Input → Input → Type 0 where
+  closure_call : (f : ℕ) (ys : List ℕ) (s : ℕ) (i j k m n : Input) → Sign kind.Call i j → Sign kind.Open j k → Variables kind.Close [] (f ∷ ys) k m → Is site s m n → ClosureCall (HoCallGoal s f ys) i n
 
 -- Within `room` more goals that may be opened. The line of a goal is that of its first token.
 mutual
-  pub data Goal : (room : ℕ) → Part → Input → Input → Type 0 where
-    true : (room line : ℕ) (i j : Input) → Is (expect kind.True) line i j → Goal room (At line (Plain Succeeds)) i j
-    fail : (room line : ℕ) (i j : Input) → Is (expect kind.Fail) line i j → Goal room (At line (Plain Fails)) i j
-    relation : (room : ℕ) (t : Task) (i j : Input) → Relation t i j → Goal room (At (token i).line t) i j
-    call : (room : ℕ) (t : Task) (i j : Input) → Call t i j → Goal room (At (token i).line t) i j
-    closure_call : (room : ℕ) (t : Task) (i j : Input) → ClosureCall t i j → Goal room (At (token i).line t) i j
+  pub data Goal : (room : ℕ) → HldsGoal → Input → Input → Type 0 where
+    true : (room line : ℕ) (i j : Input) → Is (expect kind.True) line i j → Goal room (At line (SimpleGoal Succeeds)) i j
+    fail : (room line : ℕ) (i j : Input) → Is (expect kind.Fail) line i j → Goal room (At line (SimpleGoal Fails)) i j
+    relation : (room : ℕ) (t : GoalExpr) (i j : Input) → Relation t i j → Goal room (At (token i).line t) i j
+    call : (room : ℕ) (t : GoalExpr) (i j : Input) → Call t i j → Goal room (At (token i).line t) i j
+    closure_call : (room : ℕ) (t : GoalExpr) (i j : Input) → ClosureCall t i j → Goal room (At (token i).line t) i j
     -- parentheses around a conjunction leave it as it is
-    parentheses : (room : ℕ) (p : Part) (i j k m : Input) → Sign kind.Open i j → Conjunction room p j k → Sign kind.Close k m → Goal (suc room) p i m
-    disjunction : (room line : ℕ) (p : Part) (ps : List Part) (i j k m n o : Input) → Is (expect kind.Open) line i j → Conjunction room p j k → Sign kind.Semicolon k m → Arms room ps m n → Sign kind.Close n o → Goal (suc room) (At line (Either (gathered (p ∷ ps)))) i o
-    choice : (room line : ℕ) (c t e : Part) (i j k m n o p q : Input) → Is (expect kind.Open) line i j → Conjunction room c j k → Sign kind.Then k m → Conjunction room t m n → Sign kind.Semicolon n o → Conjunction room e o p → Sign kind.Close p q → Goal (suc room) (At line (Choose c t e)) i q
-    negation : (room line : ℕ) (c : Part) (i j k m n : Input) → Is (expect kind.Not) line i j → Sign kind.Open j k → Conjunction room c k m → Sign kind.Close m n → Goal (suc room) (At line (Unless c)) i n
-    quantification : (room line : ℕ) (vs : List ℕ) (c : Part) (i j k m n o p : Input) → Is (expect kind.Some) line i j → Sign kind.OpenList j k → Quantified vs k m → Sign kind.Open m n → Conjunction room c n o → Sign kind.Close o p → Goal (suc room) (At line (Once vs c)) i p
+    parentheses : (room : ℕ) (p : HldsGoal) (i j k m : Input) → Sign kind.Open i j → Conjunction room p j k → Sign kind.Close k m → Goal (suc room) p i m
+    disjunction : (room line : ℕ) (p : HldsGoal) (ps : List HldsGoal) (i j k m n o : Input) → Is (expect kind.Open) line i j → Conjunction room p j k → Sign kind.Semicolon k m → Arms room ps m n → Sign kind.Close n o → Goal (suc room) (At line (DisjGoal (gathered (p ∷ ps)))) i o
+    choice : (room line : ℕ) (c t e : HldsGoal) (i j k m n o p q : Input) → Is (expect kind.Open) line i j → Conjunction room c j k → Sign kind.Then k m → Conjunction room t m n → Sign kind.Semicolon n o → Conjunction room e o p → Sign kind.Close p q → Goal (suc room) (At line (IfGoal c t e)) i q
+    negation : (room line : ℕ) (c : HldsGoal) (i j k m n : Input) → Is (expect kind.Not) line i j → Sign kind.Open j k → Conjunction room c k m → Sign kind.Close m n → Goal (suc room) (At line (NotGoal c)) i n
+    quantification : (room line : ℕ) (vs : List ℕ) (c : HldsGoal) (i j k m n o p : Input) → Is (expect kind.Some) line i j → Sign kind.OpenList j k → Quantified vs k m → Sign kind.Open m n → Conjunction room c n o → Sign kind.Close o p → Goal (suc room) (At line (SomeGoal vs c)) i p
 
   -- units with commas between them
-  pub data Units : (room : ℕ) → List Part → Input → Input → Type 0 where
-    last : (room : ℕ) (p : Part) (i j : Input) → Goal room p i j → Units room (p ∷ []) i j
-    also : (room : ℕ) (p : Part) (ps : List Part) (i j k m : Input) → Goal room p i j → Sign kind.Comma j k → Units room ps k m → Units room (p ∷ ps) i m
+  pub data Units : (room : ℕ) → List HldsGoal → Input → Input → Type 0 where
+    last : (room : ℕ) (p : HldsGoal) (i j : Input) → Goal room p i j → Units room (p ∷ []) i j
+    also : (room : ℕ) (p : HldsGoal) (ps : List HldsGoal) (i j k m : Input) → Goal room p i j → Sign kind.Comma j k → Units room ps k m → Units room (p ∷ ps) i m
 
   -- one unit is itself
-  pub data Conjunction : (room : ℕ) → Part → Input → Input → Type 0 where
-    conjunction : (room : ℕ) (ps : List Part) (i j : Input) → Units room ps i j → Conjunction room (rule.joined ps) i j
+  pub data Conjunction : (room : ℕ) → HldsGoal → Input → Input → Type 0 where
+    conjunction : (room : ℕ) (ps : List HldsGoal) (i j : Input) → Units room ps i j → Conjunction room (rule.joined ps) i j
 
   -- conjunctions with `;` between them
-  pub data Arms : (room : ℕ) → List Part → Input → Input → Type 0 where
-    last_arm : (room : ℕ) (p : Part) (i j : Input) → Conjunction room p i j → Arms room (p ∷ []) i j
-    also_arm : (room : ℕ) (p : Part) (ps : List Part) (i j k m : Input) → Conjunction room p i j → Sign kind.Semicolon j k → Arms room ps k m → Arms room (p ∷ ps) i m
+  pub data Arms : (room : ℕ) → List HldsGoal → Input → Input → Type 0 where
+    last_arm : (room : ℕ) (p : HldsGoal) (i j : Input) → Conjunction room p i j → Arms room (p ∷ []) i j
+    also_arm : (room : ℕ) (p : HldsGoal) (ps : List HldsGoal) (i j k m : Input) → Conjunction room p i j → Sign kind.Semicolon j k → Arms room ps k m → Arms room (p ∷ ps) i m
 
 -- ---- types
 
-pub data FunctorArguments : List Sort → Input → Input → Type 0 where
+pub data FunctorArguments : List HldsType → Input → Input → Type 0 where
   none : (i : Input) → FunctorArguments [] i i
-  some : (ts : List Sort) (i j k : Input) → Sign kind.Open i j → Enclosed (Is rule.sort) kind.Close ts j k → FunctorArguments ts i k
+  some : (ts : List HldsType) (i j k : Input) → Sign kind.Open i j → Enclosed (Is rule.sort) kind.Close ts j k → FunctorArguments ts i k
 
-pub data Functor : Construct → Input → Input → Type 0 where
-  functor : (f : List ℕ) (ts : List Sort) (i j k : Input) → Is name f i j → FunctorArguments ts j k → Functor (record { name = f; args = ts }) i k
+pub data Functor : HldsFunctor → Input → Input → Type 0 where
+  functor : (f : List ℕ) (ts : List HldsType) (i j k : Input) → Is name f i j → FunctorArguments ts j k → Functor (record { name = f; args = ts }) i k
 
 -- a type's declaration from `type` on
-pub data TypeDeclaration (line : ℕ) : Family → Input → Input → Type 0 where
-  type_declaration : (t : List ℕ) (fs : List Construct) (at : ℕ) (i j k m n o : Input) → Is (word (codes "type")) at i j → Is rule.type_name t j k → Sign kind.Yields k m → Listed Functor kind.Semicolon fs m n → Sign kind.End n o → TypeDeclaration line (record { name = t; line = line; functors = fs }) i o
+pub data TypeDeclaration (line : ℕ) : HldsTypeDef → Input → Input → Type 0 where
+  type_declaration : (t : List ℕ) (fs : List HldsFunctor) (at : ℕ) (i j k m n o : Input) → Is (word (codes "type")) at i j → Is rule.type_name t j k → Sign kind.Yields k m → Listed Functor kind.Semicolon fs m n → Sign kind.End n o → TypeDeclaration line (record { name = t; line = line; functors = fs }) i o
 
 -- ---- predicates
 
@@ -135,17 +135,17 @@ pub data TypeDeclaration (line : ℕ) : Family → Input → Input → Type 0 wh
 pub data Inst : List Mode → Det → Input → Input → Type 0 where
   inst : (ms : List Mode) (d : Det) (i j k l m n o p : Input) → Sign kind.Open i j → Sign kind.Pred j k → Sign kind.Open k l → Enclosed (Is rule.mode_word) kind.Close ms l m → Sign kind.Is m n → Is rule.determinism d n o → Sign kind.Close o p → Inst ms d i p
 
-pub data Argument : Sort × Mode → Input → Input → Type 0 where
-  plain : (t : Sort) (m : Mode) (i j k l : Input) → Is rule.sort t i j → Sign kind.HasMode j k → Is rule.mode_word m k l → Argument (t, m) i l
-  higher_order : (ts : List Sort) (m : Mode) (ms : List Mode) (d : Det) (i j k l n o p : Input) → Sign kind.Pred i j → Sign kind.Open j k → Enclosed (Is rule.sort) kind.Close ts k l → Sign kind.HasMode l n → Is rule.ho_mode m n o → Inst ms d o p → Argument (closure (gathered_sorts ts) ms d, m) i p
+pub data Argument : HldsType × Mode → Input → Input → Type 0 where
+  plain : (t : HldsType) (m : Mode) (i j k l : Input) → Is rule.sort t i j → Sign kind.HasMode j k → Is rule.mode_word m k l → Argument (t, m) i l
+  higher_order : (ts : List HldsType) (m : Mode) (ms : List Mode) (d : Det) (i j k l n o p : Input) → Sign kind.Pred i j → Sign kind.Open j k → Enclosed (Is rule.sort) kind.Close ts k l → Sign kind.HasMode l n → Is rule.ho_mode m n o → Inst ms d o p → Argument (closure (gathered_types ts) ms d, m) i p
 
-pub data DeclaredArguments : List (Sort × Mode) → Input → Input → Type 0 where
+pub data DeclaredArguments : List (HldsType × Mode) → Input → Input → Type 0 where
   none : (i : Input) → DeclaredArguments [] i i
-  some : (as' : List (Sort × Mode)) (i j k : Input) → Sign kind.Open i j → Enclosed Argument kind.Close as' j k → DeclaredArguments as' i k
+  some : (as' : List (HldsType × Mode)) (i j k : Input) → Sign kind.Open i j → Enclosed Argument kind.Close as' j k → DeclaredArguments as' i k
 
 -- `pred`, and the declaration after it
 pub data PredDeclaration : rule.Declaration → Input → Input → Type 0 where
-  pred_declaration : (q : PredName) (as' : List (Sort × Mode)) (d : Det) (i j k l m n o : Input) → Sign kind.Pred i j → Is rule.declared_name q j k → DeclaredArguments as' k l → Sign kind.Is l m → Is rule.determinism d m n → Sign kind.End n o → PredDeclaration (record { name = q; args = as'; det = d }) i o
+  pred_declaration : (q : PredName) (as' : List (HldsType × Mode)) (d : Det) (i j k l m n o : Input) → Sign kind.Pred i j → Is rule.declared_name q j k → DeclaredArguments as' k l → Sign kind.Is l m → Is rule.determinism d m n → Sign kind.End n o → PredDeclaration (record { name = q; args = as'; det = d }) i o
 
 -- the head's variables, in parentheses where there are any
 pub data Head : (arity : ℕ) → List ℕ → Input → Input → Type 0 where
@@ -154,25 +154,25 @@ pub data Head : (arity : ℕ) → List ℕ → Input → Input → Type 0 where
 
 -- the clause of a predicate of this name and arity
 pub data PredClause (q : PredName) (arity : ℕ) : rule.Clause → Input → Input → Type 0 where
-  pred_clause : (xs : List ℕ) (p : Part) (vs : List (List ℕ)) (i j k l m n o : Input) → Is (rule.this_name q) tt i j → Head arity xs j k → Sign kind.Declare k l → Conjunction l.limits.goals p l m → Sign kind.End m n → Is end_clause vs n o → PredClause q arity (record { line = (token i).line; head = xs; body = p; vars = vs }) i o
+  pred_clause : (xs : List ℕ) (p : HldsGoal) (vs : List (List ℕ)) (i j k l m n o : Input) → Is (rule.this_name q) tt i j → Head arity xs j k → Sign kind.Declare k l → Conjunction l.limits.goals p l m → Sign kind.End m n → Is end_clause vs n o → PredClause q arity (record { line = (token i).line; head = xs; body = p; vars = vs }) i o
 
 -- ---- programs
 
 -- a declaration of a type, or of a predicate with its clause, which is the next of the program's
-pub data Declared (before : Listing) : Listing → Input → Input → Type 0 where
-  type : (t : Family) (line : ℕ) (i j k : Input) → Is (expect kind.Declare) line i j → TypeDeclaration line t j k → Declared before (rule.with_family before t) i k
+pub data Declared (before : Hlds) : Hlds → Input → Input → Type 0 where
+  type : (t : HldsTypeDef) (line : ℕ) (i j k : Input) → Is (expect kind.Declare) line i j → TypeDeclaration line t j k → Declared before (rule.with_family before t) i k
   predicate : (d : rule.Declaration) (c : rule.Clause) (line : ℕ) (i j k l : Input) → Is (expect kind.Declare) line i j → PredDeclaration d j k → PredClause d.name (length d.args) c k l → Declared before (rule.with_procedure before (rule.procedure_from line d c)) i l
 
-pub data Declarations : (before after : Listing) → Input → Input → Type 0 where
-  none : (l : Listing) (i : Input) → Declarations l l i i
-  also : (before l after : Listing) (i j k : Input) → Declared before l i j → Declarations l after j k → Declarations before after i k
+pub data Declarations : (before after : Hlds) → Input → Input → Type 0 where
+  none : (l : Hlds) (i : Input) → Declarations l l i i
+  also : (before l after : Hlds) (i j k : Input) → Declared before l i j → Declarations l after j k → Declarations before after i k
 
-pub data Program : Listing → Input → Input → Type 0 where
-  program : (m : List ℕ) (line at : ℕ) (l : Listing) (i j k n o p : Input) → Is (expect kind.Declare) line i j → Is (word (codes "module")) at j k → Is rule.module_name m k n → Sign kind.End n o → Declarations (record { module_name = m; module_line = line; types = []; procedures = [] }) l o p → Program l i p
+pub data Program : Hlds → Input → Input → Type 0 where
+  program : (m : List ℕ) (line at : ℕ) (l : Hlds) (i j k n o p : Input) → Is (expect kind.Declare) line i j → Is (word (codes "module")) at j k → Is rule.module_name m k n → Sign kind.End n o → Declarations (record { module_name = m; module_line = line; types = []; procedures = [] }) l o p → Program l i p
 
 -- The text spells the program: its tokens, all of them, are the program's, within the limits, and nothing is declared
 -- a second time.
-pub record Spells (text : List ℕ) (l : Listing) : Type 0 where
+pub record Spells (text : List ℕ) (l : Hlds) : Type 0 where
   pub end : Input
   pub program : Program l (rule.start (tokens_of text)) end
   pub whole : sees kind.Stop end ≡ yes
@@ -181,7 +181,7 @@ pub record Spells (text : List ℕ) (l : Listing) : Type 0 where
 -- The tokens of the text, all of them, are a program's by the grammar, within the limits, but something is declared a
 -- second time, first at this line.
 pub record Repeats (text : List ℕ) (line : ℕ) : Type 0 where
-  pub listing : Listing
+  pub listing : Hlds
   pub end : Input
   pub program : Program listing (rule.start (tokens_of text)) end
   pub whole : sees kind.Stop end ≡ yes

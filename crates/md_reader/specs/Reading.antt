@@ -1,7 +1,7 @@
 -- What a text is read as.
 use Rattle.std.specs.Prelude.{⊤, ◌≡◌, ◌≢◌, ℕ, List, Option, Some, None, Result, Ok, Err}
 use Rattle.md_hlds.specs.declared.program.Program.{Program}
-use Rattle.md_hlds.specs.Listing.{Listing, listing_of}
+use Rattle.md_hlds.specs.Hlds.{Hlds, hlds_of}
 use Rattle.md_token.specs.Token.{tokens_of}
 use Rattle.md_reader.specs.declared.refused.Refusal.{Refusal}
 use Rattle.md_reader.specs.declared.refused.Refusal.TheVariants as refusal
@@ -19,26 +19,26 @@ refused_of (refusal.Limit place) = refused.Limit place.line
 refused_of refusal.NoMemory = refused.NoMemory
 
 -- a program that has a second declaration is refused
-abbrev pub without_duplicate : Listing → Option ℕ → Result Listing Refused
+abbrev pub without_duplicate : Hlds → Option ℕ → Result Hlds Refused
 without_duplicate l None = Ok l
 without_duplicate l (Some line) = Err (refused.Duplicate line)
 
-abbrev pub outcome_of : Outcome Listing → Result Listing Refused
+abbrev pub outcome_of : Outcome Hlds → Result Hlds Refused
 outcome_of (Ok read) = without_duplicate read.0 (duplicate read.0)
 outcome_of (Err e) = Err (refused_of e)
 
 -- the program that a text is read as, or why it is refused
-unfoldable pub reading : List ℕ → Result Listing Refused
+unfoldable pub reading : List ℕ → Result Hlds Refused
 reading text = outcome_of (program (start (tokens_of text)))
 
 -- an answer is what the text is read as, unless memory is refused
 abbrev pub IsAnswer : Result Program Refused → List ℕ → Type 0
-IsAnswer (Ok p) text = reading text ≡ Ok (listing_of p)
+IsAnswer (Ok p) text = reading text ≡ Ok (hlds_of p)
 IsAnswer (Err e) text = e ≢ refused.NoMemory → reading text ≡ Err e
 
 -- the answer is this program, unless memory is refused
-abbrev pub IsRead : Result Program Refused → Listing → Type 0
-IsRead (Ok p) l = listing_of p ≡ l
+abbrev pub IsRead : Result Program Refused → Hlds → Type 0
+IsRead (Ok p) l = hlds_of p ≡ l
 IsRead (Err e) l = e ≡ refused.NoMemory
 
 -- the answer is this refusal, unless memory is refused

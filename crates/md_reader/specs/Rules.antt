@@ -12,8 +12,8 @@ use Rattle.md_hlds.specs.declared.goal.Op.{Op}
 use Rattle.md_hlds.specs.declared.goal.Op.TheVariants as op
 use Rattle.md_hlds.specs.declared.goal.Cmp.{Cmp}
 use Rattle.md_hlds.specs.declared.goal.Cmp.TheVariants as cmp
-use Rattle.md_hlds.specs.Part.{Part, At, Task, Plain, Invoke, Apply, Each, Either, Choose, Unless, Once, gathered, Succeeds, Fails, Unifies, Computes, Compares, WritesInt, WritesText, EndsLine}
-use Rattle.md_hlds.specs.Listing.{Sort, number as int_sort, text as string_sort, world as io_sort, named, closure, gathered_sorts, Construct, Family, Procedure, Listing, same_qualifier}
+use Rattle.md_hlds.specs.HldsGoal.{HldsGoal, At, GoalExpr, SimpleGoal, CallGoal, HoCallGoal, ConjGoal, DisjGoal, IfGoal, NotGoal, SomeGoal, gathered, Succeeds, Fails, Unifies, Computes, Compares, WritesInt, WritesText, EndsLine}
+use Rattle.md_hlds.specs.Hlds.{HldsType, number as int_sort, text as string_sort, world as io_sort, named, closure, gathered_types, HldsFunctor, HldsTypeDef, Procedure, Hlds, same_qualifier}
 use Rattle.md_token.specs.declared.kind.Kind.{Kind}
 use Rattle.md_token.specs.declared.kind.Kind.TheVariants as kind
 use Rattle.md_token.specs.Kinds.{same_kind}
@@ -139,43 +139,43 @@ comparison kind.AtLeast = Some cmp.Ge
 comparison _ = None
 
 -- after `X = Y`: the end of the unification, or an operator and its second variable
-abbrev pub arithmetic : ℕ → ℕ → Option Op → Parser Task
-arithmetic x y None = pure (Plain (Unifies x (term.Var y)))
+abbrev pub arithmetic : ℕ → ℕ → Option Op → Parser GoalExpr
+arithmetic x y None = pure (SimpleGoal (Unifies x (term.Var y)))
 arithmetic x y (Some o) = do
   advance
   z ← variable (x ∷ y ∷ [])
-  pure (Plain (Computes x y o z))
+  pure (SimpleGoal (Computes x y o z))
 
-unfoldable pub positive : ℕ → Parser Task
-positive x = λ i. let n = number_of (token i).text in if nat_lt i.limits.integer n then limit i else Ok (Plain (Unifies x (term.Int (pos n))), next i)
+unfoldable pub positive : ℕ → Parser GoalExpr
+positive x = λ i. let n = number_of (token i).text in if nat_lt i.limits.integer n then limit i else Ok (SimpleGoal (Unifies x (term.Int (pos n))), next i)
 
 abbrev pub minus : ℕ → ℤ
 minus n = pos 0 -ℤ pos n
 
-abbrev pub take_negative : ℕ → ℕ → Parser Task
-take_negative x n = λ i. if nat_lt (suc i.limits.integer) n then limit i else Ok (Plain (Unifies x (term.Int (minus n))), next i)
+abbrev pub take_negative : ℕ → ℕ → Parser GoalExpr
+take_negative x n = λ i. if nat_lt (suc i.limits.integer) n then limit i else Ok (SimpleGoal (Unifies x (term.Int (minus n))), next i)
 
 -- behind `-`
-unfoldable pub negated : ℕ → Parser Task
+unfoldable pub negated : ℕ → Parser GoalExpr
 negated x = λ i. if sees kind.Integer i then take_negative x (number_of (token i).text) i else refuse i
 
-unfoldable pub literal : ℕ → Parser Task
-literal x = λ i. let value = string_value (token i).text in if nat_lt i.limits.bytes (length value) then limit i else Ok (Plain (Unifies x (term.Str value)), next i)
+unfoldable pub literal : ℕ → Parser GoalExpr
+literal x = λ i. let value = string_value (token i).text in if nat_lt i.limits.bytes (length value) then limit i else Ok (SimpleGoal (Unifies x (term.Str value)), next i)
 
-unfoldable pub application : ℕ → Parser Task
+unfoldable pub application : ℕ → Parser GoalExpr
 application x = do
   f ← pred_name
   ys ← arguments (x ∷ [])
-  pure (Plain (Unifies x (term.Name f ys)))
+  pure (SimpleGoal (Unifies x (term.Name f ys)))
 
 -- the second variable of a unification, or the second and the third of arithmetic
-unfoldable pub second : ℕ → Parser Task
+unfoldable pub second : ℕ → Parser GoalExpr
 second x = do
   y ← variable (x ∷ [])
   t ← peek
   arithmetic x y (operator t.kind)
 
-abbrev pub term_by : ℕ → Kind → Parser Task
+abbrev pub term_by : ℕ → Kind → Parser GoalExpr
 term_by x kind.Variable = second x
 term_by x kind.Minus = advance >> negated x
 term_by x kind.Integer = positive x
@@ -185,7 +185,7 @@ term_by x kind.Qualified = application x
 term_by x _ = refuse
 
 -- after `X =`: the rest of a unification or of arithmetic
-abbrev pub term_after : ℕ → Parser Task
+abbrev pub term_after : ℕ → Parser GoalExpr
 term_after x = λ i. term_by x (kind_at i) i
 
 -- ---- goals
@@ -194,70 +194,70 @@ abbrev pub is_builtin : List ℕ → PredName → Bool
 is_builtin p q = is_io q.qualifier && bytes_eq q.name p
 
 -- a call of this name with these variables that is a builtin goal
-abbrev pub builtin : PredName → List ℕ → Option Task
-builtin q (a ∷ b ∷ []) = if is_builtin (codes "nl") q then Some (Plain (EndsLine a b)) else None
+abbrev pub builtin : PredName → List ℕ → Option GoalExpr
+builtin q (a ∷ b ∷ []) = if is_builtin (codes "nl") q then Some (SimpleGoal (EndsLine a b)) else None
 builtin q (x ∷ a ∷ b ∷ []) =
-    if is_builtin (codes "write_int") q then Some (Plain (WritesInt x a b))
-    else if is_builtin (codes "write_string") q then Some (Plain (WritesText x a b))
+    if is_builtin (codes "write_int") q then Some (SimpleGoal (WritesInt x a b))
+    else if is_builtin (codes "write_string") q then Some (SimpleGoal (WritesText x a b))
     else None
 builtin q _ = None
 
-abbrev pub called : PredName → List ℕ → Option Task → Parser Task
+abbrev pub called : PredName → List ℕ → Option GoalExpr → Parser GoalExpr
 called q ys (Some t) = pure t
 called q ys None = do
   s ← site
-  pure (Invoke s q ys)
+  pure (CallGoal s q ys)
 
-unfoldable pub call : Parser Task
+unfoldable pub call : Parser GoalExpr
 call = do
   q ← pred_name
   ys ← arguments []
   called q ys (builtin q ys)
 
-abbrev pub applied : List ℕ → Parser Task
+abbrev pub applied : List ℕ → Parser GoalExpr
 applied [] = refuse
 applied (f ∷ ys) = do
   s ← site
-  pure (Apply s f ys)
+  pure (HoCallGoal s f ys)
 
 -- `call`, and the closure and its arguments
-unfoldable pub closure_call : Parser Task
+unfoldable pub closure_call : Parser GoalExpr
 closure_call = do
   expect kind.Call
   expect kind.Open
   ys ← variables kind.Close []
   applied ys
 
-abbrev pub compared : ℕ → Option Cmp → Parser Task
+abbrev pub compared : ℕ → Option Cmp → Parser GoalExpr
 compared x None = refuse
 compared x (Some c) = do
   advance
   y ← variable (x ∷ [])
-  pure (Plain (Compares x c y))
+  pure (SimpleGoal (Compares x c y))
 
-abbrev pub related : ℕ → Kind → Parser Task
+abbrev pub related : ℕ → Kind → Parser GoalExpr
 related x kind.Equals = advance >> term_after x
 related x k = compared x (comparison k)
 
 -- a goal that begins with a variable
-unfoldable pub relation : Parser Task
+unfoldable pub relation : Parser GoalExpr
 relation = do
   x ← variable []
   t ← peek
   related x t.kind
 
-abbrev pub line_of : Part → ℕ
+abbrev pub line_of : HldsGoal → ℕ
 line_of (At line t) = line
 
-abbrev pub first_line : List Part → ℕ
+abbrev pub first_line : List HldsGoal → ℕ
 first_line [] = 0
 first_line (p ∷ ps) = line_of p
 
 -- the conjunction of these units; one alone is itself
-abbrev pub joined : List Part → Part
-joined [] = At 0 (Each (gathered []))
+abbrev pub joined : List HldsGoal → HldsGoal
+joined [] = At 0 (ConjGoal (gathered []))
 joined (p ∷ []) = p
-joined (p ∷ q ∷ ps) = At (line_of p) (Each (gathered (p ∷ q ∷ ps)))
+joined (p ∷ q ∷ ps) = At (line_of p) (ConjGoal (gathered (p ∷ q ∷ ps)))
 
 -- a `(` that opens a goal within so many fewer than may be open
 unfoldable pub open_goal : ℕ → Parser ℕ
@@ -265,8 +265,8 @@ open_goal zero = λ i. if sees kind.Open i then limit i else refuse i
 open_goal (suc room) = expect kind.Open
 
 -- The goals of one depth, by the conjunction of the next one.
-module _ (inner : Parser Part) where
-  unfoldable pub arms_from : (n : ℕ) → List Part → Parser (List Part)
+module _ (inner : Parser HldsGoal) where
+  unfoldable pub arms_from : (n : ℕ) → List HldsGoal → Parser (List HldsGoal)
   arms_from zero found = refuse
   arms_from (suc n) found = do
     arm ← inner
@@ -274,17 +274,17 @@ module _ (inner : Parser Part) where
     if more then arms_from n (found ++ arm ∷ []) else (do expect kind.Close; pure (found ++ arm ∷ []))
 
   -- the arms of a disjunction past the first one
-  unfoldable pub arms : Part → Parser (List Part)
+  unfoldable pub arms : HldsGoal → Parser (List HldsGoal)
   arms first = λ i. arms_from (turns i) (first ∷ []) i
 
-  unfoldable pub disjunction : (line : ℕ) → Part → Parser Part
+  unfoldable pub disjunction : (line : ℕ) → HldsGoal → Parser HldsGoal
   disjunction line first = do
     expect kind.Semicolon
     ps ← arms first
-    pure (At line (Either (gathered ps)))
+    pure (At line (DisjGoal (gathered ps)))
 
   -- the then and the else part of an if-then-else
-  unfoldable pub branches : Parser (Part × Part)
+  unfoldable pub branches : Parser (HldsGoal × HldsGoal)
   branches = do
     expect kind.Then
     t ← inner
@@ -292,36 +292,36 @@ module _ (inner : Parser Part) where
     e ← inner
     pure (t, e)
 
-  unfoldable pub choice : (line : ℕ) → Part → Parser Part
+  unfoldable pub choice : (line : ℕ) → HldsGoal → Parser HldsGoal
   choice line c = do
     b ← branches
     expect kind.Close
-    pure (At line (Choose c b.0 b.1))
+    pure (At line (IfGoal c b.0 b.1))
 
-  abbrev pub grouped : (line : ℕ) → Part → Kind → Parser Part
+  abbrev pub grouped : (line : ℕ) → HldsGoal → Kind → Parser HldsGoal
   grouped line first kind.Close = advance >> pure first
   grouped line first kind.Semicolon = disjunction line first
   grouped line first kind.Then = choice line first
   grouped line first _ = refuse
 
-module _ (room : ℕ) (inner : Parser Part) where
+module _ (room : ℕ) (inner : Parser HldsGoal) where
   -- a conjunction, a disjunction or an if-then-else in parentheses
-  unfoldable pub group : Parser Part
+  unfoldable pub group : Parser HldsGoal
   group = do
     line ← open_goal room
     first ← inner
     t ← peek
     grouped inner line first t.kind
 
-  unfoldable pub negation : Parser Part
+  unfoldable pub negation : Parser HldsGoal
   negation = do
     line ← expect kind.Not
     open_goal room
     c ← inner
     expect kind.Close
-    pure (At line (Unless c))
+    pure (At line (NotGoal c))
 
-  unfoldable pub quantification : Parser Part
+  unfoldable pub quantification : Parser HldsGoal
   quantification = do
     line ← expect kind.Some
     expect kind.OpenList
@@ -329,14 +329,14 @@ module _ (room : ℕ) (inner : Parser Part) where
     open_goal room
     c ← inner
     expect kind.Close
-    pure (At line (Once vs c))
+    pure (At line (SomeGoal vs c))
 
-  abbrev pub at : ℕ → Parser Task → Parser Part
+  abbrev pub at : ℕ → Parser GoalExpr → Parser HldsGoal
   at line p = p >>= (λ t. pure (At line t))
 
-  abbrev pub unit_by : (line : ℕ) → Kind → Parser Part
-  unit_by line kind.True = advance >> pure (At line (Plain Succeeds))
-  unit_by line kind.Fail = advance >> pure (At line (Plain Fails))
+  abbrev pub unit_by : (line : ℕ) → Kind → Parser HldsGoal
+  unit_by line kind.True = advance >> pure (At line (SimpleGoal Succeeds))
+  unit_by line kind.Fail = advance >> pure (At line (SimpleGoal Fails))
   unit_by line kind.Open = group
   unit_by line kind.Not = negation
   unit_by line kind.Some = quantification
@@ -346,10 +346,10 @@ module _ (room : ℕ) (inner : Parser Part) where
   unit_by line kind.Qualified = at line call
   unit_by line _ = refuse
 
-  unfoldable pub unit : Parser Part
+  unfoldable pub unit : Parser HldsGoal
   unit = λ i. unit_by (token i).line (kind_at i) i
 
-  unfoldable pub units_from : (n : ℕ) → List Part → Parser (List Part)
+  unfoldable pub units_from : (n : ℕ) → List HldsGoal → Parser (List HldsGoal)
   units_from zero found = refuse
   units_from (suc n) found = do
     u ← unit
@@ -357,60 +357,60 @@ module _ (room : ℕ) (inner : Parser Part) where
     if more then units_from n (found ++ u ∷ []) else pure (found ++ u ∷ [])
 
   -- units with commas between them
-  unfoldable pub units : Parser (List Part)
+  unfoldable pub units : Parser (List HldsGoal)
   units = λ i. units_from (turns i) [] i
 
-  abbrev pub conjunction_with : Parser Part
+  abbrev pub conjunction_with : Parser HldsGoal
   conjunction_with = do
     us ← units
     pure (joined us)
 
 -- a conjunction within which so many goals may be open
-unfoldable pub conjunction : ℕ → Parser Part
+unfoldable pub conjunction : ℕ → Parser HldsGoal
 conjunction zero = conjunction_with zero refuse
 conjunction (suc room) = conjunction_with (suc room) (conjunction room)
 
 -- the conjunction inside a goal that is opened there
-unfoldable pub within : ℕ → Parser Part
+unfoldable pub within : ℕ → Parser HldsGoal
 within zero = refuse
 within (suc room) = conjunction room
 
 -- ---- types
 
-abbrev pub sort_named : List ℕ → Parser Sort
+abbrev pub sort_named : List ℕ → Parser HldsType
 sort_named t =
     if bytes_eq t (codes "int") then advance >> pure int_sort
     else if bytes_eq t (codes "string") then advance >> pure string_sort
     else if bytes_eq t (codes "io") then advance >> pure io_sort
     else take_name t >>= (λ n. pure (named n))
 
-unfoldable pub sort : Parser Sort
+unfoldable pub sort : Parser HldsType
 sort = λ i. if sees kind.Name i then sort_named (token i).text i else refuse i
 
 -- n more types, at most, after those so far, and `)`
-unfoldable pub sorts_from : (n : ℕ) → List Sort → Parser (List Sort)
+unfoldable pub sorts_from : (n : ℕ) → List HldsType → Parser (List HldsType)
 sorts_from zero found = λ i. and_then (sort i) (λ t j. limit i)
 sorts_from (suc n) found = do
   t ← sort
   more ← eat kind.Comma
   if more then sorts_from n (found ++ t ∷ []) else (do expect kind.Close; pure (found ++ t ∷ []))
 
-abbrev pub sorts : Parser (List Sort)
+abbrev pub sorts : Parser (List HldsType)
 sorts = λ i. sorts_from i.limits.items [] i
 
 -- nothing, or types in parentheses
-unfoldable pub functor_arguments : Parser (List Sort)
+unfoldable pub functor_arguments : Parser (List HldsType)
 functor_arguments = do
   some ← eat kind.Open
   if some then sorts else pure []
 
-unfoldable pub functor : Parser Construct
+unfoldable pub functor : Parser HldsFunctor
 functor = do
   f ← name
   ts ← functor_arguments
   pure (record { name = f; args = ts })
 
-unfoldable pub functors_from : (n : ℕ) → List Construct → Parser (List Construct)
+unfoldable pub functors_from : (n : ℕ) → List HldsFunctor → Parser (List HldsFunctor)
 functors_from zero found = refuse
 functors_from (suc n) found = do
   f ← functor
@@ -418,7 +418,7 @@ functors_from (suc n) found = do
   if more then functors_from n (found ++ f ∷ []) else (do expect kind.End; pure (found ++ f ∷ []))
 
 -- functors with `;` between them, and the end sign
-unfoldable pub functors : Parser (List Construct)
+unfoldable pub functors : Parser (List HldsFunctor)
 functors = λ i. functors_from (turns i) [] i
 
 abbrev pub is_own_type : List ℕ → Bool
@@ -428,7 +428,7 @@ unfoldable pub type_name : Parser (List ℕ)
 type_name = λ i. if is_own_type (token i).text then name i else refuse i
 
 -- a type's declaration from `type` on
-unfoldable pub family : (line : ℕ) → Parser Family
+unfoldable pub family : (line : ℕ) → Parser HldsTypeDef
 family line = do
   word (codes "type")
   t ← type_name
@@ -503,7 +503,7 @@ inst = do
   expect kind.Close
   pure (ms, d)
 
-unfoldable pub ho_types : Parser (List Sort)
+unfoldable pub ho_types : Parser (List HldsType)
 ho_types = do
   expect kind.Pred
   expect kind.Open
@@ -511,39 +511,39 @@ ho_types = do
   expect kind.HasMode
   pure ts
 
-unfoldable pub ho_argument : Parser (Sort × Mode)
+unfoldable pub ho_argument : Parser (HldsType × Mode)
 ho_argument = do
   ts ← ho_types
   m ← ho_mode
   n ← inst
-  pure (closure (gathered_sorts ts) n.0 n.1, m)
+  pure (closure (gathered_types ts) n.0 n.1, m)
 
-unfoldable pub plain_argument : Parser (Sort × Mode)
+unfoldable pub plain_argument : Parser (HldsType × Mode)
 plain_argument = do
   t ← sort
   expect kind.HasMode
   m ← mode_word
   pure (t, m)
 
-unfoldable pub argument : Parser (Sort × Mode)
+unfoldable pub argument : Parser (HldsType × Mode)
 argument = λ i. if sees kind.Pred i then ho_argument i else plain_argument i
 
 -- the first token of an argument is at fault
 unfoldable pub excess : {A : Type 0} → Parser A
 excess = λ i. if sees kind.Pred i then limit i else and_then (sort i) (λ t j. limit i)
 
-unfoldable pub arguments_from : (n : ℕ) → List (Sort × Mode) → Parser (List (Sort × Mode))
+unfoldable pub arguments_from : (n : ℕ) → List (HldsType × Mode) → Parser (List (HldsType × Mode))
 arguments_from zero found = excess
 arguments_from (suc n) found = do
   a ← argument
   more ← eat kind.Comma
   if more then arguments_from n (found ++ a ∷ []) else (do expect kind.Close; pure (found ++ a ∷ []))
 
-abbrev pub arguments_at_most : Parser (List (Sort × Mode))
+abbrev pub arguments_at_most : Parser (List (HldsType × Mode))
 arguments_at_most = λ i. arguments_from i.limits.items [] i
 
 -- nothing, or arguments in parentheses
-unfoldable pub declared_arguments : Parser (List (Sort × Mode))
+unfoldable pub declared_arguments : Parser (List (HldsType × Mode))
 declared_arguments = do
   some ← eat kind.Open
   if some then arguments_at_most else pure []
@@ -567,7 +567,7 @@ head (suc n) = do
 
 pub record Declaration : Type 0 where
   pub name : PredName
-  pub args : List (Sort × Mode)
+  pub args : List (HldsType × Mode)
   pub det : Det
 
 -- `is`, a determinism and the end sign
@@ -590,15 +590,15 @@ declaration = do
 pub record Clause : Type 0 where
   pub line : ℕ
   pub head : List ℕ
-  pub body : Part
+  pub body : HldsGoal
   pub vars : List (List ℕ)
 
 -- a conjunction within which as many goals may be open as there may be
-abbrev pub conjunction_at_most : Parser Part
+abbrev pub conjunction_at_most : Parser HldsGoal
 conjunction_at_most = λ i. conjunction i.limits.goals i
 
 -- `:-`, a conjunction and the end sign
-unfoldable pub body : Parser Part
+unfoldable pub body : Parser HldsGoal
 body = do
   expect kind.Declare
   g ← conjunction_at_most
@@ -648,7 +648,7 @@ module_name = λ i.
     else refuse i
 
 -- the declaration of the module
-unfoldable pub heading : Parser Listing
+unfoldable pub heading : Parser Hlds
 heading = do
   line ← expect kind.Declare
   word (codes "module")
@@ -656,37 +656,37 @@ heading = do
   expect kind.End
   pure (record { module_name = m; module_line = line; types = []; procedures = [] })
 
-unfoldable pub with_family : Listing → Family → Listing
+unfoldable pub with_family : Hlds → HldsTypeDef → Hlds
 with_family l t = record l { types = l.types ++ t ∷ [] }
 
-unfoldable pub with_procedure : Listing → Procedure → Listing
+unfoldable pub with_procedure : Hlds → Procedure → Hlds
 with_procedure l p = record l { procedures = l.procedures ++ p ∷ [] }
 
-unfoldable pub declared_procedure : Listing → (line : ℕ) → Parser Listing
+unfoldable pub declared_procedure : Hlds → (line : ℕ) → Parser Hlds
 declared_procedure l line = do
   p ← procedure line
   pure (with_procedure l p)
 
-unfoldable pub declared_family : Listing → (line : ℕ) → Parser Listing
+unfoldable pub declared_family : Hlds → (line : ℕ) → Parser Hlds
 declared_family l line = do
   t ← family line
   pure (with_family l t)
 
 -- a declaration of a type, or of a predicate with its clause
-unfoldable pub declared : Listing → Parser Listing
+unfoldable pub declared : Hlds → Parser Hlds
 declared l = do
   line ← expect kind.Declare
   λ i. if sees kind.Pred i then declared_procedure l line i else declared_family l line i
 
-unfoldable pub declarations_from : (n : ℕ) → Listing → Parser Listing
+unfoldable pub declarations_from : (n : ℕ) → Hlds → Parser Hlds
 declarations_from zero l = refuse
 declarations_from (suc n) l = λ i. if sees kind.Stop i then Ok (l, i) else (declared l >>= declarations_from n) i
 
 -- the declarations after that of the module, up to the end of the text
-unfoldable pub declarations : Listing → Parser Listing
+unfoldable pub declarations : Hlds → Parser Hlds
 declarations l = λ i. declarations_from (turns i) l i
 
-unfoldable pub program : Parser Listing
+unfoldable pub program : Parser Hlds
 program = do
   l ← heading
   declarations l

@@ -5,8 +5,8 @@ use Rattle.md_reader.specs.Duplicates.{Declared}
 use Rattle.md_reader.specs.declared.names.Written.{Written as Text}
 use Rattle.md_reader.specs.declared.procedure.Declaration.{Declaration as Said}
 use Rattle.md_reader.specs.declared.procedure.Clause.{Clause as Shown}
-use Rattle.md_hlds.specs.Part.{part_of}
-use Rattle.md_hlds.specs.Listing.{Listing, args_of, families_of, procedures_of}
+use Rattle.md_hlds.specs.HldsGoal.{goal_of}
+use Rattle.md_hlds.specs.Hlds.{Hlds, args_of, type_defs_of, procedures_of}
 use Rattle.md_reader.specs.declared.program.Draft.{Draft}
 use Rattle.md_reader.specs.Rules.{Written, Declaration, Clause}
 
@@ -17,7 +17,7 @@ abbrev pub declaration_of : Said → Declaration
 declaration_of d = record { name = d.name; args = args_of d.args.items; det = d.det }
 
 abbrev pub clause_of : Shown → Clause
-clause_of c = record { line = c.line; head = c.head; body = part_of c.body; vars = c.vars.items }
+clause_of c = record { line = c.line; head = c.head; body = goal_of c.body; vars = c.vars.items }
 
 abbrev pub declared_of : Entry → Declared
 declared_of d = record { qualifier = option_map (λ q. q.now) d.key.qualifier; name = d.key.name.now; arity = d.key.arity; line = d.line }
@@ -25,5 +25,5 @@ declared_of d = record { qualifier = option_map (λ q. q.now) d.key.qualifier; n
 abbrev pub all_declared : List Entry → List Declared
 all_declared ds = map declared_of ds
 
-abbrev pub draft_of : Draft → Listing
-draft_of p = record { module_name = p.module; module_line = p.module_line; types = families_of p.types.items; procedures = procedures_of p.preds.items }
+abbrev pub draft_of : Draft → Hlds
+draft_of p = record { module_name = p.module; module_line = p.module_line; types = type_defs_of p.types.items; procedures = procedures_of p.preds.items }

@@ -1,6 +1,6 @@
 // The arguments of a predicate's declaration.
 ghost use Rattle.std.specs.Prelude.{◌≡◌, ◌≢◌, [], ◌∷◌, ◌++◌, List};
-ghost use Rattle.md_hlds.specs.Listing.{Sort, sort_of, sorts_of, args_of};
+ghost use Rattle.md_hlds.specs.Hlds.{HldsType, hlds_type_of, hlds_types_of, args_of};
 ghost use Rattle.md_hlds.specs.declared.types.Mode.{Mode};
 ghost use Rattle.md_reader.specs.Input.{input_of, Reads};
 ghost use Rattle.md_reader.specs.Rules as spec;
@@ -39,7 +39,7 @@ fn arguments_at_most(input: &mut Input<'_>, count: usize) -> Result<Vec<(Ty, Mod
 /// Why there is no further argument.
 #[tactic(auto, unfolding(crate::specs::Rules::excess))]
 fn excess(input: &mut Input<'_>) -> Refusal
-    ensures { result ≢ Refusal.NoMemory → spec.excess {A = List (Sort × Mode)} (input_of input.old) ≡ Err result }
+    ensures { result ≢ Refusal.NoMemory → spec.excess {A = List (HldsType × Mode)} (input_of input.old) ≡ Err result }
 {
     let excess = input.limit();
     if input.sees(Kind::Pred) {
@@ -53,7 +53,7 @@ fn excess(input: &mut Input<'_>) -> Refusal
 
 #[tactic(auto, unfolding(crate::specs::Rules::argument))]
 fn argument(input: &mut Input<'_>) -> Result<(Ty, Mode), Refusal>
-    ensures { Reads (λ arg. (sort_of arg.0, arg.1)) (spec.argument (input_of input.old)) result (input_of input.new) }
+    ensures { Reads (λ arg. (hlds_type_of arg.0, arg.1)) (spec.argument (input_of input.old)) result (input_of input.new) }
 {
     if input.sees(Kind::Pred) {
         ho_argument(input)
@@ -64,7 +64,7 @@ fn argument(input: &mut Input<'_>) -> Result<(Ty, Mode), Refusal>
 
 #[tactic(auto, unfolding(crate::specs::Rules::plain_argument))]
 fn plain_argument(input: &mut Input<'_>) -> Result<(Ty, Mode), Refusal>
-    ensures { Reads (λ arg. (sort_of arg.0, arg.1)) (spec.plain_argument (input_of input.old)) result (input_of input.new) }
+    ensures { Reads (λ arg. (hlds_type_of arg.0, arg.1)) (spec.plain_argument (input_of input.old)) result (input_of input.new) }
 {
     let sort = sort(input)?;
     input.expect(Kind::HasMode)?;
@@ -75,7 +75,7 @@ fn plain_argument(input: &mut Input<'_>) -> Result<(Ty, Mode), Refusal>
 /// Takes a higher-order argument: its types, its mode, and the modes and the determinism of its inst.
 #[tactic(auto, unfolding(crate::specs::Rules::ho_argument))]
 fn ho_argument(input: &mut Input<'_>) -> Result<(Ty, Mode), Refusal>
-    ensures { Reads (λ arg. (sort_of arg.0, arg.1)) (spec.ho_argument (input_of input.old)) result (input_of input.new) }
+    ensures { Reads (λ arg. (hlds_type_of arg.0, arg.1)) (spec.ho_argument (input_of input.old)) result (input_of input.new) }
 {
     let types = ho_types(input)?;
     let mode = ho_mode(input)?;
@@ -85,7 +85,7 @@ fn ho_argument(input: &mut Input<'_>) -> Result<(Ty, Mode), Refusal>
 
 #[tactic(auto, unfolding(crate::specs::Rules::ho_types))]
 fn ho_types(input: &mut Input<'_>) -> Result<Vec<Ty>, Refusal>
-    ensures { Reads (λ sorts. sorts_of sorts.items) (spec.ho_types (input_of input.old)) result (input_of input.new) }
+    ensures { Reads (λ sorts. hlds_types_of sorts.items) (spec.ho_types (input_of input.old)) result (input_of input.new) }
 {
     input.expect(Kind::Pred)?;
     input.expect(Kind::Open)?;

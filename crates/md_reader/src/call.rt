@@ -1,6 +1,6 @@
 // Calls, builtin goals, comparisons, and unifications with a variable before them.
 ghost use Rattle.std.specs.Prelude.{◌≡◌, option_map};
-ghost use Rattle.md_hlds.specs.Part.{task_of};
+ghost use Rattle.md_hlds.specs.HldsGoal.{expr_of};
 ghost use Rattle.md_reader.specs.Input.{input_of, Reads};
 ghost use Rattle.md_reader.specs.Rules as spec;
 
@@ -16,7 +16,7 @@ use md_token::{Kind, is_word};
 /// Takes a goal that begins with a variable.
 #[tactic(auto, unfolding(crate::specs::Rules::relation))]
 pub(crate) fn relation(input: &mut Input<'_>) -> Result<GoalKind, Refusal>
-    ensures { Reads task_of (spec.relation (input_of input.old)) result (input_of input.new) }
+    ensures { Reads expr_of (spec.relation (input_of input.old)) result (input_of input.new) }
 {
     let x = input.variable(&[])?;
     match input.kind() {
@@ -29,7 +29,7 @@ pub(crate) fn relation(input: &mut Input<'_>) -> Result<GoalKind, Refusal>
 }
 
 fn compared(input: &mut Input<'_>, x: u32, comparison: Option<Cmp>) -> Result<GoalKind, Refusal>
-    ensures { Reads task_of (spec.compared x comparison (input_of input.old)) result (input_of input.new) }
+    ensures { Reads expr_of (spec.compared x comparison (input_of input.old)) result (input_of input.new) }
 {
     match comparison {
         None => Err(input.refuse()),
@@ -56,7 +56,7 @@ fn comparison(kind: Kind) -> Option<Cmp>
 /// Takes a call of a predicate, or a builtin goal.
 #[tactic(auto, unfolding(crate::specs::Rules::call))]
 pub(crate) fn call(input: &mut Input<'_>) -> Result<GoalKind, Refusal>
-    ensures { Reads task_of (spec.call (input_of input.old)) result (input_of input.new) }
+    ensures { Reads expr_of (spec.call (input_of input.old)) result (input_of input.new) }
 {
     let name = pred_name(input)?;
     let variables = arguments(input, None)?;
@@ -71,7 +71,7 @@ pub(crate) fn call(input: &mut Input<'_>) -> Result<GoalKind, Refusal>
 
 /// The builtin goal that a call of this name with these variables is, if it is one.
 fn builtin(name: &PredName, variables: &[u32]) -> Option<GoalKind>
-    ensures { option_map task_of result ≡ spec.builtin name.now variables.now }
+    ensures { option_map expr_of result ≡ spec.builtin name.now variables.now }
 {
     match variables {
         [before, after] if is_builtin("nl", name) => Some(GoalKind::Nl(*before, *after)),
@@ -103,7 +103,7 @@ fn is_io(qualifier: &Option<Name>) -> bool
 /// Takes a call of a closure.
 #[tactic(auto, unfolding(crate::specs::Rules::closure_call))]
 pub(crate) fn closure_call(input: &mut Input<'_>) -> Result<GoalKind, Refusal>
-    ensures { Reads task_of (spec.closure_call (input_of input.old)) result (input_of input.new) }
+    ensures { Reads expr_of (spec.closure_call (input_of input.old)) result (input_of input.new) }
 {
     input.expect(Kind::Call)?;
     input.expect(Kind::Open)?;
@@ -112,7 +112,7 @@ pub(crate) fn closure_call(input: &mut Input<'_>) -> Result<GoalKind, Refusal>
 }
 
 fn applied(input: &mut Input<'_>, variables: Variables) -> Result<GoalKind, Refusal>
-    ensures { Reads task_of (spec.applied variables (input_of input.old)) result (input_of input.new) }
+    ensures { Reads expr_of (spec.applied variables (input_of input.old)) result (input_of input.new) }
 {
     let mut variables = variables.into_vec();
     if variables.is_empty() {

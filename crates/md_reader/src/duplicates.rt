@@ -1,7 +1,7 @@
 // Second declarations.
 ghost use Rattle.std.specs.Prelude.{◌≡◌, [], ◌++◌, OnOk, IfOk, map, option_map, length};
 ghost use Rattle.std.specs.List.{flat_map};
-ghost use Rattle.md_hlds.specs.Listing.{listing_of, families_of, procedures_of, constructs_of, sorts_of};
+ghost use Rattle.md_hlds.specs.Hlds.{hlds_of, type_defs_of, procedures_of, hlds_functors_of, hlds_types_of};
 ghost use Rattle.md_reader.specs.Duplicates as spec;
 ghost use Rattle.md_reader.specs.Views.{declared_of, all_declared};
 
@@ -28,7 +28,7 @@ pub(crate) struct Declared<'a> {
 /// The line of the first second declaration, of a type, a functor or a predicate.
 #[tactic(auto, unfolding(crate::specs::Duplicates::duplicate))]
 pub(crate) fn duplicate(alloc: Global, program: &Program) -> Result<Option<u32>, NoMemory>
-    ensures { IfOk result (λ line. line ≡ spec.duplicate (listing_of program.now)) }
+    ensures { IfOk result (λ line. line ≡ spec.duplicate (hlds_of program.now)) }
 {
     let family = second_family(alloc, program)?;
     let construct = second_construct(alloc, program)?;
@@ -48,7 +48,7 @@ fn earlier(a: Option<u32>, b: Option<u32>) -> Option<u32>
 
 #[tactic(auto, unfolding(crate::specs::Duplicates::second_family))]
 fn second_family(alloc: Global, program: &Program) -> Result<Option<u32>, NoMemory>
-    ensures { IfOk result (λ line. line ≡ spec.second_family (listing_of program.now)) }
+    ensures { IfOk result (λ line. line ≡ spec.second_family (hlds_of program.now)) }
 {
     let declared = families(alloc, &program.types)?;
     first_second(alloc, &declared)
@@ -56,7 +56,7 @@ fn second_family(alloc: Global, program: &Program) -> Result<Option<u32>, NoMemo
 
 #[tactic(auto, unfolding(crate::specs::Duplicates::second_construct))]
 fn second_construct(alloc: Global, program: &Program) -> Result<Option<u32>, NoMemory>
-    ensures { IfOk result (λ line. line ≡ spec.second_construct (listing_of program.now)) }
+    ensures { IfOk result (λ line. line ≡ spec.second_construct (hlds_of program.now)) }
 {
     let mut declared = Vec::new(alloc);
     constructs(&mut declared, &program.types)?;
@@ -65,7 +65,7 @@ fn second_construct(alloc: Global, program: &Program) -> Result<Option<u32>, NoM
 
 #[tactic(auto, unfolding(crate::specs::Duplicates::second_procedure))]
 fn second_procedure(alloc: Global, program: &Program) -> Result<Option<u32>, NoMemory>
-    ensures { IfOk result (λ line. line ≡ spec.second_procedure (listing_of program.now)) }
+    ensures { IfOk result (λ line. line ≡ spec.second_procedure (hlds_of program.now)) }
 {
     let declared = procedures(alloc, &program.preds)?;
     first_second(alloc, &declared)
@@ -85,7 +85,7 @@ fn first_second(alloc: Global, declared: &[Declared<'_>]) -> Result<Option<u32>,
 }
 
 fn families<'a>(alloc: Global, types: &'a [TypeDef]) -> Result<Vec<Declared<'a>>, NoMemory>
-    ensures { IfOk result (λ declared. all_declared declared.items ≡ map spec.declared_family (families_of types.now)) }
+    ensures { IfOk result (λ declared. all_declared declared.items ≡ map spec.declared_family (type_defs_of types.now)) }
 {
     let mut declared = Vec::new(alloc);
     for family in types {
@@ -103,7 +103,7 @@ fn families<'a>(alloc: Global, types: &'a [TypeDef]) -> Result<Vec<Declared<'a>>
 }
 
 fn constructs<'a>(declared: &mut Vec<Declared<'a>>, types: &'a [TypeDef]) -> Result<(), NoMemory>
-    ensures { OnOk result (all_declared declared.new.items ≡ all_declared declared.old.items ++ flat_map spec.declared_constructs (families_of types.now)) }
+    ensures { OnOk result (all_declared declared.new.items ≡ all_declared declared.old.items ++ flat_map spec.declared_constructs (type_defs_of types.now)) }
 {
     for family in types {
         constructs_of_one(declared, family.line, &family.functors)?;
@@ -116,7 +116,7 @@ fn constructs_of_one<'a>(
     line: u32,
     functors: &'a [Functor],
 ) -> Result<(), NoMemory>
-    ensures { OnOk result (all_declared declared.new.items ≡ all_declared declared.old.items ++ map (spec.declared_construct line) (constructs_of functors.now)) }
+    ensures { OnOk result (all_declared declared.new.items ≡ all_declared declared.old.items ++ map (spec.declared_construct line) (hlds_functors_of functors.now)) }
 {
     for functor in functors {
         let key = Key {
@@ -131,7 +131,7 @@ fn constructs_of_one<'a>(
 
 #[tactic(auto, using(crate::proofs::Lists::length_sorts_of))]
 fn arity(args: &[Ty]) -> usize
-    ensures { result ≡ length (sorts_of args.now) }
+    ensures { result ≡ length (hlds_types_of args.now) }
 {
     args.len()
 }

@@ -1,6 +1,6 @@
 // Goals. They nest, and within each other at most so many are open.
 ghost use Rattle.std.specs.Prelude.{◌≡◌, ◌<◌, [], ◌∷◌, IfOk, IfErr, OnOk};
-ghost use Rattle.md_hlds.specs.Part.{part_of, parts_of, At, Choose};
+ghost use Rattle.md_hlds.specs.HldsGoal.{goal_of, goals_of, At, IfGoal};
 ghost use Rattle.md_reader.specs.Input.{input_of, Reads};
 ghost use Rattle.md_reader.specs.Rules as spec;
 
@@ -15,7 +15,7 @@ use std::alloc::Global;
 /// Takes a conjunction within which so many goals may be open.
 #[cycle(goals)]
 pub(crate) fn conjunction(input: &mut Input<'_>, room: u32) -> Result<Goal, Refusal>
-    ensures { Reads part_of (spec.conjunction room (input_of input.old)) result (input_of input.new) }
+    ensures { Reads goal_of (spec.conjunction room (input_of input.old)) result (input_of input.new) }
 {
     let units = units(input, room)?;
     Ok(joined(units))
@@ -25,7 +25,7 @@ pub(crate) fn conjunction(input: &mut Input<'_>, room: u32) -> Result<Goal, Refu
 #[tactic(auto, unfolding(crate::specs::Rules::units))]
 #[cycle(goals)]
 fn units(input: &mut Input<'_>, room: u32) -> Result<Vec<Goal>, Refusal>
-    ensures { Reads (λ units. parts_of units.items) (spec.units room (spec.within room) (input_of input.old)) result (input_of input.new) }
+    ensures { Reads (λ units. goals_of units.items) (spec.units room (spec.within room) (input_of input.old)) result (input_of input.new) }
 {
     let mut found = Vec::new(input.alloc);
     for _turn in 0..input.left() {
@@ -39,7 +39,7 @@ fn units(input: &mut Input<'_>, room: u32) -> Result<Vec<Goal>, Refusal>
 
 /// The conjunction of these units; one alone is itself.
 fn joined(mut units: Vec<Goal>) -> Goal
-    ensures { part_of result ≡ spec.joined (parts_of units.items) }
+    ensures { goal_of result ≡ spec.joined (goals_of units.items) }
 {
     if units.len() == 1 {
         return units.remove(0);
@@ -53,7 +53,7 @@ fn joined(mut units: Vec<Goal>) -> Goal
 
 /// The line of the first of these goals, or 0 where there is none.
 fn first_line(goals: &[Goal]) -> u32
-    ensures { result ≡ spec.first_line (parts_of goals.now) }
+    ensures { result ≡ spec.first_line (goals_of goals.now) }
 {
     match goals {
         [] => 0,
@@ -65,7 +65,7 @@ fn first_line(goals: &[Goal]) -> u32
 #[tactic(auto, unfolding(crate::specs::Rules::unit))]
 #[cycle(goals)]
 fn unit(input: &mut Input<'_>, room: u32) -> Result<Goal, Refusal>
-    ensures { Reads part_of (spec.unit room (spec.within room) (input_of input.old)) result (input_of input.new) }
+    ensures { Reads goal_of (spec.unit room (spec.within room) (input_of input.old)) result (input_of input.new) }
 {
     let line = input.token().line;
     let kind = match input.kind() {
@@ -92,7 +92,7 @@ fn unit(input: &mut Input<'_>, room: u32) -> Result<Goal, Refusal>
 #[tactic(auto, unfolding(crate::specs::Rules::group))]
 #[cycle(goals)]
 fn group(input: &mut Input<'_>, room: u32) -> Result<Goal, Refusal>
-    ensures { Reads part_of (spec.group room (spec.within room) (input_of input.old)) result (input_of input.new) }
+    ensures { Reads goal_of (spec.group room (spec.within room) (input_of input.old)) result (input_of input.new) }
 {
     let line = open_goal(input, room)?;
     let first = inner(input, room)?;
@@ -112,7 +112,7 @@ fn group(input: &mut Input<'_>, room: u32) -> Result<Goal, Refusal>
 #[cycle(goals)]
 fn disjunction(input: &mut Input<'_>, room: u32, line: u32, first: Goal) -> Result<Goal, Refusal>
     requires { 0 < room }
-    ensures { Reads part_of (spec.disjunction (spec.within room) line (part_of first) (input_of input.old)) result (input_of input.new) }
+    ensures { Reads goal_of (spec.disjunction (spec.within room) line (goal_of first) (input_of input.old)) result (input_of input.new) }
 {
     input.expect(Kind::Semicolon)?;
     let arms = arms(input, room, first)?;
@@ -126,7 +126,7 @@ fn disjunction(input: &mut Input<'_>, room: u32, line: u32, first: Goal) -> Resu
 #[cycle(goals)]
 fn arms(input: &mut Input<'_>, room: u32, first: Goal) -> Result<Vec<Goal>, Refusal>
     requires { 0 < room }
-    ensures { Reads (λ arms. parts_of arms.items) (spec.arms (spec.within room) (part_of first) (input_of input.old)) result (input_of input.new) }
+    ensures { Reads (λ arms. goals_of arms.items) (spec.arms (spec.within room) (goal_of first) (input_of input.old)) result (input_of input.new) }
 {
     let mut found = Vec::new(input.alloc);
     found.push(first)?;
@@ -145,7 +145,7 @@ fn arms(input: &mut Input<'_>, room: u32, first: Goal) -> Result<Vec<Goal>, Refu
 #[cycle(goals)]
 fn choice(input: &mut Input<'_>, room: u32, line: u32, condition: Goal) -> Result<Goal, Refusal>
     requires { 0 < room }
-    ensures { Reads part_of (spec.choice (spec.within room) line (part_of condition) (input_of input.old)) result (input_of input.new) }
+    ensures { Reads goal_of (spec.choice (spec.within room) line (goal_of condition) (input_of input.old)) result (input_of input.new) }
 {
     let (then_part, else_part) = branches(input, room)?;
     input.expect(Kind::Close)?;
@@ -156,7 +156,7 @@ fn choice(input: &mut Input<'_>, room: u32, line: u32, condition: Goal) -> Resul
 #[cycle(goals)]
 fn branches(input: &mut Input<'_>, room: u32) -> Result<(Goal, Goal), Refusal>
     requires { 0 < room }
-    ensures { Reads (λ b. (part_of b.0, part_of b.1)) (spec.branches (spec.within room) (input_of input.old)) result (input_of input.new) }
+    ensures { Reads (λ b. (goal_of b.0, goal_of b.1)) (spec.branches (spec.within room) (input_of input.old)) result (input_of input.new) }
 {
     input.expect(Kind::Then)?;
     let then_part = inner(input, room)?;
@@ -172,7 +172,7 @@ fn if_goal(
     then_part: Goal,
     else_part: Goal,
 ) -> Result<Goal, Refusal>
-    ensures ok { IfOk result (λ goal. part_of goal ≡ At line (Choose (part_of condition) (part_of then_part) (part_of else_part))) }
+    ensures ok { IfOk result (λ goal. goal_of goal ≡ At line (IfGoal (goal_of condition) (goal_of then_part) (goal_of else_part))) }
     ensures err { IfErr result (λ e. e ≡ Refusal.NoMemory) }
 {
     let condition = Box::new(alloc, condition)?;
@@ -188,7 +188,7 @@ fn if_goal(
 #[tactic(auto, unfolding(crate::specs::Rules::negation))]
 #[cycle(goals)]
 fn negation(input: &mut Input<'_>, room: u32) -> Result<Goal, Refusal>
-    ensures { Reads part_of (spec.negation room (spec.within room) (input_of input.old)) result (input_of input.new) }
+    ensures { Reads goal_of (spec.negation room (spec.within room) (input_of input.old)) result (input_of input.new) }
 {
     let line = input.expect(Kind::Not)?;
     open_goal(input, room)?;
@@ -205,7 +205,7 @@ fn negation(input: &mut Input<'_>, room: u32) -> Result<Goal, Refusal>
 #[tactic(auto, unfolding(crate::specs::Rules::quantification))]
 #[cycle(goals)]
 fn quantification(input: &mut Input<'_>, room: u32) -> Result<Goal, Refusal>
-    ensures { Reads part_of (spec.quantification room (spec.within room) (input_of input.old)) result (input_of input.new) }
+    ensures { Reads goal_of (spec.quantification room (spec.within room) (input_of input.old)) result (input_of input.new) }
 {
     let line = input.expect(Kind::Some)?;
     input.expect(Kind::OpenList)?;
@@ -224,7 +224,7 @@ fn quantification(input: &mut Input<'_>, room: u32) -> Result<Goal, Refusal>
 #[cycle(goals)]
 fn inner(input: &mut Input<'_>, room: u32) -> Result<Goal, Refusal>
     requires { 0 < room }
-    ensures { Reads part_of (spec.within room (input_of input.old)) result (input_of input.new) }
+    ensures { Reads goal_of (spec.within room (input_of input.old)) result (input_of input.new) }
 {
     conjunction(input, room - 1)
 }

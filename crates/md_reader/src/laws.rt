@@ -1,6 +1,6 @@
 // Laws over the grammar alone. Each is the contract of a function that does nothing.
 ghost use Rattle.std.specs.Prelude.{◌≡◌, ℕ, List};
-ghost use Rattle.md_hlds.specs.Listing.{Listing};
+ghost use Rattle.md_hlds.specs.Hlds.{Hlds};
 ghost use Rattle.md_token.specs.Token.{tokens_of};
 ghost use Rattle.md_reader.specs.Excess.{AreWithin, beginning};
 ghost use Rattle.md_reader.specs.Faults.{IsLimitFault, IsSyntaxFault};
@@ -9,12 +9,12 @@ ghost use Rattle.md_reader.specs.Input.{standard};
 
 /// A text spells at most one program.
 pub fn a_text_spells_one_program()
-    ensures { (text : List ℕ) (p q : Listing) → Spells text p → Spells text q → p ≡ q }
+    ensures { (text : List ℕ) (p q : Hlds) → Spells text p → Spells text q → p ≡ q }
 {}
 
 /// No token of a text that spells a program has more than the limits allow.
 pub fn a_program_is_within_the_limits()
-    ensures { (text : List ℕ) (p : Listing) → Spells text p → AreWithin standard beginning (tokens_of text) }
+    ensures { (text : List ℕ) (p : Hlds) → Spells text p → AreWithin standard beginning (tokens_of text) }
 {}
 
 /// The first token at fault of a text stands in one line, and is at fault for syntax or for a limit, not for both.

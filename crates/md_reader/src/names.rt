@@ -1,6 +1,6 @@
 // Names of predicates and functors.
 ghost use Rattle.std.specs.Prelude.{◌≡◌, drop, option_map, IfOk};
-ghost use Rattle.md_hlds.specs.Listing as listing;
+ghost use Rattle.md_hlds.specs.Hlds as listing;
 ghost use Rattle.md_token.specs.Token.{lexeme_of};
 ghost use Rattle.md_reader.specs.Input.{input_of, standard, Reads};
 ghost use Rattle.md_reader.specs.Rules as spec;

@@ -1,7 +1,7 @@
 // Predicates: a declaration, and the one clause after it.
 ghost use Rattle.std.specs.Prelude.{◌≡◌, [], length};
-ghost use Rattle.md_hlds.specs.Listing.{args_of, procedure_of};
-ghost use Rattle.md_hlds.specs.Part.{part_of};
+ghost use Rattle.md_hlds.specs.Hlds.{args_of, procedure_of};
+ghost use Rattle.md_hlds.specs.HldsGoal.{goal_of};
 ghost use Rattle.md_reader.specs.Input.{input_of, Reads};
 ghost use Rattle.md_reader.specs.Rules as spec;
 ghost use Rattle.md_reader.specs.Views.{declaration_of, clause_of};
@@ -114,7 +114,7 @@ fn take_clause(input: &mut Input<'_>, name: &PredName, arity: usize) -> Result<C
 /// Takes `:-`, a conjunction and the end sign.
 #[tactic(auto, unfolding(crate::specs::Rules::body, crate::specs::Input::input_of))]
 fn body(input: &mut Input<'_>) -> Result<Goal, Refusal>
-    ensures { Reads part_of (spec.body (input_of input.old)) result (input_of input.new) }
+    ensures { Reads goal_of (spec.body (input_of input.old)) result (input_of input.new) }
 {
     input.expect(Kind::Declare)?;
     let body = conjunction(input, MOST_OPEN)?;

@@ -1,6 +1,6 @@
 // Whole programs.
 ghost use Rattle.std.specs.Prelude.{◌≡◌, IfOk};
-ghost use Rattle.md_hlds.specs.Listing.{listing_of};
+ghost use Rattle.md_hlds.specs.Hlds.{hlds_of};
 ghost use Rattle.md_reader.specs.Input.{input_of, Reads};
 ghost use Rattle.md_reader.specs.Rules as spec;
 ghost use Rattle.md_reader.specs.Views.{draft_of};
@@ -25,7 +25,7 @@ pub(crate) struct Draft {
 /// Takes a whole program.
 #[tactic(auto, unfolding(crate::specs::Rules::program))]
 pub(crate) fn program(input: &mut Input<'_>) -> Result<Program, Refusal>
-    ensures { Reads listing_of (spec.program (input_of input.old)) result (input_of input.new) }
+    ensures { Reads hlds_of (spec.program (input_of input.old)) result (input_of input.new) }
 {
     let heading = heading(input)?;
     let draft = declarations(input, heading)?;
@@ -34,7 +34,7 @@ pub(crate) fn program(input: &mut Input<'_>) -> Result<Program, Refusal>
 
 /// The program of a draft. A text that can be read has fewer predicates than there are numbers for them.
 fn finished(draft: Draft) -> Result<Program, NoMemory>
-    ensures { IfOk result (λ program. listing_of program ≡ draft_of draft) }
+    ensures { IfOk result (λ program. hlds_of program ≡ draft_of draft) }
 {
     if draft.preds.as_slice().len() > u32::MAX as usize {
         return Err(NoMemory);

@@ -1,7 +1,7 @@
 // The text of a program to the program.
 ghost use Rattle.std.specs.Prelude.{◌≡◌, ◌<◌, ℕ, IfErr, IfOk, length};
 ghost use Rattle.md_token.specs.Token.{lexemes_of};
-ghost use Rattle.md_hlds.specs.Listing.{Listing, listing_of};
+ghost use Rattle.md_hlds.specs.Hlds.{Hlds, hlds_of};
 ghost use Rattle.md_reader.specs.Faults.{IsAtFault, IsLimitFault, IsSyntaxFault};
 ghost use Rattle.md_reader.specs.Grammar.{Repeats, Spells};
 ghost use Rattle.md_reader.specs.Input.{input_of};
@@ -24,8 +24,8 @@ use std::alloc::Global;
 /// first second declaration.
 pub fn read(alloc: Global, text: &[u8]) -> Result<Program, Refused>
     requires { length text.now < 4294967295 }
-    ensures spelled { IfOk result (λ program. Spells text.now (listing_of program)) }
-    ensures complete { (program : Listing) → Spells text.now program → IsRead result program }
+    ensures spelled { IfOk result (λ program. Spells text.now (hlds_of program)) }
+    ensures complete { (program : Hlds) → Spells text.now program → IsRead result program }
     ensures cause { IfErr result (λ refused. HasCause refused text.now) }
     ensures repeated { (line : ℕ) → Repeats text.now line → IsRefusedAs result (refusals.Duplicate line) }
     ensures fault { (line : ℕ) → IsAtFault text.now line → IsFault result }

@@ -1,6 +1,6 @@
 // The right sides of unifications, and arithmetic.
 ghost use Rattle.std.specs.Prelude.{◌≡◌, ◌≤◌};
-ghost use Rattle.md_hlds.specs.Part.{task_of};
+ghost use Rattle.md_hlds.specs.HldsGoal.{expr_of};
 ghost use Rattle.md_token.specs.Token.{lexeme_of};
 ghost use Rattle.md_reader.specs.Input.{input_of, Reads};
 ghost use Rattle.md_reader.specs.Rules as spec;
@@ -21,7 +21,7 @@ const MOST_BYTES: usize = 65_535;
 
 /// Takes what stands after `X =`: the rest of a unification or of arithmetic.
 pub(crate) fn term(input: &mut Input<'_>, x: u32) -> Result<GoalKind, Refusal>
-    ensures { Reads task_of (spec.term_after x (input_of input.old)) result (input_of input.new) }
+    ensures { Reads expr_of (spec.term_after x (input_of input.old)) result (input_of input.new) }
 {
     match input.kind() {
         Kind::Variable => second(input, x),
@@ -39,7 +39,7 @@ pub(crate) fn term(input: &mut Input<'_>, x: u32) -> Result<GoalKind, Refusal>
 /// Takes the second variable of a unification, or the second and the third of arithmetic.
 #[tactic(auto, unfolding(crate::specs::Rules::second))]
 fn second(input: &mut Input<'_>, x: u32) -> Result<GoalKind, Refusal>
-    ensures { Reads task_of (spec.second x (input_of input.old)) result (input_of input.new) }
+    ensures { Reads expr_of (spec.second x (input_of input.old)) result (input_of input.new) }
 {
     let y = input.variable(&[x])?;
     match operator(input.kind()) {
@@ -65,7 +65,7 @@ fn operator(kind: Kind) -> Option<Op>
 
 #[tactic(auto, unfolding(crate::specs::Rules::positive, crate::specs::Input::input_of))]
 fn positive(input: &mut Input<'_>, x: u32) -> Result<GoalKind, Refusal>
-    ensures { Reads task_of (spec.positive x (input_of input.old)) result (input_of input.new) }
+    ensures { Reads expr_of (spec.positive x (input_of input.old)) result (input_of input.new) }
 {
     match number_of(input.token().text) {
         Some(number) if number <= GREATEST => {
@@ -79,7 +79,7 @@ fn positive(input: &mut Input<'_>, x: u32) -> Result<GoalKind, Refusal>
 /// Takes the integer behind a `-`.
 #[tactic(auto, unfolding(crate::specs::Rules::negated, crate::specs::Input::input_of))]
 fn negated(input: &mut Input<'_>, x: u32) -> Result<GoalKind, Refusal>
-    ensures { Reads task_of (spec.negated x (input_of input.old)) result (input_of input.new) }
+    ensures { Reads expr_of (spec.negated x (input_of input.old)) result (input_of input.new) }
 {
     if !input.sees(Kind::Integer) {
         return Err(input.refuse());
@@ -106,7 +106,7 @@ fn minus(number: u64) -> i64
 
 #[tactic(auto, unfolding(crate::specs::Rules::literal, crate::specs::Input::input_of))]
 fn literal(input: &mut Input<'_>, x: u32) -> Result<GoalKind, Refusal>
-    ensures { Reads task_of (spec.literal x (input_of input.old)) result (input_of input.new) }
+    ensures { Reads expr_of (spec.literal x (input_of input.old)) result (input_of input.new) }
 {
     let value = string_value(input.alloc, input.token().text)?;
     if value.len() > MOST_BYTES {
@@ -119,7 +119,7 @@ fn literal(input: &mut Input<'_>, x: u32) -> Result<GoalKind, Refusal>
 
 #[tactic(auto, unfolding(crate::specs::Rules::application))]
 fn application(input: &mut Input<'_>, x: u32) -> Result<GoalKind, Refusal>
-    ensures { Reads task_of (spec.application x (input_of input.old)) result (input_of input.new) }
+    ensures { Reads expr_of (spec.application x (input_of input.old)) result (input_of input.new) }
 {
     let functor = pred_name(input)?;
     let arguments = arguments(input, Some(x))?;

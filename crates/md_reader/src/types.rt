@@ -1,6 +1,6 @@
 // Types and their declarations.
 ghost use Rattle.std.specs.Prelude.{◌≡◌, [], ◌∷◌, ◌++◌};
-ghost use Rattle.md_hlds.specs.Listing.{sort_of, sorts_of, construct_of, constructs_of, family_of};
+ghost use Rattle.md_hlds.specs.Hlds.{hlds_type_of, hlds_types_of, hlds_functor_of, hlds_functors_of, type_def_of};
 ghost use Rattle.md_reader.specs.Input.{input_of, Reads};
 ghost use Rattle.md_reader.specs.Rules as spec;
 
@@ -13,7 +13,7 @@ use md_token::{Kind, is_word};
 /// Takes a type that is no higher-order one.
 #[tactic(auto, unfolding(crate::specs::Rules::sort))]
 pub(crate) fn sort(input: &mut Input<'_>) -> Result<Ty, Refusal>
-    ensures { Reads sort_of (spec.sort (input_of input.old)) result (input_of input.new) }
+    ensures { Reads hlds_type_of (spec.sort (input_of input.old)) result (input_of input.new) }
 {
     if !input.sees(Kind::Name) {
         return Err(input.refuse());
@@ -35,13 +35,13 @@ pub(crate) fn sort(input: &mut Input<'_>) -> Result<Ty, Refusal>
 /// Takes one or more types, and `)`.
 #[tactic(auto, unfolding(crate::specs::Input::input_of))]
 pub(crate) fn sorts(input: &mut Input<'_>) -> Result<Vec<Ty>, Refusal>
-    ensures { Reads (λ sorts. sorts_of sorts.items) (spec.sorts (input_of input.old)) result (input_of input.new) }
+    ensures { Reads (λ sorts. hlds_types_of sorts.items) (spec.sorts (input_of input.old)) result (input_of input.new) }
 {
     sorts_at_most(input, MOST)
 }
 
 fn sorts_at_most(input: &mut Input<'_>, count: usize) -> Result<Vec<Ty>, Refusal>
-    ensures { Reads (λ sorts. sorts_of sorts.items) (spec.sorts_from count [] (input_of input.old)) result (input_of input.new) }
+    ensures { Reads (λ sorts. hlds_types_of sorts.items) (spec.sorts_from count [] (input_of input.old)) result (input_of input.new) }
 {
     let mut found = Vec::new(input.alloc);
     for _turn in 0..count {
@@ -59,7 +59,7 @@ fn sorts_at_most(input: &mut Input<'_>, count: usize) -> Result<Vec<Ty>, Refusal
 /// Takes the declaration of a type from `type` on. Its line is that of its `:-`.
 #[tactic(auto, unfolding(crate::specs::Rules::family))]
 pub(crate) fn family(input: &mut Input<'_>, line: u32) -> Result<TypeDef, Refusal>
-    ensures { Reads family_of (spec.family line (input_of input.old)) result (input_of input.new) }
+    ensures { Reads type_def_of (spec.family line (input_of input.old)) result (input_of input.new) }
 {
     input.word("type")?;
     let name = type_name(input)?;
@@ -92,7 +92,7 @@ fn is_own_type(text: &[u8]) -> bool
 /// Takes functors with `;` between them, and the end sign.
 #[tactic(auto, unfolding(crate::specs::Rules::functors))]
 fn functors(input: &mut Input<'_>) -> Result<Vec<Functor>, Refusal>
-    ensures { Reads (λ functors. constructs_of functors.items) (spec.functors (input_of input.old)) result (input_of input.new) }
+    ensures { Reads (λ functors. hlds_functors_of functors.items) (spec.functors (input_of input.old)) result (input_of input.new) }
 {
     let mut found = Vec::new(input.alloc);
     for _turn in 0..input.left() {
@@ -107,7 +107,7 @@ fn functors(input: &mut Input<'_>) -> Result<Vec<Functor>, Refusal>
 
 #[tactic(auto, unfolding(crate::specs::Rules::functor))]
 fn functor(input: &mut Input<'_>) -> Result<Functor, Refusal>
-    ensures { Reads construct_of (spec.functor (input_of input.old)) result (input_of input.new) }
+    ensures { Reads hlds_functor_of (spec.functor (input_of input.old)) result (input_of input.new) }
 {
     let name = input.name()?;
     let args = functor_arguments(input)?;
@@ -116,7 +116,7 @@ fn functor(input: &mut Input<'_>) -> Result<Functor, Refusal>
 
 #[tactic(auto, unfolding(crate::specs::Rules::functor_arguments))]
 fn functor_arguments(input: &mut Input<'_>) -> Result<Vec<Ty>, Refusal>
-    ensures { Reads (λ sorts. sorts_of sorts.items) (spec.functor_arguments (input_of input.old)) result (input_of input.new) }
+    ensures { Reads (λ sorts. hlds_types_of sorts.items) (spec.functor_arguments (input_of input.old)) result (input_of input.new) }
 {
     if !input.eat(Kind::Open) {
         return Ok(Vec::new(input.alloc));

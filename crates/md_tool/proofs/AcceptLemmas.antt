@@ -2,13 +2,13 @@
 use Rattle.std.proofs.Common.{◌≡◌, ◌≢◌, refl, ap, sym, subst, inl, inr, ℕ, List, None, Some}
 use Rattle.std.specs.Prelude.{Result, Ok, Err, MatchResult}
 use Rattle.md_hlds.specs.declared.program.Program.{Program}
-use Rattle.md_hlds.specs.Listing.{Listing, listing_of}
+use Rattle.md_hlds.specs.Hlds.{Hlds, hlds_of}
 use Rattle.md_reader.specs.declared.refused.Refused.{Refused}
 use Rattle.md_reader.specs.declared.refused.Refused.TheVariants as refused
 use Rattle.md_reader.specs.Grammar.{Spells}
 use Rattle.md_reader.specs.Reading.{reading, HasCause}
-use Rattle.md_binding.specs.declared.fault.ModeFault.{ModeFault}
-use Rattle.md_binding.specs.declared.fault.ModeFault.TheVariants as modes
+use Rattle.md_inst.specs.declared.fault.ModeFault.{ModeFault}
+use Rattle.md_inst.specs.declared.fault.ModeFault.TheVariants as modes
 use Rattle.md_modes.specs.Modes.{mode_fault}
 use Rattle.md_det.specs.declared.fault.DetFault.{DetFault}
 use Rattle.md_det.specs.declared.fault.DetFault.TheVariants as determinism
@@ -28,7 +28,7 @@ text_refused text refused.NoMemory cause answer = tt
 
 -- ---- a program with a fault
 
-pub has_mode_fault : (program : Listing) (e : ModeFault) → (e ≢ modes.NoMemory → mode_fault program ≡ Some e) → ProgramHas program (modes_refusal e)
+pub has_mode_fault : (program : Hlds) (e : ModeFault) → (e ≢ modes.NoMemory → mode_fault program ≡ Some e) → ProgramHas program (modes_refusal e)
 has_mode_fault program (modes.UnknownName line) answer = inr (inl (record { found = modes.UnknownName line; is_found = answer (λ same. cc); told = refl }))
 has_mode_fault program (modes.Arity line) answer = inr (inl (record { found = modes.Arity line; is_found = answer (λ same. cc); told = refl }))
 has_mode_fault program (modes.TypeClash line) answer = inr (inl (record { found = modes.TypeClash line; is_found = answer (λ same. cc); told = refl }))
@@ -40,7 +40,7 @@ has_mode_fault program (modes.ClosureTest line) answer = inr (inl (record { foun
 has_mode_fault program (modes.NoMain line) answer = inr (inl (record { found = modes.NoMain line; is_found = answer (λ same. cc); told = refl }))
 has_mode_fault program modes.NoMemory answer = inl refl
 
-pub has_det_fault : (program : Listing) (e : DetFault) → mode_fault program ≡ None → (e ≢ determinism.NoMemory → det_fault program ≡ Some e) → ProgramHas program (determinism_refusal e)
+pub has_det_fault : (program : Hlds) (e : DetFault) → mode_fault program ≡ None → (e ≢ determinism.NoMemory → det_fault program ≡ Some e) → ProgramHas program (determinism_refusal e)
 has_det_fault program (determinism.Declared line declared inferred) fine answer =
     inr (inr (record { modes = fine; found = determinism.Declared line declared inferred; is_found = answer (λ same. cc); told = refl }))
 has_det_fault program (determinism.ManyInCondition line) fine answer =
@@ -51,10 +51,10 @@ has_det_fault program determinism.NoMemory fine answer = inl refl
 
 -- ---- a text that is read
 
-modes_of_text : (text : List ℕ) (program : Listing) (fault : Fault) → Spells text program → reading text ≡ Ok program → HasFaultOfModes program fault → HasModeFault text fault
+modes_of_text : (text : List ℕ) (program : Hlds) (fault : Fault) → Spells text program → reading text ≡ Ok program → HasFaultOfModes program fault → HasModeFault text fault
 modes_of_text text program fault spelled is_read h = record { program = program; spelled = spelled; is_read = is_read; found = h.found; is_found = h.is_found; told = h.told }
 
-det_of_text : (text : List ℕ) (program : Listing) (fault : Fault) → Spells text program → reading text ≡ Ok program → HasFaultOfDeterminism program fault → HasDetFault text fault
+det_of_text : (text : List ℕ) (program : Hlds) (fault : Fault) → Spells text program → reading text ≡ Ok program → HasFaultOfDeterminism program fault → HasDetFault text fault
 det_of_text text program fault spelled is_read h =
     record { program = program; spelled = spelled; is_read = is_read; modes = h.modes; found = h.found; is_found = h.is_found; told = h.told }
 
@@ -82,13 +82,13 @@ det_refusals (determinism.ManyInCondition line) = tt
 det_refusals (determinism.IoInBacktracking line) = tt
 det_refusals determinism.NoMemory = tt
 
-of_text : (program : Listing) (fault : Fault) → ProgramHas program fault → IsOfText fault
+of_text : (program : Hlds) (fault : Fault) → ProgramHas program fault → IsOfText fault
 of_text program fault (inl is) = subst IsOfText (sym is) tt
 of_text program fault (inr (inl h)) = subst IsOfText (sym h.told) (mode_refusals h.found)
 of_text program fault (inr (inr h)) = subst IsOfText (sym h.told) (det_refusals h.found)
 
 -- a text has the fault that the program has which it spells
-pub text_fault : (text : List ℕ) (program : Listing) (fault : Fault) → Spells text program → reading text ≡ Ok program → ProgramHas program fault → TextFault text fault
+pub text_fault : (text : List ℕ) (program : Hlds) (fault : Fault) → Spells text program → reading text ≡ Ok program → ProgramHas program fault → TextFault text fault
 text_fault text program (RefusedAt line w) spelled is_read (inl is) = absurd (cc)
 text_fault text program (RefusedAt line w) spelled is_read (inr (inl h)) = inr (inl (modes_of_text text program (RefusedAt line w) spelled is_read h))
 text_fault text program (RefusedAt line w) spelled is_read (inr (inr h)) = inr (inr (det_of_text text program (RefusedAt line w) spelled is_read h))
@@ -101,15 +101,15 @@ text_fault text program OutOfSteps spelled is_read has = of_text program OutOfSt
 text_fault text program Write spelled is_read has = of_text program Write has
 
 -- a text is accepted as the program that it spells, where that has no fault
-pub text_accepted : (text : List ℕ) (program checked : Program) → Spells text (listing_of program) → reading text ≡ Ok (listing_of program) → IsAccepted program checked
-    → Accepts text (listing_of checked)
+pub text_accepted : (text : List ℕ) (program checked : Program) → Spells text (hlds_of program) → reading text ≡ Ok (hlds_of program) → IsAccepted program checked
+    → Accepts text (hlds_of checked)
 text_accepted text program checked spelled is_read h = record {
-  accepted = record { program = listing_of program; spelled = spelled; is_read = is_read; modes = h.modes; determinism = h.determinism };
-  is_program = ap listing_of (sym h.is_program);
+  accepted = record { program = hlds_of program; spelled = spelled; is_read = is_read; modes = h.modes; determinism = h.determinism };
+  is_program = ap hlds_of (sym h.is_program);
 }
 
 -- what a text comes to, by what its program comes to
-pub text_checked : (text : List ℕ) (program : Program) (r : Result Program Fault) → Spells text (listing_of program) → reading text ≡ Ok (listing_of program)
-    → MatchResult r (IsAccepted program) (ProgramHas (listing_of program)) → MatchResult r (λ checked. Accepts text (listing_of checked)) (TextFault text)
+pub text_checked : (text : List ℕ) (program : Program) (r : Result Program Fault) → Spells text (hlds_of program) → reading text ≡ Ok (hlds_of program)
+    → MatchResult r (IsAccepted program) (ProgramHas (hlds_of program)) → MatchResult r (λ checked. Accepts text (hlds_of checked)) (TextFault text)
 text_checked text program (Ok checked) spelled is_read h = text_accepted text program checked spelled is_read h
-text_checked text program (Err fault) spelled is_read h = text_fault text (listing_of program) fault spelled is_read h
+text_checked text program (Err fault) spelled is_read h = text_fault text (hlds_of program) fault spelled is_read h

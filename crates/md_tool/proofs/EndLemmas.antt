@@ -2,7 +2,7 @@
 use Rattle.std.proofs.Common.{refl, sym, subst, inl, inr, ℕ, List, Bool, Option}
 use Rattle.std.specs.Prelude.{Result, Ok, Err}
 use Rattle.md_base.specs.Files.{Files}
-use Rattle.md_hlds.specs.Listing.{Listing}
+use Rattle.md_hlds.specs.Hlds.{Hlds}
 use Rattle.md_tool.specs.declared.fault.Fault.{Fault}
 use Rattle.md_tool.specs.declared.fault.Fault.TheVariants.{Usage, Read, TooLong, Refused, NotBuilt, OutOfSteps, Write, NoMemory}
 use Rattle.md_tool.specs.Accepted.{Accepts, TextFault}
@@ -55,11 +55,11 @@ check_refused held file text print before reads writes OutOfSteps is_text h = ab
 check_refused held file text print before reads writes Write is_text h = absurd h
 
 -- what there is to say of an accepted text was written, as far as it was
-written_of : (text : List ℕ) (print : Bool) (program : Listing) (before now : Option (List ℕ)) (writes : Type 0) (r : Result (Unit {0}) Fault) (a : Accepts text program)
+written_of : (text : List ℕ) (print : Bool) (program : Hlds) (before now : Option (List ℕ)) (writes : Type 0) (r : Result (Unit {0}) Fault) (a : Accepts text program)
     → WriteEnds (check_output print program) before now writes r → WriteEnds (check_output print a.accepted.program) before now writes r
-written_of text print program before now writes r a h = subst (λ (p : Listing). WriteEnds (check_output print p) before now writes r) (sym a.is_program) h
+written_of text print program before now writes r a h = subst (λ (p : Hlds). WriteEnds (check_output print p) before now writes r) (sym a.is_program) h
 
-pub check_shown : (held : Option Files) (file text : List ℕ) (print : Bool) (program : Listing) (before now : Option (List ℕ)) (reads writes : Type 0) (r : Result (Unit {0}) Fault)
+pub check_shown : (held : Option Files) (file text : List ℕ) (print : Bool) (program : Hlds) (before now : Option (List ℕ)) (reads writes : Type 0) (r : Result (Unit {0}) Fault)
     → IsText held file text → Accepts text program → WriteEnds (check_output print program) before now writes r → CheckEnds held file print before now reads writes r
 check_shown held file text print program before now reads writes (Ok done) is_text a h = record {
   text = text;

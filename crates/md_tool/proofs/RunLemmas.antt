@@ -4,7 +4,7 @@ use Rattle.std.specs.Prelude.{Result, Ok, Err}
 use Rattle.std.specs.Result.{IsErrAnd}
 use Rattle.md_base.specs.Outside.{added, PartAdded}
 use Rattle.md_base.specs.Files.{Files}
-use Rattle.md_hlds.specs.Listing.{Listing}
+use Rattle.md_hlds.specs.Hlds.{Hlds}
 use Rattle.md_machine.specs.FirstForm.{is_first_form}
 use Rattle.md_machine.specs.Ran.{IsRunOf, says_finished}
 use Rattle.md_machine.specs.declared.execute.Ran.{Ran}
@@ -18,10 +18,10 @@ pub record TextRuns (text : List ℕ) (ran : Ran) : Type 0 where
   pub runs : Runs text
   pub is_run : IsRunOf runs.accepted.program budget ran
 
-pub text_runs : (text : List ℕ) (program : Listing) (ran : Ran) → Accepts text program → ProgramRuns program ran → TextRuns text ran
+pub text_runs : (text : List ℕ) (program : Hlds) (ran : Ran) → Accepts text program → ProgramRuns program ran → TextRuns text ran
 text_runs text program ran a h = record {
-  runs = record { accepted = a.accepted; form = subst (λ (p : Listing). IsTrue (is_first_form p)) (sym a.is_program) h.form };
-  is_run = subst (λ (p : Listing). IsRunOf p budget ran) (sym a.is_program) h.is_run;
+  runs = record { accepted = a.accepted; form = subst (λ (p : Hlds). IsTrue (is_first_form p)) (sym a.is_program) h.form };
+  is_run = subst (λ (p : Hlds). IsRunOf p budget ran) (sym a.is_program) h.is_run;
 }
 
 -- a run whose output was written whole
@@ -59,7 +59,7 @@ shown held file text before now reads writes ran (Err (Refused line w)) is_text 
 shown held file text before now reads writes ran (Err NotBuilt) is_text t h = absurd h
 
 -- a program that isn't run
-pub not_run : (held : Option Files) (file text : List ℕ) (before : Option (List ℕ)) (reads writes : Type 0) (program : Listing) (fault : Fault)
+pub not_run : (held : Option Files) (file text : List ℕ) (before : Option (List ℕ)) (reads writes : Type 0) (program : Hlds) (fault : Fault)
     → IsText held file text → Accepts text program → ProgramFault program fault → RunEnds held file before before reads writes (Err fault)
 not_run held file text before reads writes program NotBuilt is_text a h = record {
   text = text;
@@ -77,7 +77,7 @@ not_run held file text before reads writes program OutOfSteps is_text a h = absu
 not_run held file text before reads writes program Write is_text a h = absurd h
 
 -- the end that hands on why a program isn't run
-pub not_run_end : (held : Option Files) (file text : List ℕ) (before : Option (List ℕ)) (reads writes : Type 0) (program : Listing) (fault : Fault) (r : Result (Unit {0}) Fault)
+pub not_run_end : (held : Option Files) (file text : List ℕ) (before : Option (List ℕ)) (reads writes : Type 0) (program : Hlds) (fault : Fault) (r : Result (Unit {0}) Fault)
     → IsText held file text → Accepts text program → ProgramFault program fault → IsErrAnd r (λ e. e ≡ fault) → RunEnds held file before before reads writes r
 not_run_end held file text before reads writes program fault (Ok done) is_text a h is = absurd is
 not_run_end held file text before reads writes program fault (Err e) is_text a h is =

@@ -1,13 +1,13 @@
 -- Which texts are accepted as programs, and why others aren't.
 use Rattle.std.specs.Prelude.{ℕ, ◌≡◌, ◌⊎◌, List, None, Some, Ok, Err}
 use Rattle.md_hlds.specs.declared.program.Program.{Program}
-use Rattle.md_hlds.specs.Listing.{Listing, listing_of}
+use Rattle.md_hlds.specs.Hlds.{Hlds, hlds_of}
 use Rattle.md_reader.specs.declared.refused.Refused.{Refused}
 use Rattle.md_reader.specs.declared.refused.Refused.TheVariants as refused
 use Rattle.md_reader.specs.Grammar.{Spells}
 use Rattle.md_reader.specs.Reading.{reading, HasCause}
-use Rattle.md_binding.specs.declared.fault.ModeFault.{ModeFault}
-use Rattle.md_binding.specs.declared.fault.ModeFault.TheVariants as modes
+use Rattle.md_inst.specs.declared.fault.ModeFault.{ModeFault}
+use Rattle.md_inst.specs.declared.fault.ModeFault.TheVariants as modes
 use Rattle.md_modes.specs.Modes.{mode_fault}
 use Rattle.md_det.specs.declared.fault.DetFault.{DetFault}
 use Rattle.md_det.specs.declared.fault.DetFault.TheVariants as determinism
@@ -20,7 +20,7 @@ use Rattle.md_tool.specs.declared.fault.Why.TheVariants as why
 -- A text that is accepted: it spells a program without a fault of modes or determinism. The program is also what the rules
 -- of the language read, so it is the only one.
 pub record Accepted (text : List ℕ) : Type 0 where
-  pub program : Listing
+  pub program : Hlds
   pub spelled : Spells text program
   pub is_read : reading text ≡ Ok program
   pub modes : mode_fault program ≡ None
@@ -64,7 +64,7 @@ pub record IsUnread (text : List ℕ) (fault : Fault) : Type 0 where
 
 -- it spells a program with a fault of modes
 pub record HasModeFault (text : List ℕ) (fault : Fault) : Type 0 where
-  pub program : Listing
+  pub program : Hlds
   pub spelled : Spells text program
   pub is_read : reading text ≡ Ok program
   pub found : ModeFault
@@ -73,7 +73,7 @@ pub record HasModeFault (text : List ℕ) (fault : Fault) : Type 0 where
 
 -- it spells a program without a fault of modes, and with one of determinism
 pub record HasDetFault (text : List ℕ) (fault : Fault) : Type 0 where
-  pub program : Listing
+  pub program : Hlds
   pub spelled : Spells text program
   pub is_read : reading text ≡ Ok program
   pub modes : mode_fault program ≡ None
@@ -96,28 +96,28 @@ TextFault text OutOfSteps = ⊥
 TextFault text Write = ⊥
 
 -- the text is accepted as this program
-pub record Accepts (text : List ℕ) (program : Listing) : Type 0 where
+pub record Accepts (text : List ℕ) (program : Hlds) : Type 0 where
   pub accepted : Accepted text
   pub is_program : accepted.program ≡ program
 
 -- a program was checked, and has no fault
 pub record IsAccepted (program checked : Program) : Type 0 where
   pub is_program : checked ≡ program
-  pub modes : mode_fault (listing_of program) ≡ None
-  pub determinism : det_fault (listing_of program) ≡ None
+  pub modes : mode_fault (hlds_of program) ≡ None
+  pub determinism : det_fault (hlds_of program) ≡ None
 
 -- a program has a fault of modes, or else one of determinism
-pub record HasFaultOfModes (program : Listing) (fault : Fault) : Type 0 where
+pub record HasFaultOfModes (program : Hlds) (fault : Fault) : Type 0 where
   pub found : ModeFault
   pub is_found : mode_fault program ≡ Some found
   pub told : fault ≡ modes_refusal found
 
-pub record HasFaultOfDeterminism (program : Listing) (fault : Fault) : Type 0 where
+pub record HasFaultOfDeterminism (program : Hlds) (fault : Fault) : Type 0 where
   pub modes : mode_fault program ≡ None
   pub found : DetFault
   pub is_found : det_fault program ≡ Some found
   pub told : fault ≡ determinism_refusal found
 
 -- the first fault of a program, unless memory is refused
-abbrev pub ProgramHas : Listing → Fault → Type 0
+abbrev pub ProgramHas : Hlds → Fault → Type 0
 ProgramHas program fault = (fault ≡ NoMemory) ⊎ (HasFaultOfModes program fault ⊎ HasFaultOfDeterminism program fault)

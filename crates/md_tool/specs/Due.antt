@@ -2,7 +2,7 @@
 use Rattle.std.specs.Prelude.{ℕ, ◌≡◌, ◌⊎◌, ◌≤◌, Bool, true, false, IsTrue, List, length, Option, Result, Ok, Err, codes}
 use Rattle.md_base.specs.Outside.{added, PartAdded}
 use Rattle.md_base.specs.Files.{Files, FileIs, FileIsLonger}
-use Rattle.md_hlds.specs.Listing.{Listing}
+use Rattle.md_hlds.specs.Hlds.{Hlds}
 use Rattle.md_hlds.specs.Run.{run, output, is_finished}
 use Rattle.md_printer.specs.Printed.{printed}
 use Rattle.md_machine.specs.FirstForm.{is_first_form}
@@ -67,11 +67,11 @@ pub record IsOther (held : Option Files) (file : List ℕ) (before now : Option 
   pub untouched : now ≡ before
 
 -- what a run of a program came to, and why it isn't run
-pub record ProgramRuns (program : Listing) (ran : Ran) : Type 0 where
+pub record ProgramRuns (program : Hlds) (ran : Ran) : Type 0 where
   pub form : IsTrue (is_first_form program)
   pub is_run : IsRunOf program budget ran
 
-abbrev pub ProgramFault : Listing → Fault → Type 0
+abbrev pub ProgramFault : Hlds → Fault → Type 0
 ProgramFault program NotBuilt = is_first_form program ≡ false
 ProgramFault program NoMemory = Unit {0}
 ProgramFault program fault = ⊥
@@ -119,7 +119,7 @@ RunEnds held file before now reads writes (Err Usage) = ⊥
 -- ---- `check`
 
 -- what `check` writes of an accepted program: that it is, or its printed text
-abbrev pub check_output : Bool → Listing → List ℕ
+abbrev pub check_output : Bool → Hlds → List ℕ
 check_output true program = printed program
 check_output false program = codes "accepted\n"
 

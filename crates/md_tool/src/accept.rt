@@ -1,7 +1,7 @@
 // The text of a file, and whether it is accepted as a program.
 ghost use Rattle.std.specs.Prelude.{◌≡◌, ◌≤◌, length, MatchResult};
 ghost use Rattle.md_base.specs.Outside.{Rose};
-ghost use Rattle.md_hlds.specs.Listing.{listing_of};
+ghost use Rattle.md_hlds.specs.Hlds.{hlds_of};
 ghost use Rattle.md_tool.specs.Accepted.{Accepts, IsAccepted, ProgramHas, TextFault, refusal_of, modes_refusal, determinism_refusal};
 ghost use Rattle.md_tool.specs.Due.{IsText, ReadFails};
 ghost use Rattle.md_tool.specs.declared.fault.Fault.TheVariants as faults;
@@ -34,7 +34,7 @@ pub fn read_text<S: Store>(alloc: Global, file: &str, store: &mut S) -> Result<V
 /// The program of a text, read and checked for modes and determinism; or its first fault.
 pub fn accept(alloc: Global, text: &[u8]) -> Result<Checked, Fault>
     requires { length text.now ≤ 1048576 }
-    ensures { MatchResult result (λ checked. Accepts text.now (listing_of checked)) (TextFault text.now) }
+    ensures { MatchResult result (λ checked. Accepts text.now (hlds_of checked)) (TextFault text.now) }
 {
     match read(alloc, text) {
         Err(refused) => Err(refusal(refused)),
@@ -44,7 +44,7 @@ pub fn accept(alloc: Global, text: &[u8]) -> Result<Checked, Fault>
 
 /// A program checked for modes and determinism; or its first fault.
 fn check(alloc: Global, program: Program) -> Result<Checked, Fault>
-    ensures { MatchResult result (λ checked. IsAccepted program checked) (ProgramHas (listing_of program)) }
+    ensures { MatchResult result (λ checked. IsAccepted program checked) (ProgramHas (hlds_of program)) }
 {
     match check_modes(alloc, program) {
         Err(fault) => Err(modes_refusal(fault)),

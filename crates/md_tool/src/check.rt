@@ -1,7 +1,7 @@
 // The command `check`.
 ghost use Rattle.std.specs.Prelude.{◌≡◌, true, codes};
 ghost use Rattle.md_base.specs.Outside.{Rose};
-ghost use Rattle.md_hlds.specs.Listing.{listing_of};
+ghost use Rattle.md_hlds.specs.Hlds.{hlds_of};
 ghost use Rattle.md_printer.specs.Printed.{printed};
 ghost use Rattle.md_tool.specs.Due.{CheckEnds, WriteEnds, check_output};
 
@@ -31,7 +31,7 @@ pub fn check_file<S: Store, O: Sink>(
 
 /// Writes what there is to say of an accepted program.
 fn show<O: Sink>(alloc: Global, program: &Program, printing: bool, out: &mut O) -> Result<(), Fault>
-    ensures { WriteEnds (check_output printing (listing_of program.now)) (O.held out.old) (O.held out.new)
+    ensures { WriteEnds (check_output printing (hlds_of program.now)) (O.held out.old) (O.held out.new)
         (Rose (O.write_faults out.old) (O.write_faults out.new)) result }
 {
     if printing {
@@ -43,7 +43,7 @@ fn show<O: Sink>(alloc: Global, program: &Program, printing: bool, out: &mut O) 
 
 /// Writes the printed text of a program.
 fn show_program<O: Sink>(alloc: Global, program: &Program, out: &mut O) -> Result<(), Fault>
-    ensures { WriteEnds (printed (listing_of program.now)) (O.held out.old) (O.held out.new)
+    ensures { WriteEnds (printed (hlds_of program.now)) (O.held out.old) (O.held out.new)
         (Rose (O.write_faults out.old) (O.write_faults out.new)) result }
 {
     match print(alloc, program) {

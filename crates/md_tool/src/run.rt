@@ -1,7 +1,7 @@
 // The command `run`.
 ghost use Rattle.std.specs.Prelude.{◌≡◌, MatchResult};
 ghost use Rattle.md_base.specs.Outside.{Rose};
-ghost use Rattle.md_hlds.specs.Listing.{listing_of};
+ghost use Rattle.md_hlds.specs.Hlds.{hlds_of};
 ghost use Rattle.md_tool.specs.Due.{ProgramRuns, ProgramFault, ShowEnds, RunEnds, told_of};
 
 use crate::accept::{accept, read_text};
@@ -33,7 +33,7 @@ pub fn run_file<S: Store, O: Sink>(
 
 /// Runs a program, where it is of the form that can be run.
 fn run_program(alloc: Global, program: &Program) -> Result<Ran, Fault>
-    ensures { MatchResult result (ProgramRuns (listing_of program.now)) (ProgramFault (listing_of program.now)) }
+    ensures { MatchResult result (ProgramRuns (hlds_of program.now)) (ProgramFault (hlds_of program.now)) }
 {
     if !is_first_form(program) {
         return Err(Fault::NotBuilt);

@@ -1,7 +1,7 @@
 use Rattle.std.proofs.Common.{◌≡◌, ◌∙◌, sym, ap, arith, subst, List, append-nil, length, get_or, ◌<◌, ◌≤◌}
 use Rattle.md_hlds.specs.declared.program.Pred.{Pred}
 use Rattle.md_hlds.specs.declared.program.Program.{Program}
-use Rattle.md_hlds.specs.Listing.{listing_of, procedures_of}
+use Rattle.md_hlds.specs.Hlds.{hlds_of, procedures_of}
 use Rattle.md_modes.specs.Notes.{program_notes}
 use Rattle.md_det.specs.Faults.{det_fault}
 use Rattle.md_det.specs.Judge.{Judgement}
@@ -11,12 +11,12 @@ use Rattle.md_det.proofs.check.judge_all.Goals as goal
 
 pub loop-pred-init : goal.loop-pred-init
 loop-pred-init c =
-    let s = listing_of c.args.moded.now in
+    let s = hlds_of c.args.moded.now in
     rw c.new-findings.ensures.items (others_start s (program_notes s) (procedures_of c.args.moded.now.preds.items))
 
 pub returns-in_err-judge_predicate-clause-refused : goal.returns-in_err-judge_predicate-clause-refused
 returns-in_err-judge_predicate-clause-refused c =
-    let s = listing_of c.args.moded.now in
+    let s = hlds_of c.args.moded.now in
     let items = c.as_slice-pred-items.ensures.value ∙ ap (λ (p : Program). p.preds.items) c.program-program.ensures.program in
     let i = c.loop-pred.pred-index in
     let lt : i < length c.args.moded.now.preds.items = subst (λ (ps : List Pred). i < length ps) items (omega arith) in
@@ -29,7 +29,7 @@ returns-in_err-judge_predicate-clause-refused c =
 
 pub loop-pred-preserved : goal.loop-pred-preserved
 loop-pred-preserved c =
-    let s = listing_of c.args.moded.now in
+    let s = hlds_of c.args.moded.now in
     let items = c.as_slice-pred-items.ensures.value ∙ ap (λ (p : Program). p.preds.items) c.program-program.ensures.program in
     let i = c.loop-pred.pred-index in
     let lt : i < length c.args.moded.now.preds.items = subst (λ (ps : List Pred). i < length ps) items (omega arith) in
@@ -41,7 +41,7 @@ loop-pred-preserved c =
 
 pub returns-clause-accepted : goal.returns-clause-accepted
 returns-clause-accepted c =
-    let s = listing_of c.args.moded.now in
+    let s = hlds_of c.args.moded.now in
     let items = c.as_slice-pred-items.ensures.value ∙ ap (λ (p : Program). p.preds.items) c.program-program.ensures.program in
     let i = c.loop-pred.pred-index in
     let le : length c.args.moded.now.preds.items ≤ i = subst (λ (ps : List Pred). length ps ≤ i) items (omega arith) in
@@ -50,7 +50,7 @@ returns-clause-accepted c =
 
 pub returns-clause-found : goal.returns-clause-found
 returns-clause-found c =
-    let s = listing_of c.args.moded.now in
+    let s = hlds_of c.args.moded.now in
     let items = c.as_slice-pred-items.ensures.value ∙ ap (λ (p : Program). p.preds.items) c.program-program.ensures.program in
     let i = c.loop-pred.pred-index in
     let le : length c.args.moded.now.preds.items ≤ i = subst (λ (ps : List Pred). length ps ≤ i) items (omega arith) in

@@ -1,5 +1,5 @@
 use Rattle.std.proofs.Common.{◌≡◌, None, length, drop}
-use Rattle.md_hlds.specs.Listing.{listing_of, procedures_of}
+use Rattle.md_hlds.specs.Hlds.{hlds_of, procedures_of}
 use Rattle.md_modes.specs.Notes.{program_notes}
 use Rattle.md_det.specs.Determinism.{sure}
 use Rattle.md_det.specs.Judge.{judgement, and_others, judge_procedures}
@@ -7,6 +7,6 @@ use Rattle.md_det.proofs.check.judge_all.Given as goal
 
 abbrev pub invariant-loop-pred : goal.invariant-loop-pred
 invariant-loop-pred l =
-    judge_procedures (listing_of l.moded) (program_notes (listing_of l.moded)) 0 (procedures_of l.moded.preds.items)
+    judge_procedures (hlds_of l.moded) (program_notes (hlds_of l.moded)) 0 (procedures_of l.moded.preds.items)
     ≡ and_others (judgement sure None l.findings.items)
-    (judge_procedures (listing_of l.moded) (program_notes (listing_of l.moded)) (length l.findings.items) (procedures_of (drop l.pred-index l.moded.preds.items)))
+    (judge_procedures (hlds_of l.moded) (program_notes (hlds_of l.moded)) (length l.findings.items) (procedures_of (drop l.pred-index l.moded.preds.items)))

@@ -1,7 +1,7 @@
 use Rattle.std.proofs.Common.{◌≡◌, ◌∙◌, ◌+◌, suc, refl, sym, ap, arith, add-one, ◌||◌, length, drop}
 use Rattle.md_hlds.specs.declared.goal.Goal.{Goal}
-use Rattle.md_hlds.specs.Part.{gathered, part_of, parts_of, task_of}
-use Rattle.md_det.specs.Judge.{condition_fault, judge_task}
+use Rattle.md_hlds.specs.HldsGoal.{gathered, goal_of, goals_of, expr_of}
+use Rattle.md_det.specs.Judge.{condition_fault, judge_expr}
 use Rattle.md_det.specs.Told.{reading_in, found_told, found_onto}
 use Rattle.md_det.proofs.Judging.{each_next, arms_next, own_set, conj_found, disj_found, choice_found}
 use Rattle.md_det.proofs.judge.+judging.Goals as goal
@@ -12,7 +12,7 @@ judge-returns t c =
     let olds = c.args.findings.now.items in
     let n : c.len-place.result ≡ length olds = omega (arith, c.len-place.ensures, c.args.findings.now.ok) in
     let told : found_told c.in_ok-found.found c.judge_kind.new.findings.items
-    ≡ found_onto c.push.new.self.items (judge_task (reading_in c.args.context.now) (length olds) c.args.at c.args.again c.args.goal.now.line (task_of c.args.goal.now.kind))
+    ≡ found_onto c.push.new.self.items (judge_expr (reading_in c.args.context.now) (length olds) c.args.at c.args.again c.args.goal.now.line (expr_of c.args.goal.now.kind))
     = rw n at c.in_ok-found.ensures in
     rw n (own_set olds c.push.new.self.items c.judge_kind.new.findings.items _ c.in_ok-found.found.switch c.in_ok-found.found.pair c.in_ok-found.found.fault _
     c.in_ok-push.ensures.items told)
@@ -33,9 +33,9 @@ judge_kind-returns-in-Disj t c =
 pub judge_kind-returns-in_ok-second-in-If : goal.judge_kind-returns-in_ok-second-in-If
 judge_kind-returns-in_ok-second-in-If t c =
     let r = reading_in c.args.context.now in
-    let own : c.in_ok-fault-in-If.fault ≡ condition_fault r c.args.goal.now.line (suc c.args.number) (part_of c.deref.result.now) c.in_ok-tested-in-If.tested.pair
+    let own : c.in_ok-fault-in-If.fault ≡ condition_fault r c.args.goal.now.line (suc c.args.number) (goal_of c.deref.result.now) c.in_ok-tested-in-If.tested.pair
     = c.in_ok-fault-in-If.ensures
-    ∙ rw add-one (ap (λ (g : Goal). condition_fault r c.args.goal.now.line (suc c.args.number) (part_of g) c.in_ok-tested-in-If.tested.pair)
+    ∙ rw add-one (ap (λ (g : Goal). condition_fault r c.args.goal.now.line (suc c.args.number) (goal_of g) c.in_ok-tested-in-If.tested.pair)
     (c.deref-in-If.ensures ∙ sym c.deref.ensures)) in
     rw (c.plain-in-If.ensures, c.or-in-If-2.ensures, c.or-fault.ensures, c.or-in-If.ensures, c.or.ensures)
     (choice_found (reading_in c.args.context.now) c.args.number c.args.at c.args.again c.args.goal.now.line c.args.goal.now.kind
@@ -50,7 +50,7 @@ pub judge_each-loop-goal-preserved : goal.judge_each-loop-goal-preserved
 judge_each-loop-goal-preserved t c =
     let r = reading_in c.args.context.now in
     let news = c.judge.new.findings.items in
-    let rest = gathered (parts_of (drop (c.loop-goal.goal-index + 1) c.args.goals.now)) in
+    let rest = gathered (goals_of (drop (c.loop-goal.goal-index + 1) c.args.goals.now)) in
     let again : c.if-again.again ≡ (c.loop-goal.again || c.is_many-comes_back.result)
     = elim c.if-again.branch [ judge_each-then-again w ↦ rw (w.again-is, w.if-again.true) refl | judge_each-else-again w ↦ rw (w.again-is, w.if-again.false) refl ] in
     c.loop-goal.invariant

@@ -1,5 +1,5 @@
 use Rattle.std.proofs.Common.{◌≡◌, drop}
-use Rattle.md_hlds.specs.Listing.{args_of}
+use Rattle.md_hlds.specs.Hlds.{args_of}
 use Rattle.md_det.specs.Faults.{has_world}
 use Rattle.md_det.proofs.main_predicate.has_io.Given as goal
 

@@ -1,8 +1,8 @@
-use Rattle.md_hlds.specs.Listing.{listing_of}
+use Rattle.md_hlds.specs.Hlds.{hlds_of}
 use Rattle.md_det.proofs.Whole.{main_missed}
 use Rattle.md_det.proofs.main_predicate.main_of.Goals as goal
 
 pub unreachable-requires : goal.unreachable-requires
 unreachable-requires c =
-    main_missed (listing_of c.args.program.now) c.args.program.now.preds.items c.loop-number.number c.loop-number.number
+    main_missed (hlds_of c.args.program.now) c.args.program.now.preds.items c.loop-number.number c.loop-number.number
     c.requires c.loop-number.invariant (rw c.deref-pred-items.ensures.value at c.loop-number-test.false)

@@ -1,6 +1,6 @@
 use Rattle.std.proofs.Common.{◌≡◌, ◌∙◌, ◌+◌, sym, ap, arith, List, ◌∷◌, [], ◌++◌, drop, true, Option, ℕ}
-use Rattle.md_hlds.specs.Listing.{listing_of}
-use Rattle.md_hlds.specs.Part.{parts_of, gathered}
+use Rattle.md_hlds.specs.Hlds.{hlds_of}
+use Rattle.md_hlds.specs.HldsGoal.{goals_of, gathered}
 use Rattle.md_hlds.specs.Switch.{Key, keys_of, prepend_key, has_key, if_different, all_different}
 use Rattle.md_det.specs.Keys.{key_of_code, keys_told, tested_told, keys_onto}
 use Rattle.md_det.proofs.KeyLemmas.{any_told, not_true, not_false, told_new, different_more, keys_more, keys_again, keys_of-step}
@@ -8,10 +8,10 @@ use Rattle.md_det.proofs.switch.keys_of.Goals as goal
 
 pub returns-then-not-is_new : goal.returns-then-not-is_new
 returns-then-not-is_new c =
-    let p = listing_of c.args.names.now in
+    let p = hlds_of c.args.names.now in
     let x = c.args.var in
     let i = c.loop-arm.arm-index in
-    let rest = keys_of p x (gathered (parts_of (drop (i + 1) c.args.arms.now))) in
+    let rest = keys_of p x (gathered (goals_of (drop (i + 1) c.args.arms.now))) in
     let had = keys_told c.loop-arm.keys.keys in
     let k = key_of_code c.in-Some.key in
     let again : has_key k had ≡ true
@@ -24,10 +24,10 @@ returns-then-not-is_new c =
 
 pub loop-arm-preserved : goal.loop-arm-preserved
 loop-arm-preserved c =
-    let p = listing_of c.args.names.now in
+    let p = hlds_of c.args.names.now in
     let x = c.args.var in
     let i = c.loop-arm.arm-index in
-    let rest = keys_of p x (gathered (parts_of (drop (i + 1) c.args.arms.now))) in
+    let rest = keys_of p x (gathered (goals_of (drop (i + 1) c.args.arms.now))) in
     let had = keys_told c.loop-arm.keys.keys in
     let k = key_of_code c.in-Some.key in
     let unknown = not_true _ _ c.in_ok-is_new.ensures.added c.if-not-is_new.false in

@@ -1,5 +1,5 @@
 use Rattle.std.proofs.Common.{◌≡◌, drop}
-use Rattle.md_hlds.specs.Listing.{procedures_of}
+use Rattle.md_hlds.specs.Hlds.{procedures_of}
 use Rattle.md_machine.specs.FirstForm.{are_first_procedures}
 use Rattle.md_machine.proofs.form.are_first_procedures.Given as goal
 

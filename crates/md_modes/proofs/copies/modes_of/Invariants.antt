@@ -1,6 +1,6 @@
 use Rattle.std.proofs.Common.{◌≡◌, ◌++◌, drop}
-use Rattle.md_hlds.specs.Listing.{args_of}
-use Rattle.md_binding.specs.Simple.{modes_of}
+use Rattle.md_hlds.specs.Hlds.{args_of}
+use Rattle.md_inst.specs.Simple.{modes_of}
 use Rattle.md_modes.proofs.copies.modes_of.Given as goal
 
 abbrev pub invariant-loop-arg : goal.invariant-loop-arg

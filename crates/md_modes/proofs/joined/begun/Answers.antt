@@ -1,7 +1,7 @@
 use Rattle.std.proofs.Common.{◌≡◌, ◌∙◌, sym, ap, arith, cond, [], ◌∷◌, ◌++◌, false, append-nil}
-use Rattle.md_binding.specs.Known.{known_at}
-use Rattle.md_binding.specs.Kinds.{knowledge_of}
-use Rattle.md_binding.proofs.Marks.{length-knowledge_of}
+use Rattle.md_inst.specs.Instantiation.{known_at}
+use Rattle.md_inst.specs.Kinds.{inst_map_of}
+use Rattle.md_inst.proofs.Insts.{length-inst_map_of}
 use Rattle.md_modes.specs.Shares.{unsettled}
 use Rattle.md_modes.proofs.ShareLoops.{begun-loop, begun-end}
 use Rattle.md_modes.proofs.joined.begun.Goals.{then-is_unsettled+in_ok-push, else-is_unsettled}
@@ -9,11 +9,11 @@ use Rattle.md_modes.proofs.joined.begun.Goals as goal
 
 pub loop-number-preserved : goal.loop-number-preserved
 loop-number-preserved c =
-    let s = knowledge_of c.args.before.now in
-    let r = knowledge_of c.args.marks.now in
+    let s = inst_map_of c.args.before.now in
+    let r = inst_map_of c.args.insts.now in
     let i = c.loop-number.number in
-    let size = length-knowledge_of c.args.marks.now in
-    let is : unsettled (known_at s i) (known_at r i) ≡ c.is_unsettled.result = rw (← c.mark_in.ensures, ← c.mark_in-in-loop-number.ensures) (sym c.is_unsettled.ensures) in
+    let size = length-inst_map_of c.args.insts.now in
+    let is : unsettled (known_at s i) (known_at r i) ≡ c.is_unsettled.result = rw (← c.inst_in.ensures, ← c.inst_in-in-loop-number.ensures) (sym c.is_unsettled.ensures) in
     elim c.if-is_unsettled.branch [
       | then-is_unsettled+in_ok-push w ↦
           rw w.shared-is
@@ -27,4 +27,4 @@ loop-number-preserved c =
 
 pub returns : goal.returns
 returns c =
-    begun-end c.loop-number.shared.items _ (knowledge_of c.args.before.now) (knowledge_of c.args.marks.now) c.loop-number.number (omega (arith, length-knowledge_of c.args.marks.now)) c.loop-number.invariant
+    begun-end c.loop-number.shared.items _ (inst_map_of c.args.before.now) (inst_map_of c.args.insts.now) c.loop-number.number (omega (arith, length-inst_map_of c.args.insts.now)) c.loop-number.invariant

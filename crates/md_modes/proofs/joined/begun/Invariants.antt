@@ -1,7 +1,7 @@
 use Rattle.std.proofs.Common.{◌≡◌, ◌++◌, drop}
-use Rattle.md_binding.specs.Kinds.{knowledge_of}
+use Rattle.md_inst.specs.Kinds.{inst_map_of}
 use Rattle.md_modes.specs.Shares.{begun}
 use Rattle.md_modes.proofs.joined.begun.Given as goal
 
 abbrev pub invariant-loop-number : goal.invariant-loop-number
-invariant-loop-number l = l.shared.items ++ begun l.number (drop l.number (knowledge_of l.before)) (drop l.number (knowledge_of l.marks)) ≡ begun 0 (knowledge_of l.before) (knowledge_of l.marks)
+invariant-loop-number l = l.shared.items ++ begun l.number (drop l.number (inst_map_of l.before)) (drop l.number (inst_map_of l.insts)) ≡ begun 0 (inst_map_of l.before) (inst_map_of l.insts)

@@ -1,5 +1,5 @@
 use Rattle.std.proofs.Common.{◌≡◌, drop}
-use Rattle.md_hlds.specs.Listing.{procedures_of}
+use Rattle.md_hlds.specs.Hlds.{procedures_of}
 use Rattle.md_modes.specs.Modes as spec
 use Rattle.md_modes.proofs.main_predicate.has_main.Given as goal
 

@@ -1,11 +1,11 @@
 use Rattle.std.proofs.Common.{refl, arith, length-append, [], ◌∷◌}
-use Rattle.md_binding.specs.Kinds.{knowledge_of}
+use Rattle.md_inst.specs.Kinds.{inst_map_of}
 use Rattle.md_modes.proofs.ViewLoops.{seen-loop}
 use Rattle.md_modes.proofs.view.seen.Goals as goal
 
 pub loop-place-preserved : goal.loop-place-preserved
 loop-place-preserved c = (
-  seen-loop c.loop-place.view.items c.push.new.self.items c.mark_at.result c.args.places.now c.loop-place.place-index _ (knowledge_of c.args.marks.now) _
-      c.loop-place-test.true refl c.mark_at.ensures c.in_ok-push.ensures.items c.loop-place.invariant.0,
-  rw c.in_ok-push.ensures.items (omega (arith, c.loop-place.invariant.1, length-append c.loop-place.view.items (c.mark_at.result ∷ []))),
+  seen-loop c.loop-place.view.items c.push.new.self.items c.inst_at.result c.args.places.now c.loop-place.place-index _ (inst_map_of c.args.insts.now) _
+      c.loop-place-test.true refl c.inst_at.ensures c.in_ok-push.ensures.items c.loop-place.invariant.0,
+  rw c.in_ok-push.ensures.items (omega (arith, c.loop-place.invariant.1, length-append c.loop-place.view.items (c.inst_at.result ∷ []))),
 )

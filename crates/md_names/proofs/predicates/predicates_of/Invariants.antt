@@ -1,5 +1,5 @@
 use Rattle.std.proofs.Common.{drop}
-use Rattle.md_hlds.specs.Listing.{procedures_of}
+use Rattle.md_hlds.specs.Hlds.{procedures_of}
 use Rattle.md_names.specs.Maps.{ArePredicatesFrom}
 use Rattle.md_names.proofs.predicates.predicates_of.Given as goal
 

@@ -2,7 +2,7 @@ use Rattle.std.proofs.Common.{◌≡◌, ◌++◌, drop}
 use Rattle.std.specs.List.{flat_map}
 use Rattle.md_printer.specs.Layout.{sentence}
 use Rattle.md_printer.specs.Printed.{procedure_sentences}
-use Rattle.md_hlds.specs.Listing.{procedures_of}
+use Rattle.md_hlds.specs.Hlds.{procedures_of}
 use Rattle.md_printer.proofs.printing.predicates.Given as goal
 
 -- the text so far and that of the rest are the whole one

@@ -2,7 +2,7 @@ use Rattle.std.proofs.Common.{rules, arith}
 use Rattle.std.proofs.lemmas.Grind.{common_steps}
 use Rattle.md_reader.specs.Input.{input_of}
 use Rattle.md_reader.specs.Rules.{arguments_from}
-use Rattle.md_hlds.specs.Listing.{args_of}
+use Rattle.md_hlds.specs.Hlds.{args_of}
 use Rattle.md_reader.proofs.Lists.{args_of-append}
 use Rattle.md_reader.proofs.Turns.{one_more, no_more}
 use Rattle.md_reader.proofs.argument.arguments_at_most.Goals as goal

@@ -1,5 +1,5 @@
 use Rattle.std.proofs.Common.{◌≡◌, ◌-◌, []}
-use Rattle.md_hlds.specs.Listing.{args_of}
+use Rattle.md_hlds.specs.Hlds.{args_of}
 use Rattle.md_reader.specs.Input.{input_of}
 use Rattle.md_reader.specs.Rules as spec
 use Rattle.md_reader.proofs.argument.arguments_at_most.Given as goal

@@ -1,5 +1,5 @@
 use Rattle.std.proofs.Common.{◌≡◌, ◌++◌, drop, map}
-use Rattle.md_hlds.specs.Listing.{procedures_of}
+use Rattle.md_hlds.specs.Hlds.{procedures_of}
 use Rattle.md_reader.specs.Duplicates as spec
 use Rattle.md_reader.specs.Views.{all_declared}
 use Rattle.md_reader.proofs.duplicates.procedures.Given as goal

@@ -1,7 +1,7 @@
 use Rattle.std.proofs.Common.{rules, arith}
 use Rattle.std.proofs.lemmas.Grind.{common_steps}
-use Rattle.md_hlds.specs.Part.{parts_of}
-use Rattle.md_hlds.proofs.Bridge.{parts_of-append, task_of-Disj}
+use Rattle.md_hlds.specs.HldsGoal.{goals_of}
+use Rattle.md_hlds.proofs.Bridge.{goals_of-append, expr_of-Disj}
 use Rattle.md_reader.specs.Input.{input_of}
 use Rattle.md_reader.specs.Rules.{within, units_from, arms_from, disjunction}
 use Rattle.md_reader.proofs.Turns.{one_more, no_more}
@@ -11,56 +11,56 @@ use Rattle.md_reader.proofs.goal.+goals.Goals as goal
 pub units-returns-in_err-unit : goal.units-returns-in_err-unit
 unfolding units_from
 units-returns-in_err-unit t c =
-    let e = one_more (λ n. units_from c.args.room (within c.args.room) n (parts_of c.loop-turn.found.items) (input_of c.loop-turn.input)) _ c.loop-turn._turn c.loop-turn-test.true c.loop-turn.invariant in
-    first_of (search rules, grind (arith, common_steps), search (rules, parts_of-append), grind (arith, common_steps, parts_of-append))
+    let e = one_more (λ n. units_from c.args.room (within c.args.room) n (goals_of c.loop-turn.found.items) (input_of c.loop-turn.input)) _ c.loop-turn._turn c.loop-turn-test.true c.loop-turn.invariant in
+    first_of (search rules, grind (arith, common_steps), search (rules, goals_of-append), grind (arith, common_steps, goals_of-append))
 
 pub units-returns-then-not-eat : goal.units-returns-then-not-eat
 unfolding units_from
 units-returns-then-not-eat t c =
-    let e = one_more (λ n. units_from c.args.room (within c.args.room) n (parts_of c.loop-turn.found.items) (input_of c.loop-turn.input)) _ c.loop-turn._turn c.loop-turn-test.true c.loop-turn.invariant in
-    first_of (search rules, grind (arith, common_steps), search (rules, parts_of-append), grind (arith, common_steps, parts_of-append))
+    let e = one_more (λ n. units_from c.args.room (within c.args.room) n (goals_of c.loop-turn.found.items) (input_of c.loop-turn.input)) _ c.loop-turn._turn c.loop-turn-test.true c.loop-turn.invariant in
+    first_of (search rules, grind (arith, common_steps), search (rules, goals_of-append), grind (arith, common_steps, goals_of-append))
 
 pub units-loop-turn-preserved : goal.units-loop-turn-preserved
 unfolding units_from
 units-loop-turn-preserved t c =
-    let e = one_more (λ n. units_from c.args.room (within c.args.room) n (parts_of c.loop-turn.found.items) (input_of c.loop-turn.input)) _ c.loop-turn._turn c.loop-turn-test.true c.loop-turn.invariant in
-    first_of (search rules, grind (arith, common_steps), search (rules, parts_of-append), grind (arith, common_steps, parts_of-append))
+    let e = one_more (λ n. units_from c.args.room (within c.args.room) n (goals_of c.loop-turn.found.items) (input_of c.loop-turn.input)) _ c.loop-turn._turn c.loop-turn-test.true c.loop-turn.invariant in
+    first_of (search rules, grind (arith, common_steps), search (rules, goals_of-append), grind (arith, common_steps, goals_of-append))
 
 pub units-returns : goal.units-returns
 unfolding units_from
 units-returns t c =
-    let e = no_more (λ n. units_from c.args.room (within c.args.room) n (parts_of c.loop-turn.found.items) (input_of c.loop-turn.input)) _ c.loop-turn._turn c.loop-turn-test.false c.loop-turn.invariant in
-    first_of (search rules, grind (arith, common_steps), search (rules, parts_of-append), grind (arith, common_steps, parts_of-append))
+    let e = no_more (λ n. units_from c.args.room (within c.args.room) n (goals_of c.loop-turn.found.items) (input_of c.loop-turn.input)) _ c.loop-turn._turn c.loop-turn-test.false c.loop-turn.invariant in
+    first_of (search rules, grind (arith, common_steps), search (rules, goals_of-append), grind (arith, common_steps, goals_of-append))
 
 pub arms-returns-in_err-inner : goal.arms-returns-in_err-inner
 unfolding arms_from
 arms-returns-in_err-inner t c =
-    let e = one_more (λ n. arms_from (within c.args.room) n (parts_of c.loop-turn.found.items) (input_of c.loop-turn.input)) _ c.loop-turn._turn c.loop-turn-test.true c.loop-turn.invariant in
-    first_of (search rules, grind (arith, common_steps), search (rules, parts_of-append), grind (arith, common_steps, parts_of-append))
+    let e = one_more (λ n. arms_from (within c.args.room) n (goals_of c.loop-turn.found.items) (input_of c.loop-turn.input)) _ c.loop-turn._turn c.loop-turn-test.true c.loop-turn.invariant in
+    first_of (search rules, grind (arith, common_steps), search (rules, goals_of-append), grind (arith, common_steps, goals_of-append))
 
 pub arms-returns-in_err-expect : goal.arms-returns-in_err-expect
 unfolding arms_from
 arms-returns-in_err-expect t c =
-    let e = one_more (λ n. arms_from (within c.args.room) n (parts_of c.loop-turn.found.items) (input_of c.loop-turn.input)) _ c.loop-turn._turn c.loop-turn-test.true c.loop-turn.invariant in
-    first_of (search rules, grind (arith, common_steps), search (rules, parts_of-append), grind (arith, common_steps, parts_of-append))
+    let e = one_more (λ n. arms_from (within c.args.room) n (goals_of c.loop-turn.found.items) (input_of c.loop-turn.input)) _ c.loop-turn._turn c.loop-turn-test.true c.loop-turn.invariant in
+    first_of (search rules, grind (arith, common_steps), search (rules, goals_of-append), grind (arith, common_steps, goals_of-append))
 
 pub arms-returns-then-not-eat : goal.arms-returns-then-not-eat
 unfolding arms_from
 arms-returns-then-not-eat t c =
-    let e = one_more (λ n. arms_from (within c.args.room) n (parts_of c.loop-turn.found.items) (input_of c.loop-turn.input)) _ c.loop-turn._turn c.loop-turn-test.true c.loop-turn.invariant in
-    first_of (search rules, grind (arith, common_steps), search (rules, parts_of-append), grind (arith, common_steps, parts_of-append))
+    let e = one_more (λ n. arms_from (within c.args.room) n (goals_of c.loop-turn.found.items) (input_of c.loop-turn.input)) _ c.loop-turn._turn c.loop-turn-test.true c.loop-turn.invariant in
+    first_of (search rules, grind (arith, common_steps), search (rules, goals_of-append), grind (arith, common_steps, goals_of-append))
 
 pub arms-loop-turn-preserved : goal.arms-loop-turn-preserved
 unfolding arms_from
 arms-loop-turn-preserved t c =
-    let e = one_more (λ n. arms_from (within c.args.room) n (parts_of c.loop-turn.found.items) (input_of c.loop-turn.input)) _ c.loop-turn._turn c.loop-turn-test.true c.loop-turn.invariant in
-    first_of (search rules, grind (arith, common_steps), search (rules, parts_of-append), grind (arith, common_steps, parts_of-append))
+    let e = one_more (λ n. arms_from (within c.args.room) n (goals_of c.loop-turn.found.items) (input_of c.loop-turn.input)) _ c.loop-turn._turn c.loop-turn-test.true c.loop-turn.invariant in
+    first_of (search rules, grind (arith, common_steps), search (rules, goals_of-append), grind (arith, common_steps, goals_of-append))
 
 pub arms-returns : goal.arms-returns
 unfolding arms_from
 arms-returns t c =
-    let e = no_more (λ n. arms_from (within c.args.room) n (parts_of c.loop-turn.found.items) (input_of c.loop-turn.input)) _ c.loop-turn._turn c.loop-turn-test.false c.loop-turn.invariant in
-    first_of (search rules, grind (arith, common_steps), search (rules, parts_of-append), grind (arith, common_steps, parts_of-append))
+    let e = no_more (λ n. arms_from (within c.args.room) n (goals_of c.loop-turn.found.items) (input_of c.loop-turn.input)) _ c.loop-turn._turn c.loop-turn-test.false c.loop-turn.invariant in
+    first_of (search rules, grind (arith, common_steps), search (rules, goals_of-append), grind (arith, common_steps, goals_of-append))
 
 pub conjunction-returns : goal.conjunction-returns
 conjunction-returns t c =
@@ -77,5 +77,5 @@ inner-returns t c =
 pub disjunction-returns : goal.disjunction-returns
 unfolding disjunction
 disjunction-returns t c =
-    let e = task_of-Disj c.in_ok-arms.arms in
-    first_of (search rules, grind (arith, common_steps), grind (arith, common_steps, task_of-Disj))
+    let e = expr_of-Disj c.in_ok-arms.arms in
+    first_of (search rules, grind (arith, common_steps), grind (arith, common_steps, expr_of-Disj))

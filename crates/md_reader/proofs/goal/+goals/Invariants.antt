@@ -1,5 +1,5 @@
 use Rattle.std.proofs.Common.{◌+◌, ◌*◌, ◌-◌, ◌≡◌}
-use Rattle.md_hlds.specs.Part.{parts_of, part_of}
+use Rattle.md_hlds.specs.HldsGoal.{goals_of, goal_of}
 use Rattle.md_reader.specs.Input.{input_of}
 use Rattle.md_reader.specs.Rules.{units, units_from, arms, arms_from, within}
 use Rattle.md_reader.proofs.goal.+goals.Given as goal
@@ -40,7 +40,7 @@ decreases-inner l = 8 * l.room - 3
 
 -- what is left to be read gives what the whole gives
 abbrev pub invariant-units-loop-turn : goal.invariant-units-loop-turn
-invariant-units-loop-turn l = units l.room (within l.room) (input_of l.fn.input) ≡ units_from l.room (within l.room) (l._turn-end - l._turn) (parts_of l.found.items) (input_of l.input)
+invariant-units-loop-turn l = units l.room (within l.room) (input_of l.fn.input) ≡ units_from l.room (within l.room) (l._turn-end - l._turn) (goals_of l.found.items) (input_of l.input)
 
 abbrev pub invariant-arms-loop-turn : goal.invariant-arms-loop-turn
-invariant-arms-loop-turn l = arms (within l.room) (part_of l.fn.first) (input_of l.fn.input) ≡ arms_from (within l.room) (l._turn-end - l._turn) (parts_of l.found.items) (input_of l.input)
+invariant-arms-loop-turn l = arms (within l.room) (goal_of l.fn.first) (input_of l.fn.input) ≡ arms_from (within l.room) (l._turn-end - l._turn) (goals_of l.found.items) (input_of l.input)

@@ -1,6 +1,6 @@
 use Rattle.std.proofs.Common.{rules, arith, ◌≡◌, Ok, ap, sym, length}
 use Rattle.std.proofs.lemmas.Grind.{common_steps}
-use Rattle.md_hlds.specs.Listing.{Procedure}
+use Rattle.md_hlds.specs.Hlds.{Procedure}
 use Rattle.md_reader.specs.Input.{input_of}
 use Rattle.md_reader.specs.Rules.{procedure}
 use Rattle.md_reader.specs.Views.{declaration_of}

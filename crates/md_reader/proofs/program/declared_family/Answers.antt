@@ -1,5 +1,5 @@
 use Rattle.std.proofs.Common.{Ok, ap, sym, refl}
-use Rattle.md_hlds.specs.Listing.{Listing}
+use Rattle.md_hlds.specs.Hlds.{Hlds}
 use Rattle.md_reader.specs.declared.program.Draft.{Draft}
 use Rattle.md_reader.specs.Input.{input_of}
 use Rattle.md_reader.specs.Rules.{declared_family}
@@ -11,4 +11,4 @@ unfolding declared_family
 returns c =
     let b = c.args.draft.now in
     let after : Draft = record { «module» = b.module; module_line = b.module_line; types = c.push.new.self; preds = b.preds } in
-    rw c.in_ok-family.ensures (ap (λ (l : Listing). Ok (l, input_of c.family.new.input)) (sym (with_one_family b after c.in_ok-family.family refl refl refl c.in_ok-push.ensures.items)))
+    rw c.in_ok-family.ensures (ap (λ (l : Hlds). Ok (l, input_of c.family.new.input)) (sym (with_one_family b after c.in_ok-family.family refl refl refl c.in_ok-push.ensures.items)))

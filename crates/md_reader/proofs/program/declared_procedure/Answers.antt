@@ -1,5 +1,5 @@
 use Rattle.std.proofs.Common.{Ok, ap, sym, refl}
-use Rattle.md_hlds.specs.Listing.{Listing}
+use Rattle.md_hlds.specs.Hlds.{Hlds}
 use Rattle.md_reader.specs.declared.program.Draft.{Draft}
 use Rattle.md_reader.specs.Input.{input_of}
 use Rattle.md_reader.specs.Rules.{declared_procedure}
@@ -11,4 +11,4 @@ unfolding declared_procedure
 returns c =
     let b = c.args.draft.now in
     let after : Draft = record { «module» = b.module; module_line = b.module_line; types = b.types; preds = c.push.new.self } in
-    rw c.in_ok-procedure.ensures (ap (λ (l : Listing). Ok (l, input_of c.procedure.new.input)) (sym (with_one_procedure b after c.in_ok-procedure.procedure refl refl refl c.in_ok-push.ensures.items)))
+    rw c.in_ok-procedure.ensures (ap (λ (l : Hlds). Ok (l, input_of c.procedure.new.input)) (sym (with_one_procedure b after c.in_ok-procedure.procedure refl refl refl c.in_ok-push.ensures.items)))

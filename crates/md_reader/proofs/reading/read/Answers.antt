@@ -1,5 +1,5 @@
 use Rattle.std.proofs.Common.{◌≡◌, ◌≢◌, Ok, Err, ap, sym, ◌∙◌, refl, None, Some}
-use Rattle.md_hlds.specs.Listing.{listing_of}
+use Rattle.md_hlds.specs.Hlds.{hlds_of}
 use Rattle.md_token.specs.Token.{tokens_of, lexemes_of}
 use Rattle.md_reader.specs.declared.refused.Refusal.TheVariants as refusal
 use Rattle.md_reader.specs.declared.refused.Refused.TheVariants as refused
@@ -35,10 +35,10 @@ pub returns-in-None : goal.returns-in-None
 unfolding reading
 returns-in-None c =
     let e : input_of c.start_input-input.result ≡ start (tokens_of c.args.text.now) = c.start_input-input.ensures ∙ ap start (ap lexemes_of c.deref.ensures.value ∙ c.in_ok-tokens.ensures) in
-    let d : duplicate (listing_of c.in-Ok.program) ≡ None = sym c.in_ok-duplicate-in-Ok.ensures ∙ c.in-None.is in
-    let read : reading c.args.text.now ≡ Ok (listing_of c.in-Ok.program) = rw (rw e at c.in-Ok.ensures, d) refl in
+    let d : duplicate (hlds_of c.in-Ok.program) ≡ None = sym c.in_ok-duplicate-in-Ok.ensures ∙ c.in-None.is in
+    let read : reading c.args.text.now ≡ Ok (hlds_of c.in-Ok.program) = rw (rw e at c.in-Ok.ensures, d) refl in
     record {
-      spelled = reading_sound c.args.text.now (listing_of c.in-Ok.program) read;
+      spelled = reading_sound c.args.text.now (hlds_of c.in-Ok.program) read;
       complete = λ l s. answer_read (Ok c.in-Ok.program) c.args.text.now l read s;
       cause = tt;
       repeated = λ line s. answer_repeated (Ok c.in-Ok.program) c.args.text.now line read s;
@@ -52,7 +52,7 @@ pub returns : goal.returns
 unfolding reading
 returns c =
     let e : input_of c.start_input-input.result ≡ start (tokens_of c.args.text.now) = c.start_input-input.ensures ∙ ap start (ap lexemes_of c.deref.ensures.value ∙ c.in_ok-tokens.ensures) in
-    let d : duplicate (listing_of c.in-Ok.program) ≡ Some c.in-Some.line = sym c.in_ok-duplicate-in-Ok.ensures ∙ c.in-Some.is in
+    let d : duplicate (hlds_of c.in-Ok.program) ≡ Some c.in-Some.line = sym c.in_ok-duplicate-in-Ok.ensures ∙ c.in-Some.is in
     let read : reading c.args.text.now ≡ Err (refused.Duplicate c.in-Some.line) = rw (rw e at c.in-Ok.ensures, d) refl in
     record {
       spelled = tt;

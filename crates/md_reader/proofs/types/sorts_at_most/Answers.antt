@@ -2,43 +2,43 @@ use Rattle.std.proofs.Common.{rules, arith}
 use Rattle.std.proofs.lemmas.Grind.{common_steps}
 use Rattle.md_reader.specs.Input.{input_of}
 use Rattle.md_reader.specs.Rules.{sorts_from}
-use Rattle.md_hlds.specs.Listing.{sorts_of}
-use Rattle.md_reader.proofs.Lists.{sorts_of-append}
+use Rattle.md_hlds.specs.Hlds.{hlds_types_of}
+use Rattle.md_reader.proofs.Lists.{hlds_types_of-append}
 use Rattle.md_reader.proofs.Turns.{one_more, no_more}
 use Rattle.md_reader.proofs.types.sorts_at_most.Goals as goal
 
 pub returns-in_err-sort : goal.returns-in_err-sort
 unfolding sorts_from
 returns-in_err-sort c =
-    let e = one_more (λ n. sorts_from n (sorts_of c.loop-turn.found.items) (input_of c.loop-turn.input)) _ c.loop-turn._turn c.loop-turn-test.true c.loop-turn.invariant in
-    first_of (search rules, grind (arith, common_steps), grind (arith, common_steps, sorts_of-append))
+    let e = one_more (λ n. sorts_from n (hlds_types_of c.loop-turn.found.items) (input_of c.loop-turn.input)) _ c.loop-turn._turn c.loop-turn-test.true c.loop-turn.invariant in
+    first_of (search rules, grind (arith, common_steps), grind (arith, common_steps, hlds_types_of-append))
 
 pub returns-in_err-expect : goal.returns-in_err-expect
 unfolding sorts_from
 returns-in_err-expect c =
-    let e = one_more (λ n. sorts_from n (sorts_of c.loop-turn.found.items) (input_of c.loop-turn.input)) _ c.loop-turn._turn c.loop-turn-test.true c.loop-turn.invariant in
-    first_of (search rules, grind (arith, common_steps), grind (arith, common_steps, sorts_of-append))
+    let e = one_more (λ n. sorts_from n (hlds_types_of c.loop-turn.found.items) (input_of c.loop-turn.input)) _ c.loop-turn._turn c.loop-turn-test.true c.loop-turn.invariant in
+    first_of (search rules, grind (arith, common_steps), grind (arith, common_steps, hlds_types_of-append))
 
 pub returns-then-not-eat : goal.returns-then-not-eat
 unfolding sorts_from
 returns-then-not-eat c =
-    let e = one_more (λ n. sorts_from n (sorts_of c.loop-turn.found.items) (input_of c.loop-turn.input)) _ c.loop-turn._turn c.loop-turn-test.true c.loop-turn.invariant in
-    first_of (search rules, grind (arith, common_steps), grind (arith, common_steps, sorts_of-append))
+    let e = one_more (λ n. sorts_from n (hlds_types_of c.loop-turn.found.items) (input_of c.loop-turn.input)) _ c.loop-turn._turn c.loop-turn-test.true c.loop-turn.invariant in
+    first_of (search rules, grind (arith, common_steps), grind (arith, common_steps, hlds_types_of-append))
 
 pub loop-turn-preserved : goal.loop-turn-preserved
 unfolding sorts_from
 loop-turn-preserved c =
-    let e = one_more (λ n. sorts_from n (sorts_of c.loop-turn.found.items) (input_of c.loop-turn.input)) _ c.loop-turn._turn c.loop-turn-test.true c.loop-turn.invariant in
-    first_of (search rules, grind (arith, common_steps), grind (arith, common_steps, sorts_of-append))
+    let e = one_more (λ n. sorts_from n (hlds_types_of c.loop-turn.found.items) (input_of c.loop-turn.input)) _ c.loop-turn._turn c.loop-turn-test.true c.loop-turn.invariant in
+    first_of (search rules, grind (arith, common_steps), grind (arith, common_steps, hlds_types_of-append))
 
 pub returns-in_err-sort-2 : goal.returns-in_err-sort-2
 unfolding sorts_from
 returns-in_err-sort-2 c =
-    let e = no_more (λ n. sorts_from n (sorts_of c.loop-turn.found.items) (input_of c.loop-turn.input)) _ c.loop-turn._turn c.loop-turn-test.false c.loop-turn.invariant in
-    first_of (search rules, grind (arith, common_steps), grind (arith, common_steps, sorts_of-append))
+    let e = no_more (λ n. sorts_from n (hlds_types_of c.loop-turn.found.items) (input_of c.loop-turn.input)) _ c.loop-turn._turn c.loop-turn-test.false c.loop-turn.invariant in
+    first_of (search rules, grind (arith, common_steps), grind (arith, common_steps, hlds_types_of-append))
 
 pub returns : goal.returns
 unfolding sorts_from
 returns c =
-    let e = no_more (λ n. sorts_from n (sorts_of c.loop-turn.found.items) (input_of c.loop-turn.input)) _ c.loop-turn._turn c.loop-turn-test.false c.loop-turn.invariant in
-    first_of (search rules, grind (arith, common_steps), grind (arith, common_steps, sorts_of-append))
+    let e = no_more (λ n. sorts_from n (hlds_types_of c.loop-turn.found.items) (input_of c.loop-turn.input)) _ c.loop-turn._turn c.loop-turn-test.false c.loop-turn.invariant in
+    first_of (search rules, grind (arith, common_steps), grind (arith, common_steps, hlds_types_of-append))

@@ -1,5 +1,5 @@
 use Rattle.std.proofs.Common.{◌≡◌, ◌+◌, length, take}
-use Rattle.md_hlds.specs.Listing.{procedures_of, sites_from}
+use Rattle.md_hlds.specs.Hlds.{procedures_of, sites_from}
 use Rattle.md_hlds.proofs.program.Program.site.Given as goal
 
 abbrev pub invariant-loop-owner : goal.invariant-loop-owner

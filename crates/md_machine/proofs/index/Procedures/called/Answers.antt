@@ -1,5 +1,5 @@
 use Rattle.std.proofs.Common.{◌≡◌, ◌∙◌, sym, arith, Some, ◌+◌, ◌<◌, length}
-use Rattle.md_hlds.specs.Listing.{procedures_of}
+use Rattle.md_hlds.specs.Hlds.{procedures_of}
 use Rattle.md_machine.specs.Named.{number_from}
 use Rattle.md_machine.proofs.IndexLemmas.{number_within, found_at}
 use Rattle.md_machine.proofs.index.Procedures.called.Goals as goal

@@ -3,7 +3,7 @@ use Rattle.std.specs.Map.{lookup}
 use Rattle.std.proofs.lemmas.List.{drop_all}
 use Rattle.std.specs.Str.{bytes_eq}
 use Rattle.md_hlds.specs.declared.program.Pred.{Pred}
-use Rattle.md_hlds.specs.Listing.{procedures_of}
+use Rattle.md_hlds.specs.Hlds.{procedures_of}
 use Rattle.md_machine.specs.Named.{number_from}
 use Rattle.md_machine.specs.Index.{number_in}
 use Rattle.md_machine.proofs.IndexLemmas.{is_name, lookup-insert_entry, number_from-qualified, number_from-unqualified}

@@ -1,5 +1,5 @@
 use Rattle.std.proofs.Common.{◌≡◌, ℕ, List, drop}
-use Rattle.md_hlds.specs.Listing.{procedures_of}
+use Rattle.md_hlds.specs.Hlds.{procedures_of}
 use Rattle.md_machine.specs.Named.{number_from}
 use Rattle.md_machine.specs.Index.{number_in}
 use Rattle.md_machine.proofs.index.Procedures.new.Given as goal

@@ -1,10 +1,10 @@
 use Rattle.std.proofs.Common.{◌≡◌, ◌∙◌, refl, sym, ap, arith, subst, false, true, [], ◌∷◌, ◌++◌, List, Ok, Err, add-one}
 use Rattle.std.proofs.lemmas.Result.{err_from_is_err_and}
-use Rattle.md_hlds.specs.Part.{Either, part_of, parts_of, task_of, gathered}
-use Rattle.md_binding.specs.Known.{Knowledge}
-use Rattle.md_binding.specs.Kinds.{knowledge_of}
+use Rattle.md_hlds.specs.HldsGoal.{DisjGoal, goal_of, goals_of, expr_of, gathered}
+use Rattle.md_inst.specs.Instantiation.{InstMap}
+use Rattle.md_inst.specs.Kinds.{inst_map_of}
 use Rattle.md_modes.specs.Branches.{After, after, binds_some}
-use Rattle.md_modes.specs.Goals.{goal, task, each, arms, variables}
+use Rattle.md_modes.specs.Goals.{goal, expr, each, arms, variables}
 use Rattle.md_modes.specs.Notes.{inner_notes, each_notes, arm_notes}
 use Rattle.md_modes.specs.Classes.{notes_told}
 use Rattle.md_modes.specs.Joins.{occurs, Ends}
@@ -26,15 +26,15 @@ check-index_mut-requires t c =
 pub check-returns-clause-notes : goals.check-returns-clause-notes
 check-returns-clause-notes t c =
     let scope = scope_at c.args.self.now c.args.strict in
-    let s = knowledge_of c.args.marks.now.items in
-    let r = knowledge_of c.check_kind.new.marks.items in
-    let k = task_of c.args.goal.now.kind in
+    let s = inst_map_of c.args.insts.now.items in
+    let r = inst_map_of c.check_kind.new.insts.items in
+    let k = expr_of c.args.goal.now.kind in
     let local = c.in_ok-local.local in
-    let before = ap knowledge_of c.deref-9.ensures.value ∙ (c.in_ok-before.ensures.known ∙ rw (c.deref-2.ensures.value, c.deref-3.ensures.value) refl) in
-    let after' = ap knowledge_of c.deref-10.ensures.value ∙ (c.in_ok-after.ensures.known ∙ rw (c.deref-6.ensures.value, c.deref-7.ensures.value) refl) in
+    let before = ap inst_map_of c.deref-9.ensures.value ∙ (c.in_ok-before.ensures.known ∙ rw (c.deref-2.ensures.value, c.deref-3.ensures.value) refl) in
+    let after' = ap inst_map_of c.deref-10.ensures.value ∙ (c.in_ok-after.ensures.known ∙ rw (c.deref-6.ensures.value, c.deref-7.ensures.value) refl) in
     goal_notes c.args.notes.now.items c.push.new.self.items c.check_kind.new.notes.items _ c.len-number.result c.blank.result c.in_ok-notes.field-0 _ (inner_notes scope k s)
     c.in_ok-push.ensures.items (omega (arith, c.len-number.ensures)) c.in_ok-reach.ensures.notes refl
-    (own_note scope c.args.goal.now.line k local.places.items local.counts.items c.deref-8.result.now s r (knowledge_of c.deref-9.result.now) (knowledge_of c.deref-10.result.now)
+    (own_note scope c.args.goal.now.line k local.places.items local.counts.items c.deref-8.result.now s r (inst_map_of c.deref-9.result.now) (inst_map_of c.deref-10.result.now)
     c.in_ok-reach.reach _ _ _ c.in_ok-local.ensures c.deref-8.ensures.value c.in_ok-reach.ensures.reaches before after'
     (c.in_ok-class.ensures ∙ rw c.deref.ensures.value refl) c.in_ok-notes.ensures)
 
@@ -51,14 +51,14 @@ check_arms-loop-goal-init t c view = record {
 pub check_arms-returns-in_err-reach-clause-reaches : goals.check_arms-returns-in_err-reach-clause-reaches
 check_arms-returns-in_err-reach-clause-reaches t c view =
     let scope = scope_at c.args.self.now c.args.at.strict in
-    let s = knowledge_of c.args.marks.now.items in
+    let s = inst_map_of c.args.insts.now.items in
     let inv = c.loop-goal.invariant view in
     let told = err_from_is_err_and c.from_residual-in_err-reach.result c.from_residual-in_err-reach.ensures.1 in
     rw (told.1, told.2)
     (λ ne.
-    either_fault scope c.args.at.line (gathered (parts_of c.args.goals.now)) s c.in_err-reach.field-0.0
+    either_fault scope c.args.at.line (gathered (goals_of c.args.goals.now)) s c.in_err-reach.field-0.0
     (inv.rest ∙ arms-fault scope c.args.goals.now c.loop-goal.goal-index c.goal-item.result s c.in_err-reach.field-0.0 inv.ends c.loop-goal-test.true c.goal-item.is
-    (subst (λ (k : Knowledge). goal scope (part_of c.goal-item.result) k ≡ Err c.in_err-reach.field-0.0) inv.known (c.in_err-reach.ensures.reaches ne))))
+    (subst (λ (k : InstMap). goal scope (goal_of c.goal-item.result) k ≡ Err c.in_err-reach.field-0.0) inv.known (c.in_err-reach.ensures.reaches ne))))
 
 pub check_arms-loop-goal-preserved : goals.check_arms-loop-goal-preserved
 check_arms-loop-goal-preserved t c h =
@@ -67,20 +67,20 @@ check_arms-loop-goal-preserved t c h =
     let gs = c.args.goals.now in
     let vars = goals_variables gs in
     let scope = scope_at k c.args.at.strict in
-    let s = knowledge_of c.args.marks.now.items in
-    let r = knowledge_of c.check.new.marks.items in
+    let s = inst_map_of c.args.insts.now.items in
+    let r = inst_map_of c.check.new.insts.items in
     let a = after r c.in_ok-reach.reach in
     let inv = c.loop-goal.invariant h in
     let i = c.loop-goal.goal-index in
     let g = c.goal-item.result in
     let p = occurs view.outside in
-    let found : goal scope (part_of g) s ≡ Ok a = rw (← inv.known) c.in_ok-reach.ensures.reaches in
-    let leaves = view_leaves k view vars s scope (part_of g) a h (among_goals gs i g c.loop-goal-test.true c.goal-item.is) found in
+    let found : goal scope (goal_of g) s ≡ Ok a = rw (← inv.known) c.in_ok-reach.ensures.reaches in
+    let leaves = view_leaves k view vars s scope (goal_of g) a h (among_goals gs i g c.loop-goal-test.true c.goal-item.is) found in
     let own = c.deref-in-loop-goal-2.result.now in
     let same : own ≡ c.in_ok-local.local.places.items = c.deref-in-loop-goal-2.ensures.value in
-    let before : knowledge_of c.deref-in-loop-goal-3.result.now ≡ seen own s =
-    ap knowledge_of c.deref-in-loop-goal-3.ensures.value ∙ (c.in_ok-before.ensures.known ∙ rw (c.deref.ensures.value, c.deref-in-loop-goal.ensures.value, inv.known, same) refl) in
-    let alone : Leaves own s r = rw same (own_leaves c.in_ok-local.local.places.items c.in_ok-local.local.counts.items s scope (part_of g) a c.in_ok-local.ensures found) in
+    let before : inst_map_of c.deref-in-loop-goal-3.result.now ≡ seen own s =
+    ap inst_map_of c.deref-in-loop-goal-3.ensures.value ∙ (c.in_ok-before.ensures.known ∙ rw (c.deref.ensures.value, c.deref-in-loop-goal.ensures.value, inv.known, same) refl) in
+    let alone : Leaves own s r = rw same (own_leaves c.in_ok-local.local.places.items c.in_ok-local.local.counts.items s scope (goal_of g) a c.in_ok-local.ensures found) in
     let ends = seen_ends (places_of view) inv.ends in
     record {
       ends = inv.ends ++ a ∷ [];
@@ -90,7 +90,7 @@ check_arms-loop-goal-preserved t c h =
           (c.in_ok-joined.ensures.ends s ends (is_arm k view vars own s r h alone) (ends_viewed k view vars s p c.loop-goal.joined ends h inv.are_ends)));
       leave = all_leave-more (places_of view) s inv.ends a inv.leave leaves;
       rest = inv.rest ∙ rw add-one (arms-more scope gs i g s a inv.ends c.loop-goal-test.true c.goal-item.is found);
-      known = put_own own s r (knowledge_of c.deref-in-loop-goal-3.result.now) (knowledge_of c.add_arm.new.marks.items) before alone c.in_ok-joined.ensures.marks;
+      known = put_own own s r (inst_map_of c.deref-in-loop-goal-3.result.now) (inst_map_of c.add_arm.new.insts.items) before alone c.in_ok-joined.ensures.insts;
       noted = arms-loop scope gs i g s (notes_told c.loop-goal.notes.items) (notes_told c.check.new.notes.items) _ c.loop-goal-test.true c.goal-item.is
           (rw (← inv.known) c.in_ok-reach.ensures.notes) inv.noted;
     }
@@ -102,21 +102,21 @@ check_arms-returns-clause-reaches t c h =
     let gs = c.args.goals.now in
     let vars = goals_variables gs in
     let scope = scope_at k c.args.at.strict in
-    let s = knowledge_of c.args.marks.now.items in
+    let s = inst_map_of c.args.insts.now.items in
     let inv = c.loop-goal.invariant h in
     let p = occurs view.outside in
     let ends = seen_ends (places_of view) inv.ends in
-    let now = knowledge_of c.end_arms.new.marks.items in
-    let all : arms scope (gathered (parts_of gs)) s ≡ Ok inv.ends = inv.rest ∙ arms-end scope gs c.loop-goal.goal-index s inv.ends (omega arith) in
+    let now = inst_map_of c.end_arms.new.insts.items in
+    let all : arms scope (gathered (goals_of gs)) s ≡ Ok inv.ends = inv.rest ∙ arms-end scope gs c.loop-goal.goal-index s inv.ends (omega arith) in
     branch_end k view vars s now c.args.at.strict c.args.at.line inv.ends c.end_arms.result _ h inv.leave (rw all refl)
-    (reaches_from c.end_arms.result now (knowledge_of c.loop-goal.marks.items) s (places_of view) _ inv.known
+    (reaches_from c.end_arms.result now (inst_map_of c.loop-goal.insts.items) s (places_of view) _ inv.known
     (c.end_arms.ensures p ends (ends_viewed k view vars s p c.loop-goal.joined ends h inv.are_ends)
     (h.before ∙ ap (seen (places_of view)) (sym inv.known))))
 
 pub check_arms-returns-clause-notes : goals.check_arms-returns-clause-notes
 check_arms-returns-clause-notes t c h =
     always c.end_arms.result
-    (arms-loop-end (scope_at c.args.self.now c.args.at.strict) c.args.goals.now c.loop-goal.goal-index (knowledge_of c.args.marks.now.items) _ _ (omega arith)
+    (arms-loop-end (scope_at c.args.self.now c.args.at.strict) c.args.goals.now c.loop-goal.goal-index (inst_map_of c.args.insts.now.items) _ _ (omega arith)
     (c.loop-goal.invariant h).noted)
 
 pub check_condition-returns-then-binds_some-clause-reaches : goals.check_condition-returns-then-binds_some-clause-reaches
@@ -124,37 +124,37 @@ check_condition-returns-then-binds_some-clause-reaches t c vars h among ne =
     let k = c.args.self.now in
     let view = c.args.view in
     let scope = scope_at k true in
-    let s = knowledge_of c.args.marks.now.items in
-    let r = knowledge_of c.check.new.marks.items in
+    let s = inst_map_of c.args.insts.now.items in
+    let r = inst_map_of c.check.new.insts.items in
     let a = after r c.in_ok-reach.reach in
-    let p = part_of c.args.goal.now in
-    let known = ap knowledge_of c.deref-3.ensures.value ∙ (c.in_ok-after.ensures.known ∙ rw (c.deref.ensures.value, c.deref-2.ensures.value) refl) in
+    let p = goal_of c.args.goal.now in
+    let known = ap inst_map_of c.deref-3.ensures.value ∙ (c.in_ok-after.ensures.known ∙ rw (c.deref.ensures.value, c.deref-2.ensures.value) refl) in
     inside_binds scope c.args.line vars p s a c.in_ok-reach.ensures.reaches
     (binds_by k view vars s r true true h (view_leaves k view vars s scope p a h among c.in_ok-reach.ensures.reaches)
-    (ap (binds_some (occurs view.outside) (knowledge_of view.before.now)) (sym known) ∙ (sym c.binds_some.ensures ∙ c.if-binds_some.true)))
+    (ap (binds_some (occurs view.outside) (inst_map_of view.before.now)) (sym known) ∙ (sym c.binds_some.ensures ∙ c.if-binds_some.true)))
 
 pub check_condition-returns-clause-reaches : goals.check_condition-returns-clause-reaches
 check_condition-returns-clause-reaches t c vars h among =
     let k = c.args.self.now in
     let view = c.args.view in
     let scope = scope_at k true in
-    let s = knowledge_of c.args.marks.now.items in
-    let r = knowledge_of c.check.new.marks.items in
+    let s = inst_map_of c.args.insts.now.items in
+    let r = inst_map_of c.check.new.insts.items in
     let a = after r c.in_ok-reach.reach in
-    let p = part_of c.args.goal.now in
-    let known = ap knowledge_of c.deref-3.ensures.value ∙ (c.in_ok-after.ensures.known ∙ rw (c.deref.ensures.value, c.deref-2.ensures.value) refl) in
+    let p = goal_of c.args.goal.now in
+    let known = ap inst_map_of c.deref-3.ensures.value ∙ (c.in_ok-after.ensures.known ∙ rw (c.deref.ensures.value, c.deref-2.ensures.value) refl) in
     inside_by scope c.args.line vars p s a c.in_ok-reach.ensures.reaches
     (binds_by k view vars s r true false h (view_leaves k view vars s scope p a h among c.in_ok-reach.ensures.reaches)
-    (ap (binds_some (occurs view.outside) (knowledge_of view.before.now)) (sym known) ∙ (sym c.binds_some.ensures ∙ c.if-binds_some.false)))
+    (ap (binds_some (occurs view.outside) (inst_map_of view.before.now)) (sym known) ∙ (sym c.binds_some.ensures ∙ c.if-binds_some.false)))
 
 pub check_inside-returns-in_err-check_condition-clause-reaches : goals.check_inside-returns-in_err-check_condition-clause-reaches
 check_inside-returns-in_err-check_condition-clause-reaches t c =
     let vs = c.args.quantified.now in
-    let p = part_of c.args.inner.now in
+    let p = goal_of c.args.inner.now in
     let told = err_from_is_err_and c.from_residual.result c.from_residual.ensures.1 in
     rw (told.1, told.2)
     (λ ne.
-    once_fault (scope_at c.args.self.now c.args.at.strict) c.args.at.line vs p (knowledge_of c.args.marks.now.items) _
+    once_fault (scope_at c.args.self.now c.args.at.strict) c.args.at.line vs p (inst_map_of c.args.insts.now.items) _
     (c.in_err-check_condition.ensures.reaches (vs ++ variables p) c.requires.view (among_others (variables p) (variables p) vs (among_itself (variables p))) ne))
 
 pub check_inside-returns-then-has_some-clause-reaches : goals.check_inside-returns-then-has_some-clause-reaches
@@ -162,9 +162,9 @@ check_inside-returns-then-has_some-clause-reaches t c ne =
     let k = c.args.self.now in
     let scope = scope_at k c.args.at.strict in
     let vs = c.args.quantified.now in
-    let p = part_of c.args.inner.now in
+    let p = goal_of c.args.inner.now in
     let vars = vs ++ variables p in
-    let s = knowledge_of c.args.marks.now.items in
+    let s = inst_map_of c.args.insts.now.items in
     once_outside scope c.args.at.line vs p s _
     (c.in_ok-check_condition.ensures.reaches vars c.requires.view (among_others (variables p) (variables p) vs (among_itself (variables p))))
     (sym (c.has_some.ensures scope.all vars (view_counts k c.args.view vars s c.args.at.strict c.requires.view) c.requires.view.local) ∙ c.if-has_some.true)
@@ -175,15 +175,15 @@ check_inside-returns-clause-reaches t c =
     let view = c.args.view in
     let scope = scope_at k c.args.at.strict in
     let vs = c.args.quantified.now in
-    let p = part_of c.args.inner.now in
+    let p = goal_of c.args.inner.now in
     let vars = vs ++ variables p in
-    let s = knowledge_of c.args.marks.now.items in
-    let r = knowledge_of c.check_condition.new.marks.items in
+    let s = inst_map_of c.args.insts.now.items in
+    let r = inst_map_of c.check_condition.new.insts.items in
     let among = among_others (variables p) (variables p) vs (among_itself (variables p)) in
     let inside' = c.in_ok-check_condition.ensures.reaches vars c.requires.view among in
     let leaves = view_leaves k view vars s (scope_at k true) p _ c.requires.view among (inside_ok (scope_at k true) c.args.at.line vars p s _ inside') in
-    let back : knowledge_of c.put_all.new.marks.items ≡ s =
-    put_back k view vars s r _ c.requires.view leaves (c.put_all.ensures ∙ ap (λ xs. put_all xs (knowledge_of view.before.now) r) c.deref.ensures.value) in
+    let back : inst_map_of c.put_all.new.insts.items ≡ s =
+    put_back k view vars s r _ c.requires.view leaves (c.put_all.ensures ∙ ap (λ xs. put_all xs (inst_map_of view.before.now) r) c.deref.ensures.value) in
     rw back
     (once_right scope c.args.at.line vs p s _ inside'
     (sym (c.has_some.ensures scope.all vars (view_counts k view vars s c.args.at.strict c.requires.view) c.requires.view.local) ∙ c.if-has_some.false))
@@ -194,16 +194,16 @@ check_kind-returns-in_err-check_condition-in-If-clause-reaches t c =
     let scope = scope_at k c.args.strict in
     let l = c.args.goal.now.line in
     let kind = c.args.goal.now.kind in
-    let s = knowledge_of c.args.marks.now.items in
+    let s = inst_map_of c.args.insts.now.items in
     let g = c.deref.result.now in
     let h = c.in-If.then.value in
     let j = c.in-If.otherwise.value in
-    let vars = three_variables (part_of g) (part_of h) (part_of j) in
+    let vars = three_variables (goal_of g) (goal_of h) (goal_of j) in
     let view = view_along k c.args.view _ vars s (variables-If kind c.in-If.condition c.in-If.then c.in-If.otherwise g h j c.in-If.is c.deref.ensures refl refl) c.requires.view in
     let told = err_from_is_err_and c.from_residual.result c.from_residual.ensures.1 in
     rw (told.1, told.2)
     (λ ne. choose_is scope l kind c.in-If.condition c.in-If.then c.in-If.otherwise g h j s c.in-If.is c.deref.ensures refl refl
-    ∙ condition_fault scope l (part_of g) (part_of h) (part_of j) s _ (c.in_err-check_condition-in-If.ensures.reaches vars view (among_first _ _) ne))
+    ∙ condition_fault scope l (goal_of g) (goal_of h) (goal_of j) s _ (c.in_err-check_condition-in-If.ensures.reaches vars view (among_first _ _) ne))
 
 pub check_kind-returns-in_err-reach-in-If-clause-reaches : goals.check_kind-returns-in_err-reach-in-If-clause-reaches
 check_kind-returns-in_err-reach-in-If-clause-reaches t c =
@@ -211,17 +211,17 @@ check_kind-returns-in_err-reach-in-If-clause-reaches t c =
     let scope = scope_at k c.args.strict in
     let l = c.args.goal.now.line in
     let kind = c.args.goal.now.kind in
-    let s = knowledge_of c.args.marks.now.items in
+    let s = inst_map_of c.args.insts.now.items in
     let g = c.deref.result.now in
     let h = c.deref-in-If.result.now in
     let j = c.in-If.otherwise.value in
-    let vars = three_variables (part_of g) (part_of h) (part_of j) in
+    let vars = three_variables (goal_of g) (goal_of h) (goal_of j) in
     let view = view_along k c.args.view _ vars s (variables-If kind c.in-If.condition c.in-If.then c.in-If.otherwise g h j c.in-If.is c.deref.ensures c.deref-in-If.ensures refl) c.requires.view in
     let first = c.in_ok-check_condition-in-If.ensures.reaches vars view (among_first _ _) in
     let told = err_from_is_err_and c.from_residual-in_err-reach-in-If.result c.from_residual-in_err-reach-in-If.ensures.1 in
     rw (told.1, told.2)
     (λ ne. choose_is scope l kind c.in-If.condition c.in-If.then c.in-If.otherwise g h j s c.in-If.is c.deref.ensures c.deref-in-If.ensures refl
-    ∙ then_fault scope l (part_of g) (part_of h) (part_of j) s _ _ first (c.in_err-reach-in-If.ensures.reaches ne))
+    ∙ then_fault scope l (goal_of g) (goal_of h) (goal_of j) s _ _ first (c.in_err-reach-in-If.ensures.reaches ne))
 
 pub check_kind-returns-in_err-reach-in-If-2-clause-reaches : goals.check_kind-returns-in_err-reach-in-If-2-clause-reaches
 check_kind-returns-in_err-reach-in-If-2-clause-reaches t c =
@@ -229,26 +229,26 @@ check_kind-returns-in_err-reach-in-If-2-clause-reaches t c =
     let scope = scope_at k c.args.strict in
     let l = c.args.goal.now.line in
     let kind = c.args.goal.now.kind in
-    let s = knowledge_of c.args.marks.now.items in
+    let s = inst_map_of c.args.insts.now.items in
     let g = c.deref.result.now in
     let h = c.deref-in-If.result.now in
     let j = c.deref-in-If-3.result.now in
-    let p = part_of g in
-    let t' = part_of h in
-    let e = part_of j in
+    let p = goal_of g in
+    let t' = goal_of h in
+    let e = goal_of j in
     let vars = three_variables p t' e in
     let view = view_along k c.args.view _ vars s
     (variables-If kind c.in-If.condition c.in-If.then c.in-If.otherwise g h j c.in-If.is c.deref.ensures c.deref-in-If.ensures c.deref-in-If-3.ensures) c.requires.view in
-    let a = after (knowledge_of c.check_condition.new.marks.items) c.in_ok-check_condition-in-If.field-0 in
+    let a = after (inst_map_of c.check_condition.new.insts.items) c.in_ok-check_condition-in-If.field-0 in
     let first = c.in_ok-check_condition-in-If.ensures.reaches vars view (among_first _ _) in
-    let b = after (knowledge_of c.check.new.marks.items) c.in_ok-reach-in-If.reach in
+    let b = after (inst_map_of c.check.new.insts.items) c.in_ok-reach-in-If.reach in
     let then' : goal scope t' a.known ≡ Ok b = c.in_ok-reach-in-If.ensures.reaches in
     let leaves = views_leave k c.args.view vars s (scope_at k true) scope p t' a b view (among_first _ _) (among_second p t' e) (inside_ok (scope_at k true) l vars p s a first) then' in
     let own = c.deref-in-If-2.result.now in
     let same : own ≡ places_of c.args.view = c.deref-in-If-2.ensures.value in
-    let before : knowledge_of c.args.view.before.now ≡ seen own s = view.before ∙ rw same refl in
+    let before : inst_map_of c.args.view.before.now ≡ seen own s = view.before ∙ rw same refl in
     let alone : Leaves own s b.known = rw same leaves in
-    let back = put_own own s b.known (knowledge_of c.args.view.before.now) (knowledge_of c.add_arm.new.marks.items) before alone c.in_ok-joined-in-If.ensures.marks in
+    let back = put_own own s b.known (inst_map_of c.args.view.before.now) (inst_map_of c.add_arm.new.insts.items) before alone c.in_ok-joined-in-If.ensures.insts in
     let told = err_from_is_err_and c.from_residual-in_err-reach-in-If-2.result c.from_residual-in_err-reach-in-If-2.ensures.1 in
     rw (told.1, told.2)
     (λ ne. choose_is scope l kind c.in-If.condition c.in-If.then c.in-If.otherwise g h j s c.in-If.is c.deref.ensures c.deref-in-If.ensures c.deref-in-If-3.ensures
@@ -257,35 +257,35 @@ check_kind-returns-in_err-reach-in-If-2-clause-reaches t c =
 pub check_kind-returns-in-Conj-clause-reaches : goals.check_kind-returns-in-Conj-clause-reaches
 check_kind-returns-in-Conj-clause-reaches t c =
     let scope = scope_at c.args.self.now c.args.strict in
-    let s = knowledge_of c.args.marks.now.items in
-    reaches_along c.check_each.result (knowledge_of c.check_each.new.marks.items) _ _
-    (conj_is scope c.args.goal.now.line c.args.goal.now.kind c.in-Conj.goals s c.in-Conj.is ∙ ap (λ gs. each scope (gathered (parts_of gs)) s) (sym c.as_slice.ensures.value))
+    let s = inst_map_of c.args.insts.now.items in
+    reaches_along c.check_each.result (inst_map_of c.check_each.new.insts.items) _ _
+    (conj_is scope c.args.goal.now.line c.args.goal.now.kind c.in-Conj.goals s c.in-Conj.is ∙ ap (λ gs. each scope (gathered (goals_of gs)) s) (sym c.as_slice.ensures.value))
     c.check_each.ensures.reaches
 
 pub check_kind-returns-in-Conj-clause-notes : goals.check_kind-returns-in-Conj-clause-notes
 check_kind-returns-in-Conj-clause-notes t c =
     let scope = scope_at c.args.self.now c.args.strict in
-    let s = knowledge_of c.args.marks.now.items in
+    let s = inst_map_of c.args.insts.now.items in
     notes_along c.check_each.result (notes_told c.args.notes.now.items) (notes_told c.check_each.new.notes.items) _ _
-    (each_notes_is scope c.args.goal.now.kind c.in-Conj.goals s c.in-Conj.is ∙ ap (λ gs. each_notes scope (gathered (parts_of gs)) s) (sym c.as_slice.ensures.value))
+    (each_notes_is scope c.args.goal.now.kind c.in-Conj.goals s c.in-Conj.is ∙ ap (λ gs. each_notes scope (gathered (goals_of gs)) s) (sym c.as_slice.ensures.value))
     c.check_each.ensures.notes
 
 pub check_kind-returns-in-Disj-clause-reaches : goals.check_kind-returns-in-Disj-clause-reaches
 check_kind-returns-in-Disj-clause-reaches t c =
     let scope = scope_at c.args.self.now c.args.strict in
-    let s = knowledge_of c.args.marks.now.items in
-    reaches_along c.check_arms.result (knowledge_of c.check_arms.new.marks.items) _ _
+    let s = inst_map_of c.args.insts.now.items in
+    reaches_along c.check_arms.result (inst_map_of c.check_arms.new.insts.items) _ _
     (disj_is scope c.args.goal.now.line c.args.goal.now.kind c.in-Disj.arms s c.in-Disj.is
-    ∙ ap (λ gs. task scope c.args.goal.now.line (Either (gathered (parts_of gs))) s) (sym c.as_slice-in-Disj.ensures.value))
+    ∙ ap (λ gs. expr scope c.args.goal.now.line (DisjGoal (gathered (goals_of gs))) s) (sym c.as_slice-in-Disj.ensures.value))
     (c.check_arms.ensures.reaches (view_along c.args.self.now c.args.view _ _ s
     (goals_variables-Disj c.args.goal.now.kind c.in-Disj.arms c.in-Disj.is ∙ ap goals_variables (sym c.as_slice-in-Disj.ensures.value)) c.requires.view))
 
 pub check_kind-returns-in-Disj-clause-notes : goals.check_kind-returns-in-Disj-clause-notes
 check_kind-returns-in-Disj-clause-notes t c =
     let scope = scope_at c.args.self.now c.args.strict in
-    let s = knowledge_of c.args.marks.now.items in
+    let s = inst_map_of c.args.insts.now.items in
     notes_along c.check_arms.result (notes_told c.args.notes.now.items) (notes_told c.check_arms.new.notes.items) _ _
-    (arm_notes_is scope c.args.goal.now.kind c.in-Disj.arms s c.in-Disj.is ∙ ap (λ gs. arm_notes scope (gathered (parts_of gs)) s) (sym c.as_slice-in-Disj.ensures.value))
+    (arm_notes_is scope c.args.goal.now.kind c.in-Disj.arms s c.in-Disj.is ∙ ap (λ gs. arm_notes scope (gathered (goals_of gs)) s) (sym c.as_slice-in-Disj.ensures.value))
     (c.check_arms.ensures.notes (view_along c.args.self.now c.args.view _ _ s
     (goals_variables-Disj c.args.goal.now.kind c.in-Disj.arms c.in-Disj.is ∙ ap goals_variables (sym c.as_slice-in-Disj.ensures.value)) c.requires.view))
 
@@ -295,39 +295,39 @@ check_kind-returns-in_ok-joined-in-If-2-clause-reaches t c =
     let scope = scope_at k c.args.strict in
     let l = c.args.goal.now.line in
     let kind = c.args.goal.now.kind in
-    let s = knowledge_of c.args.marks.now.items in
+    let s = inst_map_of c.args.insts.now.items in
     let g = c.deref.result.now in
     let h = c.deref-in-If.result.now in
     let j = c.deref-in-If-3.result.now in
-    let p = part_of g in
-    let t' = part_of h in
-    let e = part_of j in
+    let p = goal_of g in
+    let t' = goal_of h in
+    let e = goal_of j in
     let vars = three_variables p t' e in
     let view = view_along k c.args.view _ vars s
     (variables-If kind c.in-If.condition c.in-If.then c.in-If.otherwise g h j c.in-If.is c.deref.ensures c.deref-in-If.ensures c.deref-in-If-3.ensures) c.requires.view in
-    let a = after (knowledge_of c.check_condition.new.marks.items) c.in_ok-check_condition-in-If.field-0 in
+    let a = after (inst_map_of c.check_condition.new.insts.items) c.in_ok-check_condition-in-If.field-0 in
     let first = c.in_ok-check_condition-in-If.ensures.reaches vars view (among_first _ _) in
-    let b = after (knowledge_of c.check.new.marks.items) c.in_ok-reach-in-If.reach in
+    let b = after (inst_map_of c.check.new.insts.items) c.in_ok-reach-in-If.reach in
     let then' : goal scope t' a.known ≡ Ok b = c.in_ok-reach-in-If.ensures.reaches in
     let leaves = views_leave k c.args.view vars s (scope_at k true) scope p t' a b view (among_first _ _) (among_second p t' e) (inside_ok (scope_at k true) l vars p s a first) then' in
     let own = c.deref-in-If-2.result.now in
     let same : own ≡ places_of c.args.view = c.deref-in-If-2.ensures.value in
-    let before : knowledge_of c.args.view.before.now ≡ seen own s = view.before ∙ rw same refl in
+    let before : inst_map_of c.args.view.before.now ≡ seen own s = view.before ∙ rw same refl in
     let alone : Leaves own s b.known = rw same leaves in
-    let back = put_own own s b.known (knowledge_of c.args.view.before.now) (knowledge_of c.add_arm.new.marks.items) before alone c.in_ok-joined-in-If.ensures.marks in
-    let d = after (knowledge_of c.check-in-If.new.marks.items) c.in_ok-reach-in-If-2.reach in
+    let back = put_own own s b.known (inst_map_of c.args.view.before.now) (inst_map_of c.add_arm.new.insts.items) before alone c.in_ok-joined-in-If.ensures.insts in
+    let d = after (inst_map_of c.check-in-If.new.insts.items) c.in_ok-reach-in-If-2.reach in
     let else' : goal scope e s ≡ Ok d = rw (← back) c.in_ok-reach-in-If-2.ensures.reaches in
     let leaves' = view_leaves k c.args.view vars s scope e d view (among_third p t' e) else' in
     let alone' : Leaves own s d.known = rw same leaves' in
-    let back' = put_own own s d.known (knowledge_of c.args.view.before.now) (knowledge_of c.add_arm-in-If.new.marks.items) before alone' c.in_ok-joined-in-If-2.ensures.marks in
+    let back' = put_own own s d.known (inst_map_of c.args.view.before.now) (inst_map_of c.add_arm-in-If.new.insts.items) before alone' c.in_ok-joined-in-If-2.ensures.insts in
     let ends = seen_ends (places_of c.args.view) (b ∷ d ∷ []) in
     let two = c.in_ok-joined-in-If-2.ensures.ends s _ (is_arm k c.args.view vars own s d.known view alone')
     (c.in_ok-joined-in-If.ensures.ends s [] (is_arm k c.args.view vars own s b.known view alone) (no_ends _ _)) in
-    let now = knowledge_of c.end_arms.new.marks.items in
+    let now = inst_map_of c.end_arms.new.insts.items in
     branch_end k c.args.view vars s now c.args.strict l (b ∷ d ∷ []) c.end_arms.result _ view (leaves, (leaves', tt))
     (choose_is scope l kind c.in-If.condition c.in-If.then c.in-If.otherwise g h j s c.in-If.is c.deref.ensures c.deref-in-If.ensures c.deref-in-If-3.ensures
     ∙ choose_joined scope l p t' e s a b d first then' else')
-    (reaches_from c.end_arms.result now (knowledge_of c.add_arm-in-If.new.marks.items) s (places_of c.args.view) _ back'
+    (reaches_from c.end_arms.result now (inst_map_of c.add_arm-in-If.new.insts.items) s (places_of c.args.view) _ back'
     (c.end_arms.ensures (occurs c.args.view.outside) ends two (view.before ∙ ap (seen (places_of c.args.view)) (sym back'))))
 
 pub check_kind-returns-in_ok-joined-in-If-2-clause-notes : goals.check_kind-returns-in_ok-joined-in-If-2-clause-notes
@@ -336,25 +336,25 @@ check_kind-returns-in_ok-joined-in-If-2-clause-notes t c =
     let scope = scope_at k c.args.strict in
     let l = c.args.goal.now.line in
     let kind = c.args.goal.now.kind in
-    let s = knowledge_of c.args.marks.now.items in
+    let s = inst_map_of c.args.insts.now.items in
     let g = c.deref.result.now in
     let h = c.deref-in-If.result.now in
     let j = c.deref-in-If-3.result.now in
-    let p = part_of g in
-    let t' = part_of h in
-    let e = part_of j in
+    let p = goal_of g in
+    let t' = goal_of h in
+    let e = goal_of j in
     let vars = three_variables p t' e in
     let view = view_along k c.args.view _ vars s
     (variables-If kind c.in-If.condition c.in-If.then c.in-If.otherwise g h j c.in-If.is c.deref.ensures c.deref-in-If.ensures c.deref-in-If-3.ensures) c.requires.view in
-    let a = after (knowledge_of c.check_condition.new.marks.items) c.in_ok-check_condition-in-If.field-0 in
+    let a = after (inst_map_of c.check_condition.new.insts.items) c.in_ok-check_condition-in-If.field-0 in
     let found = inside_ok (scope_at k true) l vars p s a (c.in_ok-check_condition-in-If.ensures.reaches vars view (among_first _ _)) in
-    let b = after (knowledge_of c.check.new.marks.items) c.in_ok-reach-in-If.reach in
+    let b = after (inst_map_of c.check.new.insts.items) c.in_ok-reach-in-If.reach in
     let leaves = views_leave k c.args.view vars s (scope_at k true) scope p t' a b view (among_first _ _) (among_second p t' e) found c.in_ok-reach-in-If.ensures.reaches in
     let own = c.deref-in-If-2.result.now in
     let same : own ≡ places_of c.args.view = c.deref-in-If-2.ensures.value in
-    let before : knowledge_of c.args.view.before.now ≡ seen own s = view.before ∙ rw same refl in
+    let before : inst_map_of c.args.view.before.now ≡ seen own s = view.before ∙ rw same refl in
     let alone : Leaves own s b.known = rw same leaves in
-    let back = put_own own s b.known (knowledge_of c.args.view.before.now) (knowledge_of c.add_arm.new.marks.items) before alone c.in_ok-joined-in-If.ensures.marks in
+    let back = put_own own s b.known (inst_map_of c.args.view.before.now) (inst_map_of c.add_arm.new.insts.items) before alone c.in_ok-joined-in-If.ensures.insts in
     always c.end_arms.result
     (choice_notes scope (scope_at k true) p t' e s a _ _ _ (notes_told c.check-in-If.new.notes.items) found
     c.in_ok-check_condition-in-If.ensures.notes c.in_ok-reach-in-If.ensures.notes (rw (← back) c.in_ok-reach-in-If-2.ensures.notes)

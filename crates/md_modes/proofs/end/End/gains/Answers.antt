@@ -1,5 +1,5 @@
 use Rattle.std.proofs.Common.{refl, sym, ◌∙◌}
-use Rattle.md_binding.specs.Kinds.{knowledge_of}
+use Rattle.md_inst.specs.Kinds.{inst_map_of}
 use Rattle.md_modes.specs.Joins.{end_of, occurs}
 use Rattle.md_modes.specs.Shares.{gained}
 use Rattle.md_modes.proofs.ShareLoops.{gained-inside, gained-missed}
@@ -10,7 +10,7 @@ returns-then-is_gained-clause-sound c e =
     let self = c.args.self in
     let hit = sym c.is_gained.ensures ∙ c.if-is_gained.true in (
       c.number_of-number.result,
-      gained-inside (occurs self.view.outside) (knowledge_of self.view.before.now) (knowledge_of c.args.first.now) (knowledge_of self.marks.now)
+      gained-inside (occurs self.view.outside) (inst_map_of self.view.before.now) (inst_map_of c.args.first.now) (inst_map_of self.insts.now)
           self.view.outside.local.now.places.items c.number_of-number.result hit,
       hit,
     )
@@ -18,6 +18,6 @@ returns-then-is_gained-clause-sound c e =
 pub loop-place-preserved : goal.loop-place-preserved
 loop-place-preserved c rising =
     let self = c.args.self in
-    gained-missed (gained (occurs self.view.outside) (knowledge_of self.view.before.now) (knowledge_of c.args.first.now) (end_of self))
+    gained-missed (gained (occurs self.view.outside) (inst_map_of self.view.before.now) (inst_map_of c.args.first.now) (end_of self))
     self.view.outside.local.now.places.items self.own.now c.loop-place.place-index _ c.number_of-number.result c.loop-place-test.true refl
     (c.number_of-number.ensures.found rising) (sym c.is_gained.ensures ∙ c.if-is_gained.false) (c.loop-place.invariant rising)

@@ -1,7 +1,7 @@
 use Rattle.std.proofs.Common.{◌≡◌, ◌∙◌, sym, ap, arith, cond, [], ◌∷◌, ◌++◌, append-nil, length, slice_index}
-use Rattle.md_binding.specs.Known.{known_at, is_newly_bound}
-use Rattle.md_binding.specs.Kinds.{knowledge_of}
-use Rattle.md_binding.proofs.Marks.{length-knowledge_of}
+use Rattle.md_inst.specs.Instantiation.{known_at, is_newly_bound}
+use Rattle.md_inst.specs.Kinds.{inst_map_of}
+use Rattle.md_inst.proofs.Insts.{length-inst_map_of}
 use Rattle.md_modes.proofs.ViewLoops.{picked-loop, picked-end}
 use Rattle.md_modes.proofs.finding.Change.newly_bound.Goals.{then-is_newly_bound+in_ok-push, else-is_newly_bound}
 use Rattle.md_modes.proofs.finding.Change.newly_bound.Goals as goal
@@ -9,13 +9,13 @@ use Rattle.md_modes.proofs.finding.Change.newly_bound.Goals as goal
 pub loop-number-preserved : goal.loop-number-preserved
 loop-number-preserved c =
     let xs = c.args.self.places.now in
-    let s = knowledge_of c.args.self.before.now in
-    let r = knowledge_of c.args.self.after.now in
+    let s = inst_map_of c.args.self.before.now in
+    let r = inst_map_of c.args.self.after.now in
     let i = c.loop-number.number in
-    let size : length s ≡ length xs = length-knowledge_of c.args.self.before.now ∙ c.args.self.before_all in
-    let size' : length r ≡ length xs = length-knowledge_of c.args.self.after.now ∙ c.args.self.after_all in
+    let size : length s ≡ length xs = length-inst_map_of c.args.self.before.now ∙ c.args.self.before_all in
+    let size' : length r ≡ length xs = length-inst_map_of c.args.self.after.now ∙ c.args.self.after_all in
     let is : is_newly_bound (known_at s i) (known_at r i) ≡ c.is_newly_bound.result =
-    rw (← c.mark_in.ensures, ← c.mark_in-in-loop-number.ensures) (sym c.is_newly_bound.ensures) in
+    rw (← c.inst_in.ensures, ← c.inst_in-in-loop-number.ensures) (sym c.is_newly_bound.ensures) in
     elim c.if-is_newly_bound.branch [
       | then-is_newly_bound+in_ok-push w ↦
           rw w.bound-is
@@ -29,5 +29,5 @@ loop-number-preserved c =
 
 pub returns : goal.returns
 returns c =
-    picked-end c.loop-number.bound.items _ c.args.self.places.now (knowledge_of c.args.self.before.now) (knowledge_of c.args.self.after.now) c.loop-number.number
+    picked-end c.loop-number.bound.items _ c.args.self.places.now (inst_map_of c.args.self.before.now) (inst_map_of c.args.self.after.now) c.loop-number.number
     (omega arith) c.loop-number.invariant

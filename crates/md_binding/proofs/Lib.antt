@@ -1,4 +1,0 @@
-pub mod Lists
-pub mod Marks
-pub mod NameLemmas
-pub mod Closures

@@ -1,5 +1,0 @@
-use Rattle.std.proofs.Common.{length}
-use Rattle.md_binding.proofs.argument.+inputs.Given as goal
-
-abbrev pub decreases-inputs : goal.decreases-inputs
-decreases-inputs l = length l.types.now

@@ -1,5 +1,0 @@
-use Rattle.std.proofs.Common.{length}
-use Rattle.md_binding.proofs.closure.+have_same_types.Given as goal
-
-abbrev pub decreases-have_same_types : goal.decreases-have_same_types
-decreases-have_same_types l = length l.a.now

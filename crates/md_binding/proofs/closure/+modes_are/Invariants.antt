@@ -1,5 +1,0 @@
-use Rattle.std.proofs.Common.{length}
-use Rattle.md_binding.proofs.closure.+modes_are.Given as goal
-
-abbrev pub decreases-modes_are : goal.decreases-modes_are
-decreases-modes_are l = length l.modes.now

@@ -1,9 +1,0 @@
-use Rattle.std.proofs.Common.{refl, arith, List}
-use Rattle.md_hlds.specs.declared.types.Ty.{Ty}
-use Rattle.md_hlds.specs.Listing.{sorts_of, gathered_sorts}
-use Rattle.md_binding.specs.Sorts.{same_sorts}
-use Rattle.md_binding.proofs.Lists.{only_second}
-use Rattle.md_binding.proofs.closure.+same_types.Goals as goal
-
-pub returns-in-len1-up-b : goal.returns-in-len1-up-b
-returns-in-len1-up-b t c = only_second (λ (a b : List Ty). same_sorts (gathered_sorts (sorts_of a)) (gathered_sorts (sorts_of b))) (λ y ys. refl) c.args.a.now c.args.b.now (omega arith) (omega arith)

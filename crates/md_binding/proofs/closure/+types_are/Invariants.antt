@@ -1,5 +1,0 @@
-use Rattle.std.proofs.Common.{length}
-use Rattle.md_binding.proofs.closure.+types_are.Given as goal
-
-abbrev pub decreases-types_are : goal.decreases-types_are
-decreases-types_are l = length l.types.now

@@ -1,9 +1,0 @@
-pub mod Verdict
-pub mod Sorts
-pub mod Known
-pub mod Common
-pub mod Named
-pub mod Arguments
-pub mod Simple
-pub mod Kinds
-pub mod Found

@@ -1,0 +1,4 @@
+pub mod Lists
+pub mod Insts
+pub mod NameLemmas
+pub mod Closures

@@ -1,0 +1,11 @@
+use Rattle.std.proofs.Common.{refl, arith, List}
+use Rattle.md_hlds.specs.declared.types.Ty.{Ty}
+use Rattle.md_hlds.specs.declared.types.Mode.{Mode}
+use Rattle.md_hlds.specs.Hlds.{args_of, gathered_types}
+use Rattle.md_inst.specs.HldsTypes.{same_sorts}
+use Rattle.md_inst.specs.Simple.{types_of}
+use Rattle.md_inst.proofs.Lists.{only_second}
+use Rattle.md_inst.proofs.closure.+have_same_types.Goals as goal
+
+pub returns-in-len1-up-b : goal.returns-in-len1-up-b
+returns-in-len1-up-b t c = only_second (λ (a b : List (Ty × Mode)). same_sorts (gathered_types (types_of (args_of a))) (gathered_types (types_of (args_of b)))) (λ y ys. refl) c.args.a.now c.args.b.now (omega arith) (omega arith)

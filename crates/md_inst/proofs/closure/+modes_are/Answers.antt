@@ -1,0 +1,11 @@
+use Rattle.std.proofs.Common.{refl, arith, List}
+use Rattle.md_hlds.specs.declared.types.Ty.{Ty}
+use Rattle.md_hlds.specs.declared.types.Mode.{Mode}
+use Rattle.md_hlds.specs.Hlds.{args_of}
+use Rattle.md_inst.specs.HldsTypes.{same_modes}
+use Rattle.md_inst.specs.Simple.{modes_of}
+use Rattle.md_inst.proofs.Lists.{only_second}
+use Rattle.md_inst.proofs.closure.+modes_are.Goals as goal
+
+pub returns-in-len1-up-args : goal.returns-in-len1-up-args
+returns-in-len1-up-args t c = only_second (λ (a : List Mode) (b : List (Ty × Mode)). same_modes a (modes_of (args_of b))) (λ y ys. refl) c.args.modes.now c.args.args.now (omega arith) (omega arith)

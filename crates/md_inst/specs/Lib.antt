@@ -1,0 +1,9 @@
+pub mod Verdict
+pub mod HldsTypes
+pub mod Instantiation
+pub mod Common
+pub mod Named
+pub mod Arguments
+pub mod Simple
+pub mod Kinds
+pub mod Found

@@ -1,8 +1,0 @@
-use Rattle.std.proofs.Common.{◌≡◌, false, ◌&&◌}
-use Rattle.md_binding.specs.Known.{known_at, is_newly_bound, some_below}
-use Rattle.md_modes.specs.Joins.{occurs}
-use Rattle.md_binding.specs.Kinds.{knowledge_of}
-use Rattle.md_modes.proofs.outside.binds_some.Given as goal
-
-abbrev pub invariant-loop-number : goal.invariant-loop-number
-invariant-loop-number l = some_below l.number (λ x. occurs l.outside x && is_newly_bound (known_at (knowledge_of l.before) x) (known_at (knowledge_of l.after) x)) ≡ false
