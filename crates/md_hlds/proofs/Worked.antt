@@ -80,14 +80,14 @@ hello = program [] (main 4 (conj (is_text 2 (codes "hello") ∷ goal (SimpleGoal
 -- the items of a whole run, and those up to a turn that the budget doesn't allow
 hello_whole :
     run hello 15
-    ≡ (Turn 0 5 ∷ Call 0 None None 0 ∷ Turn 0 1 ∷ Turn 0 1 ∷ Turn 0 6 ∷ Out (codes "hello") ∷ Turn 0 2 ∷ Out (10 ∷ [])
+    ≡ (Turn 0 None 5 ∷ Call 0 None None 0 ∷ Turn 0 (Some 0) 1 ∷ Turn 0 (Some 1) 1 ∷ Turn 0 (Some 2) 6 ∷ Out (codes "hello") ∷ Turn 0 (Some 3) 2 ∷ Out (10 ∷ [])
     ∷ Exit 0
     ∷ Answer (Some (Number (pos 0)) ∷ Some (Number (pos 0)) ∷ Some (Literal (codes "hello")) ∷ Some (Number (pos 0)) ∷ [])
     ∷ [])
 unfolding run
 hello_whole = refl
 
-hello_cut : run hello 14 ≡ (Turn 0 5 ∷ Call 0 None None 0 ∷ Turn 0 1 ∷ Turn 0 1 ∷ Turn 0 6 ∷ Out (codes "hello") ∷ [])
+hello_cut : run hello 14 ≡ (Turn 0 None 5 ∷ Call 0 None None 0 ∷ Turn 0 (Some 0) 1 ∷ Turn 0 (Some 1) 1 ∷ Turn 0 (Some 2) 6 ∷ Out (codes "hello") ∷ [])
 unfolding run
 hello_cut = refl
 

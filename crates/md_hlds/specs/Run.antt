@@ -1,18 +1,18 @@
--- The run of a program within a budget of steps, what it writes, whether it is finished, and its events.
-use Rattle.std.specs.Prelude.{ℕ, ◌-◌, pos, Bool, true, false, List, [], ◌∷◌, ◌++◌, length, Option, Some, None, nat_le}
+-- The run of a program within a budget of steps, what it writes, whether it is finished or thrown, and its events.
+use Rattle.std.specs.Prelude.{ℕ, ◌-◌, pos, Bool, true, false, List, [], ◌∷◌, ◌++◌, length, Option, Some, None, is_some, nat_le}
 use Rattle.md_hlds.specs.Hlds.{Hlds, Procedure, procedure_called}
 use Rattle.md_hlds.specs.declared.goal.PredName.{PredName}
 use Rattle.md_hlds.specs.Value.{Number, Env, bound, blank}
-use Rattle.md_hlds.specs.Trace.{Turn, Call, Exit, Fail, Out, Answer, Stuck, Deep, Items, Frame, first, trace, call_weight}
+use Rattle.md_hlds.specs.Trace.{Turn, Call, Exit, Fail, Out, Throw, Answer, Stuck, Deep, Items, Frame, first, trace, call_weight, body_frame}
 
 -- Items up to the first turn that is heavier than what is left of the budget; that turn isn't made.
-abbrev pub cut_turn : ℕ → ℕ → ℕ → Items → Bool → Items
-cut_turn left a w rest true = Turn a w ∷ rest
-cut_turn left a w rest false = []
+abbrev pub cut_turn : ℕ → Option ℕ → ℕ → Items → Bool → Items
+cut_turn a g w rest true = Turn a g w ∷ rest
+cut_turn a g w rest false = []
 
 abbrev pub cut : ℕ → Items → Items
 cut left [] = []
-cut left (Turn a w ∷ xs) = cut_turn left a w (cut (left - w) xs) (nat_le w left)
+cut left (Turn a g w ∷ xs) = cut_turn a g w (cut (left - w) xs) (nat_le w left)
 cut left (x ∷ xs) = x ∷ cut left xs
 
 -- `main`
@@ -24,14 +24,14 @@ abbrev pub main_env : Env → List ℕ → Env
 main_env e [] = e
 main_env e (h ∷ hs) = bound e h (Number (pos 0))
 
-abbrev pub main_frame : Procedure → Frame
-main_frame p = record { act = 0; env = main_env (blank (length p.vars)) p.head; goals = p.body ∷ []; pairs = [] }
+abbrev pub main_frame : Hlds → ℕ × Procedure → Frame
+main_frame s m = body_frame s 0 (main_env (blank (length m.1.vars)) m.1.head) m []
 
 -- the whole run to a depth, before the budget cuts it
 abbrev pub main_items : Hlds → ℕ → ℕ × Procedure → Items
 main_items s depth m =
-    Turn 0 (call_weight m.1) ∷ Call 0 None None m.0
-    ∷ first (trace s depth (main_frame m.1) [] 1) 1 (λ e k. Exit 0 ∷ Answer e ∷ []) (λ k. Fail 0 ∷ [])
+    Turn 0 None (call_weight m.1) ∷ Call 0 None None m.0
+    ∷ first (trace s depth (main_frame s m) [] 1) 1 (λ e k. Exit 0 ∷ Answer e ∷ []) (λ k. Fail 0 ∷ []) []
 
 abbrev pub run_main : Hlds → ℕ → Option (ℕ × Procedure) → Items
 run_main s budget None = []
@@ -53,11 +53,22 @@ is_finished [] = false
 is_finished (Answer e ∷ xs) = true
 is_finished (x ∷ xs) = is_finished xs
 
+-- the bytes that were thrown, where a run is thrown
+abbrev pub error : Items → Option (List ℕ)
+error [] = None
+error (Throw bytes ∷ xs) = Some bytes
+error (x ∷ xs) = error xs
+
+-- a run is thrown where it holds a Throw
+abbrev pub is_thrown : Items → Bool
+is_thrown xs = is_some (error xs)
+
 -- the items that are ports or allocations, in order
 abbrev pub events : Items → Items
 events [] = []
-events (Turn a w ∷ xs) = events xs
+events (Turn a g w ∷ xs) = events xs
 events (Out bytes ∷ xs) = events xs
+events (Throw bytes ∷ xs) = events xs
 events (Answer e ∷ xs) = events xs
 events (Stuck ∷ xs) = events xs
 events (Deep ∷ xs) = events xs

@@ -11,7 +11,7 @@ use Rattle.md_hlds.specs.declared.goal.Op.TheVariants.{Add, Sub, Mul}
 use Rattle.md_hlds.specs.declared.goal.Cmp.{Cmp}
 use Rattle.md_hlds.specs.declared.goal.Cmp.TheVariants.{Lt, Le, Gt, Ge}
 use Rattle.md_hlds.specs.declared.goal.PredName.{PredName}
-use Rattle.md_hlds.specs.HldsGoal.{Simple, Succeeds, Fails, Unifies, Computes, Compares, WritesInt, WritesText, EndsLine}
+use Rattle.md_hlds.specs.HldsGoal.{Simple, Succeeds, Fails, Unifies, Computes, Compares, WritesInt, WritesText, EndsLine, Raises}
 use Rattle.md_hlds.specs.Hlds.{Hlds, Procedure, procedure_called, is_functor}
 use Rattle.md_hlds.specs.Value.{Value, Number, Literal, Built, Closure, listed_values, gathered_values, value_count, Compared, compared, Env, value_at, values_at, bound}
 
@@ -21,6 +21,8 @@ pub data Outcome : Type 0 where
   Go : (e : Env) (extra words : ℕ) (out : Option (List ℕ)) → Outcome
   -- it has no solution
   No : (extra : ℕ) → Outcome
+  -- it throws these bytes, at a weight of 1
+  Throws : (bytes : List ℕ) → Outcome
   -- no rule applies
   Stop : Outcome
 
@@ -127,6 +129,11 @@ abbrev pub write_text : Env → ℕ → Option Value → Option Value → Option
 write_text e after (Some (Literal bytes)) v w = write e after bytes v w
 write_text e after x v w = Stop
 
+-- an exception with the bytes of a literal
+abbrev pub raise : Option Value → Outcome
+raise (Some (Literal bytes)) = Throws bytes
+raise v = Stop
+
 abbrev pub simple : Hlds → Env → Simple → Outcome
 simple s e Succeeds = goes e
 simple s e Fails = No 0
@@ -136,3 +143,4 @@ simple s e (Compares a cmp b) = compare e cmp (value_at e a) (value_at e b)
 simple s e (WritesInt x before after) = write_int e after (value_at e x) (value_at e before) (value_at e after)
 simple s e (WritesText x before after) = write_text e after (value_at e x) (value_at e before) (value_at e after)
 simple s e (EndsLine before after) = write e after (10 ∷ []) (value_at e before) (value_at e after)
+simple s e (Raises x) = raise (value_at e x)

@@ -5,7 +5,7 @@ use Rattle.std.specs.Ordering.{int_eq}
 use Rattle.std.specs.Str.{bytes_eq}
 use Rattle.md_hlds.specs.declared.goal.Term.{Term}
 use Rattle.md_hlds.specs.declared.goal.Term.TheVariants.{Var, Int, Str, Name}
-use Rattle.md_hlds.specs.HldsGoal.{Unifies, HldsGoal, At, SimpleGoal, ConjGoal, HldsGoals, nothing, also}
+use Rattle.md_hlds.specs.HldsGoal.{Unifies, HldsGoal, At, SimpleGoal, ConjGoal, HldsGoals, nothing, also, Numbered}
 use Rattle.md_hlds.specs.Hlds.{Hlds, is_functor}
 use Rattle.md_hlds.specs.Value.{Value, Number, Literal, Built, value_count}
 
@@ -80,7 +80,7 @@ has_the_key (Literal a) (TextKey b) = bytes_eq a b
 has_the_key (Built f parts) (FunctorKey g arity) = bytes_eq f g && nat_eq (value_count parts) arity
 has_the_key v k = false
 
--- the arm whose key the value has
-abbrev pub arm_for : Value → List Key → HldsGoals → Option HldsGoal
-arm_for v (k ∷ ks) (also p ps) = cond (has_the_key v k) (Some p) (arm_for v ks ps)
+-- the arm whose key the value has, among numbered arms
+abbrev pub arm_for : Value → List Key → List Numbered → Option Numbered
+arm_for v (k ∷ ks) (p ∷ ps) = cond (has_the_key v k) (Some p) (arm_for v ks ps)
 arm_for v ks ps = None
