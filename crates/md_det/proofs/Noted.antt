@@ -4,7 +4,7 @@ use Rattle.std.proofs.Common.{◌≡◌, refl, sym, ap, ◌∙◌, arith, ℕ, z
 use Rattle.std.specs.Prelude.{is_none, is_some}
 use Rattle.md_hlds.specs.declared.goal.Term.{Term}
 use Rattle.md_hlds.specs.declared.goal.Term.TheVariants.{Var, Int, Str, Name}
-use Rattle.md_hlds.specs.HldsGoal.{Simple, Succeeds, Fails, Unifies, Computes, Compares, WritesInt, WritesText, EndsLine, HldsGoal, At, GoalExpr, SimpleGoal, CallGoal, HoCallGoal, ConjGoal, DisjGoal, IfGoal, NotGoal, SomeGoal, HldsGoals, nothing, also}
+use Rattle.md_hlds.specs.HldsGoal.{Simple, Succeeds, Fails, Unifies, Computes, Compares, WritesInt, WritesText, EndsLine, Raises, HldsGoal, At, GoalExpr, SimpleGoal, CallGoal, HoCallGoal, ConjGoal, DisjGoal, IfGoal, NotGoal, SomeGoal, HldsGoals, nothing, also}
 use Rattle.md_hlds.specs.Hlds.{closure, HldsFunctor, HldsTypeDef, Procedure, Hlds, is_functor, unqualified_functor}
 use Rattle.md_hlds.specs.Switch.{Key, FunctorKey, term_key, variable_key, goal_key, arm_key, keys_of, all_different, if_different, switch_on}
 use Rattle.md_inst.specs.Instantiation.{Instantiation, free, has, InstMap, known_at, is_bound}
@@ -142,6 +142,7 @@ simple_bound p at (Compares a cmp b) s = refl
 simple_bound p at (WritesInt x before after) s = refl
 simple_bound p at (WritesText x before after) s = refl
 simple_bound p at (EndsLine before after) s = refl
+simple_bound p at (Raises x) s = refl
 
 mutual
   goal_bound : (c : Scope) (at : Option ℕ) (q : HldsGoal) (s : InstMap) → (goal_pair c at q s).bound ≡ (goal_pair c None q s).bound
@@ -181,6 +182,7 @@ read_plain p at (Compares a cmp b) s = refl
 read_plain p at (WritesInt x before after) s = refl
 read_plain p at (WritesText x before after) s = refl
 read_plain p at (EndsLine before after) s = refl
+read_plain p at (Raises x) s = refl
 
 read_closure : (k : Instantiation) → read_apply (role_of_closure k) ≡ apply_pair k
 read_closure free = refl

@@ -2,7 +2,7 @@
 use Rattle.std.specs.Prelude.{ℕ, Bool, true, false, ◌&&◌, ◌||◌, List, [], ◌∷◌, length, Option, Some, None, nat_eq}
 use Rattle.md_hlds.specs.declared.goal.Term.{Term}
 use Rattle.md_hlds.specs.declared.goal.Term.TheVariants.{Name}
-use Rattle.md_hlds.specs.HldsGoal.{Simple, Succeeds, Fails, Unifies, Computes, Compares, WritesInt, WritesText, EndsLine, HldsGoal, At, GoalExpr, SimpleGoal, CallGoal, HoCallGoal, ConjGoal, DisjGoal, IfGoal, NotGoal, SomeGoal, HldsGoals, nothing, also}
+use Rattle.md_hlds.specs.HldsGoal.{Simple, Succeeds, Fails, Unifies, Computes, Compares, WritesInt, WritesText, EndsLine, Raises, HldsGoal, At, GoalExpr, SimpleGoal, CallGoal, HoCallGoal, ConjGoal, DisjGoal, IfGoal, NotGoal, SomeGoal, HldsGoals, nothing, also}
 use Rattle.md_hlds.specs.Hlds.{HldsType, closure, Procedure, Hlds, procedure_called}
 use Rattle.md_inst.specs.Instantiation.{Instantiation, free, has, InstMap, known_at}
 use Rattle.md_modes.specs.Goals.{Scope, within, goal}
@@ -58,6 +58,7 @@ simple_pair p at (Compares a cmp b) s = unsure
 simple_pair p at (WritesInt x before after) s = sure
 simple_pair p at (WritesText x before after) s = sure
 simple_pair p at (EndsLine before after) s = sure
+simple_pair p at (Raises x) s = pair false Zero
 
 -- a call is as its predicate is declared
 abbrev pub call_pair : Option (ℕ × Procedure) → Pair

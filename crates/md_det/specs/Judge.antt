@@ -3,7 +3,7 @@
 use Rattle.std.specs.Prelude.{ℕ, suc, ◌+◌, Bool, true, false, not, ◌&&◌, ◌||◌, List, [], ◌∷◌, ◌++◌, length, Option, Some, None, cond, is_none}
 use Rattle.md_hlds.specs.declared.types.Det.TheVariants as det
 use Rattle.md_hlds.specs.declared.goal.Term.{Term}
-use Rattle.md_hlds.specs.HldsGoal.{Simple, Succeeds, Fails, Unifies, Computes, Compares, WritesInt, WritesText, EndsLine, HldsGoal, At, GoalExpr, SimpleGoal, CallGoal, HoCallGoal, ConjGoal, DisjGoal, IfGoal, NotGoal, SomeGoal, HldsGoals, nothing, also}
+use Rattle.md_hlds.specs.HldsGoal.{Simple, Succeeds, Fails, Unifies, Computes, Compares, WritesInt, WritesText, EndsLine, Raises, HldsGoal, At, GoalExpr, SimpleGoal, CallGoal, HoCallGoal, ConjGoal, DisjGoal, IfGoal, NotGoal, SomeGoal, HldsGoals, nothing, also}
 use Rattle.md_hlds.specs.Hlds.{Procedure, Hlds, procedure_called}
 use Rattle.md_hlds.specs.Switch.{Key, switch_shape}
 use Rattle.md_inst.specs.HldsTypes.{same_det}
@@ -65,6 +65,7 @@ read_simple p at r (Compares a cmp b) = unsure
 read_simple p at r (WritesInt x before after) = sure
 read_simple p at r (WritesText x before after) = sure
 read_simple p at r (EndsLine before after) = sure
+read_simple p at r (Raises x) = pair false Zero
 
 -- of a goal that is no conjunction and no branch
 abbrev pub read_atomic : Hlds → Option ℕ → Option Role → GoalExpr → Pair

@@ -8,3 +8,4 @@ pub mod Main
 pub mod Judge
 pub mod Keys
 pub mod Told
+pub mod Throws

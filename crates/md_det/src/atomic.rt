@@ -30,6 +30,7 @@ pub fn atomic_pair(context: &Context, kind: &GoalKind, number: u32, at: Option<u
         GoalKind::WriteStr(..) => Pair::SURE,
         GoalKind::Nl(..) => Pair::SURE,
         GoalKind::Call(_, name, _) => call_pair(context.names, name),
+        GoalKind::Error(_) => Pair::THROWS,
         GoalKind::HoCall(..) => closure_pair(context.moded, number),
         GoalKind::Conj(_)
         | GoalKind::Disj(_)

@@ -5,8 +5,10 @@ ghost use Rattle.md_modes.specs.Modes.{mode_fault};
 ghost use Rattle.md_det.specs.Faults.{det_fault};
 ghost use Rattle.md_det.specs.Findings.{program_findings, switch_at, pair_at};
 ghost use Rattle.md_det.specs.Main.{main_of};
+ghost use Rattle.md_det.specs.Throws;
 
 use crate::finding::{Finding, Switch};
+use crate::throws::throws;
 use md_base::ProcId;
 use md_hlds::Program;
 use md_modes::Moded;
@@ -83,6 +85,13 @@ impl Checked {
         ensures { main_of (hlds_of self.now) ≡ Some result }
     {
         self.main
+    }
+
+    /// Whether the program has a `require.error`. Walks the program.
+    pub fn throws(&self) -> bool
+        ensures { result ≡ Throws.throws (hlds_of self.now) }
+    {
+        throws(self.program())
     }
 
     /// The switch that the goal of this number is, or `None` exactly where it is none or there is no such goal.

@@ -2,6 +2,7 @@
 //! fault (Mercury Language Reference Manual, "Determinism", in this project's profile).
 #![tactic(auto)]
 
+mod atomic;
 mod check;
 mod checked;
 mod condition;
@@ -11,7 +12,6 @@ mod fault;
 mod finding;
 mod judge;
 mod key;
-mod atomic;
 mod main_predicate;
 mod pair;
 mod predicate;
@@ -20,6 +20,7 @@ mod program_tests;
 mod switch;
 #[cfg(test)]
 mod tests;
+mod throws;
 
 pub use check::check_det;
 pub use checked::Checked;

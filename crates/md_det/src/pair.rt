@@ -111,6 +111,12 @@ impl Pair {
         bound: Bound::Zero,
     };
 
+    /// It neither fails nor succeeds.
+    pub const THROWS: Pair = Pair {
+        may_fail: false,
+        bound: Bound::Zero,
+    };
+
     /// What a declaration says.
     pub fn of(det: Det) -> Pair
         ensures { result ≡ pair_of det }

@@ -1,4 +1,6 @@
 pub mod Bridge
+pub mod BudgetLemmas
+pub mod DepthLemmas
 pub mod ProcedureLemmas
 pub mod SiteLemmas
 pub mod TraceLemmas

@@ -1,5 +1,5 @@
 -- The run of a program within a budget of steps, what it writes, whether it is finished or thrown, and its events.
-use Rattle.std.specs.Prelude.{ℕ, ◌-◌, pos, Bool, true, false, List, [], ◌∷◌, ◌++◌, length, Option, Some, None, is_some, nat_le}
+use Rattle.std.specs.Prelude.{⊤, ◌≡◌, ℕ, ◌-◌, pos, Bool, true, false, List, [], ◌∷◌, ◌++◌, length, Option, Some, None, is_some, nat_le}
 use Rattle.md_hlds.specs.Hlds.{Hlds, Procedure, procedure_called}
 use Rattle.md_hlds.specs.declared.goal.PredName.{PredName}
 use Rattle.md_hlds.specs.Value.{Number, Env, bound, blank}
@@ -73,3 +73,16 @@ events (Answer e ∷ xs) = events xs
 events (Stuck ∷ xs) = events xs
 events (Deep ∷ xs) = events xs
 events (x ∷ xs) = x ∷ events xs
+
+-- no depth was too small
+abbrev pub HasNoDeep : Items → Type 0
+HasNoDeep [] = ⊤
+HasNoDeep (Deep ∷ xs) = ⊥
+HasNoDeep (x ∷ xs) = HasNoDeep xs
+
+-- The one run is a front of the other, and the whole of it where it has come to an end: it is finished, or it has thrown.
+pub record IsFrontUpToItsEnd (short long : Items) : Type 0 where
+  pub rest : Items
+  pub front : long ≡ short ++ rest
+  pub finished : is_finished short ≡ true → long ≡ short
+  pub thrown : is_thrown short ≡ true → long ≡ short

@@ -3,6 +3,7 @@
 #![tactic(auto)]
 
 mod goal;
+mod laws;
 mod program;
 mod sites;
 #[cfg(test)]
@@ -11,6 +12,7 @@ mod types;
 mod variables;
 
 pub use goal::{Cmp, Goal, GoalKind, Op, PredName, Term};
+pub use laws::{budgets_agree, depths_suffice};
 pub use program::{Functor, Pred, Program, TypeDef};
 pub use types::{Det, HoTy, Mode, Ty};
 pub use variables::Variables;

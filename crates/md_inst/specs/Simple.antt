@@ -6,7 +6,7 @@ use Rattle.md_hlds.specs.declared.types.Det.{Det}
 use Rattle.md_hlds.specs.declared.goal.Term.{Term}
 use Rattle.md_hlds.specs.declared.goal.Term.TheVariants.{Var, Int, Str, Name}
 use Rattle.md_hlds.specs.declared.goal.PredName.{PredName}
-use Rattle.md_hlds.specs.HldsGoal.{Simple, Succeeds, Fails, Unifies, Computes, Compares, WritesInt, WritesText, EndsLine, GoalExpr, SimpleGoal, CallGoal, HoCallGoal}
+use Rattle.md_hlds.specs.HldsGoal.{Simple, Succeeds, Fails, Unifies, Computes, Compares, WritesInt, WritesText, EndsLine, Raises, GoalExpr, SimpleGoal, CallGoal, HoCallGoal}
 use Rattle.md_hlds.specs.Hlds.{HldsType, number, text, world, closure, listed_types, gathered_types, Procedure, Hlds}
 use Rattle.md_inst.specs.declared.fault.ModeFault.{ModeFault}
 use Rattle.md_inst.specs.declared.fault.ModeFault.TheVariants.{UnknownName, Arity, TypeClash, Unbound, IoUsed, ClosureTest}
@@ -168,6 +168,9 @@ comparison = (number, In) ∷ (number, In) ∷ []
 abbrev pub line_end : List (HldsType × Mode)
 line_end = (world, Di) ∷ (world, Uo) ∷ []
 
+abbrev pub raised : List (HldsType × Mode)
+raised = (text, In) ∷ []
+
 abbrev pub simple : Hlds → Bool → ℕ → Simple → InstMap → Verdict InstMap
 simple p strict l Succeeds s = Ok s
 simple p strict l Fails s = Ok s
@@ -177,10 +180,12 @@ simple p strict l (Compares a cmp b) s = arguments strict l comparison (a ∷ b 
 simple p strict l (WritesInt x before after) s = arguments strict l (builtin number) (x ∷ before ∷ after ∷ []) s
 simple p strict l (WritesText x before after) s = arguments strict l (builtin text) (x ∷ before ∷ after ∷ []) s
 simple p strict l (EndsLine before after) s = arguments strict l line_end (before ∷ after ∷ []) s
+simple p strict l (Raises x) s = arguments strict l raised (x ∷ []) s
 
--- `fail` alone has no place after it
+-- `fail` and `require.error` have no place after them
 abbrev pub goes_on : Simple → Bool
 goes_on Fails = false
+goes_on (Raises x) = false
 goes_on g = true
 
 -- a goal that is no conjunction and no branch

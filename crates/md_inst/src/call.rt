@@ -152,3 +152,11 @@ pub fn end_line(
     output(insts, at, Kind::World, after)?;
     Ok(())
 }
+
+/// `require.error(S)`.
+pub fn raise(insts: &[Inst<'_>], at: Spot, x: u32) -> Result<(), ModeFault>
+    ensures { Leads result (inst_map_of insts.now) (Arguments at.strict at.line spec.raised (x ∷ []) (inst_map_of insts.now)) }
+{
+    input(insts, at, Kind::Text, x)?;
+    Ok(())
+}

@@ -7,7 +7,7 @@ ghost use Rattle.md_inst.specs.Simple.{atomic};
 
 use crate::ModeFault;
 use crate::argument::Spot;
-use crate::call::{apply, call, compare, compute, end_line, write};
+use crate::call::{apply, call, compare, compute, end_line, raise, write};
 use crate::kind::Kind;
 use crate::inst::Inst;
 use crate::unify::unify;
@@ -35,6 +35,7 @@ pub fn atomic<'a>(
         GoalKind::Nl(before, after) => end_line(insts, at, *before, *after),
         GoalKind::Call(_, name, places) => call(names, insts, at, name, places.as_slice()),
         GoalKind::HoCall(_, closure, places) => apply(insts, at, *closure, places.as_slice()),
+        GoalKind::Error(x) => raise(insts, at, *x),
         GoalKind::Conj(_)
         | GoalKind::Disj(_)
         | GoalKind::If(..)

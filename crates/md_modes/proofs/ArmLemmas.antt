@@ -4,7 +4,7 @@ use Rattle.md_base.specs.declared.number.NoMemory.{NoMemory}
 use Rattle.md_modes.specs.declared.joined.Joined.{Joined}
 use Rattle.md_modes.specs.declared.end.End.{End}
 use Rattle.md_modes.specs.declared.joined.Shared.{Shared}
-use Rattle.md_modes.specs.declared.outside.View.{View}
+use Rattle.md_modes.specs.declared.nonlocals.View.{View}
 use Rattle.md_inst.specs.Common.{is_alike}
 use Rattle.md_inst.specs.Instantiation.{InstMap, known_at, put, is_bound, times}
 use Rattle.md_inst.specs.Kinds.{inst_map_of}

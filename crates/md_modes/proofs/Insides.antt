@@ -7,7 +7,7 @@ use Rattle.md_inst.specs.Verdict.{Verdict}
 use Rattle.md_inst.specs.Instantiation.{InstMap, known_at}
 use Rattle.md_inst.specs.Kinds.{inst_map_of}
 use Rattle.md_modes.specs.declared.clause.Clause.{Clause}
-use Rattle.md_modes.specs.declared.outside.View.{View}
+use Rattle.md_modes.specs.declared.nonlocals.View.{View}
 use Rattle.md_modes.specs.declared.joined.Joined.{Joined}
 use Rattle.md_modes.specs.Branches.{After, after, outside, binds_some, some_of, joined}
 use Rattle.md_modes.specs.Goals.{Scope, variables, expr_variables, goal, expr}

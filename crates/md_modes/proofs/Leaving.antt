@@ -7,7 +7,7 @@ use Rattle.md_hlds.specs.declared.types.Det.{Det}
 use Rattle.md_hlds.specs.declared.goal.Term.{Term}
 use Rattle.md_hlds.specs.declared.goal.Term.TheVariants.{Var, Int, Str, Name}
 use Rattle.md_hlds.specs.declared.goal.PredName.{PredName}
-use Rattle.md_hlds.specs.HldsGoal.{Simple, Succeeds, Fails, Unifies, Computes, Compares, WritesInt, WritesText, EndsLine, GoalExpr, SimpleGoal, CallGoal, HoCallGoal, ConjGoal, DisjGoal, IfGoal, NotGoal, SomeGoal}
+use Rattle.md_hlds.specs.HldsGoal.{Simple, Succeeds, Fails, Unifies, Computes, Compares, WritesInt, WritesText, EndsLine, Raises, GoalExpr, SimpleGoal, CallGoal, HoCallGoal, ConjGoal, DisjGoal, IfGoal, NotGoal, SomeGoal}
 use Rattle.md_hlds.specs.Hlds.{HldsType, number, text, world, named, closure, listed_types, Procedure, Hlds}
 use Rattle.md_inst.specs.declared.fault.ModeFault.{ModeFault}
 use Rattle.md_inst.specs.declared.fault.ModeFault.TheVariants.{Arity, TypeClash, IoUsed}
@@ -16,7 +16,7 @@ use Rattle.md_inst.specs.HldsTypes.{same_sort, is_world}
 use Rattle.md_inst.specs.Instantiation.{Instantiation, free, has, InstMap, known_at, put, handed_on, hand_on, times}
 use Rattle.md_inst.specs.Named.{Functor, functor_called, predicate_called}
 use Rattle.md_inst.specs.Arguments.{is_spent, input_known, input, output_known, given_known, given, argument, arguments, inputs, givens}
-use Rattle.md_inst.specs.Simple.{atomic, assign, test, unify_known, make, functor_known, types_of, left_open, can_close, capture, close_known, predicate_term, named_term, unify, call_checked, pairs, apply_sort, apply_known, builtin, arithmetic, comparison, line_end, simple}
+use Rattle.md_inst.specs.Simple.{atomic, assign, test, unify_known, make, functor_known, types_of, left_open, can_close, capture, close_known, predicate_term, named_term, unify, call_checked, pairs, apply_sort, apply_known, builtin, arithmetic, comparison, line_end, raised, simple}
 use Rattle.md_modes.specs.Goals.{term_variables, simple_variables}
 use Rattle.md_modes.specs.Tally.{atomic_variables}
 use Rattle.md_modes.specs.Views.{Leaves}
@@ -197,6 +197,7 @@ simple_leaves p strict l (Compares a cmp b) s = arguments_leave strict l compari
 simple_leaves p strict l (WritesInt x before after) s = arguments_leave strict l (builtin number) (x ∷ before ∷ after ∷ []) s
 simple_leaves p strict l (WritesText x before after) s = arguments_leave strict l (builtin text) (x ∷ before ∷ after ∷ []) s
 simple_leaves p strict l (EndsLine before after) s = arguments_leave strict l line_end (before ∷ after ∷ []) s
+simple_leaves p strict l (Raises x) s = arguments_leave strict l raised (x ∷ []) s
 
 -- a goal that is no conjunction and no branch
 pub atomic_leaves : (p : Hlds) (strict : Bool) (l : ℕ) (t : GoalExpr) (s : InstMap) → CheckLeaves (atomic_variables t) s (atomic p strict l t s)

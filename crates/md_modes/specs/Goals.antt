@@ -2,7 +2,7 @@
 use Rattle.std.specs.Prelude.{ℕ, Bool, true, not, ◌&&◌, List, [], ◌∷◌, ◌++◌, Ok}
 use Rattle.md_hlds.specs.declared.goal.Term.{Term}
 use Rattle.md_hlds.specs.declared.goal.Term.TheVariants.{Var, Int, Str, Name}
-use Rattle.md_hlds.specs.HldsGoal.{Simple, Succeeds, Fails, Unifies, Computes, Compares, WritesInt, WritesText, EndsLine, HldsGoal, At, GoalExpr, SimpleGoal, CallGoal, HoCallGoal, ConjGoal, DisjGoal, IfGoal, NotGoal, SomeGoal, HldsGoals, nothing, also}
+use Rattle.md_hlds.specs.HldsGoal.{Simple, Succeeds, Fails, Unifies, Computes, Compares, WritesInt, WritesText, EndsLine, Raises, HldsGoal, At, GoalExpr, SimpleGoal, CallGoal, HoCallGoal, ConjGoal, DisjGoal, IfGoal, NotGoal, SomeGoal, HldsGoals, nothing, also}
 use Rattle.md_hlds.specs.Hlds.{Procedure, Hlds}
 use Rattle.md_inst.specs.declared.fault.ModeFault.TheVariants.{BranchBinds}
 use Rattle.md_inst.specs.Verdict.{Verdict, ◌>>=◌, ◌>>◌, fault_unless}
@@ -27,6 +27,7 @@ simple_variables (Compares a cmp b) = a ∷ b ∷ []
 simple_variables (WritesInt x before after) = x ∷ before ∷ after ∷ []
 simple_variables (WritesText x before after) = x ∷ before ∷ after ∷ []
 simple_variables (EndsLine before after) = before ∷ after ∷ []
+simple_variables (Raises x) = x ∷ []
 
 abbrev mutual
   pub variables : HldsGoal → List ℕ

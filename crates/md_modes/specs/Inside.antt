@@ -5,7 +5,7 @@ use Rattle.md_inst.specs.Verdict.{Verdict, ◌>>=◌, ◌>>◌}
 use Rattle.md_inst.specs.Instantiation.{InstMap, times}
 use Rattle.md_inst.specs.Kinds.{inst_map_of}
 use Rattle.md_modes.specs.declared.clause.Clause.{Clause}
-use Rattle.md_modes.specs.declared.outside.View.{View}
+use Rattle.md_modes.specs.declared.nonlocals.View.{View}
 use Rattle.md_modes.specs.Branches.{After, outside}
 use Rattle.md_modes.specs.Goals.{Scope, goal, binds_inside}
 use Rattle.md_modes.specs.Tally.{IsLocal}

@@ -6,7 +6,7 @@ use Rattle.std.specs.declared.alloc.Global.{Global}
 use Rattle.md_inst.specs.declared.inst.Inst.{Inst}
 use Rattle.md_modes.specs.declared.joined.Joined.{Joined}
 use Rattle.md_modes.specs.declared.nonlocals.Nonlocals.{Nonlocals}
-use Rattle.md_modes.specs.declared.outside.View.{View}
+use Rattle.md_modes.specs.declared.nonlocals.View.{View}
 use Rattle.md_modes.specs.declared.end.End.{End}
 use Rattle.md_inst.specs.Verdict.{Verdict}
 use Rattle.md_inst.specs.Instantiation.{InstMap, known_at, times}

@@ -229,12 +229,12 @@ fn both(first: bool, second: bool) -> bool
     first && second
 }
 
-/// Whether the place after a goal is reachable; it isn't after `fail`.
+/// Whether the place after a goal is reachable; it isn't after `fail` and `require.error`.
 fn goes_on_after(goal: &GoalKind) -> bool
     ensures { result ≡ spec.goes_on_after (expr_of goal.now) }
 {
     match goal {
-        GoalKind::Fail => false,
+        GoalKind::Fail | GoalKind::Error(_) => false,
         GoalKind::True
         | GoalKind::Unify(..)
         | GoalKind::Arith(..)

@@ -78,6 +78,7 @@ fn add_atomic(vars: &mut Vec<u32>, goal: &GoalKind) -> Result<(), NoMemory>
             vars.push(*closure)?;
             vars.extend_from_slice(places.as_slice())?;
         }
+        GoalKind::Error(x) => vars.push(*x)?,
         GoalKind::True
         | GoalKind::Fail
         | GoalKind::Conj(_)

@@ -4,7 +4,7 @@ use Rattle.md_modes.specs.Joins.{occurs}
 use Rattle.md_inst.specs.Kinds.{inst_map_of}
 use Rattle.md_inst.proofs.Insts.{length-inst_map_of}
 use Rattle.md_modes.proofs.Below.{some_below-found, both}
-use Rattle.md_modes.proofs.outside.binds_some.Goals as goal
+use Rattle.md_modes.proofs.nonlocals.binds_some.Goals as goal
 
 pub returns-then-is_newly_bound : goal.returns-then-is_newly_bound
 returns-then-is_newly_bound c =
