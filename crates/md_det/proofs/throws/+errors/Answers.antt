@@ -1,0 +1,18 @@
+use Rattle.std.proofs.Common.{◌≡◌, ◌∙◌, ap, sym, List}
+use Rattle.md_hlds.specs.declared.goal.Goal.{Goal}
+use Rattle.md_hlds.specs.HldsGoal.{expr_of, goals_of, gathered}
+use Rattle.md_hlds.proofs.Bridge.{expr_of-Conj, expr_of-Disj}
+use Rattle.md_det.specs.Throws.{expr_has_error, some_has_error}
+use Rattle.md_det.proofs.throws.+errors.Goals as goal
+
+pub has_error-returns-in-Conj : goal.has_error-returns-in-Conj
+has_error-returns-in-Conj t c =
+    c.some_has_error.ensures
+    ∙ (ap (λ (gs : List Goal). some_has_error (gathered (goals_of gs))) c.as_slice.ensures.value
+    ∙ sym (ap (λ k. expr_has_error (expr_of k)) c.in-Conj.is ∙ ap expr_has_error (expr_of-Conj c.in-Conj.goals)))
+
+pub has_error-returns-in-Disj : goal.has_error-returns-in-Disj
+has_error-returns-in-Disj t c =
+    c.some_has_error-in-Disj.ensures
+    ∙ (ap (λ (gs : List Goal). some_has_error (gathered (goals_of gs))) c.as_slice-in-Disj.ensures.value
+    ∙ sym (ap (λ k. expr_has_error (expr_of k)) c.in-Disj.is ∙ ap expr_has_error (expr_of-Disj c.in-Disj.arms)))
