@@ -5,3 +5,4 @@ pub mod Arms
 pub mod KeyLemmas
 pub mod Judging
 pub mod Whole
+mod Reach

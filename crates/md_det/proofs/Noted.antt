@@ -27,6 +27,7 @@ use Rattle.md_det.specs.Bounds.{is_many, product}
 use Rattle.md_det.specs.Pairs.{cut, all_alternatives, one_of_all}
 use Rattle.md_det.specs.Switches.{switch_with, switch_on_known, switch_of, variable_of}
 use Rattle.md_det.specs.Determinism.{sure, apart_pair, unification_pair, simple_pair, apply_pair, disjunction_pair, goal_pair, each_pair, arm_pairs}
+use Rattle.md_det.proofs.Reach.{condition_binds}
 use Rattle.md_det.specs.Faults.{fault_if, binds_many, goal_faults, each_faults, arm_faults, first_of, declared_faults, body_pair, procedure_faults, faults_of, det_fault}
 use Rattle.md_det.specs.Findings.{findings, inner_findings, each_findings, arm_findings, findings_from, program_findings}
 use Rattle.md_det.specs.Judge.{Reading, Judgement, judgement, or_else, fault_where, read_simple, read_apply, first_goal, is_apart, shaped, read_switch, beside, no_arm, if_missing, found, whole, io_fault, and_then, or_arm, chosen, judge_part, judge_each, judge_arms, state_fault, declared, judge_procedure, and_others, judge_procedures}
@@ -362,10 +363,12 @@ mutual
       (ap (λ (vs : List ℕ). or_else (fault_where (is_many (goal_pair (within c) None p s).bound && some_of (outside c.all (variables p)) vs) (ManyInCondition l))
       (or_else (first_of (goal_faults (within c) again p s)) (or_else (first_of (goal_faults c again t r)) (first_of (goal_faults c again e s)))))
       (binds_is (within c) ns (suc n) p s (b ++ (d ++ rest)) first)
+      ∙ (ap (λ x. or_else (fault_where x (ManyInCondition l)) (or_else (first_of (goal_faults (within c) again p s)) (or_else (first_of (goal_faults c again t r)) (first_of (goal_faults c again e s)))))
+      (condition_binds (within c) (outside c.all (variables p)) p s)
       ∙ (ap (λ o. or_else (fault_where (binds_many c p s) (ManyInCondition l)) (or_else (first_of (goal_faults (within c) again p s)) o))
       (first_of-append (goal_faults c again t r) (goal_faults c again e s))
       ∙ (ap (or_else (fault_where (binds_many c p s) (ManyInCondition l))) (first_of-append (goal_faults (within c) again p s) (goal_faults c again t r ++ goal_faults c again e s))
-      ∙ first_of-if (binds_many c p s) (ManyInCondition l) _)))
+      ∙ first_of-if (binds_many c p s) (ManyInCondition l) _))))
       refl))
   judged_part c ns n at again (At l (NotGoal p)) s rest e =
       let j = judged_part (within c) ns (suc n) None again p s rest (drop_one ns n _ _ e) in

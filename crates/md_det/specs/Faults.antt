@@ -6,10 +6,10 @@ use Rattle.md_hlds.specs.HldsGoal.{HldsGoal, At, GoalExpr, SimpleGoal, CallGoal,
 use Rattle.md_hlds.specs.Hlds.{HldsType, Procedure, Hlds}
 use Rattle.md_inst.specs.HldsTypes.{is_world, same_det}
 use Rattle.md_inst.specs.Instantiation.{InstMap}
-use Rattle.md_modes.specs.Branches.{outside, some_of}
+use Rattle.md_modes.specs.Branches.{outside, binds_some}
 use Rattle.md_modes.specs.Goals.{Scope, within, variables, goal}
 use Rattle.md_modes.specs.Modes.{entry, scope_of}
-use Rattle.md_modes.specs.Notes.{known_after, binds, names_state}
+use Rattle.md_modes.specs.Notes.{known_after, names_state}
 use Rattle.md_det.specs.declared.fault.DetFault.{DetFault}
 use Rattle.md_det.specs.declared.fault.DetFault.TheVariants.{Declared, ManyInCondition, IoInBacktracking}
 use Rattle.md_det.specs.declared.pair.Pair.{Pair}
@@ -22,11 +22,10 @@ use Rattle.md_det.specs.Determinism.{goal_pair}
 abbrev pub fault_if : Bool → DetFault → List DetFault
 fault_if b f = cond b (f ∷ []) []
 
--- A condition with many solutions binds a variable that occurs outside it. (The place after a goal with many solutions is
--- reachable, so the variables that it binds are those that are bound after it and not before it.)
+-- A condition with many solutions binds a variable that occurs outside it: one that is free before it and bound after it.
 abbrev pub binds_many : Scope → HldsGoal → InstMap → Bool
 binds_many c p s =
-    is_many (goal_pair (within c) None p s).bound && some_of (outside c.all (variables p)) (binds s (goal (within c) p s))
+    is_many (goal_pair (within c) None p s).bound && binds_some (outside c.all (variables p)) s (known_after s (goal (within c) p s))
 
 -- The faults of a goal itself. `again` holds in an alternative and after a goal with many solutions, where a run may come
 -- back.

@@ -9,7 +9,7 @@ use Rattle.md_hlds.specs.declared.program.Functor.{Functor}
 use Rattle.md_hlds.specs.declared.program.TypeDef.{TypeDef}
 use Rattle.md_hlds.specs.declared.program.Pred.{Pred}
 use Rattle.md_hlds.specs.declared.program.Program.{Program}
-use Rattle.md_hlds.specs.HldsGoal.{HldsGoal, goal_of, goal_size, site_lines}
+use Rattle.md_hlds.specs.HldsGoal.{HldsGoal, goal_of, goal_size, goals_within, site_lines}
 
 -- a type
 mutual
@@ -130,6 +130,15 @@ goals_before (p ∷ ps) (suc n) = goal_size p.body + goals_before ps n
 -- the number of the body of the procedure of this number
 abbrev pub body_number : Hlds → ℕ → ℕ
 body_number s n = goals_before s.procedures n
+
+-- the goals of these clauses, in text order
+abbrev pub clause_goals : List Procedure → List HldsGoal
+clause_goals [] = []
+clause_goals (p ∷ ps) = goals_within p.body ++ clause_goals ps
+
+-- the goal of this number, if there is one
+abbrev pub goal_at : Hlds → ℕ → Option HldsGoal
+goal_at s n = slice_get (clause_goals s.procedures) n
 
 -- two names that may be qualified are the same
 abbrev pub same_qualifier : Option (List ℕ) → Option (List ℕ) → Bool

@@ -127,6 +127,25 @@ abbrev mutual
   goals_size nothing = 0
   goals_size (also p ps) = goal_size p + goals_size ps
 
+-- a goal and the goals within it, in text order, outer before inner
+abbrev mutual
+  pub goals_within : HldsGoal → List HldsGoal
+  goals_within (At l t) = At l t ∷ goals_below t
+
+  pub goals_below : GoalExpr → List HldsGoal
+  goals_below (SimpleGoal s) = []
+  goals_below (CallGoal site q ys) = []
+  goals_below (HoCallGoal site f ys) = []
+  goals_below (ConjGoal ps) = goals_among ps
+  goals_below (DisjGoal ps) = goals_among ps
+  goals_below (IfGoal c t e) = goals_within c ++ (goals_within t ++ goals_within e)
+  goals_below (NotGoal c) = goals_within c
+  goals_below (SomeGoal vs c) = goals_within c
+
+  pub goals_among : HldsGoals → List HldsGoal
+  goals_among nothing = []
+  goals_among (also p ps) = goals_within p ++ goals_among ps
+
 -- A goal with its number: goals are counted from 0 in text order over the file, outer before inner, and the parts of an
 -- if-then-else are its condition, its then part and its else part.
 pub record Numbered : Type 0 where

@@ -17,3 +17,4 @@ pub mod Views
 pub mod ShareLoops
 pub mod Sharing
 pub mod Insides
+pub mod RoleLemmas

@@ -1,5 +1,5 @@
 -- What the checks find at each goal: what a unification does, the type of the closure that is called, and what a goal binds.
-use Rattle.std.specs.Prelude.{ℕ, suc, Bool, false, ◌||◌, List, [], ◌∷◌, ◌++◌, length, Option, Some, None, Ok, Err, cond}
+use Rattle.std.specs.Prelude.{ℕ, suc, Bool, true, false, ◌||◌, List, [], ◌∷◌, ◌++◌, length, Option, Some, None, Ok, Err, cond}
 use Rattle.md_hlds.specs.declared.goal.Term.{Term}
 use Rattle.md_hlds.specs.declared.goal.Term.TheVariants.{Var, Int, Str, Name}
 use Rattle.md_hlds.specs.HldsGoal.{Unifies, HldsGoal, At, GoalExpr, SimpleGoal, CallGoal, HoCallGoal, ConjGoal, DisjGoal, IfGoal, NotGoal, SomeGoal, HldsGoals, nothing, also}
@@ -60,6 +60,16 @@ abbrev pub role_of : Hlds → GoalExpr → InstMap → Option Role
 role_of p (SimpleGoal (Unifies x t)) s = Some (role_of_unification p x t s)
 role_of p (HoCallGoal site f ys) s = role_of_closure (known_at s f)
 role_of p t s = None
+
+-- a unification or a higher-order call
+abbrev pub has_role : HldsGoal → Bool
+has_role (At l (SimpleGoal (Unifies x t))) = true
+has_role (At l (HoCallGoal site f ys)) = true
+has_role p = false
+
+abbrev pub is_with_role : Option HldsGoal → Bool
+is_with_role None = false
+is_with_role (Some p) = has_role p
 
 -- the variables that are free before and bound after, in rising order from n on
 abbrev pub newly_bound : ℕ → InstMap → InstMap → List ℕ

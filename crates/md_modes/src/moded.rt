@@ -1,8 +1,8 @@
 // A program that the mode checks accept.
-ghost use Rattle.std.specs.Prelude.{◌≡◌, None, Some, slice_get, MatchOption};
-ghost use Rattle.md_hlds.specs.Hlds.{hlds_of};
+ghost use Rattle.std.specs.Prelude.{◌≡◌, true, false, is_some, None, Some, slice_get, MatchOption};
+ghost use Rattle.md_hlds.specs.Hlds.{hlds_of, goal_at};
 ghost use Rattle.md_modes.specs.Modes.{mode_fault};
-ghost use Rattle.md_modes.specs.Notes.{program_notes};
+ghost use Rattle.md_modes.specs.Notes.{program_notes, is_with_role};
 ghost use Rattle.md_modes.specs.Classes.{notes_told, note_told, role_told, role_at, binds_at, state_at};
 
 use crate::class::{Class, Note};
@@ -60,8 +60,10 @@ impl Moded {
     /// What the unification or the higher-order call of this number does, or `None` exactly where there is no such goal
     /// or it is of another kind.
     pub fn class(&self, goal: u32) -> Option<&Class>
-        ensures { MatchOption result (role_at (program_notes (hlds_of self.now)) goal ≡ None)
+        ensures found { MatchOption result (role_at (program_notes (hlds_of self.now)) goal ≡ None)
             (λ class. role_at (program_notes (hlds_of self.now)) goal ≡ Some (role_told class.now)) }
+        ensures kind { MatchOption result (is_with_role (goal_at (hlds_of self.now) goal) ≡ false)
+            (λ class. is_with_role (goal_at (hlds_of self.now) goal) ≡ true) }
     {
         match self.note(goal) {
             None => None,
@@ -93,8 +95,9 @@ impl Moded {
 
     /// What was found at the goal of this number.
     fn note(&self, goal: u32) -> Option<&Note>
-        ensures { MatchOption result (slice_get (program_notes (hlds_of self.now)) goal ≡ None)
+        ensures found { MatchOption result (slice_get (program_notes (hlds_of self.now)) goal ≡ None)
             (λ note. slice_get (program_notes (hlds_of self.now)) goal ≡ Some (note_told note.now)) }
+        ensures kind { is_some (role_at (program_notes (hlds_of self.now)) goal) ≡ is_with_role (goal_at (hlds_of self.now) goal) }
     {
         self.notes.get(goal as usize)
     }

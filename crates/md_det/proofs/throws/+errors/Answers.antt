@@ -1,4 +1,4 @@
-use Rattle.std.proofs.Common.{◌≡◌, ◌∙◌, ap, sym, List}
+use Rattle.std.proofs.Common.{◌∙◌, ap, sym, List}
 use Rattle.md_hlds.specs.declared.goal.Goal.{Goal}
 use Rattle.md_hlds.specs.HldsGoal.{expr_of, goals_of, gathered}
 use Rattle.md_hlds.proofs.Bridge.{expr_of-Conj, expr_of-Disj}

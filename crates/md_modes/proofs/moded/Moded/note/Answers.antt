@@ -1,12 +1,17 @@
-use Rattle.std.proofs.Common.{◌∙◌, ap}
+use Rattle.std.proofs.Common.{◌∙◌, ap, subst}
 use Rattle.md_hlds.specs.Hlds.{hlds_of}
 use Rattle.md_hlds.specs.declared.program.Program.{Program}
+use Rattle.md_modes.specs.Modes.{mode_fault}
 use Rattle.md_modes.specs.Notes.{program_notes}
 use Rattle.md_modes.proofs.NoteLemmas.{note_found}
+use Rattle.md_modes.proofs.RoleLemmas.{role_told}
 use Rattle.md_modes.proofs.moded.Moded.note.Goals as goal
 
-pub returns : goal.returns
-returns c =
+pub returns-clause-found : goal.returns-clause-found
+returns-clause-found c =
     note_found c.self.inside.notes.items c.args.goal (program_notes (hlds_of c.args.self.now)) c.get.result
     (c.self.invariant.1 ∙ ap (λ (p : Program). program_notes (hlds_of p)) c.self.view_is)
     (rw (c.deref.ensures.value) at c.get.ensures.lookup)
+
+pub returns-clause-kind : goal.returns-clause-kind
+returns-clause-kind c = role_told (hlds_of c.args.self.now) c.args.goal (rw c.self.view_is at c.self.invariant.0)
