@@ -1,5 +1,5 @@
 -- Which profiles are valid, and which are those of a history, computed on a program that counts down.
-use Rattle.std.proofs.Common.{ℕ, zero, suc, ◌≡◌, ◌<◌, false, List, [], ◌∷◌, Option, Some, None, ap, refl, sym, subst, rules, arith}
+use Rattle.std.proofs.Common.{ℕ, zero, suc, ◌≡◌, ◌<◌, false, List, [], ◌∷◌, Some, None, ap, refl, sym, subst, rules, arith}
 use Rattle.std.specs.Prelude.{IsTrue, slice_index_or}
 use Rattle.std.proofs.lemmas.Bool.{false≢true}
 use Rattle.md_base.specs.declared.measure.Counts.{Counts}
@@ -7,7 +7,6 @@ use Rattle.md_static.specs.declared.entry.Proc.{Proc}
 use Rattle.md_static.specs.declared.entry.Site.{Site}
 use Rattle.md_static.specs.declared.entry.SiteKind.TheVariants.{Plain}
 use Rattle.md_static.specs.Tables.{Static}
-use Rattle.md_trace.specs.declared.event.Event.{Event}
 use Rattle.md_trace.specs.declared.event.Event.TheVariants.{Call, Exit, Excp}
 use Rattle.md_dynamic.specs.declared.link.LinkRow.{LinkRow}
 use Rattle.md_dynamic.specs.OfHistory.{IsProfileOf}

@@ -5,10 +5,9 @@ use Rattle.md_static.specs.declared.entry.Proc.{Proc}
 use Rattle.md_static.specs.declared.entry.Site.{Site}
 use Rattle.md_static.specs.declared.entry.SiteKind.TheVariants.{Plain as OneCallee}
 use Rattle.md_static.specs.Tables.{Static, site_table}
-use Rattle.md_static.specs.Sound.{IsSound}
 use Rattle.md_trace.specs.declared.event.Event.{Event}
 use Rattle.md_trace.specs.declared.event.Event.TheVariants.{Call, Excp}
-use Rattle.md_trace.specs.PortHistory.{SiteTable, IsPortHistory}
+use Rattle.md_trace.specs.PortHistory.{SiteTable}
 use Rattle.md_trace.specs.Context.{placed_of, current_chain}
 use Rattle.md_trace.specs.Links.{Leading, links}
 use Rattle.md_dynamic.specs.declared.link.LinkRow.{LinkRow}
@@ -17,7 +16,7 @@ use Rattle.md_dynamic.specs.declared.slot.Slot.TheVariants.{Plain}
 use Rattle.md_dynamic.specs.OfHistory.{row_of}
 use Rattle.md_record.specs.Kept.{Kept, Stands}
 use Rattle.md_record.specs.Marks.{BelongsTo}
-use Rattle.md_record.specs.Parts.{RowsAre, SlotsAre, ActiveIs, AreSteps, nearest, slot_at, slot_for, callees_of}
+use Rattle.md_record.specs.Parts.{nearest, slot_at, slot_for, callees_of}
 
 -- main/2 calls count/1 on line 3, which calls itself on line 5
 abbrev main : Proc

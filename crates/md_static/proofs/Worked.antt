@@ -1,11 +1,11 @@
 -- Which tables are sound, computed on those of a program that counts down, and on tables that break a rule each.
-use Rattle.std.proofs.Common.{ℕ, ◌≡◌, List, [], ◌∷◌, Option, Some, None, refl, rules, arith}
+use Rattle.std.proofs.Common.{ℕ, ◌≡◌, List, [], ◌∷◌, refl, rules, arith}
 use Rattle.md_static.specs.declared.entry.Proc.{Proc}
 use Rattle.md_static.specs.declared.entry.Site.{Site}
-use Rattle.md_static.specs.declared.entry.SiteKind.TheVariants.{Plain, HigherOrder}
+use Rattle.md_static.specs.declared.entry.SiteKind.TheVariants.{Plain}
 use Rattle.md_static.specs.Sites.{first_site, sites_of, place_of}
 use Rattle.md_static.specs.Sound.{IsSound}
-use Rattle.md_static.specs.Tables.{Static, site_table}
+use Rattle.md_static.specs.Tables.{Static}
 
 -- t
 abbrev module_t : List (List ℕ)
