@@ -7,7 +7,7 @@ use Rattle.md_base.specs.Streams.{fresh, after_read}
 use Rattle.md_base.specs.Nets.{with_served, connection_of}
 use Rattle.md_base.specs.Counts.{count_of, with_more}
 use Rattle.md_base.specs.declared.measure.Counts.{Counts}
-use Rattle.md_base.specs.declared.measure.Measure.TheVariants.{Redos, Words}
+use Rattle.md_base.specs.declared.measure.Measure.TheVariants.{Redos, Words, Excps}
 
 -- a has 1 2 3, and b has 4
 abbrev two_files : List (List ℕ × List ℕ)
@@ -69,7 +69,7 @@ served : with_served (connection_of (Some (fresh [])) (Some (5 ∷ [])) 0 1) (So
 served = refl
 
 abbrev counts : Counts
-counts = record { calls = 1; exits = 1; fails = 0; redos = 2; allocs = 0; words = 4294967290 }
+counts = record { calls = 1; exits = 1; fails = 0; redos = 2; allocs = 0; words = 4294967290; excps = 3 }
 
 counted : count_of (with_more counts Redos 3) Redos ≡ 5
 counted = refl
@@ -79,3 +79,6 @@ full = refl
 
 others_stay : count_of (with_more counts Words 9) Redos ≡ 2
 others_stay = refl
+
+exceptions : count_of (with_more counts Excps 4) Excps ≡ 7
+exceptions = refl

@@ -1,7 +1,8 @@
 // What a profile counts.
 ghost use Rattle.std.specs.Prelude.{◌≡◌};
 
-/// What a profile counts: the four ports of the box model, allocations, and the words allocated.
+/// What a profile counts: the four ports of the box model, allocations, the words allocated, and the port by which an
+/// exception leaves an activation.
 #[derive(Clone, Copy, Debug, PartialEq, Eq, PartialOrd, Ord, Hash)]
 pub enum Measure {
     Calls,
@@ -10,6 +11,7 @@ pub enum Measure {
     Redos,
     Allocs,
     Words,
+    Excps,
 }
 
 /// One number for each measure, in the order in which they are always written.
@@ -21,6 +23,7 @@ pub struct Counts {
     pub redos: u32,
     pub allocs: u32,
     pub words: u32,
+    pub excps: u32,
 }
 
 impl Counts {
@@ -37,6 +40,7 @@ impl Counts {
             Measure::Redos => self.redos,
             Measure::Allocs => self.allocs,
             Measure::Words => self.words,
+            Measure::Excps => self.excps,
         }
     }
 
@@ -51,6 +55,7 @@ impl Counts {
             Measure::Redos => self.redos = self.redos.saturating_add(by),
             Measure::Allocs => self.allocs = self.allocs.saturating_add(by),
             Measure::Words => self.words = self.words.saturating_add(by),
+            Measure::Excps => self.excps = self.excps.saturating_add(by),
         }
     }
 }

@@ -212,8 +212,10 @@ fn counts_stand_still_at_their_end(rt: HostRuntime) {
     counts.add(Measure::Words, u32::MAX);
     counts.add(Measure::Words, 7);
     counts.add(Measure::Redos, 2);
+    counts.add(Measure::Excps, 1);
     assert_eq!(rt; counts.of(Measure::Words), 4_294_967_295);
     assert_eq!(rt; counts.of(Measure::Redos), 2);
+    assert_eq!(rt; counts.of(Measure::Excps), 1);
     assert_eq!(rt; counts.of(Measure::Calls), 0);
 }
 

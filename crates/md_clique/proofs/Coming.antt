@@ -5,7 +5,7 @@ use Rattle.std.proofs.lemmas.Bool.{cases_Bool, eq-eqb, ne_eqb, or_left, or_right
 use Rattle.std.proofs.lemmas.List.{length_push}
 use Rattle.md_trace.specs.Reaches.{Reaches}
 use Rattle.md_trace.specs.declared.event.Event.{Event}
-use Rattle.md_trace.specs.declared.event.Event.TheVariants.{Call, Exit, Redo, Fail, Alloc}
+use Rattle.md_trace.specs.declared.event.Event.TheVariants.{Call, Exit, Redo, Fail, Excp, Alloc}
 use Rattle.md_trace.specs.Activation.{Activation, activations, numbered}
 use Rattle.md_trace.specs.PortHistory.{SiteTable, IsPortHistory, MayCall, current}
 use Rattle.md_trace.specs.Context.{Link, Placed, chain, contexts, context_at, context_of, link_of, place, placed, same_link, has_link, has_procedure}
@@ -164,6 +164,7 @@ called t (Call a p s q ∷ h) is = called_by t h a p s q is.0 (called t h is.0) 
 called t (Exit a ∷ h) is = called t h is.0
 called t (Redo a ∷ h) is = called t h is.0
 called t (Fail a ∷ h) is = called t h is.0
+called t (Excp a ∷ h) is = called t h is.0
 called t (Alloc a w ∷ h) is = called t h is.0
 
 -- the context of an activation that was called

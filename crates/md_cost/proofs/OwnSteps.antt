@@ -93,7 +93,7 @@ zeros n v m = elim (cases_lt v n) [
 ]
   where
     none : (m : Measure) → sum_of zero_sums m ≡ 0
-    none = each_measure (λ (m : Measure). sum_of zero_sums m ≡ 0) refl refl refl refl refl refl
+    none = each_measure (λ (m : Measure). sum_of zero_sums m ≡ 0) refl refl refl refl refl refl refl
 
 pub owning_none : (cliques : List ℕ) (rows : List LinkRow) → Owning cliques rows 0 (replicate (length cliques) zero_sums) (replicate (clique_count cliques) zero_sums)
 owning_none cliques rows = record {

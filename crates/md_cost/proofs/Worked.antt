@@ -11,7 +11,7 @@ use Rattle.md_cost.specs.Paths.{path_of}
 use Rattle.md_cost.specs.View.{context_own, context_total, clique_total}
 
 abbrev twice_counted : ℕ → Counts
-twice_counted n = record { calls = n; exits = n; fails = 0; redos = 0; allocs = 0; words = 0 }
+twice_counted n = record { calls = n; exits = n; fails = 0; redos = 0; allocs = 0; words = 0; excps = 0 }
 
 abbrev from : ℕ → ℕ → ℕ → ℕ → LinkRow
 from a s b n = record { caller = Some a; site = Some s; callee = b; own = twice_counted n }

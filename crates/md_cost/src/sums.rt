@@ -9,6 +9,7 @@ pub struct Sums {
     pub redos: u64,
     pub allocs: u64,
     pub words: u64,
+    pub excps: u64,
 }
 
 impl Sums {
@@ -25,6 +26,7 @@ impl Sums {
         redos: 0,
         allocs: 0,
         words: 0,
+        excps: 0,
     };
 
     /// The counts as sums.
@@ -39,6 +41,7 @@ impl Sums {
             redos: counts.redos as u64,
             allocs: counts.allocs as u64,
             words: counts.words as u64,
+            excps: counts.excps as u64,
         }
     }
 
@@ -53,6 +56,7 @@ impl Sums {
             Measure::Redos => self.redos,
             Measure::Allocs => self.allocs,
             Measure::Words => self.words,
+            Measure::Excps => self.excps,
         }
     }
 
@@ -68,6 +72,7 @@ impl Sums {
             redos: self.redos + more.redos,
             allocs: self.allocs + more.allocs,
             words: self.words + more.words,
+            excps: self.excps + more.excps,
         }
     }
 }

@@ -10,7 +10,7 @@ use std::test::Fail;
 
 /// A link with so many calls, each of which exits.
 fn link(caller: u32, site: u32, callee: u32, calls: u32) -> LinkRow
-    ensures { result ≡ record { caller = Some caller; site = Some site; callee = callee; own = record { calls = calls; exits = calls; fails = 0; redos = 0; allocs = 0; words = 0 } } }
+    ensures { result ≡ record { caller = Some caller; site = Some site; callee = callee; own = record { calls = calls; exits = calls; fails = 0; redos = 0; allocs = 0; words = 0; excps = 0 } } }
 {
     LinkRow {
         caller: Some(PdId::new(caller)),
@@ -22,7 +22,7 @@ fn link(caller: u32, site: u32, callee: u32, calls: u32) -> LinkRow
 
 /// The link to main.
 fn root() -> LinkRow
-    ensures { result ≡ record { caller = None; site = None; callee = 0; own = record { calls = 1; exits = 1; fails = 0; redos = 0; allocs = 0; words = 0 } } }
+    ensures { result ≡ record { caller = None; site = None; callee = 0; own = record { calls = 1; exits = 1; fails = 0; redos = 0; allocs = 0; words = 0; excps = 0 } } }
 {
     LinkRow {
         caller: None,
@@ -33,7 +33,7 @@ fn root() -> LinkRow
 }
 
 fn counts(calls: u32) -> Counts
-    ensures { result ≡ record { calls = calls; exits = calls; fails = 0; redos = 0; allocs = 0; words = 0 } }
+    ensures { result ≡ record { calls = calls; exits = calls; fails = 0; redos = 0; allocs = 0; words = 0; excps = 0 } }
 {
     Counts {
         calls,
@@ -42,6 +42,7 @@ fn counts(calls: u32) -> Counts
         redos: 0,
         allocs: 0,
         words: 0,
+        excps: 0,
     }
 }
 

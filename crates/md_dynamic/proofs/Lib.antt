@@ -2,3 +2,4 @@ pub mod Growth
 pub mod Places
 pub mod SpanSteps
 pub mod Validity
+mod Worked

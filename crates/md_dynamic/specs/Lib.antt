@@ -1,5 +1,6 @@
 pub mod Fills
 pub mod Links
+pub mod OfHistory
 pub mod Profile
 pub mod Rows
 pub mod Slots

@@ -3,9 +3,9 @@ use Rattle.std.specs.Prelude.{ℕ, Some, None}
 use Rattle.md_base.specs.declared.measure.Counts.{Counts}
 use Rattle.md_dynamic.specs.declared.link.LinkRow.{LinkRow}
 
--- six counts of which only the calls are not 0
+-- counts of which only the calls are not 0
 abbrev pub only_calls : ℕ → Counts
-only_calls n = record { calls = n; exits = 0; fails = 0; redos = 0; allocs = 0; words = 0 }
+only_calls n = record { calls = n; exits = 0; fails = 0; redos = 0; allocs = 0; words = 0; excps = 0 }
 
 -- a link of a site in a context, with that many calls
 abbrev pub link_row : ℕ → ℕ → ℕ → ℕ → LinkRow

@@ -20,7 +20,8 @@ use Rattle.md_dynamic.specs.Links.{link_row}
 use Rattle.md_dynamic.specs.Rows.{Rows, Owns, MayLead, IsFresh, Adds, place_at, slot_in, plain_link, many_links, link_in, list_in}
 use Rattle.md_record.specs.Kept.{Kept, Stands}
 use Rattle.md_record.specs.Leads.{CountsOn, HasLink, LeadsBy, LinksThere}
-use Rattle.md_record.specs.Parts.{nearest, row_of, slot_for, callees_of}
+use Rattle.md_dynamic.specs.OfHistory.{row_of}
+use Rattle.md_record.specs.Parts.{nearest, slot_for, callees_of}
 use Rattle.md_record.proofs.Added.{site-of, member-link, no-member, shows-link, shows-context}
 use Rattle.std.proofs.lemmas.Option.{slice_get-map}
 use Rattle.md_record.proofs.CalleeLists.{is-at-true, callees-member, first-none, first-some}

@@ -5,7 +5,7 @@ use Rattle.std.proofs.lemmas.Bool.{cases_Bool, eq-eqb, ne_eqb, false≢true}
 use Rattle.std.proofs.lemmas.List.{length-append, length-reverse}
 use Rattle.md_base.specs.declared.measure.Counts.{Counts}
 use Rattle.md_base.specs.declared.measure.Measure.{Measure}
-use Rattle.md_base.specs.declared.measure.Measure.TheVariants.{Calls, Exits, Fails, Redos, Allocs, Words}
+use Rattle.md_base.specs.declared.measure.Measure.TheVariants.{Calls, Exits, Fails, Redos, Allocs, Words, Excps}
 use Rattle.md_static.specs.declared.entry.Site.{Site}
 use Rattle.md_static.specs.Tables.{Static, site_table, callee_of}
 use Rattle.md_static.specs.Sound.{IsSound}
@@ -197,16 +197,18 @@ passing-none : (xs : List Placed) (test : Placed → Bool) (b : ℕ) (o : Option
 passing-none xs test b None is miss = refl
 passing-none xs test b (Some y) is miss = find-none test xs b y miss is
 
-same-only : (c : Counts) → c.calls ≡ 0 → c.exits ≡ 0 → c.fails ≡ 0 → c.redos ≡ 0 → c.allocs ≡ 0 → c.words ≡ 0 → c ≡ only_calls 0
-same-only c a e f r l w =
-    let made : ℕ → ℕ → ℕ → ℕ → ℕ → ℕ → Counts = λ n o p q r s. record { calls = n; exits = o; fails = p; redos = q; allocs = r; words = s } in
-    ap (λ n. made n c.exits c.fails c.redos c.allocs c.words) a ∙ ap (λ n. made 0 n c.fails c.redos c.allocs c.words) e ∙ ap (λ n. made 0 0 n c.redos c.allocs c.words) f
-    ∙ ap (λ n. made 0 0 0 n c.allocs c.words) r
-    ∙ ap (λ n. made 0 0 0 0 n c.words) l
-    ∙ ap (λ n. made 0 0 0 0 0 n) w
+same-only : (c : Counts) → c.calls ≡ 0 → c.exits ≡ 0 → c.fails ≡ 0 → c.redos ≡ 0 → c.allocs ≡ 0 → c.words ≡ 0 → c.excps ≡ 0 → c ≡ only_calls 0
+same-only c a e f r l w x =
+    let made : ℕ → ℕ → ℕ → ℕ → ℕ → ℕ → ℕ → Counts = λ n o p q r s u. record { calls = n; exits = o; fails = p; redos = q; allocs = r; words = s; excps = u } in
+    ap (λ n. made n c.exits c.fails c.redos c.allocs c.words c.excps) a ∙ ap (λ n. made 0 n c.fails c.redos c.allocs c.words c.excps) e
+    ∙ ap (λ n. made 0 0 n c.redos c.allocs c.words c.excps) f
+    ∙ ap (λ n. made 0 0 0 n c.allocs c.words c.excps) r
+    ∙ ap (λ n. made 0 0 0 0 n c.words c.excps) l
+    ∙ ap (λ n. made 0 0 0 0 0 n c.excps) w
+    ∙ ap (λ n. made 0 0 0 0 0 0 n) x
 
 zero-by : (f : Measure → ℕ) → ((meas : Measure) → f meas ≡ 0) → counts_by (λ meas. capped (f meas)) ≡ only_calls 0
-zero-by f none = same-only (counts_by (λ meas. capped (f meas))) (ap capped (none Calls)) (ap capped (none Exits)) (ap capped (none Fails)) (ap capped (none Redos)) (ap capped (none Allocs)) (ap capped (none Words))
+zero-by f none = same-only (counts_by (λ meas. capped (f meas))) (ap capped (none Calls)) (ap capped (none Exits)) (ap capped (none Fails)) (ap capped (none Redos)) (ap capped (none Allocs)) (ap capped (none Words)) (ap capped (none Excps))
 
 -- a link that no activation has counts nothing
 zero-counts : (m : ℕ) (h : List Event) (l : Link) → find (has_link l) (placed_of m h) ≡ None → set_counts m h (has_link l) ≡ only_calls 0

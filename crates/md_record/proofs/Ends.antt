@@ -18,8 +18,8 @@ use Rattle.md_dynamic.specs.Profile.{ProfileRows}
 use Rattle.md_dynamic.specs.Rows.{Rows, first_rows}
 use Rattle.md_dynamic.specs.Slots.{empty_slot}
 use Rattle.md_record.specs.Kept.{Kept, Stands}
-use Rattle.md_record.specs.Parts.{SlotsAre, row_of}
-use Rattle.md_record.specs.Profiles.{IsProfileOf}
+use Rattle.md_record.specs.Parts.{SlotsAre}
+use Rattle.md_dynamic.specs.OfHistory.{IsProfileOf, row_of}
 use Rattle.md_record.proofs.SlotSteps.{slots-new}
 
 all-map : {A B : Type 0} (P : B → Type 0) (f : A → B) (xs : List A) → All (λ x. P (f x)) xs → All P (map f xs)

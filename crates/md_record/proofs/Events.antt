@@ -1,9 +1,9 @@
 -- What each event but a call does to what a recorder keeps.
 use Rattle.std.proofs.Common.{ℕ, ◌-◌, ◌≡◌, ◌≢◌, ◌<◌, List, [], ◌∷◌, ◌++◌, length, take, reverse, false, Option, Some, slice_get, set, if◌then◌else◌, refl, sym, ap, ◌∙◌, subst, arith}
 use Rattle.md_base.specs.declared.measure.Counts.{Counts}
-use Rattle.md_base.specs.declared.measure.Measure.TheVariants.{Exits, Fails, Redos, Allocs, Words}
+use Rattle.md_base.specs.declared.measure.Measure.TheVariants.{Exits, Fails, Redos, Allocs, Words, Excps}
 use Rattle.md_trace.specs.declared.event.Event.{Event}
-use Rattle.md_trace.specs.declared.event.Event.TheVariants.{Exit, Redo, Fail, Alloc}
+use Rattle.md_trace.specs.declared.event.Event.TheVariants.{Exit, Redo, Fail, Excp, Alloc}
 use Rattle.md_trace.specs.Activation.{activations, numbered, parent_of}
 use Rattle.md_trace.specs.PortHistory.{SiteTable, current, MayFollow}
 use Rattle.md_trace.specs.Context.{Placed, chain, has_link, same_link, placed_of, current_chain}
@@ -14,7 +14,7 @@ use Rattle.md_trace.proofs.Histories.{orderly, chain-of, current-there}
 use Rattle.md_trace.proofs.Longest.{chain-longest, current-longest}
 use Rattle.md_trace.proofs.Numbered.{numbered-below}
 use Rattle.md_trace.proofs.Placing.{length-placed}
-use Rattle.md_trace.proofs.Setwise.{set-exit, set-fail, set-redo, set-alloc, set-exit-other, set-fail-other, set-redo-other, set-alloc-other}
+use Rattle.md_trace.proofs.Setwise.{set-exit, set-fail, set-excp, set-redo, set-alloc, set-exit-other, set-fail-other, set-excp-other, set-redo-other, set-alloc-other}
 use Rattle.md_dynamic.specs.declared.link.LinkRow.{LinkRow}
 use Rattle.md_dynamic.specs.Rows.{Rows}
 use Rattle.md_record.specs.Parts.{RowsAre, ActiveIs, AreSteps}
@@ -74,6 +74,23 @@ kept-fail t h k0 k2 r1 a top middle q old st b at below may counts points popped
     let after = left t h k0 a top middle q old k2.rows.active k2.chain st b at below may active popped in
     stands-same t h (Fail a ∷ h) k0 k2 st (st.history, may) refl (same.statics ∙ rows.1.statics) (same.nodes ∙ rows.1.nodes) (same.slots ∙ rows.1.slots)
     (rows-into m (Fail a ∷ h) ls r1 k2.rows same.links rows.0) after.0 after.1 (omega (arith, after.2, st.room_is, room))
+
+pub kept-excp : (t : SiteTable) (h : List Event) (k0 k2 : Kept) (r1 : Rows) (a top middle q : ℕ) (old : Option ℕ) → Stands k0 t h → BelongsTo top middle old t h a → slice_get k0.rows.nodes top ≡ Some q → q < length k0.rows.statics.procs →
+    MayFollow t h (Excp a) → CountsLink k0.rows r1 middle Excps 1 → Points r1 k2.rows q old → k2.chain ≡ take (length k0.chain - 1) k0.chain → k2.room ≡ k0.room → Stands k2 t (Excp a ∷ h)
+kept-excp t h k0 k2 r1 a top middle q old st b at below may counts points popped room =
+    let m = t.main in
+    let xs = placed_of m h in
+    let ls = links m xs in
+    let y = b.activation in
+    let l : Leading = record { link = y.link; to = y.context } in
+    let rows = counted k0.rows r1 ls (counts_in m h) (counts_in m (Excp a ∷ h)) middle l Excps 1 (rows-by m h ls k0.rows.links st.rows_are) b.middle_is counts
+    (set-excp t m (has_link y.link) h a y b.there (has-same y.link y refl))
+    (λ i z there ne. set-excp-other t m (has_link z.link) h a y b.there (has-other z.link y (links-differ m xs i middle z l there b.middle_is ne))) in
+    let same = points-same r1 k2.rows q old points in
+    let active : k2.rows.active ≡ set k0.rows.active q old = ap (λ (r : Rows). r.active) points ∙ ap (λ xs. set xs q old) rows.1.active in
+    let after = left t h k0 a top middle q old k2.rows.active k2.chain st b at below may active popped in
+    stands-same t h (Excp a ∷ h) k0 k2 st (st.history, may) refl (same.statics ∙ rows.1.statics) (same.nodes ∙ rows.1.nodes) (same.slots ∙ rows.1.slots)
+    (rows-into m (Excp a ∷ h) ls r1 k2.rows same.links rows.0) after.0 after.1 (omega (arith, after.2, st.room_is, room))
 
 pub kept-redo : (t : SiteTable) (h : List Event) (k0 k2 : Kept) (r1 : Rows) (a top middle q : ℕ) (old : Option ℕ) → Stands k0 t h → BelongsTo top middle old t h a → slice_get k0.rows.nodes top ≡ Some q → q < length k0.rows.statics.procs →
     MayFollow t h (Redo a) → CountsLink k0.rows r1 middle Redos 1 → Points r1 k2.rows q (Some top) → k2.chain ≡ k0.chain ++ (middle, top) ∷ [] → k2.room ≡ k0.room → Stands k2 t (Redo a ∷ h)

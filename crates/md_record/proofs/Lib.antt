@@ -16,3 +16,4 @@ pub mod RowSteps
 pub mod SlotSteps
 pub mod Uses
 pub mod ValidProfiles
+mod Worked

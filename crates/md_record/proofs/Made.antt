@@ -4,7 +4,7 @@ use Rattle.std.specs.Option.{option_map}
 use Rattle.std.proofs.lemmas.Bool.Decides.{eqb_tells}
 use Rattle.std.proofs.lemmas.List.{length-append}
 use Rattle.md_trace.specs.declared.event.Event.{Event}
-use Rattle.md_trace.specs.declared.event.Event.TheVariants.{Call, Exit, Redo, Fail, Alloc}
+use Rattle.md_trace.specs.declared.event.Event.TheVariants.{Call, Exit, Redo, Fail, Excp, Alloc}
 use Rattle.md_trace.specs.Activation.{Activation, activations, numbered, procedure_of}
 use Rattle.md_trace.specs.PortHistory.{SiteTable, CallSite, MayCallAt, MayCall, current, IsPortHistory}
 use Rattle.md_trace.specs.Context.{Link, Placed, contexts, link_of, place, placed, placed_of}
@@ -152,6 +152,7 @@ sited-by t (Call a p s q ∷ h) b y is at =
 sited-by t (Exit a ∷ h) b y is at = sited-by t h b y is.0 at
 sited-by t (Redo a ∷ h) b y is at = sited-by t h b y is.0 at
 sited-by t (Fail a ∷ h) b y is at = sited-by t h b y is.0 at
+sited-by t (Excp a ∷ h) b y is at = sited-by t h b y is.0 at
 sited-by t (Alloc a w ∷ h) b y is at = sited-by t h b y is.0 at
 
 -- a history has at most 4,294,967,294 calls
@@ -161,6 +162,7 @@ few-calls t (Call a p s q ∷ h) is = omega (arith, is.1.1)
 few-calls t (Exit a ∷ h) is = few-calls t h is.0
 few-calls t (Redo a ∷ h) is = few-calls t h is.0
 few-calls t (Fail a ∷ h) is = few-calls t h is.0
+few-calls t (Excp a ∷ h) is = few-calls t h is.0
 few-calls t (Alloc a w ∷ h) is = few-calls t h is.0
 
 -- no more contexts than activations, and main's

@@ -17,6 +17,12 @@ pub record Kept : Type 0 where
   pub chain : List (ℕ × ℕ)
   pub room : ℕ
 
+-- the tables and the chain are as before; there may be more room
+pub record IsAsBefore (old new : Kept) : Type 0 where
+  pub rows : new.rows ≡ old.rows
+  pub chain : new.chain ≡ old.chain
+  pub room : old.room ≤ new.room
+
 -- A recorder that keeps this stands for h over the site table of its statics and main: its contexts and links are those
 -- of h, with own counts; its slots hold the links of their sites; its pointers are the contexts of the nearest
 -- activations in the current chain; and the links of that chain are kept, with room for the longest chain of h.

@@ -5,7 +5,7 @@ use Rattle.md_base.specs.declared.measure.Measure.TheVariants.{Calls}
 use Rattle.md_static.specs.Sites.{sites_of}
 use Rattle.md_static.specs.Tables.{callee_of}
 use Rattle.md_trace.specs.Count.{with_more}
-use Rattle.md_closure.specs.Callees.{HasLinkAt}
+use Rattle.md_closure.specs.Callees.{HasLinkAt, find_or_add_cost}
 use Rattle.md_dynamic.specs.Rows.{Rows, IsFresh, Adds, link_in, list_in}
 
 -- one more on a measure of a link, and nothing else
@@ -43,6 +43,9 @@ LeadCost old new node site q k before after =
     ((n : ℕ) × IsPlaceOf old node site q k n × (after ≤ before + (n + (7 + new_sites old new q))))
     (λ c. after ≤ before + (6 + new_sites old new q)))
 
--- no more are taken where memory is refused
-abbrev pub lead_refused_cost : Rows → ℕ → ℕ → ℕ → ℕ
-lead_refused_cost r node site q = length (list_in r node site) + (6 + length (sites_of q r.statics.sites))
+-- where memory is refused: six at a plain site; the whole list of the site and six at a higher-order site; and one for each
+-- call site of q
+abbrev pub LeadRefusedCost : Rows → ℕ → ℕ → ℕ → ℕ → ℕ → Type 0
+LeadRefusedCost r node site q before after =
+    IsSomeAnd (slice_get r.statics.sites site) (λ x. MatchOption (callee_of x.kind) (after ≤ before + find_or_add_cost r node site q)
+    (λ c. after ≤ before + (6 + length (sites_of q r.statics.sites))))

@@ -6,5 +6,4 @@ pub mod Leads
 pub mod Marks
 pub mod Memory
 pub mod Parts
-pub mod Profiles
 pub mod Stays

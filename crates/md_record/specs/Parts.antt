@@ -7,16 +7,12 @@ use Rattle.md_static.specs.declared.entry.SiteKind.{SiteKind}
 use Rattle.md_static.specs.declared.entry.SiteKind.TheVariants.{Plain as OneCallee, HigherOrder}
 use Rattle.md_static.specs.Sites.{place_of}
 use Rattle.md_trace.specs.declared.event.Event.{Event}
-use Rattle.md_trace.specs.Context.{Link, Placed, same_option, has_link, has_procedure}
+use Rattle.md_trace.specs.Context.{Link, Placed, same_option, has_procedure}
 use Rattle.md_trace.specs.Links.{Leading}
-use Rattle.md_trace.specs.Count.{set_counts}
+use Rattle.md_dynamic.specs.OfHistory.{row_of}
 use Rattle.md_dynamic.specs.declared.link.LinkRow.{LinkRow}
 use Rattle.md_dynamic.specs.declared.slot.Slot.{Slot}
 use Rattle.md_dynamic.specs.declared.slot.Slot.TheVariants.{Plain, Many}
-
--- the row of a link: its caller, its site, the context to which it leads, and its own counts
-abbrev pub row_of : ℕ → List Event → Leading → LinkRow
-row_of main h x = record { caller = x.link.caller; site = x.link.site; callee = x.to; own = set_counts main h (has_link x.link) }
 
 -- each link has its row, by number
 pub record RowsAre (main : ℕ) (h : List Event) (ls : List Leading) (rows : List LinkRow) : Type 0 where

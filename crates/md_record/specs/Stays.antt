@@ -2,7 +2,7 @@
 use Rattle.std.specs.Prelude.{ℕ, List, ◌∷◌, Option}
 use Rattle.std.proofs.Common.{length, sym, ap, ◌∙◌, arith}
 use Rattle.md_trace.specs.declared.event.Event.{Event}
-use Rattle.md_trace.specs.declared.event.Event.TheVariants.{Call, Exit, Redo, Fail, Alloc}
+use Rattle.md_trace.specs.declared.event.Event.TheVariants.{Call, Exit, Redo, Fail, Excp, Alloc}
 use Rattle.md_trace.specs.PortHistory.{SiteTable, IsPortHistory}
 use Rattle.md_trace.specs.Context.{placed_of}
 use Rattle.md_trace.proofs.Chains.{below-more, chain-more, parent-below}
@@ -32,4 +32,5 @@ mark-stays top middle old t h (Call n p s q) a is was =
 mark-stays top middle old t h (Exit b) a is was = record { activation = was.activation; there = was.there; top_is = was.top_is; middle_is = was.middle_is; old_is = was.old_is }
 mark-stays top middle old t h (Redo b) a is was = record { activation = was.activation; there = was.there; top_is = was.top_is; middle_is = was.middle_is; old_is = was.old_is }
 mark-stays top middle old t h (Fail b) a is was = record { activation = was.activation; there = was.there; top_is = was.top_is; middle_is = was.middle_is; old_is = was.old_is }
+mark-stays top middle old t h (Excp b) a is was = record { activation = was.activation; there = was.there; top_is = was.top_is; middle_is = was.middle_is; old_is = was.old_is }
 mark-stays top middle old t h (Alloc b w) a is was = record { activation = was.activation; there = was.there; top_is = was.top_is; middle_is = was.middle_is; old_is = was.old_is }

@@ -3,7 +3,7 @@ ghost use Rattle.std.specs.Prelude.{ℕ, ◌≡◌, ◌≤◌, ◌<◌, ◌+◌,
 ghost use Rattle.md_static.specs.Sites.{sites_of};
 ghost use Rattle.md_static.specs.Tables.{callee_of};
 ghost use Rattle.md_dynamic.specs.Rows.{Owns, MayLead, IsFresh, list_in};
-ghost use Rattle.md_record.specs.Leads.{LeadsBy, LinksThere, IsPlaceOf, LeadCost, lead_refused_cost, new_sites};
+ghost use Rattle.md_record.specs.Leads.{LeadsBy, LinksThere, IsPlaceOf, LeadCost, LeadRefusedCost, new_sites};
 ghost use Rattle.md_closure.specs.Callees.{find_or_add_cost};
 
 use md_base::{CsdId, Measure, NoMemory, PdId, ProcId, SiteId, Steps};
@@ -35,7 +35,7 @@ pub(crate) fn lead<L: Ledger>(
     ensures statics { tables.new.statics ≡ tables.old.statics }
     ensures fresh { OnErr result (IsFresh tables.old node site callee) }
     ensures cost { IfOk result (λ link. LeadCost tables.old tables.new node site callee link steps.old steps.new) }
-    ensures cost_refused { OnErr result (steps.new ≤ steps.old + lead_refused_cost tables.old node site callee) }
+    ensures cost_refused { OnErr result (LeadRefusedCost tables.old node site callee steps.old steps.new) }
 {
     match tables.site(site).kind {
         SiteKind::Plain(_) => lead_plain(tables, node, site, callee, *old, steps),

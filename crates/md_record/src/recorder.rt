@@ -31,15 +31,15 @@ impl Recorder {
     ghost use Rattle.std.specs.Prelude.{ℕ, ◌≡◌, ◌≤◌, ◌<◌, ◌+◌, ◌-◌, slice_get, List, [], ◌∷◌, length, IfOk, OnOk, OnErr, IfSome, Some, None};
     ghost use Rattle.std.specs.Option.{option_map};
     ghost use Rattle.md_trace.specs.declared.event.Event.{Event};
-    ghost use Rattle.md_trace.specs.declared.event.Event.TheVariants.{Exit, Redo, Fail};
+    ghost use Rattle.md_trace.specs.declared.event.Event.TheVariants.{Exit, Redo, Fail, Excp};
     ghost use Rattle.md_trace.specs.Sinks.{CanTake, CanTakeMarked, Takes, TakesMarked, MarksNewest, StandsAsBefore, next_call, next_alloc};
     ghost use Rattle.md_static.specs.Sound.{IsSound};
     ghost use Rattle.md_static.specs.Tables.{site_table};
-    ghost use Rattle.md_record.specs.Kept.{Kept, Stands};
+    ghost use Rattle.md_record.specs.Kept.{Kept, Stands, IsAsBefore};
     ghost use Rattle.md_record.specs.Belongs.{Belongs};
-    ghost use Rattle.md_record.specs.Costs.{CallCost, SiteCost};
+    ghost use Rattle.md_record.specs.Costs.{CallCost, SiteCost, RefusedCost, SiteRefusedCost};
     ghost use Rattle.md_record.specs.Memory.{TakesMemory};
-    ghost use Rattle.md_record.specs.Profiles.{IsProfileOf};
+    ghost use Rattle.md_dynamic.specs.OfHistory.{IsProfileOf};
     ghost use Rattle.md_dynamic.specs.Valid.{IsValid};
     ghost use Rattle.md_trace.specs.PortHistory.{SiteTable};
 
@@ -69,8 +69,8 @@ impl Recorder {
     }
 
     /// The current activation calls `callee` at `site`, or the run begins with the main procedure's call, at no site.
-    /// Memory is taken first, room for the chain included; where it is refused, all is as before. None is taken where the
-    /// link is there already and an earlier chain was as long as the new one.
+    /// Memory is taken first, room for the chain included; where it is refused, tables and chain are as before. None is
+    /// taken where the link is there already and an earlier chain was as long as the new one.
     pub fn call<L: Ledger>(
         &mut self,
         site: Option<SiteId>,
@@ -81,9 +81,11 @@ impl Recorder {
         ensures taken { OnOk result (Takes (Stands self.old) (Stands self.new) (next_call site callee)) }
         ensures marked { IfOk result (λ saved. MarksNewest (Stands self.old) (Belongs saved) (next_call site callee)) }
         ensures refused { OnErr result (StandsAsBefore (Stands self.old) (Stands self.new)) }
+        ensures as_before { OnErr result (IsAsBefore self.old self.new) }
         ensures statics { self.new.rows.statics ≡ self.old.rows.statics }
         ensures needed { OnErr result (TakesMemory (Stands self.old) site callee) }
         ensures cost { IfOk result (λ saved. CallCost self.old self.new site callee saved.middle steps.old steps.new) }
+        ensures cost_refused { OnErr result (RefusedCost self.old site callee steps.old steps.new) }
     {
         match site {
             None => self.call_main(callee, steps),
@@ -101,9 +103,11 @@ impl Recorder {
         ensures taken { OnOk result (Takes (Stands self.old) (Stands self.new) (next_call None callee)) }
         ensures marked { IfOk result (λ saved. MarksNewest (Stands self.old) (Belongs saved) (next_call None callee)) }
         ensures refused { OnErr result (StandsAsBefore (Stands self.old) (Stands self.new)) }
+        ensures as_before { OnErr result (IsAsBefore self.old self.new) }
         ensures statics { self.new.rows.statics ≡ self.old.rows.statics }
         ensures needed { OnErr result (TakesMemory (Stands self.old) None callee) }
         ensures cost { steps.new ≤ steps.old + 4 }
+        ensures cost_refused { OnErr result (steps.new ≡ steps.old) }
     {
         let root = CsdId::new(0);
         self.chain.reserve(1)?;
@@ -129,9 +133,11 @@ impl Recorder {
         ensures taken { OnOk result (Takes (Stands self.old) (Stands self.new) (next_call (Some site) callee)) }
         ensures marked { IfOk result (λ saved. MarksNewest (Stands self.old) (Belongs saved) (next_call (Some site) callee)) }
         ensures refused { OnErr result (StandsAsBefore (Stands self.old) (Stands self.new)) }
+        ensures as_before { OnErr result (IsAsBefore self.old self.new) }
         ensures statics { self.new.rows.statics ≡ self.old.rows.statics }
         ensures needed { OnErr result (TakesMemory (Stands self.old) (Some site) callee) }
         ensures cost { IfOk result (λ saved. SiteCost self.old self.new site callee saved.middle steps.old steps.new) }
+        ensures cost_refused { OnErr result (SiteRefusedCost self.old site callee steps.old steps.new) }
     {
         let node = self.current();
         self.chain.reserve(1)?;
@@ -172,6 +178,20 @@ impl Recorder {
         let proc = self.tables.proc_of(saved.top, steps);
         self.tables.count(saved.middle, Measure::Fails, 1, steps);
         self.tables.set_active(proc, saved.old, steps);
+        self.chain.pop();
+    }
+
+    /// The activation with this mark is left by an exception: an excp on its link, and the pointer of its procedure goes
+    /// back to what it was before the call. Four table steps.
+    pub fn excp<L: Ledger>(&mut self, saved: &Saved, steps: &mut Steps<L>)
+        requires { CanTakeMarked (Stands self.old) (Belongs saved.now) Excp }
+        ensures taken { TakesMarked (Stands self.old) (Stands self.new) (Belongs saved.now) Excp }
+        ensures statics { self.new.rows.statics ≡ self.old.rows.statics }
+        ensures cost { steps.new ≡ steps.old + 4 }
+    {
+        let proc = self.tables.proc_of(saved.top, steps);
+        self.tables.count(saved.middle, Measure::Excps, 1, steps);
+        self.tables.set_active(proc, saved.old, steps); // the exception goes on in the caller
         self.chain.pop();
     }
 

@@ -1,7 +1,7 @@
 // The recorder as a sink of port events: its calls, each with a fresh ledger.
 ghost use Rattle.std.specs.Prelude.{ℕ, ◌≡◌, ◌<◌, List, ◌∷◌, IfOk, OnOk, OnErr};
 ghost use Rattle.md_trace.specs.declared.event.Event.{Event};
-ghost use Rattle.md_trace.specs.declared.event.Event.TheVariants.{Exit, Redo, Fail};
+ghost use Rattle.md_trace.specs.declared.event.Event.TheVariants.{Exit, Redo, Fail, Excp};
 ghost use Rattle.md_trace.specs.Sinks.{CanTake, CanTakeMarked, Takes, TakesMarked, MarksNewest, StandsAsBefore, next_call, next_alloc};
 ghost use Rattle.md_record.specs.Kept.{Stands};
 ghost use Rattle.md_record.specs.Belongs.{Belongs};
@@ -41,6 +41,10 @@ impl PortSink for Recorder {
 
     fn fail(&mut self, mark: &Saved) {
         fail_counted::<Brand>(self, mark, Blank::new(1));
+    }
+
+    fn excp(&mut self, mark: &Saved) {
+        excp_counted::<Brand>(self, mark, Blank::new(1));
     }
 
     fn alloc(&mut self, words: u32) {
@@ -113,6 +117,19 @@ fn fail_counted<L: Ledger>(recorder: &mut Recorder, mark: &Saved, blank: Blank)
 {
     let mut steps = Steps::<L>::open(blank);
     recorder.fail(mark, &mut steps);
+}
+
+/// The same, with a fresh ledger.
+fn excp_counted<L: Ledger>(recorder: &mut Recorder, mark: &Saved, blank: Blank)
+    requires name { blank.name ≡ L.name }
+    requires parts { blank.parts ≡ L.parts }
+    requires some { 0 < blank.parts }
+    requires can { CanTakeMarked (Stands recorder.old) (Belongs mark.now) Excp }
+    ensures taken { TakesMarked (Stands recorder.old) (Stands recorder.new) (Belongs mark.now) Excp }
+    ensures alike { recorder.new.rows.statics ≡ recorder.old.rows.statics }
+{
+    let mut steps = Steps::<L>::open(blank);
+    recorder.excp(mark, &mut steps);
 }
 
 /// The same, with a fresh ledger.

@@ -10,7 +10,7 @@ use Rattle.md_static.specs.declared.entry.Site.{Site}
 use Rattle.md_static.specs.Sound.{IsSound}
 use Rattle.md_static.specs.Tables.{Static, call_site, callee_of, site_table}
 use Rattle.md_trace.specs.declared.event.Event.{Event}
-use Rattle.md_trace.specs.declared.event.Event.TheVariants.{Call, Exit, Redo, Fail, Alloc}
+use Rattle.md_trace.specs.declared.event.Event.TheVariants.{Call, Exit, Redo, Fail, Excp, Alloc}
 use Rattle.md_trace.specs.Activation.{Activation, activations, numbered, parent_of, procedure_of}
 use Rattle.md_trace.specs.Laws.{procedure-below}
 use Rattle.md_trace.specs.PortHistory.{CallSite, SiteTable, IsSiteTable, MayCallAt, MayCall, MayFollow, current, has_exited, IsPortHistory}
@@ -51,6 +51,7 @@ no-calls t (Call a p s q ∷ h) is none = absurd (omega (arith, none))
 no-calls t (Exit a ∷ h) is none = absurd (let below = running t h a is.0 is.1 in omega (arith, below, none))
 no-calls t (Redo a ∷ h) is none = absurd (let below = returned t h a is.0 is.1.0 in omega (arith, below, none))
 no-calls t (Fail a ∷ h) is none = absurd (let below = running t h a is.0 is.1 in omega (arith, below, none))
+no-calls t (Excp a ∷ h) is none = absurd (let below = running t h a is.0 is.1 in omega (arith, below, none))
 no-calls t (Alloc a w ∷ h) is none = absurd (let below = running t h a is.0 is.1 in omega (arith, below, none))
 
 -- the first call

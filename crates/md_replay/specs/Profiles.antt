@@ -6,7 +6,7 @@ use Rattle.md_trace.specs.Counted.{Counted, CountsFor}
 use Rattle.md_trace.specs.PortHistory.{IsPortHistory}
 use Rattle.md_dynamic.specs.Profile.{ProfileRows}
 use Rattle.md_dynamic.specs.Valid.{IsValid}
-use Rattle.md_record.specs.Profiles.{IsProfileOf}
+use Rattle.md_dynamic.specs.OfHistory.{IsProfileOf}
 
 -- the events are a port history over these tables with this main procedure
 abbrev pub AreHistory : Static → ℕ → List Event → Type 0

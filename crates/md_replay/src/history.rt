@@ -76,9 +76,10 @@ impl Past {
                     && self.may_call(statics, main, parent, site, callee)
             }
             Event::Redo { act } => self.may_redo(act),
-            Event::Exit { act } | Event::Fail { act } | Event::Alloc { act, .. } => {
-                same(self.current, Some(act))
-            }
+            Event::Exit { act }
+            | Event::Fail { act }
+            | Event::Excp { act }
+            | Event::Alloc { act, .. } => same(self.current, Some(act)),
         }
     }
 
@@ -152,6 +153,7 @@ impl Past {
                 self.current = Some(act);
             }
             Event::Fail { act } => self.leave(act, false),
+            Event::Excp { act } => self.leave(act, false),
             Event::Alloc { .. } => {}
         }
         Ok(())

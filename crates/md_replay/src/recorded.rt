@@ -37,6 +37,7 @@ fn hand<S: PortSink>(event: Event, sink: &mut S, marks: &mut Vec<S::Mark>) -> Re
         Event::Exit { act } => sink.exit(&marks[act as usize]),
         Event::Redo { act } => sink.redo(&marks[act as usize]),
         Event::Fail { act } => sink.fail(&marks[act as usize]),
+        Event::Excp { act } => sink.excp(&marks[act as usize]),
         Event::Alloc { words, .. } => sink.alloc(words),
     }
     Ok(())

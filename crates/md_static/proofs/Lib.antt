@@ -1,2 +1,3 @@
 pub mod SiteLists
 pub mod Keys
+mod Worked

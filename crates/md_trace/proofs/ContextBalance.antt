@@ -5,7 +5,7 @@ use Rattle.std.proofs.lemmas.Bool.Decides.{eqb_tells}
 use Rattle.std.proofs.lemmas.List.Sums.{sum_by-cons}
 use Rattle.std.specs.Prelude.{sum_by}
 use Rattle.md_base.specs.declared.measure.Measure.{Measure}
-use Rattle.md_base.specs.declared.measure.Measure.TheVariants.{Calls, Exits, Fails, Redos}
+use Rattle.md_base.specs.declared.measure.Measure.TheVariants.{Calls, Exits, Fails, Redos, Excps}
 use Rattle.md_trace.specs.declared.event.Event.{Event}
 use Rattle.md_trace.specs.Activation.{activations, numbered}
 use Rattle.md_trace.specs.Balance.{IsNotFull, ContextsBalance}
@@ -18,13 +18,13 @@ use Rattle.md_trace.proofs.Finds.{same-link-true}
 use Rattle.md_trace.proofs.Histories.{all-at}
 use Rattle.md_trace.proofs.LinkFacts.{leading, AreRight, are-calls, are-right, links-distinct}
 
--- sums of four numbers a member balance where each member's four do
-balance-by : {A : Type 0} (c r e f : A → ℕ) (xs : List A) → ((j : ℕ) (x : A) → slice_get xs j ≡ Some x → c x + r x ≡ e x + f x) → sum_by c xs + sum_by r xs ≡ sum_by e xs + sum_by f xs
-balance-by c r e f [] each = refl
-balance-by c r e f (x ∷ xs) each =
+-- sums of five numbers a member balance where each member's five do
+balance-by : {A : Type 0} (c r e f g : A → ℕ) (xs : List A) → ((j : ℕ) (x : A) → slice_get xs j ≡ Some x → c x + r x ≡ (e x + f x) + g x) → sum_by c xs + sum_by r xs ≡ (sum_by e xs + sum_by f xs) + sum_by g xs
+balance-by c r e f g [] each = refl
+balance-by c r e f g (x ∷ xs) each =
     let here = each 0 x refl in
-    let rest = balance-by c r e f xs (λ j y is. each (suc j) y is) in
-    omega (arith, here, rest, sum_by-cons c x xs, sum_by-cons r x xs, sum_by-cons e x xs, sum_by-cons f x xs)
+    let rest = balance-by c r e f g xs (λ j y is. each (suc j) y is) in
+    omega (arith, here, rest, sum_by-cons c x xs, sum_by-cons r x xs, sum_by-cons e x xs, sum_by-cons f x xs, sum_by-cons g x xs)
 
 -- tests that agree give one sum
 sum-same : (f g : ℕ → Bool) (meas : Measure) (h : List Event) → ((b : ℕ) → f b ≡ g b) → sum_where f meas h ≡ sum_where g meas h
@@ -91,13 +91,13 @@ contexts-balanced t h c is now free =
     let m = t.main in
     let xs = placed_of m h in
     let r = are-right m (activations h) (are-calls t h is) in
-    balance-by (part m h c Calls) (part m h c Redos) (part m h c Exits) (part m h c Fails) (links m xs) (λ j x at.
+    balance-by (part m h c Calls) (part m h c Redos) (part m h c Exits) (part m h c Fails) (part m h c Excps) (links m xs) (λ j x at.
     elim (eqb_tells x.to c) [
       | inl same ↦
           let inside = λ (meas : Measure). part-inside m c j h x meas r at same.1 in
-          let whole_balance : whole m h Calls x + whole m h Redos x ≡ whole m h Exits x + whole m h Fails x = links-balanced t h x.link is now (all-at (λ (z : Leading). z.to ≡ c → IsNotFull (set_counts m h (has_link z.link))) (links m xs) j x free at same.1) in
-          omega (arith, inside Calls, inside Redos, inside Exits, inside Fails, whole_balance)
+          let whole_balance : whole m h Calls x + whole m h Redos x ≡ (whole m h Exits x + whole m h Fails x) + whole m h Excps x = links-balanced t h x.link is now (all-at (λ (z : Leading). z.to ≡ c → IsNotFull (set_counts m h (has_link z.link))) (links m xs) j x free at same.1) in
+          omega (arith, inside Calls, inside Redos, inside Exits, inside Fails, inside Excps, whole_balance)
       | inr other ↦
           let outside = λ (meas : Measure). part-outside m c j h x meas r at other.1 in
-          omega (arith, outside Calls, outside Redos, outside Exits, outside Fails)
+          omega (arith, outside Calls, outside Redos, outside Exits, outside Fails, outside Excps)
     ])

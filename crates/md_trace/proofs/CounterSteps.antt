@@ -4,9 +4,9 @@ use Rattle.std.proofs.lemmas.Bool.{eq-eqb, ne_eqb, cases_eq}
 use Rattle.std.proofs.lemmas.List.{reverse-append, reverse-reverse, length-reverse, length-append, length-map, take_at, length-set}
 use Rattle.md_base.specs.declared.measure.Counts.{Counts}
 use Rattle.md_base.specs.declared.measure.Measure.{Measure}
-use Rattle.md_base.specs.declared.measure.Measure.TheVariants.{Calls, Exits, Fails, Redos, Allocs, Words}
+use Rattle.md_base.specs.declared.measure.Measure.TheVariants.{Calls, Exits, Fails, Redos, Allocs, Words, Excps}
 use Rattle.md_trace.specs.declared.event.Event.{Event}
-use Rattle.md_trace.specs.declared.event.Event.TheVariants.{Call, Exit, Redo, Fail, Alloc}
+use Rattle.md_trace.specs.declared.event.Event.TheVariants.{Call, Exit, Redo, Fail, Excp, Alloc}
 use Rattle.md_trace.specs.Activation.{activations, numbered, parent_of, procedure_of}
 use Rattle.md_trace.specs.PortHistory.{SiteTable, MayFollow, IsPortHistory, current}
 use Rattle.md_trace.specs.Context.{Placed, chain, placed_of, current_chain, has_procedure}
@@ -17,7 +17,7 @@ use Rattle.md_trace.proofs.Lists.{get-set-same, get-set-other, get-push-new}
 use Rattle.md_trace.proofs.Numbered.{numbered-there}
 use Rattle.md_trace.proofs.Placing.{length-placed, procedure_of-placed}
 use Rattle.md_trace.proofs.Histories.{callee-below, procedure-of-table, orderly, current-there, chain-of, chain-call}
-use Rattle.md_trace.proofs.Setwise.{newest, set-exit, set-fail, set-redo, set-alloc, set-exit-other, set-fail-other, set-redo-other, set-alloc-other, set-call, set-call-other}
+use Rattle.md_trace.proofs.Setwise.{newest, set-exit, set-fail, set-excp, set-redo, set-alloc, set-exit-other, set-fail-other, set-excp-other, set-redo-other, set-alloc-other, set-call, set-call-other}
 use Rattle.md_trace.proofs.Longest.{chain-longest, current-longest}
 
 -- rows by number, one of which goes from f to g where the others are as they were
@@ -104,6 +104,14 @@ module _ (t : SiteTable) (h : List Event) (xs ys : List Counts) (are : OwnAre t 
       (set-fail t t.main (has_procedure q) h a y.0 y.1 (same-procedure q y.0 y.2))
       (λ r ne. set-fail-other t t.main (has_procedure r) h a y.0 y.1 (other-procedure r q y.0 y.2 ne))
 
+  own-excp : (a q : ℕ) → IsPortHistory t h → procedure_of (activations h) a ≡ Some q → Written xs ys q Excps 1 → OwnAre t (Excp a ∷ h) ys
+  own-excp a q is marked write =
+      let y = placed-at t.main h a q marked in
+      rows-after xs ys t.procedures q Excps 1 (procedure_counts t.main h) (procedure_counts t.main (Excp a ∷ h))
+      are.0 (procedure-of-table t h a q is marked) are.1 write
+      (set-excp t t.main (has_procedure q) h a y.0 y.1 (same-procedure q y.0 y.2))
+      (λ r ne. set-excp-other t t.main (has_procedure r) h a y.0 y.1 (other-procedure r q y.0 y.2 ne))
+
   own-redo : (a q : ℕ) → IsPortHistory t h → procedure_of (activations h) a ≡ Some q → Written xs ys q Redos 1 → OwnAre t (Redo a ∷ h) ys
   own-redo a q is marked write =
       let y = placed-at t.main h a q marked in
@@ -127,7 +135,7 @@ module _ (t : SiteTable) (h : List Event) (xs ys : List Counts) (are : OwnAre t 
       (set-alloc t t.main (has_procedure q) h a w y.0 y.1 (same-procedure q y.0 y.2) ∙ ap (λ c. with_more c Words w) (sym here))
       (λ r ne. set-alloc-other t t.main (has_procedure r) h a w y.0 y.1 (other-procedure r q y.0 y.2 ne) ∙ sym (there r ne))
 
--- what an activation's exit or fail does to the chain
+-- what an activation's exit, fail or exception does to the chain
 chain-left : (t : SiteTable) (h : List Event) (a q : ℕ) (zs ys : List ℕ) → IsPortHistory t h → current h ≡ Some a → procedure_of (activations h) a ≡ Some q →
     reverse zs ≡ chain_procedures t.main h → ys ≡ take (length zs - 1) zs →
     reverse ys ≡ map (λ x. x.link.procedure) (chain (placed_of t.main h) (parent_of (activations h) a))
@@ -188,6 +196,21 @@ pub counter-fail : (t : SiteTable) (h : List Event) (k0 k1 k2 : Counted) (a q : 
 counter-fail t h k0 k1 k2 a q for marked may counts leaves =
     let own = own-fail t h k0.own k1.own (for.procedures, for.own_are) a q for.history marked counts.own in
     let O : List Counts → Type 0 = λ xs. OwnAre t (Fail a ∷ h) xs in
+    let own2 = subst O (sym leaves.own) own in
+    let less : k2.chain ≡ take (length k0.chain - 1) k0.chain = leaves.chain ∙ ap (λ c. take (length c - 1) c) counts.chain in
+    record {
+      history = (for.history, may);
+      procedures = own2.0;
+      own_are = own2.1;
+      chain_is = chain-left t h a q k0.chain k2.chain for.history may marked for.chain_is less;
+      room_is = omega (arith, for.room_is, counts.room, leaves.room, shorter t h a q for.history may marked);
+    }
+
+pub counter-excp : (t : SiteTable) (h : List Event) (k0 k1 k2 : Counted) (a q : ℕ) → CountsFor k0 t h → procedure_of (activations h) a ≡ Some q → MayFollow t h (Excp a) →
+    CountsUp k0 k1 q Excps 1 → Leaves k1 k2 → CountsFor k2 t (Excp a ∷ h)
+counter-excp t h k0 k1 k2 a q for marked may counts leaves =
+    let own = own-excp t h k0.own k1.own (for.procedures, for.own_are) a q for.history marked counts.own in
+    let O : List Counts → Type 0 = λ xs. OwnAre t (Excp a ∷ h) xs in
     let own2 = subst O (sym leaves.own) own in
     let less : k2.chain ≡ take (length k0.chain - 1) k0.chain = leaves.chain ∙ ap (λ c. take (length c - 1) c) counts.chain in
     record {

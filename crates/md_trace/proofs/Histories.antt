@@ -3,7 +3,7 @@ use Rattle.std.proofs.Common.{ℕ, All, IfSome, IsSomeAnd, MatchOption, slice_ge
 use Rattle.std.proofs.lemmas.Bool.{false≢true}
 use Rattle.std.proofs.lemmas.Bool.Decides.{eqb_tells}
 use Rattle.md_trace.specs.declared.event.Event.{Event}
-use Rattle.md_trace.specs.declared.event.Event.TheVariants.{Call, Exit, Redo, Fail, Alloc}
+use Rattle.md_trace.specs.declared.event.Event.TheVariants.{Call, Exit, Redo, Fail, Excp, Alloc}
 use Rattle.md_trace.specs.Activation.{activations, numbered, parent_of, procedure_of}
 use Rattle.md_trace.specs.PortHistory.{SiteTable, CallSite, IsSiteTable, MayCallAt, MayCall, current, has_exited, MayFollow, IsPortHistory}
 use Rattle.md_trace.specs.Context.{Placed, chain, place, link_of, placed_of, current_chain}
@@ -70,6 +70,13 @@ orderly-after t m h (Redo a) order may =
       exited = λ b is. order.exited b (after-false b a (has_exited h b) is);
     }
 orderly-after t m h (Fail a) order may =
+    let below = now-below a (length (activations h)) (current h) may order.now in
+    record {
+      parents = order.parents;
+      now = parent_of-below m h a order below;
+      exited = λ b is. order.exited b (after-false b a (has_exited h b) is);
+    }
+orderly-after t m h (Excp a) order may =
     let below = now-below a (length (activations h)) (current h) may order.now in
     record {
       parents = order.parents;
@@ -161,4 +168,5 @@ procedure-of-table t (Call b p s r ∷ h) a q is has =
 procedure-of-table t (Exit b ∷ h) a q is has = procedure-of-table t h a q is.0 has
 procedure-of-table t (Redo b ∷ h) a q is has = procedure-of-table t h a q is.0 has
 procedure-of-table t (Fail b ∷ h) a q is has = procedure-of-table t h a q is.0 has
+procedure-of-table t (Excp b ∷ h) a q is has = procedure-of-table t h a q is.0 has
 procedure-of-table t (Alloc b w ∷ h) a q is has = procedure-of-table t h a q is.0 has

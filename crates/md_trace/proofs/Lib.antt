@@ -3,6 +3,7 @@ pub mod Chains
 pub mod ContextBalance
 pub mod CounterSteps
 pub mod Counting
+pub mod Ends
 pub mod Finds
 pub mod Histories
 pub mod LinkFacts
@@ -12,3 +13,4 @@ pub mod Numbered
 pub mod Placing
 pub mod Setwise
 mod Worked
+mod WorkedCliques

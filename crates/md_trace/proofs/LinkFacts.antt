@@ -5,7 +5,7 @@ use Rattle.std.proofs.lemmas.List.{length-append}
 use Rattle.std.proofs.lemmas.Bool.{false≢true, cases_Bool, eq-eqb, eqb-true}
 use Rattle.std.proofs.lemmas.Bool.Decides.{eqb_tells}
 use Rattle.md_trace.specs.declared.event.Event.{Event}
-use Rattle.md_trace.specs.declared.event.Event.TheVariants.{Call, Exit, Redo, Fail, Alloc}
+use Rattle.md_trace.specs.declared.event.Event.TheVariants.{Call, Exit, Redo, Fail, Excp, Alloc}
 use Rattle.md_trace.specs.Activation.{Activation, activations, numbered, procedure_of}
 use Rattle.md_trace.specs.PortHistory.{SiteTable, CallSite, MayCallAt, current, MayCall, IsPortHistory}
 use Rattle.md_trace.specs.Context.{Link, Placed, chain, context_at, contexts, has_link, has_procedure, same_link, link_of, place, placed, placed_of}
@@ -40,6 +40,7 @@ are-calls t (Call a p s q ∷ h) is = (call-from t h p s q (orderly t t.main h i
 are-calls t (Exit a ∷ h) is = are-calls t h is.0
 are-calls t (Redo a ∷ h) is = are-calls t h is.0
 are-calls t (Fail a ∷ h) is = are-calls t h is.0
+are-calls t (Excp a ∷ h) is = are-calls t h is.0
 are-calls t (Alloc a w ∷ h) is = are-calls t h is.0
 
 -- by which of the three rules an activation has its context
@@ -310,6 +311,7 @@ sited-activation t (Call b p s q ∷ h) a x is at =
 sited-activation t (Exit b ∷ h) a x is at = sited-activation t h a x is.0 at
 sited-activation t (Redo b ∷ h) a x is at = sited-activation t h a x is.0 at
 sited-activation t (Fail b ∷ h) a x is at = sited-activation t h a x is.0 at
+sited-activation t (Excp b ∷ h) a x is at = sited-activation t h a x is.0 at
 sited-activation t (Alloc b w ∷ h) a x is at = sited-activation t h a x is.0 at
 
 -- so does the site of each link

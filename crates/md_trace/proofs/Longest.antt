@@ -2,7 +2,7 @@
 use Rattle.std.proofs.Common.{ℕ, ◌≡◌, ◌<◌, ◌≤◌, inl, inr, List, [], ◌∷◌, length, Some, ap, arith}
 use Rattle.std.proofs.lemmas.Bool.{cases_eq}
 use Rattle.md_trace.specs.declared.event.Event.{Event}
-use Rattle.md_trace.specs.declared.event.Event.TheVariants.{Call, Exit, Redo, Fail, Alloc}
+use Rattle.md_trace.specs.declared.event.Event.TheVariants.{Call, Exit, Redo, Fail, Excp, Alloc}
 use Rattle.md_trace.specs.Activation.{activations}
 use Rattle.md_trace.specs.PortHistory.{SiteTable, IsPortHistory}
 use Rattle.md_trace.specs.Context.{chain, placed_of, current_chain}
@@ -26,6 +26,7 @@ chain-longest t m (Call b p s q ∷ h) a is below =
 chain-longest t m (Exit b ∷ h) a is below = omega (arith, chain-longest t m h a is.0 below)
 chain-longest t m (Redo b ∷ h) a is below = omega (arith, chain-longest t m h a is.0 below)
 chain-longest t m (Fail b ∷ h) a is below = omega (arith, chain-longest t m h a is.0 below)
+chain-longest t m (Excp b ∷ h) a is below = omega (arith, chain-longest t m h a is.0 below)
 chain-longest t m (Alloc b w ∷ h) a is below = omega (arith, chain-longest t m h a is.0 below)
 
 pub current-longest : (m : ℕ) (h : List Event) → length (current_chain m h) ≤ longest m h

@@ -1,15 +1,15 @@
 -- How each event changes the counts of the activations that pass a test of what they are.
 use Rattle.std.proofs.Common.{ℕ, ◌≡◌, ◌<◌, Bool, true, false, List, ◌∷◌, length, Option, Some, ap, ◌∙◌, subst, arith}
-use Rattle.md_base.specs.declared.measure.Measure.TheVariants.{Calls, Exits, Fails, Redos, Allocs, Words}
+use Rattle.md_base.specs.declared.measure.Measure.TheVariants.{Calls, Exits, Fails, Redos, Allocs, Words, Excps}
 use Rattle.md_trace.specs.declared.event.Event.{Event}
-use Rattle.md_trace.specs.declared.event.Event.TheVariants.{Call, Exit, Redo, Fail, Alloc}
+use Rattle.md_trace.specs.declared.event.Event.TheVariants.{Call, Exit, Redo, Fail, Excp, Alloc}
 use Rattle.md_trace.specs.Activation.{activations, numbered}
 use Rattle.md_trace.specs.PortHistory.{SiteTable, IsPortHistory}
 use Rattle.md_trace.specs.Context.{Placed, place, link_of, placed_of}
 use Rattle.md_trace.specs.Count.{passes, passing, with_more, counts_where, set_counts}
 use Rattle.md_trace.proofs.Numbered.{numbered-new, numbered-more}
 use Rattle.md_trace.proofs.Placing.{length-placed}
-use Rattle.md_trace.proofs.Counting.{counts-other, counts-call, counts-exit, counts-fail, counts-redo, counts-alloc, counts-agree}
+use Rattle.md_trace.proofs.Counting.{counts-other, counts-call, counts-exit, counts-fail, counts-excp, counts-redo, counts-alloc, counts-agree}
 
 -- the test of an activation's number is that of the activation
 pub passing-at : (xs : List Placed) (test : Placed → Bool) (a : ℕ) (y : Placed) (b : Bool) → numbered xs a ≡ Some y → test y ≡ b → passing xs test a ≡ b
@@ -30,6 +30,9 @@ module _ (t : SiteTable) (m : ℕ) (test : Placed → Bool) (h : List Event) whe
   pub set-fail : (a : ℕ) (y : Placed) → numbered (placed_of m h) a ≡ Some y → test y ≡ true → set_counts m (Fail a ∷ h) test ≡ with_more (set_counts m h test) Fails 1
   set-fail a y is good = counts-fail (passing (placed_of m h) test) a h (passing-at (placed_of m h) test a y true is good)
 
+  pub set-excp : (a : ℕ) (y : Placed) → numbered (placed_of m h) a ≡ Some y → test y ≡ true → set_counts m (Excp a ∷ h) test ≡ with_more (set_counts m h test) Excps 1
+  set-excp a y is good = counts-excp (passing (placed_of m h) test) a h (passing-at (placed_of m h) test a y true is good)
+
   pub set-redo : (a : ℕ) (y : Placed) → numbered (placed_of m h) a ≡ Some y → test y ≡ true → set_counts m (Redo a ∷ h) test ≡ with_more (set_counts m h test) Redos 1
   set-redo a y is good = counts-redo (passing (placed_of m h) test) a h (passing-at (placed_of m h) test a y true is good)
 
@@ -41,6 +44,9 @@ module _ (t : SiteTable) (m : ℕ) (test : Placed → Bool) (h : List Event) whe
 
   pub set-fail-other : (a : ℕ) (y : Placed) → numbered (placed_of m h) a ≡ Some y → test y ≡ false → set_counts m (Fail a ∷ h) test ≡ set_counts m h test
   set-fail-other a y is fails = counts-other (passing (placed_of m h) test) (Fail a) h (passing-at (placed_of m h) test a y false is fails)
+
+  pub set-excp-other : (a : ℕ) (y : Placed) → numbered (placed_of m h) a ≡ Some y → test y ≡ false → set_counts m (Excp a ∷ h) test ≡ set_counts m h test
+  set-excp-other a y is fails = counts-other (passing (placed_of m h) test) (Excp a) h (passing-at (placed_of m h) test a y false is fails)
 
   pub set-redo-other : (a : ℕ) (y : Placed) → numbered (placed_of m h) a ≡ Some y → test y ≡ false → set_counts m (Redo a ∷ h) test ≡ set_counts m h test
   set-redo-other a y is fails = counts-other (passing (placed_of m h) test) (Redo a) h (passing-at (placed_of m h) test a y false is fails)

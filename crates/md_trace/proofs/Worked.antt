@@ -1,4 +1,4 @@
--- The definitions, computed on the histories of nine small programs. Each history is written from its first event.
+-- The definitions, computed on the histories of eleven small programs. Each history is written from its first event.
 --
 --   count   main calls count, which calls itself three times
 --   order1  x calls n or r, r calls x, n calls r: r is active when n first calls it
@@ -9,12 +9,15 @@
 --   some    the same search, cut at its first solution
 --   even    even and odd call each other
 --   mods    a chain of calls from module t to a, b and a again
+--   err     f calls itself until it throws, and nobody catches
+--   boom    main throws while a solution of pick is kept
 use Rattle.std.proofs.Common.{ℕ, ◌≡◌, List, [], ◌∷◌, Some, None, map, refl, reverse, rules}
 use Rattle.md_base.specs.declared.measure.Measure.{Measure}
-use Rattle.md_base.specs.declared.measure.Measure.TheVariants.{Calls, Exits, Fails, Redos, Allocs, Words}
+use Rattle.md_base.specs.declared.measure.Measure.TheVariants.{Calls, Exits, Fails, Redos, Allocs, Words, Excps}
 use Rattle.md_trace.specs.declared.event.Event.{Event}
-use Rattle.md_trace.specs.declared.event.Event.TheVariants.{Call, Exit, Redo, Fail, Alloc}
-use Rattle.md_trace.specs.PortHistory.{SiteTable, IsPortHistory}
+use Rattle.md_trace.specs.declared.event.Event.TheVariants.{Call, Exit, Redo, Fail, Excp, Alloc}
+use Rattle.md_trace.specs.Balance.{last_port}
+use Rattle.md_trace.specs.PortHistory.{SiteTable, IsPortHistory, current}
 use Rattle.md_trace.specs.Context.{placed_of, contexts, has_link}
 use Rattle.md_trace.specs.Links.{Leading, links, root_link}
 use Rattle.md_trace.specs.Totals.{own, in_context, in_procedure, at_site, in_module, link_total, clique_total, context_total, procedure_total, site_total, module_total}
@@ -38,19 +41,19 @@ from c s q to = record { link = record { caller = Some c; site = Some s; procedu
 abbrev from_nowhere : Leading
 from_nowhere = record { link = root_link 0; to = 0 }
 
-abbrev all_links : List Event → List Leading
+abbrev pub all_links : List Event → List Leading
 all_links h = links 0 (placed_of 0 h)
 
 abbrev all_contexts : List Event → List ℕ
 all_contexts h = contexts 0 (placed_of 0 h)
 
--- the six counts, in the order in which they are always written
-abbrev six : (Measure → ℕ) → List ℕ
-six f = f Calls ∷ f Exits ∷ f Fails ∷ f Redos ∷ f Allocs ∷ f Words ∷ []
+-- the seven counts, in the order in which they are always written
+abbrev seven : (Measure → ℕ) → List ℕ
+seven f = f Calls ∷ f Exits ∷ f Fails ∷ f Redos ∷ f Allocs ∷ f Words ∷ f Excps ∷ []
 
 -- the own counts of each link
 abbrev own_of_links : List Event → List (List ℕ)
-own_of_links h = map (λ (l : Leading). six (own 0 h (has_link l.link))) (all_links h)
+own_of_links h = map (λ (l : Leading). seven (own 0 h (has_link l.link))) (all_links h)
 
 abbrev pub count : List Event
 count = told (started ∷ called 1 0 0 1 ∷ called 2 1 1 1 ∷ called 3 2 1 1 ∷ called 4 3 1 1 ∷ Exit 4 ∷ Exit 3 ∷ Exit 2 ∷ Exit 1 ∷ Exit 0 ∷ [])
@@ -67,7 +70,7 @@ count_contexts = refl
 count_links : all_links count ≡ from_nowhere ∷ from 0 0 1 1 ∷ from 1 1 1 1 ∷ []
 count_links = refl
 
-count_own : own_of_links count ≡ (1 ∷ 1 ∷ 0 ∷ 0 ∷ 0 ∷ 0 ∷ []) ∷ (1 ∷ 1 ∷ 0 ∷ 0 ∷ 0 ∷ 0 ∷ []) ∷ (3 ∷ 3 ∷ 0 ∷ 0 ∷ 0 ∷ 0 ∷ []) ∷ []
+count_own : own_of_links count ≡ (1 ∷ 1 ∷ 0 ∷ 0 ∷ 0 ∷ 0 ∷ 0 ∷ []) ∷ (1 ∷ 1 ∷ 0 ∷ 0 ∷ 0 ∷ 0 ∷ 0 ∷ []) ∷ (3 ∷ 3 ∷ 0 ∷ 0 ∷ 0 ∷ 0 ∷ 0 ∷ []) ∷ []
 count_own = refl
 
 abbrev pub order1 : List Event
@@ -85,7 +88,7 @@ order1_contexts = refl
 order1_links : all_links order1 ≡ from_nowhere ∷ from 0 0 1 1 ∷ from 1 2 2 2 ∷ from 2 3 1 1 ∷ from 1 1 3 3 ∷ from 3 4 2 2 ∷ []
 order1_links = refl
 
-order1_own : own_of_links order1 ≡ (1 ∷ 1 ∷ 0 ∷ 0 ∷ 0 ∷ 0 ∷ []) ∷ (1 ∷ 1 ∷ 0 ∷ 0 ∷ 0 ∷ 0 ∷ []) ∷ (1 ∷ 1 ∷ 0 ∷ 0 ∷ 0 ∷ 0 ∷ []) ∷ (1 ∷ 1 ∷ 0 ∷ 0 ∷ 0 ∷ 0 ∷ []) ∷ (1 ∷ 1 ∷ 0 ∷ 0 ∷ 0 ∷ 0 ∷ []) ∷ (1 ∷ 1 ∷ 0 ∷ 0 ∷ 0 ∷ 0 ∷ []) ∷ []
+order1_own : own_of_links order1 ≡ (1 ∷ 1 ∷ 0 ∷ 0 ∷ 0 ∷ 0 ∷ 0 ∷ []) ∷ (1 ∷ 1 ∷ 0 ∷ 0 ∷ 0 ∷ 0 ∷ 0 ∷ []) ∷ (1 ∷ 1 ∷ 0 ∷ 0 ∷ 0 ∷ 0 ∷ 0 ∷ []) ∷ (1 ∷ 1 ∷ 0 ∷ 0 ∷ 0 ∷ 0 ∷ 0 ∷ []) ∷ (1 ∷ 1 ∷ 0 ∷ 0 ∷ 0 ∷ 0 ∷ 0 ∷ []) ∷ (1 ∷ 1 ∷ 0 ∷ 0 ∷ 0 ∷ 0 ∷ 0 ∷ []) ∷ []
 order1_own = refl
 
 abbrev pub order2 : List Event
@@ -103,7 +106,7 @@ order2_contexts = refl
 order2_links : all_links order2 ≡ from_nowhere ∷ from 0 0 1 1 ∷ from 1 1 3 2 ∷ from 2 4 2 3 ∷ from 1 2 2 4 ∷ from 4 3 1 1 ∷ []
 order2_links = refl
 
-order2_own : own_of_links order2 ≡ (1 ∷ 1 ∷ 0 ∷ 0 ∷ 0 ∷ 0 ∷ []) ∷ (1 ∷ 1 ∷ 0 ∷ 0 ∷ 0 ∷ 0 ∷ []) ∷ (2 ∷ 2 ∷ 0 ∷ 0 ∷ 0 ∷ 0 ∷ []) ∷ (2 ∷ 2 ∷ 0 ∷ 0 ∷ 0 ∷ 0 ∷ []) ∷ (1 ∷ 1 ∷ 0 ∷ 0 ∷ 0 ∷ 0 ∷ []) ∷ (1 ∷ 1 ∷ 0 ∷ 0 ∷ 0 ∷ 0 ∷ []) ∷ []
+order2_own : own_of_links order2 ≡ (1 ∷ 1 ∷ 0 ∷ 0 ∷ 0 ∷ 0 ∷ 0 ∷ []) ∷ (1 ∷ 1 ∷ 0 ∷ 0 ∷ 0 ∷ 0 ∷ 0 ∷ []) ∷ (2 ∷ 2 ∷ 0 ∷ 0 ∷ 0 ∷ 0 ∷ 0 ∷ []) ∷ (2 ∷ 2 ∷ 0 ∷ 0 ∷ 0 ∷ 0 ∷ 0 ∷ []) ∷ (1 ∷ 1 ∷ 0 ∷ 0 ∷ 0 ∷ 0 ∷ 0 ∷ []) ∷ (1 ∷ 1 ∷ 0 ∷ 0 ∷ 0 ∷ 0 ∷ 0 ∷ []) ∷ []
 order2_own = refl
 
 abbrev pub ho : List Event
@@ -121,7 +124,7 @@ ho_contexts = refl
 ho_links : all_links ho ≡ from_nowhere ∷ from 0 0 1 1 ∷ from 1 1 2 2 ∷ from 1 2 1 1 ∷ from 1 1 3 3 ∷ []
 ho_links = refl
 
-ho_own : own_of_links ho ≡ (1 ∷ 1 ∷ 0 ∷ 0 ∷ 2 ∷ 7 ∷ []) ∷ (1 ∷ 1 ∷ 0 ∷ 0 ∷ 0 ∷ 0 ∷ []) ∷ (2 ∷ 2 ∷ 0 ∷ 0 ∷ 0 ∷ 0 ∷ []) ∷ (3 ∷ 3 ∷ 0 ∷ 0 ∷ 0 ∷ 0 ∷ []) ∷ (1 ∷ 1 ∷ 0 ∷ 0 ∷ 0 ∷ 0 ∷ []) ∷ []
+ho_own : own_of_links ho ≡ (1 ∷ 1 ∷ 0 ∷ 0 ∷ 2 ∷ 7 ∷ 0 ∷ []) ∷ (1 ∷ 1 ∷ 0 ∷ 0 ∷ 0 ∷ 0 ∷ 0 ∷ []) ∷ (2 ∷ 2 ∷ 0 ∷ 0 ∷ 0 ∷ 0 ∷ 0 ∷ []) ∷ (3 ∷ 3 ∷ 0 ∷ 0 ∷ 0 ∷ 0 ∷ 0 ∷ []) ∷ (1 ∷ 1 ∷ 0 ∷ 0 ∷ 0 ∷ 0 ∷ 0 ∷ []) ∷ []
 ho_own = refl
 
 abbrev pub loop : List Event
@@ -139,7 +142,7 @@ loop_contexts = refl
 loop_links : all_links loop ≡ from_nowhere ∷ from 0 0 1 1 ∷ from 1 1 1 1 ∷ []
 loop_links = refl
 
-loop_own : own_of_links loop ≡ (1 ∷ 1 ∷ 0 ∷ 0 ∷ 0 ∷ 0 ∷ []) ∷ (1 ∷ 1 ∷ 0 ∷ 0 ∷ 1 ∷ 4 ∷ []) ∷ (2 ∷ 2 ∷ 0 ∷ 0 ∷ 1 ∷ 4 ∷ []) ∷ []
+loop_own : own_of_links loop ≡ (1 ∷ 1 ∷ 0 ∷ 0 ∷ 0 ∷ 0 ∷ 0 ∷ []) ∷ (1 ∷ 1 ∷ 0 ∷ 0 ∷ 1 ∷ 4 ∷ 0 ∷ []) ∷ (2 ∷ 2 ∷ 0 ∷ 0 ∷ 1 ∷ 4 ∷ 0 ∷ []) ∷ []
 loop_own = refl
 
 abbrev pub none : List Event
@@ -157,7 +160,7 @@ none_contexts = refl
 none_links : all_links none ≡ from_nowhere ∷ from 0 0 1 1 ∷ from 1 1 1 1 ∷ []
 none_links = refl
 
-none_own : own_of_links none ≡ (1 ∷ 1 ∷ 0 ∷ 0 ∷ 3 ∷ 6 ∷ []) ∷ (1 ∷ 3 ∷ 1 ∷ 3 ∷ 0 ∷ 0 ∷ []) ∷ (3 ∷ 3 ∷ 3 ∷ 3 ∷ 0 ∷ 0 ∷ []) ∷ []
+none_own : own_of_links none ≡ (1 ∷ 1 ∷ 0 ∷ 0 ∷ 3 ∷ 6 ∷ 0 ∷ []) ∷ (1 ∷ 3 ∷ 1 ∷ 3 ∷ 0 ∷ 0 ∷ 0 ∷ []) ∷ (3 ∷ 3 ∷ 3 ∷ 3 ∷ 0 ∷ 0 ∷ 0 ∷ []) ∷ []
 none_own = refl
 
 abbrev pub some : List Event
@@ -175,7 +178,7 @@ some_contexts = refl
 some_links : all_links some ≡ from_nowhere ∷ from 0 0 1 1 ∷ []
 some_links = refl
 
-some_own : own_of_links some ≡ (1 ∷ 1 ∷ 0 ∷ 0 ∷ 3 ∷ 6 ∷ []) ∷ (1 ∷ 1 ∷ 0 ∷ 0 ∷ 0 ∷ 0 ∷ []) ∷ []
+some_own : own_of_links some ≡ (1 ∷ 1 ∷ 0 ∷ 0 ∷ 3 ∷ 6 ∷ 0 ∷ []) ∷ (1 ∷ 1 ∷ 0 ∷ 0 ∷ 0 ∷ 0 ∷ 0 ∷ []) ∷ []
 some_own = refl
 
 abbrev pub even : List Event
@@ -193,7 +196,7 @@ even_contexts = refl
 even_links : all_links even ≡ from_nowhere ∷ from 0 0 1 1 ∷ from 1 1 2 2 ∷ from 2 2 1 1 ∷ []
 even_links = refl
 
-even_own : own_of_links even ≡ (1 ∷ 1 ∷ 0 ∷ 0 ∷ 0 ∷ 0 ∷ []) ∷ (1 ∷ 1 ∷ 0 ∷ 0 ∷ 0 ∷ 0 ∷ []) ∷ (3 ∷ 3 ∷ 0 ∷ 0 ∷ 0 ∷ 0 ∷ []) ∷ (2 ∷ 2 ∷ 0 ∷ 0 ∷ 0 ∷ 0 ∷ []) ∷ []
+even_own : own_of_links even ≡ (1 ∷ 1 ∷ 0 ∷ 0 ∷ 0 ∷ 0 ∷ 0 ∷ []) ∷ (1 ∷ 1 ∷ 0 ∷ 0 ∷ 0 ∷ 0 ∷ 0 ∷ []) ∷ (3 ∷ 3 ∷ 0 ∷ 0 ∷ 0 ∷ 0 ∷ 0 ∷ []) ∷ (2 ∷ 2 ∷ 0 ∷ 0 ∷ 0 ∷ 0 ∷ 0 ∷ []) ∷ []
 even_own = refl
 
 abbrev pub mods : List Event
@@ -211,14 +214,46 @@ mods_contexts = refl
 mods_links : all_links mods ≡ from_nowhere ∷ from 0 0 1 1 ∷ from 1 1 2 2 ∷ from 2 2 3 3 ∷ []
 mods_links = refl
 
-mods_own : own_of_links mods ≡ (1 ∷ 1 ∷ 0 ∷ 0 ∷ 0 ∷ 0 ∷ []) ∷ (1 ∷ 1 ∷ 0 ∷ 0 ∷ 0 ∷ 0 ∷ []) ∷ (1 ∷ 1 ∷ 0 ∷ 0 ∷ 0 ∷ 0 ∷ []) ∷ (1 ∷ 1 ∷ 0 ∷ 0 ∷ 0 ∷ 0 ∷ []) ∷ []
+mods_own : own_of_links mods ≡ (1 ∷ 1 ∷ 0 ∷ 0 ∷ 0 ∷ 0 ∷ 0 ∷ []) ∷ (1 ∷ 1 ∷ 0 ∷ 0 ∷ 0 ∷ 0 ∷ 0 ∷ []) ∷ (1 ∷ 1 ∷ 0 ∷ 0 ∷ 0 ∷ 0 ∷ 0 ∷ []) ∷ (1 ∷ 1 ∷ 0 ∷ 0 ∷ 0 ∷ 0 ∷ 0 ∷ []) ∷ []
 mods_own = refl
+
+abbrev pub err : List Event
+err = told (started ∷ called 1 0 0 1 ∷ called 2 1 1 1 ∷ called 3 2 1 1 ∷ Excp 3 ∷ Excp 2 ∷ Excp 1 ∷ Excp 0 ∷ [])
+
+err_is_history : IsPortHistory count_table err
+err_is_history = search rules
+
+err_contexts : all_contexts err ≡ 0 ∷ 1 ∷ []
+err_contexts = refl
+
+err_own : own_of_links err ≡ (1 ∷ 0 ∷ 0 ∷ 0 ∷ 0 ∷ 0 ∷ 1 ∷ []) ∷ (1 ∷ 0 ∷ 0 ∷ 0 ∷ 0 ∷ 0 ∷ 1 ∷ []) ∷ (2 ∷ 0 ∷ 0 ∷ 0 ∷ 0 ∷ 0 ∷ 2 ∷ []) ∷ []
+err_own = refl
+
+-- pick had exited, and gets no exception
+abbrev pub boom : List Event
+boom = told (started ∷ called 1 0 0 1 ∷ Exit 1 ∷ Excp 0 ∷ [])
+
+abbrev pub boom_table : SiteTable
+boom_table = record { main = 0; procedures = 2; sites = record { owner = 0; callee = Some 1 } ∷ [] }
+
+boom_is_history : IsPortHistory boom_table boom
+boom_is_history = search rules
+
+boom_own : own_of_links boom ≡ (1 ∷ 0 ∷ 0 ∷ 0 ∷ 0 ∷ 0 ∷ 1 ∷ []) ∷ (1 ∷ 1 ∷ 0 ∷ 0 ∷ 0 ∷ 0 ∷ 0 ∷ []) ∷ []
+boom_own = refl
+
+boom_ends : (current boom ≡ None) × (last_port boom 0 ≡ Some (Excp 0)) × (last_port boom 1 ≡ Some (Exit 1))
+boom_ends = (refl, refl, refl)
+
+-- an exception leaves the activation that runs, and no other
+boom_early : IsPortHistory boom_table (told (started ∷ called 1 0 0 1 ∷ Excp 0 ∷ [])) → ⊥
+boom_early is = let e : Some 1 ≡ Some 0 = is.1 in absurd (cc)
 
 -- totals, with the number of each context's clique
 
 count_totals :
-    (six (clique_total 0 count (0 ∷ 1 ∷ []) 1) ≡ 4 ∷ 4 ∷ 0 ∷ 0 ∷ 0 ∷ 0 ∷ []) × (six (own 0 count (in_context 1)) ≡ 4 ∷ 4 ∷ 0 ∷ 0 ∷ 0 ∷ 0 ∷ [])
-    × (six (context_total 0 count (0 ∷ 1 ∷ []) 1) ≡ 4 ∷ 4 ∷ 0 ∷ 0 ∷ 0 ∷ 0 ∷ [])
+    (seven (clique_total 0 count (0 ∷ 1 ∷ []) 1) ≡ 4 ∷ 4 ∷ 0 ∷ 0 ∷ 0 ∷ 0 ∷ 0 ∷ []) × (seven (own 0 count (in_context 1)) ≡ 4 ∷ 4 ∷ 0 ∷ 0 ∷ 0 ∷ 0 ∷ 0 ∷ [])
+    × (seven (context_total 0 count (0 ∷ 1 ∷ []) 1) ≡ 4 ∷ 4 ∷ 0 ∷ 0 ∷ 0 ∷ 0 ∷ 0 ∷ [])
 count_totals = (refl, refl, refl)
 
 -- the first context of x, called by main, and the context of r, called by x, are in one clique
@@ -226,28 +261,28 @@ abbrev order2_cliques : List ℕ
 order2_cliques = 0 ∷ 1 ∷ 2 ∷ 3 ∷ 1 ∷ []
 
 order2_totals :
-    (six (clique_total 0 order2 order2_cliques 1) ≡ 7 ∷ 7 ∷ 0 ∷ 0 ∷ 0 ∷ 0 ∷ []) × (six (own 0 order2 (in_context 1)) ≡ 2 ∷ 2 ∷ 0 ∷ 0 ∷ 0 ∷ 0 ∷ [])
-    × (six (context_total 0 order2 order2_cliques 1) ≡ 6 ∷ 6 ∷ 0 ∷ 0 ∷ 0 ∷ 0 ∷ [])
-    × (six (context_total 0 order2 order2_cliques 4) ≡ 1 ∷ 1 ∷ 0 ∷ 0 ∷ 0 ∷ 0 ∷ [])
-    × (six (link_total 0 order2 (from 1 1 3 2).link) ≡ 4 ∷ 4 ∷ 0 ∷ 0 ∷ 0 ∷ 0 ∷ [])
+    (seven (clique_total 0 order2 order2_cliques 1) ≡ 7 ∷ 7 ∷ 0 ∷ 0 ∷ 0 ∷ 0 ∷ 0 ∷ []) × (seven (own 0 order2 (in_context 1)) ≡ 2 ∷ 2 ∷ 0 ∷ 0 ∷ 0 ∷ 0 ∷ 0 ∷ [])
+    × (seven (context_total 0 order2 order2_cliques 1) ≡ 6 ∷ 6 ∷ 0 ∷ 0 ∷ 0 ∷ 0 ∷ 0 ∷ [])
+    × (seven (context_total 0 order2 order2_cliques 4) ≡ 1 ∷ 1 ∷ 0 ∷ 0 ∷ 0 ∷ 0 ∷ 0 ∷ [])
+    × (seven (link_total 0 order2 (from 1 1 3 2).link) ≡ 4 ∷ 4 ∷ 0 ∷ 0 ∷ 0 ∷ 0 ∷ 0 ∷ [])
 order2_totals = (refl, refl, refl, refl, refl)
 
 abbrev order1_cliques : List ℕ
 order1_cliques = 0 ∷ 1 ∷ 1 ∷ 1 ∷ []
 
 order1_totals :
-    (six (clique_total 0 order1 order1_cliques 1) ≡ 5 ∷ 5 ∷ 0 ∷ 0 ∷ 0 ∷ 0 ∷ []) × (six (context_total 0 order1 order1_cliques 1) ≡ 2 ∷ 2 ∷ 0 ∷ 0 ∷ 0 ∷ 0 ∷ [])
-    × (six (context_total 0 order1 order1_cliques 2) ≡ 2 ∷ 2 ∷ 0 ∷ 0 ∷ 0 ∷ 0 ∷ [])
-    × (six (context_total 0 order1 order1_cliques 3) ≡ 1 ∷ 1 ∷ 0 ∷ 0 ∷ 0 ∷ 0 ∷ [])
+    (seven (clique_total 0 order1 order1_cliques 1) ≡ 5 ∷ 5 ∷ 0 ∷ 0 ∷ 0 ∷ 0 ∷ 0 ∷ []) × (seven (context_total 0 order1 order1_cliques 1) ≡ 2 ∷ 2 ∷ 0 ∷ 0 ∷ 0 ∷ 0 ∷ 0 ∷ [])
+    × (seven (context_total 0 order1 order1_cliques 2) ≡ 2 ∷ 2 ∷ 0 ∷ 0 ∷ 0 ∷ 0 ∷ 0 ∷ [])
+    × (seven (context_total 0 order1 order1_cliques 3) ≡ 1 ∷ 1 ∷ 0 ∷ 0 ∷ 0 ∷ 0 ∷ 0 ∷ [])
 order1_totals = (refl, refl, refl, refl)
 
 -- the site in even has calls of its own, and no link there leaves the clique of even and odd
 even_totals :
-    (six (procedure_total 0 even (0 ∷ 1 ∷ 1 ∷ []) 0) ≡ 7 ∷ 7 ∷ 0 ∷ 0 ∷ 0 ∷ 0 ∷ []) × (six (procedure_total 0 even (0 ∷ 1 ∷ 1 ∷ []) 1) ≡ 3 ∷ 3 ∷ 0 ∷ 0 ∷ 0 ∷ 0 ∷ [])
-    × (six (own 0 even (in_procedure 1)) ≡ 3 ∷ 3 ∷ 0 ∷ 0 ∷ 0 ∷ 0 ∷ [])
-    × (six (own 0 even (at_site 1)) ≡ 3 ∷ 3 ∷ 0 ∷ 0 ∷ 0 ∷ 0 ∷ [])
-    × (six (site_total 0 even (0 ∷ 1 ∷ 1 ∷ []) 1) ≡ 0 ∷ 0 ∷ 0 ∷ 0 ∷ 0 ∷ 0 ∷ [])
-    × (six (site_total 0 even (0 ∷ 1 ∷ 1 ∷ []) 0) ≡ 6 ∷ 6 ∷ 0 ∷ 0 ∷ 0 ∷ 0 ∷ [])
+    (seven (procedure_total 0 even (0 ∷ 1 ∷ 1 ∷ []) 0) ≡ 7 ∷ 7 ∷ 0 ∷ 0 ∷ 0 ∷ 0 ∷ 0 ∷ []) × (seven (procedure_total 0 even (0 ∷ 1 ∷ 1 ∷ []) 1) ≡ 3 ∷ 3 ∷ 0 ∷ 0 ∷ 0 ∷ 0 ∷ 0 ∷ [])
+    × (seven (own 0 even (in_procedure 1)) ≡ 3 ∷ 3 ∷ 0 ∷ 0 ∷ 0 ∷ 0 ∷ 0 ∷ [])
+    × (seven (own 0 even (at_site 1)) ≡ 3 ∷ 3 ∷ 0 ∷ 0 ∷ 0 ∷ 0 ∷ 0 ∷ [])
+    × (seven (site_total 0 even (0 ∷ 1 ∷ 1 ∷ []) 1) ≡ 0 ∷ 0 ∷ 0 ∷ 0 ∷ 0 ∷ 0 ∷ 0 ∷ [])
+    × (seven (site_total 0 even (0 ∷ 1 ∷ 1 ∷ []) 0) ≡ 6 ∷ 6 ∷ 0 ∷ 0 ∷ 0 ∷ 0 ∷ 0 ∷ [])
 even_totals = (refl, refl, refl, refl, refl, refl)
 
 -- module a (number 1) is twice among the stations of the last activation, whose events count once
@@ -255,16 +290,22 @@ abbrev mods_modules : List ℕ
 mods_modules = 0 ∷ 1 ∷ 2 ∷ 1 ∷ []
 
 mods_totals :
-    (six (module_total 0 mods (0 ∷ 1 ∷ 2 ∷ 3 ∷ []) mods_modules 0) ≡ 4 ∷ 4 ∷ 0 ∷ 0 ∷ 0 ∷ 0 ∷ [])
-    × (six (module_total 0 mods (0 ∷ 1 ∷ 2 ∷ 3 ∷ []) mods_modules 1) ≡ 3 ∷ 3 ∷ 0 ∷ 0 ∷ 0 ∷ 0 ∷ [])
-    × (six (module_total 0 mods (0 ∷ 1 ∷ 2 ∷ 3 ∷ []) mods_modules 2) ≡ 2 ∷ 2 ∷ 0 ∷ 0 ∷ 0 ∷ 0 ∷ [])
-    × (six (own 0 mods (in_module mods_modules 1)) ≡ 2 ∷ 2 ∷ 0 ∷ 0 ∷ 0 ∷ 0 ∷ [])
+    (seven (module_total 0 mods (0 ∷ 1 ∷ 2 ∷ 3 ∷ []) mods_modules 0) ≡ 4 ∷ 4 ∷ 0 ∷ 0 ∷ 0 ∷ 0 ∷ 0 ∷ [])
+    × (seven (module_total 0 mods (0 ∷ 1 ∷ 2 ∷ 3 ∷ []) mods_modules 1) ≡ 3 ∷ 3 ∷ 0 ∷ 0 ∷ 0 ∷ 0 ∷ 0 ∷ [])
+    × (seven (module_total 0 mods (0 ∷ 1 ∷ 2 ∷ 3 ∷ []) mods_modules 2) ≡ 2 ∷ 2 ∷ 0 ∷ 0 ∷ 0 ∷ 0 ∷ 0 ∷ [])
+    × (seven (own 0 mods (in_module mods_modules 1)) ≡ 2 ∷ 2 ∷ 0 ∷ 0 ∷ 0 ∷ 0 ∷ 0 ∷ [])
 mods_totals = (refl, refl, refl, refl)
 
 -- calls and redos together are ten, as are exits and fails
-none_totals : six (clique_total 0 none (0 ∷ 1 ∷ []) 1) ≡ 4 ∷ 6 ∷ 4 ∷ 6 ∷ 0 ∷ 0 ∷ []
+none_totals : seven (clique_total 0 none (0 ∷ 1 ∷ []) 1) ≡ 4 ∷ 6 ∷ 4 ∷ 6 ∷ 0 ∷ 0 ∷ 0 ∷ []
 none_totals = refl
 
 -- an allocation counts for the activation that makes it, and in the total of what called it
-loop_totals : (six (own 0 loop (in_context 1)) ≡ 3 ∷ 3 ∷ 0 ∷ 0 ∷ 2 ∷ 8 ∷ []) × (six (link_total 0 loop (from 0 0 1 1).link) ≡ 3 ∷ 3 ∷ 0 ∷ 0 ∷ 2 ∷ 8 ∷ [])
+loop_totals : (seven (own 0 loop (in_context 1)) ≡ 3 ∷ 3 ∷ 0 ∷ 0 ∷ 2 ∷ 8 ∷ 0 ∷ []) × (seven (link_total 0 loop (from 0 0 1 1).link) ≡ 3 ∷ 3 ∷ 0 ∷ 0 ∷ 2 ∷ 8 ∷ 0 ∷ [])
 loop_totals = (refl, refl)
+
+err_totals : (seven (own 0 err (in_context 1)) ≡ 3 ∷ 0 ∷ 0 ∷ 0 ∷ 0 ∷ 0 ∷ 3 ∷ []) × (seven (clique_total 0 err (0 ∷ 1 ∷ []) 1) ≡ 3 ∷ 0 ∷ 0 ∷ 0 ∷ 0 ∷ 0 ∷ 3 ∷ [])
+err_totals = (refl, refl)
+
+boom_totals : (seven (procedure_total 0 boom (0 ∷ 1 ∷ []) 0) ≡ 2 ∷ 1 ∷ 0 ∷ 0 ∷ 0 ∷ 0 ∷ 1 ∷ []) × (seven (procedure_total 0 boom (0 ∷ 1 ∷ []) 1) ≡ 1 ∷ 1 ∷ 0 ∷ 0 ∷ 0 ∷ 0 ∷ 0 ∷ [])
+boom_totals = (refl, refl)

@@ -3,7 +3,7 @@
 use Rattle.std.specs.Prelude.{ℕ, ◌==◌, List, [], ◌∷◌, length, Option, Some, None, if◌then◌else◌, option_and_then}
 use Rattle.std.specs.Option.{option_map}
 use Rattle.md_trace.specs.declared.event.Event.{Event}
-use Rattle.md_trace.specs.declared.event.Event.TheVariants.{Call, Exit, Redo, Fail, Alloc}
+use Rattle.md_trace.specs.declared.event.Event.TheVariants.{Call, Exit, Redo, Fail, Excp, Alloc}
 
 -- one call of a procedure: the activation that called it, and the call site; the main procedure's has neither
 pub record Activation : Type 0 where
@@ -18,6 +18,7 @@ activations (Call a p s q ∷ h) = record { parent = p; site = s; procedure = q 
 activations (Exit a ∷ h) = activations h
 activations (Redo a ∷ h) = activations h
 activations (Fail a ∷ h) = activations h
+activations (Excp a ∷ h) = activations h
 activations (Alloc a w ∷ h) = activations h
 
 -- the member of number n in a list whose last member has number 0, whose last but one has number 1, and so on

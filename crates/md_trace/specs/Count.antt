@@ -2,10 +2,10 @@
 use Rattle.std.specs.Prelude.{ℕ, ◌+◌, ◌&&◌, Bool, false, List, [], ◌∷◌, min, Option, Some, None, if◌then◌else◌, sum_by}
 use Rattle.md_base.specs.declared.measure.Counts.{Counts}
 use Rattle.md_base.specs.declared.measure.Measure.{Measure}
-use Rattle.md_base.specs.declared.measure.Measure.TheVariants.{Calls, Exits, Fails, Redos, Allocs, Words}
+use Rattle.md_base.specs.declared.measure.Measure.TheVariants.{Calls, Exits, Fails, Redos, Allocs, Words, Excps}
 pub use Rattle.md_base.specs.Counts.{count_of, with_more}
 use Rattle.md_trace.specs.declared.event.Event.{Event}
-use Rattle.md_trace.specs.declared.event.Event.TheVariants.{Call, Exit, Redo, Fail, Alloc}
+use Rattle.md_trace.specs.declared.event.Event.TheVariants.{Call, Exit, Redo, Fail, Excp, Alloc}
 use Rattle.md_trace.specs.Activation.{numbered}
 use Rattle.md_trace.specs.Context.{Link, Placed, placed_of, has_link}
 use Rattle.md_trace.specs.Links.{links}
@@ -16,6 +16,7 @@ activation_of (Call a p s q) = a
 activation_of (Exit a) = a
 activation_of (Redo a) = a
 activation_of (Fail a) = a
+activation_of (Excp a) = a
 activation_of (Alloc a w) = a
 
 -- what an event adds to a measure: one to its own, and an allocation its words to the words
@@ -24,6 +25,7 @@ amount Calls (Call a p s q) = 1
 amount Exits (Exit a) = 1
 amount Redos (Redo a) = 1
 amount Fails (Fail a) = 1
+amount Excps (Excp a) = 1
 amount Allocs (Alloc a w) = 1
 amount Words (Alloc a w) = w
 amount m e = 0
@@ -56,9 +58,9 @@ abbrev pub count_over : ℕ → List Event → (ℕ → Bool) → Measure → �
 count_over main h test m =
     sum_by (λ l. capped (sum_where (λ a. test a && passing (placed_of main h) (has_link l.link) a) m h)) (links main (placed_of main h))
 
--- six counts, each given by its measure
+-- seven counts, each given by its measure
 abbrev pub counts_by : (Measure → ℕ) → Counts
-counts_by f = record { calls = f Calls; exits = f Exits; fails = f Fails; redos = f Redos; allocs = f Allocs; words = f Words }
+counts_by f = record { calls = f Calls; exits = f Exits; fails = f Fails; redos = f Redos; allocs = f Allocs; words = f Words; excps = f Excps }
 
 -- the counts of the activations that pass a test of their numbers, each up to the greatest number
 abbrev pub counts_where : (ℕ → Bool) → List Event → Counts

@@ -4,7 +4,7 @@ use Rattle.std.proofs.Common.{inl, inr, arith}
 use Rattle.std.proofs.lemmas.Bool.{ne_eqb}
 use Rattle.std.proofs.lemmas.Bool.Decides.{eqb_tells}
 use Rattle.md_trace.specs.declared.event.Event.{Event}
-use Rattle.md_trace.specs.declared.event.Event.TheVariants.{Call, Exit, Redo, Fail, Alloc}
+use Rattle.md_trace.specs.declared.event.Event.TheVariants.{Call, Exit, Redo, Fail, Excp, Alloc}
 use Rattle.md_trace.specs.Activation.{Activation, activations, procedure_of}
 use Rattle.md_trace.specs.PortHistory.{SiteTable, IsPortHistory}
 
@@ -23,4 +23,5 @@ procedure-stays q t h (Call b p s r) a is was = rw (ne_eqb a (length (activation
 procedure-stays q t h (Exit b) a is was = was
 procedure-stays q t h (Redo b) a is was = was
 procedure-stays q t h (Fail b) a is was = was
+procedure-stays q t h (Excp b) a is was = was
 procedure-stays q t h (Alloc b w) a is was = was

@@ -1,9 +1,9 @@
 -- Port histories: which lists of events a program with given call sites can make, whatever its goals do.
 -- The ports are those of the box model (Byrd 1980): an activation is entered by its Call or a Redo and left by
--- an Exit or its Fail. What is cut has no further ports.
+-- an Exit, its Fail or, where an exception leaves it, an Excp. What is cut has no further ports.
 use Rattle.std.specs.Prelude.{ℕ, ◌≡◌, ◌==◌, ◌<◌, Bool, true, false, List, [], ◌∷◌, length, All, Option, Some, None, if◌then◌else◌, IsSomeAnd, MatchOption, IfSome, slice_get}
 use Rattle.md_trace.specs.declared.event.Event.{Event}
-use Rattle.md_trace.specs.declared.event.Event.TheVariants.{Call, Exit, Redo, Fail, Alloc}
+use Rattle.md_trace.specs.declared.event.Event.TheVariants.{Call, Exit, Redo, Fail, Excp, Alloc}
 use Rattle.md_trace.specs.Activation.{activations, parent_of, procedure_of}
 
 -- a call site: the procedure that has it, and the one that it calls, or none where it is higher-order
@@ -30,6 +30,7 @@ current (Call a p s q ∷ h) = Some a
 current (Exit a ∷ h) = parent_of (activations h) a
 current (Redo a ∷ h) = Some a
 current (Fail a ∷ h) = parent_of (activations h) a
+current (Excp a ∷ h) = parent_of (activations h) a
 current (Alloc a w ∷ h) = current h
 
 -- the last port of activation a is an Exit
@@ -39,6 +40,7 @@ has_exited (Call b p s q ∷ h) a = if a == b then false else has_exited h a
 has_exited (Exit b ∷ h) a = if a == b then true else has_exited h a
 has_exited (Redo b ∷ h) a = if a == b then false else has_exited h a
 has_exited (Fail b ∷ h) a = if a == b then false else has_exited h a
+has_exited (Excp b ∷ h) a = if a == b then false else has_exited h a
 has_exited (Alloc b w ∷ h) a = has_exited h a
 
 -- a site of the procedure `owner` may call q: its callee, or any procedure where the site is higher-order
@@ -63,6 +65,7 @@ MayFollow t h (Call a p s q) = (a ≡ length (activations h)) × HasRoom h × (p
 MayFollow t h (Exit a) = current h ≡ Some a
 MayFollow t h (Redo a) = (has_exited h a ≡ true) × (parent_of (activations h) a ≡ current h)
 MayFollow t h (Fail a) = current h ≡ Some a
+MayFollow t h (Excp a) = current h ≡ Some a
 MayFollow t h (Alloc a w) = current h ≡ Some a
 
 -- each event of h may come after those before it

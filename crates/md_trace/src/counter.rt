@@ -6,7 +6,7 @@ use md_base::{Counts, Measure, NoMemory, ProcId, SiteId};
 use std::alloc::Global;
 use std::marker::Model;
 
-/// Keeps the six own counts of each procedure, and the procedures of the current activation's chain.
+/// Keeps the seven own counts of each procedure, and the procedures of the current activation's chain.
 #[derive(Debug, Drop)]
 pub struct Counter {
     own: Vec<Counts>,
@@ -30,7 +30,7 @@ impl Counter {
 
     /// A counter for this many procedures, with counts of 0.
     pub fn new(alloc: Global, procs: u32) -> Result<Counter, NoMemory>
-        ensures own { IfOk result (λ counter. counter.own ≡ replicate procs (record { calls = 0; exits = 0; fails = 0; redos = 0; allocs = 0; words = 0 })) }
+        ensures own { IfOk result (λ counter. counter.own ≡ replicate procs (record { calls = 0; exits = 0; fails = 0; redos = 0; allocs = 0; words = 0; excps = 0 })) }
         ensures chain { IfOk result (λ counter. counter.chain ≡ []) }
         ensures stands { IfOk result (λ counter. (t : SiteTable) → IsSiteTable t → t.procedures ≡ procs → CountsFor counter t []) }
     {
@@ -121,6 +121,11 @@ impl PortSink for Counter {
 
     fn fail(&mut self, mark: &ProcId) {
         self.count(*mark, Measure::Fails, 1);
+        self.leave();
+    }
+
+    fn excp(&mut self, mark: &ProcId) {
+        self.count(*mark, Measure::Excps, 1);
         self.leave();
     }
 

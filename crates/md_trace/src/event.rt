@@ -24,6 +24,10 @@ pub enum Event {
     Fail {
         act: u32,
     },
+    /// An exception leaves it, and goes on to its caller.
+    Excp {
+        act: u32,
+    },
     /// It builds a term of this many words.
     Alloc {
         act: u32,

@@ -10,8 +10,9 @@ mod silent;
 #[cfg(test)]
 mod tests;
 
-pub use balance::{contexts_balance, links_balance};
+pub use balance::{activations_end, contexts_balance, links_balance};
 pub use counter::Counter;
 pub use event::Event;
+pub use md_base::Counts;
 pub use port_sink::PortSink;
 pub use silent::Silent;

@@ -1,7 +1,7 @@
 // A sink of port events, and what it stands for.
 ghost use Rattle.std.specs.Prelude.{ℕ, List, ◌∷◌, OnOk, OnErr, IfOk};
 ghost use Rattle.md_trace.specs.declared.event.Event.{Event};
-ghost use Rattle.md_trace.specs.declared.event.Event.TheVariants.{Exit, Redo, Fail};
+ghost use Rattle.md_trace.specs.declared.event.Event.TheVariants.{Exit, Redo, Fail, Excp};
 ghost use Rattle.md_trace.specs.PortHistory.{SiteTable, IsPortHistory};
 ghost use Rattle.md_trace.specs.Sinks.{CanTake, CanTakeMarked, Takes, TakesMarked, MarksNewest, StandsAsBefore, next_call, next_alloc};
 
@@ -50,6 +50,12 @@ pub trait PortSink {
     fn fail(&mut self, mark: &Self::Mark)
         requires { CanTakeMarked (stands_for self.old) (belongs mark.now) Fail }
         ensures taken { TakesMarked (stands_for self.old) (stands_for self.new) (belongs mark.now) Fail }
+        ensures alike { alike self.old self.new };
+
+    /// An exception leaves the current activation, whose mark this is.
+    fn excp(&mut self, mark: &Self::Mark)
+        requires { CanTakeMarked (stands_for self.old) (belongs mark.now) Excp }
+        ensures taken { TakesMarked (stands_for self.old) (stands_for self.new) (belongs mark.now) Excp }
         ensures alike { alike self.old self.new };
 
     /// The current activation builds a term of this many words.

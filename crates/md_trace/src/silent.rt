@@ -29,6 +29,8 @@ impl PortSink for Silent {
 
     fn fail(&mut self, _mark: &()) {}
 
+    fn excp(&mut self, _mark: &()) {}
+
     fn alloc(&mut self, _words: u32) {}
 
     ghost is_history = { λ s t h p. p };

@@ -1,27 +1,52 @@
 // Tables of small programs, and their events.
+ghost use Rattle.std.specs.Prelude.{IfOk};
+ghost use Rattle.md_static.specs.Sound.{IsSound};
+
+use crate::profile_of_events;
 use md_base::{Name, ProcId, SiteId};
-use md_static::{Proc, Site, SiteKind, Statics};
+use md_dynamic::Profile;
+use md_static::{Proc, Site, SiteKind, Statics, is_sound};
 use md_trace::Event;
 use std::alloc::Global;
 use std::test::Fail;
 
-/// The tables of a program of the module `t`: its procedures by name and number of arguments, and for each call site the
-/// procedure that has it and the one that it calls, or none where it is higher-order.
-pub fn tables(
-    alloc: Global,
-    procs: &[(&[u8], u8)],
-    sites: &[(u32, Option<u32>)],
-) -> Result<Statics, Fail> {
+/// The tables of a program of so many procedures, which are named by letters, the main procedure first; and for each call
+/// site the procedure that has it and the one that it calls, or none where it is higher-order.
+pub fn tables(alloc: Global, procs: u8, sites: &[(u32, Option<u32>)]) -> Result<Statics, Fail>
+    ensures { IfOk result IsSound }
+{
+    let statics = parts(alloc, procs, sites)?;
+    if is_sound(alloc, &statics)? {
+        Ok(statics)
+    } else {
+        Err(Fail::from("sound tables"))
+    }
+}
+
+fn parts(alloc: Global, procs: u8, sites: &[(u32, Option<u32>)]) -> Result<Statics, Fail> {
     let mut modules = Vec::new(alloc);
-    modules.push(name(alloc, b"t")?)?;
+    modules.push(letter(alloc, 0)?)?;
+    let letters = letters(alloc, procs)?;
+    Ok(Statics::from_parts(modules, letters, places(alloc, sites)?))
+}
+
+fn letter(alloc: Global, number: u8) -> Result<Name, Fail> {
+    Ok(Name::from_bytes(alloc, &[b'a'.wrapping_add(number)])?.ok_or("a name")?)
+}
+
+fn letters(alloc: Global, procs: u8) -> Result<Vec<Proc>, Fail> {
     let mut rows = Vec::new(alloc);
-    for (called, arity) in procs {
+    for number in 0..procs {
         rows.push(Proc {
             module: 0,
-            name: name(alloc, called)?,
-            arity: *arity,
+            name: letter(alloc, number)?,
+            arity: 2,
         })?;
     }
+    Ok(rows)
+}
+
+fn places(alloc: Global, sites: &[(u32, Option<u32>)]) -> Result<Vec<Site>, Fail> {
     let mut places = Vec::new(alloc);
     for (owner, callee) in sites {
         places.push(Site {
@@ -33,11 +58,14 @@ pub fn tables(
             },
         })?;
     }
-    Ok(Statics::from_parts(modules, rows, places))
+    Ok(places)
 }
 
-fn name(alloc: Global, bytes: &[u8]) -> Result<Name, Fail> {
-    Ok(Name::from_bytes(alloc, bytes)?.ok_or("a name")?)
+/// The profile of these events, the first one first, of a finished run of a program with these tables.
+pub fn profile(alloc: Global, statics: Statics, events: &[Event]) -> Result<Profile, Fail>
+    requires { IsSound statics }
+{
+    Ok(profile_of_events(alloc, statics, ProcId::new(0), events, true)?.ok_or("a port history")?)
 }
 
 /// The call of the main procedure.
@@ -72,6 +100,10 @@ pub fn fail(act: u32) -> Event {
     Event::Fail { act }
 }
 
+pub fn excp(act: u32) -> Event {
+    Event::Excp { act }
+}
+
 pub fn alloc_words(act: u32, words: u32) -> Event {
     Event::Alloc { act, words }
 }
@@ -84,19 +116,25 @@ pub enum Step {
     Exit(u32),
     Redo(u32),
     Fail(u32),
+    Excp(u32),
     Alloc(u32, u32),
 }
 
 impl Step {
-    /// The event itself.
-    pub fn event(self) -> Event {
+    fn event(self) -> Event {
         match self {
             Step::Begin => begin(),
             Step::Call(act, parent, site, callee) => call(act, parent, site, callee),
             Step::Exit(act) => exit(act),
             Step::Redo(act) => redo(act),
             Step::Fail(act) => fail(act),
+            Step::Excp(act) => excp(act),
             Step::Alloc(act, words) => alloc_words(act, words),
         }
     }
+}
+
+/// The events themselves.
+pub fn events_of(alloc: Global, steps: &[Step]) -> Result<Vec<Event>, Fail> {
+    Ok(steps.iter().map(|step| step.event()).collect(alloc)?)
 }

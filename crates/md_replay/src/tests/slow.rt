@@ -142,6 +142,7 @@ fn count(links: &mut Vec<Link>, all: &[Activation], event: Event) {
         Event::Call { act, .. } => (act, Measure::Calls),
         Event::Exit { act } => (act, Measure::Exits),
         Event::Fail { act } => (act, Measure::Fails),
+        Event::Excp { act } => (act, Measure::Excps),
         Event::Redo { act } => (act, Measure::Redos),
         Event::Alloc { act, .. } => (act, Measure::Allocs),
     };

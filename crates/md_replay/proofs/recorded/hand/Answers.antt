@@ -1,6 +1,6 @@
 use Rattle.std.proofs.Common.{◌<◌, ◌∙◌, [], ◌∷◌, ◌++◌, length, refl, sym, ap, subst, arith}
 use Rattle.md_trace.specs.declared.event.Event.{Event}
-use Rattle.md_trace.specs.declared.event.Event.TheVariants.{Call, Exit, Redo, Fail}
+use Rattle.md_trace.specs.declared.event.Event.TheVariants.{Call, Exit, Redo, Fail, Excp}
 use Rattle.md_trace.specs.PortHistory.{MayFollow}
 use Rattle.md_trace.specs.Sinks.{next_call}
 use Rattle.md_replay.specs.Replays.{StandsWith}
@@ -56,6 +56,13 @@ index-requires-in-Fail g c =
     let below = running r.table r.history c.in-Fail.act (g.met.S.PortSink.is_history c.args.sink.now r.table r.history r.stood.sink) may in
     omega (arith, below, r.stood.marked.each, c.args.marks.now.ok.0)
 
+pub index-requires-in-Excp : goal.index-requires-in-Excp
+index-requires-in-Excp g c =
+    let r = c.requires in
+    let may = subst (λ e. MayFollow r.table r.history e) c.in-Excp.is r.follows in
+    let below = running r.table r.history c.in-Excp.act (g.met.S.PortSink.is_history c.args.sink.now r.table r.history r.stood.sink) may in
+    omega (arith, below, r.stood.marked.each, c.args.marks.now.ok.0)
+
 pub fail-requires : goal.fail-requires
 fail-requires g c =
     let r = c.requires in
@@ -68,6 +75,20 @@ fail-requires g c =
       stood = r.stood.sink;
       owned = r.stood.marked.right c.in-Fail.act c.index-in-Fail.result.now (read-at c.args.marks.now.items c.in-Fail.act c.index-in-Fail.result.now below c.index-in-Fail.ensures);
       follows = subst (λ e. MayFollow r.table r.history e) c.in-Fail.is r.follows;
+    }
+
+pub excp-requires : goal.excp-requires
+excp-requires g c =
+    let r = c.requires in
+    let may = subst (λ e. MayFollow r.table r.history e) c.in-Excp.is r.follows in
+    let below : c.in-Excp.act < length c.args.marks.now.items = (let called = running r.table r.history c.in-Excp.act (g.met.S.PortSink.is_history c.args.sink.now r.table r.history r.stood.sink) may in omega (arith, called, r.stood.marked.each)) in
+    record {
+      table = r.table;
+      history = r.history;
+      activation = c.in-Excp.act;
+      stood = r.stood.sink;
+      owned = r.stood.marked.right c.in-Excp.act c.index-in-Excp.result.now (read-at c.args.marks.now.items c.in-Excp.act c.index-in-Excp.result.now below c.index-in-Excp.ensures);
+      follows = subst (λ e. MayFollow r.table r.history e) c.in-Excp.is r.follows;
     }
 
 pub returns-in-Exit-clause-ok : goal.returns-in-Exit-clause-ok
@@ -106,6 +127,19 @@ returns-in-Fail-clause-ok g c = λ t h st may.
     let R : Event → Type 0 = λ e. StandsWith (g.S.PortSink.stands_for c.fail.new.self) B c.args.marks.now.items t (e ∷ h) in
     subst R (sym c.in-Fail.is) (record {
       sink = c.fail.ensures.taken t h c.in-Fail.act st.sink (st.marked.right c.in-Fail.act c.index-in-Fail.result.now (read-at c.args.marks.now.items c.in-Fail.act c.index-in-Fail.result.now below c.index-in-Fail.ensures)) follows;
+      marked = marks-stay B t h event (λ m a b. g.met.S.PortSink.stays m t h event a (is, follows) b) c.args.marks.now.items refl st.marked;
+    })
+
+pub returns-in-Excp-clause-ok : goal.returns-in-Excp-clause-ok
+returns-in-Excp-clause-ok g c = λ t h st may.
+    let B = g.S.PortSink.belongs in
+    let event : Event = Excp c.in-Excp.act in
+    let follows : MayFollow t h event = subst (λ e. MayFollow t h e) c.in-Excp.is may in
+    let is = g.met.S.PortSink.is_history c.args.sink.now t h st.sink in
+    let below : c.in-Excp.act < length c.args.marks.now.items = (let called = running t h c.in-Excp.act is follows in omega (arith, called, st.marked.each)) in
+    let R : Event → Type 0 = λ e. StandsWith (g.S.PortSink.stands_for c.excp.new.self) B c.args.marks.now.items t (e ∷ h) in
+    subst R (sym c.in-Excp.is) (record {
+      sink = c.excp.ensures.taken t h c.in-Excp.act st.sink (st.marked.right c.in-Excp.act c.index-in-Excp.result.now (read-at c.args.marks.now.items c.in-Excp.act c.index-in-Excp.result.now below c.index-in-Excp.ensures)) follows;
       marked = marks-stay B t h event (λ m a b. g.met.S.PortSink.stays m t h event a (is, follows) b) c.args.marks.now.items refl st.marked;
     })
 

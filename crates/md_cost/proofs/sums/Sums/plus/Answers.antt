@@ -1,5 +1,5 @@
 use Rattle.std.proofs.Common.{arith}
-use Rattle.md_base.specs.declared.measure.Measure.TheVariants.{Calls, Exits, Fails, Redos, Allocs, Words}
+use Rattle.md_base.specs.declared.measure.Measure.TheVariants.{Calls, Exits, Fails, Redos, Allocs, Words, Excps}
 use Rattle.md_cost.proofs.sums.Sums.plus.Goals as goal
 
 pub overflow_add-result : goal.overflow_add-result
@@ -19,3 +19,6 @@ overflow_add-result-5 c = omega (arith, c.requires Allocs)
 
 pub overflow_add-result-6 : goal.overflow_add-result-6
 overflow_add-result-6 c = omega (arith, c.requires Words)
+
+pub overflow_add-result-7 : goal.overflow_add-result-7
+overflow_add-result-7 c = omega (arith, c.requires Excps)

@@ -1,6 +1,6 @@
 use Rattle.std.proofs.Common.{◌≡◌, ◌<◌, ◌∙◌, true, false, List, ◌∷◌, length, set, IfSome, Option, Some, slice_get, refl, sym, subst, arith}
 use Rattle.md_trace.specs.declared.event.Event.{Event}
-use Rattle.md_trace.specs.declared.event.Event.TheVariants.{Call, Exit, Redo, Fail}
+use Rattle.md_trace.specs.declared.event.Event.TheVariants.{Call, Exit, Redo, Fail, Excp}
 use Rattle.md_trace.specs.PortHistory.{MayFollow}
 use Rattle.md_trace.proofs.Lists.{get-there}
 use Rattle.md_replay.specs.declared.history.Row.{Row}
@@ -28,6 +28,13 @@ leave-requires-in-Fail c =
     let r = c.requires in
     let may = subst (λ e. MayFollow r.0 r.1 e) c.in-Fail.is r.4 in
     let called = running r.0 r.1 c.in-Fail.act r.2 may in
+    omega (arith, called, r.3.each)
+
+pub leave-requires-in-Excp : goal.leave-requires-in-Excp
+leave-requires-in-Excp c =
+    let r = c.requires in
+    let may = subst (λ e. MayFollow r.0 r.1 e) c.in-Excp.is r.4 in
+    let called = running r.0 r.1 c.in-Excp.act r.2 may in
     omega (arith, called, r.3.each)
 
 pub returns-in_ok-push-in-Call : goal.returns-in_ok-push-in-Call
@@ -72,3 +79,15 @@ returns-in-Fail c = λ t h is past may.
     let tells = row-tells rows c.args.self.now.current h a row.0 past row.1 in
     let P : Event → Type 0 = λ e. IsPast c.leave-in-Fail.new.self.rows.items c.leave-in-Fail.new.self.current (e ∷ h) in
     subst P (sym c.in-Fail.is) (past-set rows c.leave-in-Fail.new.self.rows.items c.args.self.now.current h (Fail a) a false row.0 c.leave-in-Fail.new.self.current past row.1 (subst R row.1 c.leave-in-Fail.ensures.rows) refl (λ x. refl) (subst N row.1 c.leave-in-Fail.ensures.current ∙ sym tells.parent))
+
+pub returns-in-Excp : goal.returns-in-Excp
+returns-in-Excp c = λ t h is past may.
+    let rows = c.args.self.now.rows.items in
+    let a = c.in-Excp.act in
+    let said : MayFollow t h (Excp a) = subst (λ e. MayFollow t h e) c.in-Excp.is may in
+    let row = get-there rows a (let called = running t h a is said in omega (arith, called, past.each)) in
+    let R : Option Row → Type 0 = λ o. IfSome o (λ r. c.leave-in-Excp.new.self.rows.items ≡ set rows a (record r { exited = false })) in
+    let N : Option Row → Type 0 = λ o. IfSome o (λ r. c.leave-in-Excp.new.self.current ≡ r.parent) in
+    let tells = row-tells rows c.args.self.now.current h a row.0 past row.1 in
+    let P : Event → Type 0 = λ e. IsPast c.leave-in-Excp.new.self.rows.items c.leave-in-Excp.new.self.current (e ∷ h) in
+    subst P (sym c.in-Excp.is) (past-set rows c.leave-in-Excp.new.self.rows.items c.args.self.now.current h (Excp a) a false row.0 c.leave-in-Excp.new.self.current past row.1 (subst R row.1 c.leave-in-Excp.ensures.rows) refl (λ x. refl) (subst N row.1 c.leave-in-Excp.ensures.current ∙ sym tells.parent))
