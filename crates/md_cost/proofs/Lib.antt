@@ -4,4 +4,10 @@ pub mod SumSteps
 pub mod OwnSteps
 pub mod ClimbSteps
 pub mod TreeSteps
+pub mod Exchange
+pub mod KeySteps
+pub mod MarkSteps
+pub mod KeyTotals
+pub mod ThreadSteps
+pub mod WalkSteps
 pub mod Worked

@@ -1,6 +1,10 @@
 pub mod SumOf
 pub mod Paths
+pub mod Totals
 pub mod View
+pub mod FileView
+pub mod Walking
+pub mod Keys
 pub mod Climbing
 pub mod Sound
 pub mod Tree

@@ -2,7 +2,11 @@
 //! section 3).
 #![tactic(auto)]
 
+mod by_key;
+mod descent;
+mod grouping;
 mod loaded;
+mod outermost;
 mod own;
 mod propagating;
 mod sums;
