@@ -12,6 +12,8 @@ use Rattle.md_dynamic.specs.declared.link.LinkRow.{LinkRow}
 use Rattle.md_clique.specs.OneEntry.{BeginsWith, IsPathUp}
 use Rattle.md_cost.specs.Paths.{ends}
 use Rattle.md_cost.specs.Totals.{sum_where, link_own, context_own}
+use Rattle.md_cost.specs.SumOf.{sum_of, zero_sums}
+use Rattle.md_cost.specs.declared.sums.Sums.{Sums}
 use Rattle.md_cost.specs.Tree.{IsTree}
 use Rattle.md_cost.specs.View.{Row, Join, View, OfLink, OfContext, OfClique, OfProcedure, OfSite, OfModule}
 
@@ -86,3 +88,8 @@ pub record IsFileView (f : ProfileRows) (v : View) : Type 0 where
   pub paths : List (List ℕ)
   pub paths_are : ArePaths v.cliques (ends f.links) paths
   pub is : v ≡ file_view f v.cliques v.entries paths
+
+-- the sums of the rows of a kind, by number, are those of every view of the profile
+pub record Gives (f : ProfileRows) (numbers : View → Row → Measure → Option ℕ) (row : ℕ → Row) (count : ℕ) (sums : List Sums) : Type 0 where
+  pub each : length sums ≡ count
+  pub is : (v : View) (i : ℕ) (m : Measure) → IsFileView f v → i < count → numbers v (row i) m ≡ Some (sum_of (slice_index_or sums i zero_sums) m)

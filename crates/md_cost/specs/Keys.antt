@@ -11,8 +11,7 @@ key_sum keys values zero q m = 0
 key_sum keys values (suc i) q m =
     key_sum keys values i q m + (if same_option (Some q) (slice_index_or keys i None) then sum_of (slice_index_or values i zero_sums) m else 0)
 
--- the keys of n items, each below a count
-pub record AreKeys (key : ℕ → Option ℕ) (n count : ℕ) (keys : List (Option ℕ)) : Type 0 where
+-- the keys of n items
+pub record AreKeys (key : ℕ → Option ℕ) (n : ℕ) (keys : List (Option ℕ)) : Type 0 where
   pub each : length keys ≡ n
   pub is : (d : ℕ) → d < n → slice_index_or keys d None ≡ key d
-  pub below : (d q : ℕ) → d < n → key d ≡ Some q → q < count

@@ -5,6 +5,7 @@ pub mod View
 pub mod FileView
 pub mod Walking
 pub mod Keys
+pub mod Summed
 pub mod Climbing
 pub mod Sound
 pub mod Tree

@@ -5,6 +5,8 @@
 mod by_key;
 mod descent;
 mod grouping;
+mod keys;
+mod kinds;
 mod loaded;
 mod outermost;
 mod own;
