@@ -120,3 +120,12 @@ told_failing_link link =
 abbrev pub failing_connections_of : FailingNet → Connections
 failing_connections_of net =
     record { coming = map (λ link. link.stream.left) net.coming; served = map told_failing_link net.served }
+
+-- the next call of `bind` or `next` is to fail
+abbrev pub FailsNextOf : FailingNet → Type 0
+FailsNextOf net = Contains net.fail (one_more net.calls)
+
+-- a call was counted, and which calls are to fail stays
+pub record IsAfterNetCall (before now : FailingNet) : Type 0 where
+  pub calls : now.calls ≡ one_more before.calls
+  pub fail : now.fail ≡ before.fail

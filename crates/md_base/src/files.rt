@@ -214,8 +214,9 @@ fn create_file<S: Store>(store: &mut S, name: &str) -> Result<(), WriteFault>
     }
 }
 
-/// Adds a front of a piece at the end of a file.
+/// Adds a front of a piece of at most 65,536 bytes at the end of a file.
 fn append_part<S: Store>(store: &mut S, name: &str, piece: &[u8]) -> Result<usize, WriteFault>
+    requires short { length piece.now ≤ 65536 }
     ensures takes { IfOk result (λ n. Takes n piece.now) }
     ensures added { IfOk result (λ n. S.held store.new ≡ extended name.now (take n piece.now) (S.held store.old)) }
     ensures kept { OnErr result (S.held store.new ≡ S.held store.old) }

@@ -94,6 +94,7 @@ impl Source for MemLink {
         ensures beside { sink_side (Some self.new.written) self.new.write_faults ≡ sink_side (Some self.old.written) self.old.write_faults }
 
         ensures due { IsErrOf result Failed.Device ↔ Contains self.old.fail (one_more self.old.calls) }
+        ensures count { IfOk result (λ n. n ≡ min (min (length buf.old) self.old.most) (length self.old.stream.left)) }
         ensures counted { self.new.calls ≡ one_more self.old.calls }
         ensures same { (self.new.most ≡ self.old.most) × (self.new.fail ≡ self.old.fail) }
     {
@@ -203,7 +204,17 @@ impl Source for SureLink {
 
     ghost sink_beside = { λ l. sink_side (Some l.written) 0 };
 
-    fn read(&mut self, buf: &mut [u8]) -> Result<usize, Failed> {
+    fn read(&mut self, buf: &mut [u8]) -> Result<usize, Failed>
+        ensures within { IfOk result (λ n. n ≤ length buf.old) }
+        ensures bytes { IfOk result (λ n. GivesNext (Some self.old.stream) n buf.new) }
+        ensures taken { IfOk result (λ n. Some self.new.stream ≡ after_read n (length buf.old) (Some self.old.stream)) }
+        ensures kept { OnErr result (Some self.new.stream ≡ Some self.old.stream) }
+        ensures cause { HasCause 0 0 result }
+        ensures beside { sink_side (Some self.new.written) 0 ≡ sink_side (Some self.old.written) 0 }
+
+        ensures count { IfOk result (λ n. n ≡ min (min (length buf.old) self.old.most) (length self.old.stream.left)) }
+        ensures same { self.new.most ≡ self.old.most }
+    {
         let count = give_rest(&self.input, self.place, self.most, buf);
         self.place += count;
         self.ended = has_ended(self.ended, count, buf.len());
@@ -238,7 +249,16 @@ impl Sink for SureLink {
 
     ghost source_beside = { λ l. source_side (Some l.stream) 0 };
 
-    fn write(&mut self, piece: &[u8]) -> Result<usize, Failed> {
+    fn write(&mut self, piece: &[u8]) -> Result<usize, Failed>
+        ensures takes { IfOk result (λ n. Takes n piece.now) }
+        ensures added { IfOk result (λ n. Some self.new.written ≡ added (take n piece.now) (Some self.old.written)) }
+        ensures kept { OnErr result (Some self.new.written ≡ Some self.old.written) }
+        ensures cause { HasCause 0 0 result }
+        ensures beside { source_side (Some self.new.stream) 0 ≡ source_side (Some self.old.stream) 0 }
+
+        ensures count { IfOk result (λ n. n ≡ min (length piece.now) self.old.most) }
+        ensures same { self.new.most ≡ self.old.most }
+    {
         let count = piece.len().min(self.most);
         self.written.extend_from_slice(&piece[..count])?;
         Ok(count)

@@ -1,9 +1,9 @@
 // Nets in memory.
-ghost use Rattle.std.specs.Prelude.{◌≡◌, ◌↔◌, [], ◌∷◌, ◌++◌, Some, All, Contains, IsTrue, IfOk, IfSome, IfNone, OnOk, OnErr, IsErrOf, false};
+ghost use Rattle.std.specs.Prelude.{◌≡◌, [], ◌∷◌, Some, All, IsTrue, IsErr, IfOk, IfSome, IfNone, OnOk, OnErr, false};
 ghost use Rattle.std.specs.Vec.Iter.{into_iter_items};
 ghost use Rattle.md_base.specs.Outside.{HasCause, one_more};
 ghost use Rattle.md_base.specs.Nets.{TakesFirst, NoneComing};
-ghost use Rattle.md_base.specs.Memory.{IsFreshLink, connections_of, IsFreshFailingLink, failing_connections_of};
+ghost use Rattle.md_base.specs.Memory.{IsFreshLink, connections_of, IsFreshFailingLink, failing_connections_of, FailsNextOf, IsAfterNetCall};
 
 use crate::failures::is_due;
 use crate::{Failed, MemLink, Net, NoMemory, SureLink};
@@ -75,7 +75,17 @@ impl Net for MemNet {
 
     ghost IsBound = { λ n. IsTrue n.bound };
 
-    fn bind(&mut self, _port: u16) -> Result<(), Failed> {
+    fn bind(&mut self, _port: u16) -> Result<(), Failed>
+        ensures bound { OnOk result (IsTrue self.new.bound) }
+        ensures stays { IsTrue self.old.bound → IsTrue self.new.bound }
+        ensures kept { Some (failing_connections_of self.new) ≡ Some (failing_connections_of self.old) }
+        ensures cause { HasCause self.old.faults self.new.faults result }
+
+        // It fails where its number is in `fail`, and there alone.
+        ensures due { FailsNextOf self.old → result ≡ Err Failed.Device }
+        ensures well { IsErr result → FailsNextOf self.old }
+        ensures counted { IsAfterNetCall self.old self.new }
+    {
         if is_due(&self.fail, &mut self.calls) {
             self.faults = self.faults.saturating_add(1);
             return Err(Failed::Device);
@@ -84,7 +94,22 @@ impl Net for MemNet {
         Ok(())
     }
 
-    fn next(&mut self) -> Result<Option<MemLink>, Failed> {
+    fn next(&mut self) -> Result<Option<MemLink>, Failed>
+        requires { IsTrue self.old.bound }
+        ensures first { IfOk result (λ found. IfSome found (λ link.
+            TakesFirst (Some (failing_connections_of self.old)) (Some (failing_connections_of self.new)) (Some link.stream) (Some link.written))) }
+        ensures no_faults { IfOk result (λ found. IfSome found (λ link. (link.read_faults ≡ 0) × (link.write_faults ≡ 0))) }
+        ensures none { IfOk result (λ found. IfNone found (NoneComing (Some (failing_connections_of self.old)))) }
+        ensures none_taken { IfOk result (λ found. IfNone found (Some (failing_connections_of self.new) ≡ Some (failing_connections_of self.old))) }
+        ensures kept { OnErr result (Some (failing_connections_of self.new) ≡ Some (failing_connections_of self.old)) }
+        ensures stays { IsTrue self.new.bound }
+        ensures cause { HasCause self.old.faults self.new.faults result }
+
+        // It fails where its number is in `fail`, and there alone.
+        ensures due { FailsNextOf self.old → result ≡ Err Failed.Device }
+        ensures well { IsErr result → FailsNextOf self.old }
+        ensures counted { IsAfterNetCall self.old self.new }
+    {
         if is_due(&self.fail, &mut self.calls) {
             self.faults = self.faults.saturating_add(1);
             return Err(Failed::Device);

@@ -122,7 +122,15 @@ impl Sink for SureSink {
 
     ghost source_beside = { λ _. no_source };
 
-    fn write(&mut self, piece: &[u8]) -> Result<usize, Failed> {
+    fn write(&mut self, piece: &[u8]) -> Result<usize, Failed>
+        ensures takes { IfOk result (λ n. Takes n piece.now) }
+        ensures added { IfOk result (λ n. Some self.new.bytes ≡ added (take n piece.now) (Some self.old.bytes)) }
+        ensures kept { OnErr result (Some self.new.bytes ≡ Some self.old.bytes) }
+        ensures cause { HasCause 0 0 result }
+
+        ensures count { IfOk result (λ n. n ≡ min (length piece.now) self.old.most) }
+        ensures same { self.new.most ≡ self.old.most }
+    {
         let count = piece.len().min(self.most);
         self.bytes.extend_from_slice(&piece[..count])?;
         Ok(count)

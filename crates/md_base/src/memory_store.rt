@@ -1,7 +1,7 @@
 // Stores in memory.
 ghost use Rattle.std.specs.Prelude.{◌≡◌, ◌≤◌, ◌<◌, ◌⊎◌, ◌↔◌, ◌++◌, ◌∷◌, [], Some, None, length, take, drop, min, Contains, IfOk, IfSome, IfNone, OnOk, OnErr, IsErrOf, slice_set, string_bytes, vec_len};
 ghost use Rattle.md_base.specs.Outside.{HasCause, Takes, Gives, one_more};
-ghost use Rattle.md_base.specs.Files.{GivesFrom, with_file, bytes_in};
+ghost use Rattle.md_base.specs.Files.{GivesFrom, with_file, bytes_in, extended};
 ghost use Rattle.md_base.specs.Memory.{listed, file_in, any_file_in, IsPlaceOf, name_at, bytes_at, FailsNext, IsAfterCall};
 
 use crate::failures::is_due;
@@ -104,6 +104,7 @@ impl Store for MemStore {
 
         ensures due { FailsNext self.old → result ≡ Err Failed.Device }
         ensures device { IsErrOf result Failed.Device → FailsNext self.old ⊎ (file_in self.old.files name.now ≡ None) }
+        ensures few { IfOk result (λ n. n ≤ self.old.most) }
         ensures counted { IsAfterCall self.old self.new }
     {
         if is_due(&self.fail, &mut self.calls) {
@@ -195,7 +196,15 @@ impl Store for SureStore {
 
     ghost write_faults = { λ _. 0 };
 
-    fn read_at(&mut self, name: &str, at: u64, buf: &mut [u8]) -> Result<usize, Failed> {
+    fn read_at(&mut self, name: &str, at: u64, buf: &mut [u8]) -> Result<usize, Failed>
+        ensures within { IfOk result (λ n. n ≤ length buf.old) }
+        ensures bytes { IfOk result (λ n. GivesFrom (Some (any_file_in self.old.files)) name.now at n buf.new) }
+        ensures kept { Some (any_file_in self.new.files) ≡ Some (any_file_in self.old.files) }
+        ensures cause { HasCause 0 0 result }
+
+        ensures few { IfOk result (λ n. n ≤ self.old.most) }
+        ensures same { self.new.most ≡ self.old.most }
+    {
         match give_named(&self.files, name, at, self.most, buf) {
             Some(count) => Ok(count),
             None => Ok(0),
@@ -207,7 +216,15 @@ impl Store for SureStore {
         Ok(())
     }
 
-    fn append(&mut self, name: &str, piece: &[u8]) -> Result<usize, Failed> {
+    fn append(&mut self, name: &str, piece: &[u8]) -> Result<usize, Failed>
+        ensures takes { IfOk result (λ n. Takes n piece.now) }
+        ensures added { IfOk result (λ n. Some (any_file_in self.new.files) ≡ extended name.now (take n piece.now) (Some (any_file_in self.old.files))) }
+        ensures kept { OnErr result (Some (any_file_in self.new.files) ≡ Some (any_file_in self.old.files)) }
+        ensures cause { HasCause 0 0 result }
+
+        ensures count { IfOk result (λ n. n ≡ min (length piece.now) self.old.most) }
+        ensures same { self.new.most ≡ self.old.most }
+    {
         let count = piece.len().min(self.most);
         append_in(&mut self.files, name, &piece[..count])?;
         Ok(count)
@@ -257,6 +274,7 @@ fn give_named(
     ensures of_any { IfSome result (λ n. GivesFrom (Some (any_file_in (listed files.now))) name.now at n buf.new) }
     ensures absent { IfNone result (file_in (listed files.now) name.now ≡ None) }
     ensures nothing { IfNone result (GivesFrom (Some (any_file_in (listed files.now))) name.now at 0 buf.new) }
+    ensures few { IfSome result (λ n. n ≤ most) }
 {
     let place = place_of(files, name)?;
     let file = &files[place];

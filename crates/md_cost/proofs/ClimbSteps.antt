@@ -12,7 +12,7 @@ use Rattle.md_clique.proofs.Naming.{lt_clique_count}
 use Rattle.md_cost.specs.declared.sums.Sums.{Sums}
 use Rattle.md_cost.specs.SumOf.{sum_of, zero_sums}
 use Rattle.md_cost.specs.Paths.{path_to, start_of, DoRise, EntriesRise}
-use Rattle.md_cost.specs.View.{sum_where}
+use Rattle.md_cost.specs.Totals.{sum_where}
 use Rattle.md_cost.specs.Climbing.{AreOwn, AreSmall, AreTotals}
 use Rattle.md_cost.proofs.PathSteps.{any_one, path_stops, one_further, not_before}
 use Rattle.md_cost.proofs.SumSteps.{sum_of_both, sum_same}

@@ -4,4 +4,15 @@ pub mod SumSteps
 pub mod OwnSteps
 pub mod ClimbSteps
 pub mod TreeSteps
+pub mod Exchange
+pub mod EntrySteps
+pub mod GiveSteps
+pub mod KeyLists
+pub mod KeySteps
+pub mod MarkSteps
+pub mod KeyTotals
+pub mod ValidSteps
+pub mod ViewSteps
+pub mod ThreadSteps
+pub mod WalkSteps
 pub mod Worked

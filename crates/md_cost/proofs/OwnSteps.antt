@@ -11,7 +11,7 @@ use Rattle.md_clique.specs.Cliques.{clique_count}
 use Rattle.md_cost.specs.declared.sums.Sums.{Sums}
 use Rattle.md_cost.specs.SumOf.{sum_of, zero_sums}
 use Rattle.md_cost.proofs.Measures.{each_measure}
-use Rattle.md_cost.specs.View.{sum_where, context_own, clique_own}
+use Rattle.md_cost.specs.Totals.{sum_where, context_own, clique_own}
 use Rattle.md_cost.specs.Climbing.{AreOwn, AreSmall}
 
 -- a part of the links counts no more than all of them
@@ -86,7 +86,7 @@ module _ (cliques : List ℕ) (rows : List LinkRow) (i : ℕ) (nodes groups : Li
         omega arith;
   }
 
-zeros : (n v : ℕ) (m : Measure) → sum_of (get_or (replicate n zero_sums) v zero_sums) m ≡ 0
+pub zeros : (n v : ℕ) (m : Measure) → sum_of (get_or (replicate n zero_sums) v zero_sums) m ≡ 0
 zeros n v m = elim (cases_lt v n) [
   | inl l ↦ rw (get_or-replicate n v zero_sums zero_sums l) (none m)
   | inr g ↦ rw (get_or_past (replicate n zero_sums) v zero_sums (rw length-replicate g)) (none m)

@@ -27,7 +27,7 @@ module _ (cliques : List ℕ) (starts : ℕ → ℕ) where
   path_stops q zero c le = refl
   path_stops q (suc n) c le = rw (le-leb (get_or cliques c 0) q le) refl
 
-  path_goes : (q n c : ℕ) → q < get_or cliques c 0 → path_to cliques starts q (suc n) c ≡ c ∷ path_to cliques starts q n (starts (get_or cliques c 0))
+  pub path_goes : (q n c : ℕ) → q < get_or cliques c 0 → path_to cliques starts q (suc n) c ≡ c ∷ path_to cliques starts q n (starts (get_or cliques c 0))
   path_goes q n c lt = rw (lt-leb (get_or cliques c 0) q lt) refl
 
   module _ (count : ℕ) (rises : (k : ℕ) → 0 < k → k < count → get_or cliques (starts k) 0 < k) where

@@ -8,7 +8,7 @@ use Rattle.md_dynamic.specs.Profile.{ProfileRows}
 use Rattle.md_cost.specs.Loading.{IsSoundProfile}
 use Rattle.md_cost.specs.Sound.{AreSound, IsBetween, IsCalledFromLower}
 use Rattle.md_cost.specs.Paths.{path_of}
-use Rattle.md_cost.specs.View.{context_own, context_total, clique_total}
+use Rattle.md_cost.specs.Totals.{context_own, context_total, clique_total}
 
 abbrev twice_counted : ℕ → Counts
 twice_counted n = record { calls = n; exits = n; fails = 0; redos = 0; allocs = 0; words = 0; excps = 0 }

@@ -6,7 +6,7 @@ use Rattle.md_dynamic.specs.declared.link.LinkRow.{LinkRow}
 use Rattle.md_clique.specs.Cliques.{clique_count}
 use Rattle.md_cost.specs.declared.sums.Sums.{Sums}
 use Rattle.md_cost.specs.SumOf.{sum_of, zero_sums}
-use Rattle.md_cost.specs.View.{context_own, clique_own, context_total, clique_total}
+use Rattle.md_cost.specs.Totals.{context_own, clique_own, context_total, clique_total}
 
 -- each context and each clique has the sums of the links that lead there
 pub record AreOwn (cliques : List ℕ) (rows : List LinkRow) (nodes groups : List Sums) : Type 0 where

@@ -1,6 +1,11 @@
 pub mod SumOf
 pub mod Paths
+pub mod Totals
 pub mod View
+pub mod FileView
+pub mod Walking
+pub mod Keys
+pub mod Summed
 pub mod Climbing
 pub mod Sound
 pub mod Tree

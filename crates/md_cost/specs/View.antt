@@ -1,34 +1,31 @@
--- What a profile says of contexts and cliques: own counts over the links that lead there, and totals over the links
--- whose path up meets them.
-use Rattle.std.specs.Prelude.{ℕ, ◌==◌, Bool, List, Option, Some, None, slice_get, if◌then◌else◌, slice_index, sum_by}
-use Rattle.std.specs.List.{list_any}
+-- What a profile says, of a run or of a file alike: its tables, contexts and links, its cliques with the link that
+-- enters each, and own counts and totals of each row by measure.
+use Rattle.std.specs.Prelude.{ℕ, Bool, List, Option}
 use Rattle.md_base.specs.declared.measure.Measure.{Measure}
-use Rattle.md_base.specs.Counts.{count_of}
-use Rattle.md_dynamic.specs.declared.link.LinkRow.{LinkRow}
-use Rattle.md_cost.specs.Paths.{path_of}
+use Rattle.md_static.specs.Tables.{Static}
 
--- the sum of a measure over the links that pass a test
-abbrev pub sum_where : (LinkRow → Bool) → Measure → List LinkRow → ℕ
-sum_where test m rows = sum_by (λ r. if test r then count_of r.own m else 0) rows
+-- a row that has counts, by kind and number
+pub data Row : Type 0 where
+  OfLink : ℕ → Row
+  OfContext : ℕ → Row
+  OfClique : ℕ → Row
+  OfProcedure : ℕ → Row
+  OfSite : ℕ → Row
+  OfModule : ℕ → Row
 
--- the counts of a link
-abbrev pub count_at : Option LinkRow → Measure → ℕ
-count_at None m = 0
-count_at (Some r) m = count_of r.own m
+-- a link without its counts
+pub record Join : Type 0 where
+  pub caller : Option ℕ
+  pub site : Option ℕ
+  pub callee : ℕ
 
-abbrev pub link_own : List LinkRow → ℕ → Measure → ℕ
-link_own rows p m = count_at (slice_get rows p) m
-
--- own counts: over the links that lead to the context, or into the clique
-abbrev pub context_own : List LinkRow → ℕ → Measure → ℕ
-context_own rows c m = sum_where (λ r. r.callee == c) m rows
-
-abbrev pub clique_own : List ℕ → List LinkRow → ℕ → Measure → ℕ
-clique_own cliques rows k m = sum_where (λ r. slice_index cliques r.callee == k) m rows
-
--- totals: over the links whose path up has the context, or meets the clique
-abbrev pub context_total : List ℕ → List ℕ → List LinkRow → ℕ → Measure → ℕ
-context_total cliques found rows c m = sum_where (λ r. list_any (λ d. d == c) (path_of cliques found rows r.callee)) m rows
-
-abbrev pub clique_total : List ℕ → List ℕ → List LinkRow → ℕ → Measure → ℕ
-clique_total cliques found rows k m = sum_where (λ r. list_any (λ d. slice_index cliques d == k) (path_of cliques found rows r.callee)) m rows
+-- a clique has no own counts, and a link inside a clique no total
+pub record View : Type 0 where
+  pub statics : Static
+  pub nodes : List ℕ
+  pub links : List Join
+  pub finished : Bool
+  pub cliques : List ℕ
+  pub entries : List ℕ
+  pub own : Row → Measure → Option ℕ
+  pub total : Row → Measure → Option ℕ

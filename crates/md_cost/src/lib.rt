@@ -2,7 +2,13 @@
 //! section 3).
 #![tactic(auto)]
 
+mod by_key;
+mod descent;
+mod grouping;
+mod keys;
+mod kinds;
 mod loaded;
+mod outermost;
 mod own;
 mod propagating;
 mod sums;

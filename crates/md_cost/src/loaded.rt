@@ -32,7 +32,7 @@ impl Loaded {
     ghost use Rattle.md_base.specs.declared.measure.Measure.{Measure};
     ghost use Rattle.md_clique.specs.Cliques.{clique_count, members_of};
     ghost use Rattle.md_cost.specs.SumOf.{sum_of};
-    ghost use Rattle.md_cost.specs.View.{link_own, context_own, context_total, clique_total};
+    ghost use Rattle.md_cost.specs.Totals.{link_own, context_own, context_total, clique_total};
     ghost use Rattle.md_cost.specs.Loading.{IsSoundProfile};
     ghost use Rattle.md_cost.specs.Tree.{IsTree};
     ghost use Rattle.md_cost.specs.Climbing.{AreOwn, AreTotals};

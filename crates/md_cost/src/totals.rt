@@ -34,7 +34,7 @@ pub fn climb(cliques: &Cliques, entries: &[u32], links: &[LinkRow], sums: &mut O
 }
 
 /// Where the link that enters a clique starts.
-fn start_of_entry(entries: &[u32], links: &[LinkRow], clique: u32) -> u32
+pub fn start_of_entry(entries: &[u32], links: &[LinkRow], clique: u32) -> u32
     requires there { clique < length entries.now }
     requires starts { (row : LinkRow) × (start : ℕ) × (slice_get links.now (slice_index entries.now clique) ≡ Some row) × (row.caller ≡ Some start) }
     ensures { result ≡ start_of links.now entries.now clique }

@@ -1,0 +1,19 @@
+use Rattle.std.proofs.Common.{◌≡◌, ◌<◌, ◌-◌, ◌+◌, ℕ, suc, length, get_or, Option, Some, None, sym, ap, ◌∙◌, subst, arith}
+use Rattle.std.proofs.lemmas.List.{get_or_read}
+use Rattle.md_cost.specs.Paths.{start_of}
+use Rattle.md_cost.specs.Walking.{above}
+use Rattle.md_cost.proofs.ThreadSteps.{Threaded, threaded_none, threaded_more, threaded_all}
+use Rattle.md_cost.proofs.descent.descend.Goals as goal
+
+pub loop-node-preserved : goal.loop-node-preserved
+loop-node-preserved c =
+    let parent = above c.args.tree.now.cliques (start_of c.args.links.now c.args.tree.now.entries.items) in
+    let j = c.loop-node.node - 1 in
+    let more : c.loop-node.node ≡ suc j = omega arith in
+    let before : Threaded c.args.nodes parent (suc j) c.loop-node.first.items c.loop-node.next.items = rw more at c.loop-node.invariant in
+    let is : c.above-parent.result ≡ parent j = c.above-parent.ensures.is in
+    let within = c.above-parent.ensures.within in
+    let size = before.each_first in
+    let auto = c.loop-node.auto.node in
+    let read : c.index.result.now ≡ get_or c.loop-node.first.items (parent j) None = get_or_read c.loop-node.first.items c.above-parent.result c.index.result.now (omega arith) c.index.ensures None ∙ ap (λ (p : ℕ). get_or c.loop-node.first.items p None) is in
+    rw (read, is) (threaded_more c.args.nodes parent j c.loop-node.first.items c.loop-node.next.items (omega arith) (omega arith) before)
