@@ -6,7 +6,7 @@ use Rattle.md_token.specs.declared.kind.Kind.TheVariants as kind
 use Rattle.md_token.specs.declared.string.Within.{Within}
 use Rattle.md_token.specs.declared.string.Within.TheVariants as within
 use Rattle.md_token.specs.Literal.{meaning, value_from, inside, string_value}
-use Rattle.md_token.specs.Token.{front_at, front_of_token, token_at, string_at, string_end, past, is_escape, is_plain}
+use Rattle.md_token.specs.Token.{prefix_at, prefix_of_token, token_at, string_at, string_end, past, is_escape, is_plain}
 use Rattle.md_token.proofs.Spelled.{Reads}
 
 -- bytes that stand for these bytes in a string, one byte or escape after the other
@@ -34,8 +34,8 @@ ends_written _ _ none k rest = ap Some (omega arith)
 ends_written _ _ (plain b v w p q e r) k rest = ap (λ (x : Within). string_end x (suc k) (w ++ 34 ∷ rest)) (past_plain b p q e) ∙ ends_written v w r (suc k) rest ∙ ap Some (omega arith)
 ends_written _ _ (escape c v w p r) k rest = ap (λ (x : Within). string_end x (suc (suc k)) (w ++ 34 ∷ rest)) (past_escape c p) ∙ ends_written v w r (suc (suc k)) rest ∙ ap Some (omega arith)
 
-at_quote : (bytes : List ℕ) → front_at 34 bytes ≡ front_of_token (string_at bytes)
-unfolding front_at token_at
+at_quote : (bytes : List ℕ) → prefix_at 34 bytes ≡ prefix_of_token (string_at bytes)
+unfolding prefix_at token_at
 at_quote bytes = refl
 
 string_written : (v w rest : List ℕ) → Writes v w → string_at (w ++ 34 ∷ rest) ≡ Some (kind.Text, suc (length w))
@@ -47,7 +47,7 @@ reads_text v w r = record {
   head = 34;
   tail = w ++ 34 ∷ [];
   whole = refl;
-  front = λ rest.
+  prefix = λ rest.
       let e : length (w ++ 34 ∷ []) ≡ suc (length w) = length-append w (34 ∷ []) ∙ omega arith in
       at_quote ((w ++ 34 ∷ []) ++ 32 ∷ rest) ∙ rw (append_assoc w (34 ∷ []) (32 ∷ rest), string_written v w (32 ∷ rest) r, e) refl;
 }

@@ -9,7 +9,7 @@ use Rattle.std.specs.List.{prefix_len}
 use Rattle.std.specs.Char.{is_ascii_digit, is_ascii_uppercase, is_ascii_lowercase}
 use Rattle.md_token.specs.declared.kind.Kind.TheVariants as kind
 use Rattle.md_token.specs.Literal.{number_of, with_digit}
-use Rattle.md_token.specs.Token.{front_at, front_of_token, token_at, name_at, variable_at, word_kind, is_word_byte, is_blank, is_percent}
+use Rattle.md_token.specs.Token.{prefix_at, prefix_of_token, token_at, name_at, variable_at, word_kind, is_word_byte, is_blank, is_percent}
 use Rattle.md_token.proofs.Spelled.{Reads}
 
 -- each byte passes a test
@@ -35,8 +35,8 @@ taken_pass p (b ∷ bytes) = taken_by p b bytes bytes (prefix_len p bytes) (p b)
 
 -- ---- names
 
-past_blanks : (b : ℕ) (bytes : List ℕ) → 37 < b → front_at b bytes ≡ front_of_token (token_at b bytes)
-unfolding front_at
+past_blanks : (b : ℕ) (bytes : List ℕ) → 37 < b → prefix_at b bytes ≡ prefix_of_token (token_at b bytes)
+unfolding prefix_at
 past_blanks b bytes h =
     let e : is_blank b ≡ false = grind arith in
     let f : is_percent b ≡ false = grind arith in
@@ -52,7 +52,7 @@ named : (b : ℕ) (w rest : List ℕ) → AllPass is_word_byte w → name_at b (
 unfolding name_at
 named b w rest a = rw (prefix_of is_word_byte w 32 rest a refl, drop-append_seam w (32 ∷ rest), take-append_seam w (32 ∷ rest)) refl
 
-at_lower : (b : ℕ) (bytes : List ℕ) → is_ascii_lowercase b ≡ true → front_at b bytes ≡ front_of_token (Some (name_at b bytes))
+at_lower : (b : ℕ) (bytes : List ℕ) → is_ascii_lowercase b ≡ true → prefix_at b bytes ≡ prefix_of_token (Some (name_at b bytes))
 unfolding token_at
 at_lower b bytes h = past_blanks b bytes (lower_is_late b h) ∙ rw h refl
 
@@ -61,7 +61,7 @@ reads_name b w h a = record {
   head = b;
   tail = w;
   whole = refl;
-  front = λ rest. at_lower b (w ++ 32 ∷ rest) h ∙ rw (named b w rest a) refl;
+  prefix = λ rest. at_lower b (w ++ 32 ∷ rest) h ∙ rw (named b w rest a) refl;
 }
 
 qualified_length : (v w : List ℕ) (c : ℕ) → length v + 1 + (1 + length w) ≡ length (v ++ 46 ∷ c ∷ w)
@@ -91,7 +91,7 @@ reads_qualified b c v w h a g d = record {
   head = b;
   tail = v ++ 46 ∷ c ∷ w;
   whole = refl;
-  front = λ rest.
+  prefix = λ rest.
       at_lower b ((v ++ 46 ∷ c ∷ w) ++ 32 ∷ rest) h
       ∙ rw (append_assoc v (46 ∷ c ∷ w) (32 ∷ rest), qualified_at b c v w rest a g d, qualified_length v w c) refl;
 }
@@ -105,7 +105,7 @@ variable_from : (b : ℕ) (w rest : List ℕ) → AllPass is_word_byte w → (b 
 unfolding variable_at
 variable_from b w rest a e = rw (prefix_of is_word_byte w 32 rest a refl, e) refl
 
-at_upper : (b : ℕ) (bytes : List ℕ) → (is_ascii_uppercase b || b == 95) ≡ true → front_at b bytes ≡ front_of_token (variable_at b bytes)
+at_upper : (b : ℕ) (bytes : List ℕ) → (is_ascii_uppercase b || b == 95) ≡ true → prefix_at b bytes ≡ prefix_of_token (variable_at b bytes)
 unfolding token_at
 at_upper b bytes h = let l = upper_is_late b h in past_blanks b bytes l.0 ∙ rw (l.1, h) refl
 
@@ -114,7 +114,7 @@ reads_variable b w h a e = record {
   head = b;
   tail = w;
   whole = refl;
-  front = λ rest. at_upper b (w ++ 32 ∷ rest) h ∙ ap front_of_token (variable_from b w rest a e);
+  prefix = λ rest. at_upper b (w ++ 32 ∷ rest) h ∙ ap prefix_of_token (variable_from b w rest a e);
 }
 
 -- ---- integers
@@ -137,7 +137,7 @@ decimal_digits =
 digit_is_late : (b : ℕ) → is_ascii_digit b ≡ true → (37 < b) × (is_ascii_lowercase b ≡ false) × ((is_ascii_uppercase b || b == 95) ≡ false)
 digit_is_late b h = (grind arith, grind arith, grind arith)
 
-at_digit : (b : ℕ) (bytes : List ℕ) → is_ascii_digit b ≡ true → front_at b bytes ≡ front_of_token (Some (kind.Integer, prefix_len is_ascii_digit bytes))
+at_digit : (b : ℕ) (bytes : List ℕ) → is_ascii_digit b ≡ true → prefix_at b bytes ≡ prefix_of_token (Some (kind.Integer, prefix_len is_ascii_digit bytes))
 unfolding token_at
 at_digit b bytes h = let l = digit_is_late b h in past_blanks b bytes l.0 ∙ rw (l.1, l.2, h) refl
 
@@ -146,7 +146,7 @@ reads_digits _ (digits b w h a) = record {
   head = b;
   tail = w;
   whole = refl;
-  front = λ rest. at_digit b (w ++ 32 ∷ rest) h ∙ rw (prefix_of is_ascii_digit w 32 rest a refl) refl;
+  prefix = λ rest. at_digit b (w ++ 32 ∷ rest) h ∙ rw (prefix_of is_ascii_digit w 32 rest a refl) refl;
 }
 
 next_number : (n m : ℕ) (ds : List ℕ) → n < 10 → number_of ds ≡ m → number_of (ds ++ (48 + n) ∷ []) ≡ 10 * m + n
