@@ -27,7 +27,7 @@ pub at_end : (line : ℕ) (s : List ℕ) → lexemes 0 line (46 ∷ 10 ∷ s) �
 unfolding prefix_at token_at sign_at
 at_end line s = refl
 
-piece : (k : Kind) (line b : ℕ) (w rest : List ℕ) (f : Prefix) → f ≡ prefix_of_token (Some (k, length w))
+pub piece : (k : Kind) (line b : ℕ) (w rest : List ℕ) (f : Prefix) → f ≡ prefix_of_token (Some (k, length w))
     → put line b (w ++ rest) f (lexemes (more_of f) (line_past f b line) (w ++ rest)) ≡ lexeme k (b ∷ w) line ∷ lexemes 0 line rest
 piece k line b w rest f e =
     rw (e, take-append_seam w rest, skipped (length w) line (w ++ rest), drop-append_seam w rest) refl

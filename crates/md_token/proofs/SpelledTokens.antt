@@ -45,7 +45,7 @@ abbrev pub AllFine : List Lexeme → Type 0
 AllFine [] = ⊤
 AllFine (t ∷ ts) = Fine t.kind t.text × AllFine ts
 
-both : {A : Type 0} (P : A → Type 0) (b : Bool) (x y : A) → (b ≡ true → P x) → (b ≡ false → P y) → P (cond b x y)
+pub both : {A : Type 0} (P : A → Type 0) (b : Bool) (x y : A) → (b ≡ true → P x) → (b ≡ false → P y) → P (cond b x y)
 both P true x y f g = f refl
 both P false x y f g = g refl
 

@@ -1,5 +1,5 @@
 -- Names, variables and integers that are read as themselves.
-use Rattle.std.specs.Prelude.{⊤, decimal}
+use Rattle.std.specs.Prelude.{decimal}
 use Rattle.std.proofs.Common.{◌≡◌, ℕ, suc, ◌+◌, ◌*◌, ◌<◌, ◌/◌, ◌%◌, ◌^◌, Bool, true, false, cond, ◌&&◌, ◌||◌, ◌==◌, Some, List, [], ◌∷◌, ◌++◌, length, take, drop, refl, ap, ◌∙◌, append_assoc, arith, add-one}
 use Rattle.std.proofs.Math.Seq.{take-append_seam, drop-append_seam}
 use Rattle.std.proofs.lemmas.List.{length-append}
@@ -10,12 +10,8 @@ use Rattle.std.specs.Char.{is_ascii_digit, is_ascii_uppercase, is_ascii_lowercas
 use Rattle.md_token.specs.declared.kind.Kind.TheVariants as kind
 use Rattle.md_token.specs.Literal.{number_of, with_digit}
 use Rattle.md_token.specs.Token.{prefix_at, prefix_of_token, token_at, name_at, variable_at, word_kind, is_word_byte, is_blank, is_percent}
+pub use Rattle.md_token.specs.Spelling.{AllPass}
 use Rattle.md_token.proofs.Spelled.{Reads}
-
--- each byte passes a test
-abbrev pub AllPass : (ℕ → Bool) → List ℕ → Type 0
-AllPass p [] = ⊤
-AllPass p (b ∷ w) = (p b ≡ true) × AllPass p w
 
 pub pass_append : (p : ℕ → Bool) (v w : List ℕ) → AllPass p v → AllPass p w → AllPass p (v ++ w)
 pass_append p [] w a c = c
@@ -42,7 +38,7 @@ past_blanks b bytes h =
     let f : is_percent b ≡ false = grind arith in
     rw (e, f) refl
 
-lower_is_late : (b : ℕ) → is_ascii_lowercase b ≡ true → 37 < b
+pub lower_is_late : (b : ℕ) → is_ascii_lowercase b ≡ true → 37 < b
 lower_is_late b h = grind arith
 
 pub lower_is_word : (b : ℕ) → is_ascii_lowercase b ≡ true → is_word_byte b ≡ true
@@ -98,7 +94,7 @@ reads_qualified b c v w h a g d = record {
 
 -- ---- variables
 
-upper_is_late : (b : ℕ) → (is_ascii_uppercase b || b == 95) ≡ true → (37 < b) × (is_ascii_lowercase b ≡ false)
+pub upper_is_late : (b : ℕ) → (is_ascii_uppercase b || b == 95) ≡ true → (37 < b) × (is_ascii_lowercase b ≡ false)
 upper_is_late b h = (grind arith, grind arith)
 
 variable_from : (b : ℕ) (w rest : List ℕ) → AllPass is_word_byte w → (b == 95 && length w == 0) ≡ false → variable_at b (w ++ 32 ∷ rest) ≡ Some (kind.Variable, length w)
@@ -134,7 +130,7 @@ decimal_digits =
     (λ n h. digits (48 + n) [] (digit_of n h) tt)
     (λ n ds h before. more_digits ds (48 + n % 10) (digit_of (n % 10) (omega arith)) before)
 
-digit_is_late : (b : ℕ) → is_ascii_digit b ≡ true → (37 < b) × (is_ascii_lowercase b ≡ false) × ((is_ascii_uppercase b || b == 95) ≡ false)
+pub digit_is_late : (b : ℕ) → is_ascii_digit b ≡ true → (37 < b) × (is_ascii_lowercase b ≡ false) × ((is_ascii_uppercase b || b == 95) ≡ false)
 digit_is_late b h = (grind arith, grind arith, grind arith)
 
 at_digit : (b : ℕ) (bytes : List ℕ) → is_ascii_digit b ≡ true → prefix_at b bytes ≡ prefix_of_token (Some (kind.Integer, prefix_len is_ascii_digit bytes))

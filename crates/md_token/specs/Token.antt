@@ -1,4 +1,4 @@
--- The tokens of a text, with their lines. At each place the longest token is taken.
+-- The tokens of a text with their lines, found by going along its bytes. That they are what `Spelling` says is proved.
 use Rattle.std.specs.Prelude.{ℕ, zero, suc, ◌+◌, Bool, true, false, not, ◌&&◌, ◌||◌, ◌==◌, nat_le, if◌then◌else◌, List, [], ◌∷◌, take, drop, map, slice_index, Option, Some, None, option_map, codes}
 use Rattle.std.specs.List.{prefix_len}
 use Rattle.std.specs.Char.{is_ascii_digit, is_ascii_uppercase, is_ascii_lowercase, is_ascii_alphanumeric}

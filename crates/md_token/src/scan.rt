@@ -1,5 +1,6 @@
 // The tokens of a whole text, one after the other.
-ghost use Rattle.std.specs.Prelude.{◌≡◌, ◌≤◌, ◌<◌, ◌+◌, length, drop, slice_index, IfSome, IfOk};
+ghost use Rattle.std.specs.Prelude.{◌≡◌, List, ◌≤◌, ◌<◌, ◌+◌, length, drop, slice_index, IfSome, IfOk};
+ghost use Rattle.md_token.specs.Spelling.{Cut};
 ghost use Rattle.md_token.specs.Token as spec;
 
 use crate::bytes::{digits_length, is_blank, line_length};
@@ -10,10 +11,21 @@ use crate::{Kind, Token};
 use md_base::NoMemory;
 use std::alloc::Global;
 
-/// The tokens of a text. Behind the last one stands `Stop`, the end of the text, or `Bad`, at the first byte of what makes
-/// no token. The text has fewer than 4,294,967,295 bytes.
-#[tactic(auto, unfolding(crate::specs::Token::tokens_of))]
+/// The tokens of a text: how it is cut into tokens, at each place the longest one, and in no other way. Behind the last
+/// one stands `Stop`, the end of the text, or `Bad`, at the first byte of what makes no token. The text has fewer than
+/// 4,294,967,295 bytes.
 pub fn tokens<'a>(alloc: Global, text: &'a [u8]) -> Result<Vec<Token<'a>>, NoMemory>
+    requires { length text.now < 4294967295 }
+    ensures cut { IfOk result (λ found. Cut 1 text.now (spec.lexemes_of found.items)) }
+    ensures no_other { (ts : List spec.Lexeme) → Cut 1 text.now ts → IfOk result (λ found. spec.lexemes_of found.items ≡ ts) }
+    ensures scanned { IfOk result (λ found. spec.lexemes_of found.items ≡ spec.tokens_of text.now) }
+{
+    scanned(alloc, text)
+}
+
+/// The tokens of a text, taken one after the other.
+#[tactic(auto, unfolding(crate::specs::Token::tokens_of))]
+fn scanned<'a>(alloc: Global, text: &'a [u8]) -> Result<Vec<Token<'a>>, NoMemory>
     requires { length text.now < 4294967295 }
     ensures { IfOk result (λ found. spec.lexemes_of found.items ≡ spec.tokens_of text.now) }
 {
