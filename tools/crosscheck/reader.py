@@ -321,7 +321,7 @@ class Reader:
     def predicate(self, place):
         ends = []
         for name in self.word(place, "pred"):
-            if self.tokens[name].text.startswith("io.") and self.see(name).kind == "qualified":
+            if self.tokens[name].text.startswith(("io.", "require.")) and self.see(name).kind == "qualified":
                 continue
             for start in self.predicate_name(name):
                 heads = [(start, 0)]
@@ -365,7 +365,7 @@ class Reader:
         """Whether the whole text is a program."""
         places = []
         for name in self.path(self.sign(0, ":-"), lambda at: self.word(at, "module")):
-            for end in self.name(name, {"io"}):
+            for end in self.name(name, {"io", "require"}):
                 self.home = self.tokens[name].text
                 places = self.sign(end, "end")
         while places:

@@ -9,7 +9,7 @@ use Rattle.md_hlds.specs.declared.goal.Op.{Op}
 use Rattle.md_hlds.specs.declared.goal.Op.TheVariants as op
 use Rattle.md_hlds.specs.declared.goal.Cmp.{Cmp}
 use Rattle.md_hlds.specs.declared.goal.Cmp.TheVariants as cmp
-use Rattle.md_hlds.specs.HldsGoal.{GoalExpr, SimpleGoal, Unifies, WritesInt, WritesText, EndsLine}
+use Rattle.md_hlds.specs.HldsGoal.{GoalExpr, SimpleGoal, Unifies, WritesInt, WritesText, EndsLine, Raises}
 use Rattle.md_token.specs.declared.kind.Kind.{Kind}
 use Rattle.md_token.specs.declared.kind.Kind.TheVariants as kind
 use Rattle.md_token.specs.Literal.{string_value, number_of, inside}
@@ -46,7 +46,7 @@ variable_line vs seen x i j h a w n s =
     let v : Within (with_variable (token i).text i.vars) vs = subst (λ (j : Input). Within j.vars vs) (sym f.on) w in
     let e : print.variable vs (place_of (token i).text i.vars) ≡ (token i).text = variable_name (token i).text i.vars vs v in
     subst (λ (x : ℕ). (token (at n (print.variable vs x ++ 32 ∷ s) i)).line ≡ n) f.place
-    (subst (λ (t : List ℕ). (token (at n (t ++ 32 ∷ s) i)).line ≡ n) (sym e) (token_line kind.Variable (token i).text (variable_read i a f.sort) n s i))
+    (subst (λ (t : List ℕ). (token (at n (t ++ 32 ∷ s) i)).line ≡ n) (sym e) (token_line kind.Variable (token i).text (variable_read i a f.is_variable) n s i))
 
 abbrev pub named : List (List ℕ) → ℕ → Tokens
 named vs = single (print.variable vs)
@@ -105,7 +105,7 @@ pred_name_again q i j h a n s =
     (pred_name_takes q i (printable q i j (pred_name_facts q i j h) a) n s)
 
 pub name_line : (q : PredName) (i j : Input) → Is rule.pred_name q i j → Good i → (n : ℕ) (s : List ℕ) → (token (at n (print.written_name q ++ 32 ∷ s) i)).line ≡ n
-name_line q i j h a n s = let p = printable q i j (pred_name_facts q i j h) a in token_line p.sort (print.written_name q) p.reads n s i
+name_line q i j h a n s = let p = printable q i j (pred_name_facts q i j h) a in token_line p.kind_of_name (print.written_name q) p.reads n s i
 
 -- ---- terms
 
@@ -243,13 +243,13 @@ term_again vs x _ _ _ (g.Term.application f ys i j k nm ar) a w = record {
 -- ---- goals without parts
 
 -- what is printed of a goal without parts is spelled as that goal, on the line where it begins
-pub record TaskAgain (R : GoalExpr → Input → Input → Type 0) (vs : List (List ℕ)) (t : GoalExpr) (i j : Input) : Type 0 where
+pub record ExprAgain (R : GoalExpr → Input → Input → Type 0) (vs : List (List ℕ)) (t : GoalExpr) (i j : Input) : Type 0 where
   pub flat : (inner : Bool) → print.expr_tokens vs inner t ≡ print.expr_tokens vs true t
   pub same : (n : ℕ) → expr_on_line n t ≡ t
   pub line : (n : ℕ) (s : List ℕ) → (token (at n (onto (print.expr_tokens vs true t) s) i)).line ≡ n
   pub again : (n : ℕ) (s : List ℕ) → R t (at n (onto (print.expr_tokens vs true t) s) i) (at n s j)
 
-pub relation_again : (vs : List (List ℕ)) (t : GoalExpr) (i j : Input) → g.Relation t i j → Good i → Within j.vars vs → TaskAgain g.Relation vs t i j
+pub relation_again : (vs : List (List ℕ)) (t : GoalExpr) (i j : Input) → g.Relation t i j → Good i → Within j.vars vs → ExprAgain g.Relation vs t i j
 relation_again vs _ _ _ (g.Relation.unification x t i j k m v sg r) a w =
     let wk : Within k.vars vs = (term_onward x t k m r).names vs w in
     let wj : Within j.vars vs = (onward j k (sign_still kind.Equals j k sg)).names vs wk in
@@ -297,48 +297,55 @@ and_parts : (a b : Bool) → (a && b) ≡ true → (a ≡ true) × (b ≡ true)
 and_parts true b h = (refl, h)
 and_parts false b h = absurd (cc)
 
-io_is : (o : Option (List ℕ)) → rule.is_io o ≡ true → o ≡ Some (codes "io")
-io_is None h = absurd (cc)
-io_is (Some m) h = ap Some ((bytes_eq-Decides m (codes "io")).0 h)
+qualifier_is : (m : List ℕ) (o : Option (List ℕ)) → rule.is_qualified_by m o ≡ true → o ≡ Some m
+qualifier_is m None h = absurd (cc)
+qualifier_is m (Some n) h = ap Some ((bytes_eq-Decides n m).0 h)
 
-builtin_name : (p : List ℕ) (q : PredName) → rule.is_builtin p q ≡ true → q ≡ record { qualifier = Some (codes "io"); name = p }
-builtin_name p q h =
-    let a = and_parts (rule.is_io q.qualifier) (bytes_eq q.name p) h in
-    let o : q.qualifier ≡ Some (codes "io") = io_is q.qualifier a.0 in
+builtin_name : (m p : List ℕ) (q : PredName) → rule.is_builtin m p q ≡ true → q ≡ record { qualifier = Some m; name = p }
+builtin_name m p q h =
+    let a = and_parts (rule.is_qualified_by m q.qualifier) (bytes_eq q.name p) h in
+    let o : q.qualifier ≡ Some m = qualifier_is m q.qualifier a.0 in
     let n : q.name ≡ p = (bytes_eq-Decides q.name p).0 a.1 in
     rw (← o, ← n) refl
 
 none_is : {A : Type 0} (y : A) (X : Type 0) → ◌≡◌ {A = Option A} None (Some y) → X
 none_is y X h = absurd (cc)
 
-nl_is : (vs : List (List ℕ)) (q : PredName) (a b : ℕ) (t : GoalExpr) → rule.is_builtin (codes "nl") q ≡ true → SimpleGoal (EndsLine a b) ≡ t → IsBuiltin vs q (a ∷ b ∷ []) t
-nl_is vs q a b t h e = subst (λ (t : GoalExpr). IsBuiltin vs q (a ∷ b ∷ []) t) e (subst (λ (q : PredName). IsBuiltin vs q (a ∷ b ∷ []) (SimpleGoal (EndsLine a b))) (sym (builtin_name (codes "nl") q h)) (record { tokens = λ inner. refl; same = λ n. refl }))
+error_is : (vs : List (List ℕ)) (q : PredName) (x : ℕ) (t : GoalExpr) → rule.is_builtin (codes "require") (codes "error") q ≡ true → SimpleGoal (Raises x) ≡ t → IsBuiltin vs q (x ∷ []) t
+error_is vs q x t h e = subst (λ (t : GoalExpr). IsBuiltin vs q (x ∷ []) t) e (subst (λ (q : PredName). IsBuiltin vs q (x ∷ []) (SimpleGoal (Raises x))) (sym (builtin_name (codes "require") (codes "error") q h)) (record { tokens = λ inner. refl; same = λ n. refl }))
 
-int_is : (vs : List (List ℕ)) (q : PredName) (x a b : ℕ) (t : GoalExpr) → rule.is_builtin (codes "write_int") q ≡ true → SimpleGoal (WritesInt x a b) ≡ t → IsBuiltin vs q (x ∷ a ∷ b ∷ []) t
-int_is vs q x a b t h e = subst (λ (t : GoalExpr). IsBuiltin vs q (x ∷ a ∷ b ∷ []) t) e (subst (λ (q : PredName). IsBuiltin vs q (x ∷ a ∷ b ∷ []) (SimpleGoal (WritesInt x a b))) (sym (builtin_name (codes "write_int") q h)) (record { tokens = λ inner. refl; same = λ n. refl }))
+nl_is : (vs : List (List ℕ)) (q : PredName) (a b : ℕ) (t : GoalExpr) → rule.is_builtin (codes "io") (codes "nl") q ≡ true → SimpleGoal (EndsLine a b) ≡ t → IsBuiltin vs q (a ∷ b ∷ []) t
+nl_is vs q a b t h e = subst (λ (t : GoalExpr). IsBuiltin vs q (a ∷ b ∷ []) t) e (subst (λ (q : PredName). IsBuiltin vs q (a ∷ b ∷ []) (SimpleGoal (EndsLine a b))) (sym (builtin_name (codes "io") (codes "nl") q h)) (record { tokens = λ inner. refl; same = λ n. refl }))
 
-text_is : (vs : List (List ℕ)) (q : PredName) (x a b : ℕ) (t : GoalExpr) → rule.is_builtin (codes "write_string") q ≡ true → SimpleGoal (WritesText x a b) ≡ t → IsBuiltin vs q (x ∷ a ∷ b ∷ []) t
-text_is vs q x a b t h e = subst (λ (t : GoalExpr). IsBuiltin vs q (x ∷ a ∷ b ∷ []) t) e (subst (λ (q : PredName). IsBuiltin vs q (x ∷ a ∷ b ∷ []) (SimpleGoal (WritesText x a b))) (sym (builtin_name (codes "write_string") q h)) (record { tokens = λ inner. refl; same = λ n. refl }))
+int_is : (vs : List (List ℕ)) (q : PredName) (x a b : ℕ) (t : GoalExpr) → rule.is_builtin (codes "io") (codes "write_int") q ≡ true → SimpleGoal (WritesInt x a b) ≡ t → IsBuiltin vs q (x ∷ a ∷ b ∷ []) t
+int_is vs q x a b t h e = subst (λ (t : GoalExpr). IsBuiltin vs q (x ∷ a ∷ b ∷ []) t) e (subst (λ (q : PredName). IsBuiltin vs q (x ∷ a ∷ b ∷ []) (SimpleGoal (WritesInt x a b))) (sym (builtin_name (codes "io") (codes "write_int") q h)) (record { tokens = λ inner. refl; same = λ n. refl }))
+
+text_is : (vs : List (List ℕ)) (q : PredName) (x a b : ℕ) (t : GoalExpr) → rule.is_builtin (codes "io") (codes "write_string") q ≡ true → SimpleGoal (WritesText x a b) ≡ t → IsBuiltin vs q (x ∷ a ∷ b ∷ []) t
+text_is vs q x a b t h e = subst (λ (t : GoalExpr). IsBuiltin vs q (x ∷ a ∷ b ∷ []) t) e (subst (λ (q : PredName). IsBuiltin vs q (x ∷ a ∷ b ∷ []) (SimpleGoal (WritesText x a b))) (sym (builtin_name (codes "io") (codes "write_string") q h)) (record { tokens = λ inner. refl; same = λ n. refl }))
 
 builtin_is : (vs : List (List ℕ)) (q : PredName) (ys : List ℕ) (t : GoalExpr) → rule.builtin q ys ≡ Some t → IsBuiltin vs q ys t
 builtin_is vs q [] t h = absurd (cc)
-builtin_is vs q (a ∷ []) t h = absurd (cc)
+builtin_is vs q (x ∷ []) t h =
+    elim (chosen_some (rule.is_builtin (codes "require") (codes "error") q) _ t None h) [
+      | inl c ↦ error_is vs q x t c.0 c.1
+      | inr c ↦ none_is t (IsBuiltin vs q (x ∷ []) t) c
+    ]
 builtin_is vs q (a ∷ b ∷ []) t h =
-    elim (chosen_some (rule.is_builtin (codes "nl") q) _ t None h) [
+    elim (chosen_some (rule.is_builtin (codes "io") (codes "nl") q) _ t None h) [
       | inl c ↦ nl_is vs q a b t c.0 c.1
       | inr c ↦ none_is t (IsBuiltin vs q (a ∷ b ∷ []) t) c
     ]
 builtin_is vs q (x ∷ a ∷ b ∷ []) t h =
-    elim (chosen_some (rule.is_builtin (codes "write_int") q) _ t _ h) [
+    elim (chosen_some (rule.is_builtin (codes "io") (codes "write_int") q) _ t _ h) [
       | inl c ↦ int_is vs q x a b t c.0 c.1
-      | inr c ↦ elim (chosen_some (rule.is_builtin (codes "write_string") q) _ t None c) [
+      | inr c ↦ elim (chosen_some (rule.is_builtin (codes "io") (codes "write_string") q) _ t None c) [
         | inl d ↦ text_is vs q x a b t d.0 d.1
         | inr d ↦ none_is t (IsBuiltin vs q (x ∷ a ∷ b ∷ []) t) d
       ]
     ]
 builtin_is vs q (x ∷ a ∷ b ∷ c ∷ ys) t h = absurd (cc)
 
-pub call_again : (vs : List (List ℕ)) (t : GoalExpr) (i j : Input) → g.Call t i j → Good i → Within j.vars vs → TaskAgain g.Call vs t i j
+pub call_again : (vs : List (List ℕ)) (t : GoalExpr) (i j : Input) → g.Call t i j → Good i → Within j.vars vs → ExprAgain g.Call vs t i j
 call_again vs _ _ _ (g.Call.builtin q ys t i j k nm ar e) a w =
     let b = builtin_is vs q ys t e in
     record {
@@ -368,7 +375,7 @@ call_again vs _ _ _ (g.Call.call q ys m i j k o nm ar e h) a w =
           (site_again m k o h n s);
     }
 
-pub closure_call_again : (vs : List (List ℕ)) (t : GoalExpr) (i j : Input) → g.ClosureCall t i j → Good i → Within j.vars vs → TaskAgain g.ClosureCall vs t i j
+pub closure_call_again : (vs : List (List ℕ)) (t : GoalExpr) (i j : Input) → g.ClosureCall t i j → Good i → Within j.vars vs → ExprAgain g.ClosureCall vs t i j
 closure_call_again vs _ _ _ (g.ClosureCall.closure_call f ys m i j k o p c sg v h) a w =
     let wo : Within o.vars vs = (site_onward m o p h).names vs w in
     let gk : Good k = (sign_still kind.Open j k sg).good ((sign_still kind.Call i j c).good a) in

@@ -12,7 +12,7 @@ use Rattle.md_printer.specs.Printed as print
 use Rattle.md_printer.specs.Lines.{on_line, goals_on_line}
 use Rattle.md_printer.proofs.Onto.{onto, onto-append, at, Good}
 use Rattle.md_printer.proofs.Moves.{Still, sign_still, expect_still, onward, Within, quantified_onward, goal_onward, units_onward, conjunction_onward, arms_onward}
-use Rattle.md_printer.proofs.AgainGoals.{sign_again, expect_again, quantified_again, TaskAgain, relation_again, call_again, closure_call_again}
+use Rattle.md_printer.proofs.AgainGoals.{sign_again, expect_again, quantified_again, ExprAgain, relation_again, call_again, closure_call_again}
 
 -- ---- lists of parts on one line
 
@@ -41,9 +41,9 @@ arms_longer : (room : ℕ) (ps : List HldsGoal) (i j : Input) → g.Arms room ps
 arms_longer _ _ _ _ (g.Arms.last_arm room p i j h) = record { head = p; tail = []; whole = refl }
 arms_longer _ _ _ _ (g.Arms.also_arm room p ps i j k m h sg r) = record { head = p; tail = ps; whole = refl }
 
-further_parts_are : (vs : List (List ℕ)) (inner : Bool) (sign : List ℕ) (ps : List HldsGoal) → IsLonger ps → (s : List ℕ)
-    → onto (print.further_parts vs inner sign (gathered ps)) s ≡ sign ++ 32 ∷ onto (print.goals_tokens vs inner sign (gathered ps)) s
-further_parts_are vs inner sign ps l s = subst (λ (ps : List HldsGoal). onto (print.further_parts vs inner sign (gathered ps)) s ≡ sign ++ 32 ∷ onto (print.goals_tokens vs inner sign (gathered ps)) s) (sym l.whole) refl
+further_goals_are : (vs : List (List ℕ)) (inner : Bool) (sign : List ℕ) (ps : List HldsGoal) → IsLonger ps → (s : List ℕ)
+    → onto (print.further_goals vs inner sign (gathered ps)) s ≡ sign ++ 32 ∷ onto (print.goals_tokens vs inner sign (gathered ps)) s
+further_goals_are vs inner sign ps l s = subst (λ (ps : List HldsGoal). onto (print.further_goals vs inner sign (gathered ps)) s ≡ sign ++ 32 ∷ onto (print.goals_tokens vs inner sign (gathered ps)) s) (sym l.whole) refl
 
 -- two or more parts
 joined_again : (vs : List (List ℕ)) (r n : ℕ) (p q : HldsGoal) (ps : List HldsGoal) (s : List ℕ) (i j : Input)
@@ -87,7 +87,7 @@ by_unit vs r p i j e u = record {
 }
 
 of_expr : (R : GoalExpr → Input → Input → Type 0) (vs : List (List ℕ)) (r : ℕ) (line : ℕ) (t : GoalExpr) (i j : Input)
-    → ((t : GoalExpr) (i j : Input) → R t i j → g.Goal r (At (token i).line t) i j) → TaskAgain R vs t i j → GoalAgain vs r (At line t) i j
+    → ((t : GoalExpr) (i j : Input) → R t i j → g.Goal r (At (token i).line t) i j) → ExprAgain R vs t i j → GoalAgain vs r (At line t) i j
 of_expr R vs r line t i j goal a =
     by_unit vs r (At line t) i j (a.flat false) (λ n s.
     let k : Input = at n (onto (print.expr_tokens vs true t) s) i in
@@ -130,7 +130,7 @@ more_units : (vs : List (List ℕ)) (r n : ℕ) (p : HldsGoal) (ps : List HldsGo
 more_units vs r n p ps s i x y j l h sg us =
     let u : List ℕ = onto (print.goals_tokens vs true (codes ",") (gathered ps)) s in
     subst (λ (v : List ℕ). g.Units r (on_line n p ∷ map (on_line n) ps) (at n v i) (at n s j))
-    (sym (onto-append (print.goal_tokens vs true p) (print.further_parts vs true (codes ",") (gathered ps)) s ∙ ap (onto (print.goal_tokens vs true p)) (further_parts_are vs true (codes ",") ps l s)))
+    (sym (onto-append (print.goal_tokens vs true p) (print.further_goals vs true (codes ",") (gathered ps)) s ∙ ap (onto (print.goal_tokens vs true p)) (further_goals_are vs true (codes ",") ps l s)))
     (g.Units.also r (on_line n p) (map (on_line n) ps) (at n (onto (print.goal_tokens vs true p) (codes "," ++ 32 ∷ u)) i) (at n (codes "," ++ 32 ∷ u) x) (at n u y) (at n s j)
     (h.unit n (codes "," ++ 32 ∷ u))
     (sign_again kind.Comma (codes ",") spelled.reads_comma x y sg n u)
@@ -156,9 +156,9 @@ either_onto : (vs : List (List ℕ)) (p : HldsGoal) (ps : List HldsGoal) → IsL
     ≡ codes "(" ++ 32 ∷ onto (print.goal_tokens vs false p) (codes ";" ++ 32 ∷ onto (print.goals_tokens vs false (codes ";") (gathered ps)) (codes ")" ++ 32 ∷ s))
 either_onto vs p ps l s =
     ap (λ (u : List ℕ). codes "(" ++ 32 ∷ u)
-    (onto-append (print.goal_tokens vs false p ++ print.further_parts vs false (codes ";") (gathered ps)) (codes ")" ∷ []) s
-    ∙ onto-append (print.goal_tokens vs false p) (print.further_parts vs false (codes ";") (gathered ps)) (codes ")" ++ 32 ∷ s)
-    ∙ ap (onto (print.goal_tokens vs false p)) (further_parts_are vs false (codes ";") ps l (codes ")" ++ 32 ∷ s)))
+    (onto-append (print.goal_tokens vs false p ++ print.further_goals vs false (codes ";") (gathered ps)) (codes ")" ∷ []) s
+    ∙ onto-append (print.goal_tokens vs false p) (print.further_goals vs false (codes ";") (gathered ps)) (codes ")" ++ 32 ∷ s)
+    ∙ ap (onto (print.goal_tokens vs false p)) (further_goals_are vs false (codes ";") ps l (codes ")" ++ 32 ∷ s)))
 
 disjunction_again : (vs : List (List ℕ)) (r line : ℕ) (p : HldsGoal) (ps : List HldsGoal) (i j k m n o : Input) → IsLonger ps → g.Is (expect kind.Open) line i j → BodyAgain vs r p j k → g.Sign kind.Semicolon k m
     → ((l : ℕ) (s : List ℕ) → g.Arms r (map (on_line l) ps) (at l (onto (print.goals_tokens vs false (codes ";") (gathered ps)) s) m) (at l s n)) → g.Sign kind.Close n o
@@ -307,7 +307,7 @@ mutual
       let gy : Good y = (sign_still kind.Semicolon x y sg).good ((conjunction_onward room p i x h).good a) in
       let u : List ℕ = onto (print.goals_tokens vs false (codes ";") (gathered ps)) s in
       subst (λ (v : List ℕ). g.Arms r (on_line n p ∷ map (on_line n) ps) (at n v i) (at n s j))
-      (sym (onto-append (print.goal_tokens vs false p) (print.further_parts vs false (codes ";") (gathered ps)) s ∙ ap (onto (print.goal_tokens vs false p)) (further_parts_are vs false (codes ";") ps (arms_longer room ps y j us) s)))
+      (sym (onto-append (print.goal_tokens vs false p) (print.further_goals vs false (codes ";") (gathered ps)) s ∙ ap (onto (print.goal_tokens vs false p)) (further_goals_are vs false (codes ";") ps (arms_longer room ps y j us) s)))
       (g.Arms.also_arm r (on_line n p) (map (on_line n) ps) (at n (onto (print.goal_tokens vs false p) (codes ";" ++ 32 ∷ u)) i) (at n (codes ";" ++ 32 ∷ u) x) (at n u y) (at n s j)
       (body_again vs room p i x h r le a wx n (codes ";" ++ 32 ∷ u))
       (sign_again kind.Semicolon (codes ";") spelled.reads_semicolon x y sg n u)

@@ -23,7 +23,7 @@ use Rattle.md_reader.proofs.Steps.{bind_ok}
 use Rattle.md_printer.specs.Layout.{Tokens, sentence}
 use Rattle.md_printer.specs.Printed as print
 use Rattle.md_printer.specs.Printed.{type_tokens, procedure_sentences, module_tokens, printed}
-use Rattle.md_printer.specs.Lines.{on_line, family_on_line, procedure_on_lines, unlined, SpellsUpToLines, IsSpelled}
+use Rattle.md_printer.specs.Lines.{on_line, type_definition_on_line, procedure_on_lines, unlined, SpellsUpToLines, IsSpelled}
 use Rattle.md_printer.proofs.Onto.{onto, onto-append, sentence_onto, at, Good, next_good, at_token, known, goals_at}
 use Rattle.md_printer.proofs.Moves.{ok_parts, holds, Still, still_on, sign_still, expect_still, word_still, this_name_still, Onward, onward, on_to, from_still, Within, variables_listed, conjunction_onward, type_declaration_still, pred_declaration_still, take_facts}
 use Rattle.md_printer.proofs.Takes.{same_itself, token_fine, expect_takes, end_takes, word_takes, token_line, IsPrintable, this_name_takes, end_clause_again}
@@ -95,7 +95,7 @@ clause_again q arity _ _ _ (g.PredClause.pred_clause xs p vs i j k l m n o h hd 
     let start : Input = at w (print.written_name q ++ 32 ∷ u4) i in
     subst (λ (u : List ℕ). g.PredClause q arity (record { line = w; head = xs; body = on_line w p; vars = vs }) (at w (print.written_name q ++ 32 ∷ u) i) (at (w + 1) s o))
     (sym (onto-append (print.variables_in_parentheses vs xs) (codes ":-" ∷ print.goal_tokens vs false p) u1))
-    (subst (λ (line : ℕ). g.PredClause q arity (record { line = line; head = xs; body = on_line w p; vars = vs }) start (at (w + 1) s o)) (token_line pr.sort (print.written_name q) pr.reads w u4 i)
+    (subst (λ (line : ℕ). g.PredClause q arity (record { line = line; head = xs; body = on_line w p; vars = vs }) start (at (w + 1) s o)) (token_line pr.kind_of_name (print.written_name q) pr.reads w u4 i)
     (g.PredClause.pred_clause xs (on_line w p) vs start (at w u4 j) (at w u3 k) (at w u2 l) (at w u1 m) (at (w + 1) s n) (at (w + 1) s o)
     (subst (λ (y : Input). Is (rule.this_name q) tt start y) ((this_name_still q i j h).same w u4) (this_name_takes q i pr w u4))
     (head_again vs arity xs j k hd gj wk w u3)
@@ -129,20 +129,20 @@ predicate_again d c line i j k l e h b a before n s =
     (subst (λ (y : Input). g.PredDeclaration d (at n u2 j) y) (st.same (n + 1) u1) (declaration_again d j k h gj n u1))
     (clause_again d.name (length d.args) c k l b pr (st.good gj) (n + 1) s))
 
-family_again : (t : HldsTypeDef) (line : ℕ) (i j k : Input) → Is (expect kind.Declare) line i j → g.TypeDeclaration line t j k → Good i
+type_definition_again : (t : HldsTypeDef) (line : ℕ) (i j k : Input) → Is (expect kind.Declare) line i j → g.TypeDeclaration line t j k → Good i
     → (before : Hlds) (n : ℕ) (s : List ℕ) (m : Input)
-    → g.Declared before (rule.with_family before (family_on_line n t)) (at n (sentence (type_tokens t) ++ s) m) (at (n + 1) s m)
-family_again t line i j k e h a before n s m =
+    → g.Declared before (rule.with_type_definition before (type_definition_on_line n t)) (at n (sentence (type_tokens t) ++ s) m) (at (n + 1) s m)
+type_definition_again t line i j k e h a before n s m =
     let u : List ℕ = onto (type_rest t) (46 ∷ 10 ∷ s) in
-    subst (λ (v : List ℕ). g.Declared before (rule.with_family before (family_on_line n t)) (at n v m) (at (n + 1) s m)) (sym (sentence_onto (type_tokens t) s))
-    (g.Declared.type (family_on_line n t) n (at n (codes ":-" ++ 32 ∷ u) m) (at n u m) (at (n + 1) s m)
+    subst (λ (v : List ℕ). g.Declared before (rule.with_type_definition before (type_definition_on_line n t)) (at n v m) (at (n + 1) s m)) (sym (sentence_onto (type_tokens t) s))
+    (g.Declared.type (type_definition_on_line n t) n (at n (codes ":-" ++ 32 ∷ u) m) (at n u m) (at (n + 1) s m)
     (expect_takes kind.Declare (codes ":-") spelled.reads_declare n u m)
     (type_again line t j k h ((expect_still kind.Declare line i j e).good a) n s m))
 
 -- a program with these declarations besides, from a line on; and the line past them
 abbrev add_types : ℕ → Hlds → List HldsTypeDef → Hlds
 add_types n b [] = b
-add_types n b (t ∷ ts) = add_types (n + 1) (rule.with_family b (family_on_line n t)) ts
+add_types n b (t ∷ ts) = add_types (n + 1) (rule.with_type_definition b (type_definition_on_line n t)) ts
 
 abbrev past_types : ℕ → List HldsTypeDef → ℕ
 past_types n [] = n
@@ -177,8 +177,8 @@ no_more l i = record {
   procedures_again = λ b n s. g.Declarations.none b (at n s i);
 }
 
-type_more : (before after : Hlds) (t : HldsTypeDef) (line : ℕ) (i j k m : Input) → Is (expect kind.Declare) line i j → g.TypeDeclaration line t j k → Good i → DeclaredAgain (rule.with_family before t) after k m → DeclaredAgain before after i m
-unfolding rule.with_family
+type_more : (before after : Hlds) (t : HldsTypeDef) (line : ℕ) (i j k m : Input) → Is (expect kind.Declare) line i j → g.TypeDeclaration line t j k → Good i → DeclaredAgain (rule.with_type_definition before t) after k m → DeclaredAgain before after i m
+unfolding rule.with_type_definition
 type_more before after t line i j k m e h a r = record {
   types = t ∷ r.types;
   procedures = r.procedures;
@@ -188,9 +188,9 @@ type_more before after t line i j k m e h a r = record {
   types_again = λ b n s y.
       let u : List ℕ = flat_map sentence (map type_tokens r.types) ++ s in
       subst (λ (v : List ℕ). g.Declarations b (add_types n b (t ∷ r.types)) (at n v y) (at (past_types n (t ∷ r.types)) s y)) (sym (append_assoc (sentence (type_tokens t)) (flat_map sentence (map type_tokens r.types)) s))
-      (g.Declarations.also b (rule.with_family b (family_on_line n t)) (add_types n b (t ∷ r.types)) (at n (sentence (type_tokens t) ++ u) y) (at (n + 1) u y) (at (past_types n (t ∷ r.types)) s y)
-      (family_again t line i j k e h a b n u y)
-      (r.types_again (rule.with_family b (family_on_line n t)) (n + 1) s y));
+      (g.Declarations.also b (rule.with_type_definition b (type_definition_on_line n t)) (add_types n b (t ∷ r.types)) (at n (sentence (type_tokens t) ++ u) y) (at (n + 1) u y) (at (past_types n (t ∷ r.types)) s y)
+      (type_definition_again t line i j k e h a b n u y)
+      (r.types_again (rule.with_type_definition b (type_definition_on_line n t)) (n + 1) s y));
   procedures_again = λ b n s.
       let st : Still i k = still_on i j k (expect_still kind.Declare line i j e) (type_declaration_still line t j k h) in
       subst (λ (y : Input). g.Declarations b (add_procedures n b r.procedures) y (at (past_procedures n r.procedures) s m)) (sym (st.same n (flat_map sentence (flat_map procedure_sentences r.procedures) ++ s))) (r.procedures_again b n s);
@@ -220,7 +220,7 @@ predicate_more before after d c line i j k l m e h f a r =
 declarations_again : (before after : Hlds) (i m : Input) → g.Declarations before after i m → Good i → DeclaredAgain before after i m
 declarations_again _ _ _ _ (g.Declarations.none l i) a = no_more l i
 declarations_again _ _ _ _ (g.Declarations.also before _ after i k m (g.Declared.type t line _ j _ e h) ds) a =
-    type_more before after t line i j k m e h a (declarations_again (rule.with_family before t) after k m ds ((type_declaration_still line t j k h).good ((expect_still kind.Declare line i j e).good a)))
+    type_more before after t line i j k m e h a (declarations_again (rule.with_type_definition before t) after k m ds ((type_declaration_still line t j k h).good ((expect_still kind.Declare line i j e).good a)))
 declarations_again _ _ _ _ (g.Declarations.also before _ after i l m (g.Declared.predicate d c line _ j k _ e h f) ds) a =
     predicate_more before after d c line i j k l m e h f a
     (declarations_again (rule.with_procedure before (rule.procedure_from line d c)) after l m ds
@@ -233,22 +233,22 @@ declarations_joined _ _ c _ _ k (g.Declarations.also before l after i j m d ds) 
 -- ---- lines that were lost
 
 abbrev made : List ℕ → List HldsTypeDef → List Procedure → Hlds
-made m ts ps = record { module_name = m; module_line = 0; types = map (family_on_line 0) ts; procedures = map (procedure_on_lines 0 0) ps }
+made m ts ps = record { module_name = m; module_line = 0; types = map (type_definition_on_line 0) ts; procedures = map (procedure_on_lines 0 0) ps }
 
 types_added : (n : ℕ) (b : Hlds) (ts : List HldsTypeDef) → unlined (add_types n b ts) ≡ made b.module_name (b.types ++ ts) b.procedures
-unfolding rule.with_family
+unfolding rule.with_type_definition
 types_added n b [] = ap (λ (ts : List HldsTypeDef). made b.module_name ts b.procedures) (append_none b.types)
 types_added n b (t ∷ ts) =
-    types_added (n + 1) (rule.with_family b (family_on_line n t)) ts
+    types_added (n + 1) (rule.with_type_definition b (type_definition_on_line n t)) ts
     ∙ ap (λ (xs : List HldsTypeDef). record { module_name = b.module_name; module_line = 0; types = xs; procedures = map (procedure_on_lines 0 0) b.procedures })
-    (ap (map (family_on_line 0)) (append_assoc b.types (family_on_line n t ∷ []) ts) ∙ map-append (family_on_line 0) b.types (family_on_line n t ∷ ts) ∙ sym (map-append (family_on_line 0) b.types (t ∷ ts)))
+    (ap (map (type_definition_on_line 0)) (append_assoc b.types (type_definition_on_line n t ∷ []) ts) ∙ map-append (type_definition_on_line 0) b.types (type_definition_on_line n t ∷ ts) ∙ sym (map-append (type_definition_on_line 0) b.types (t ∷ ts)))
 
 procedures_added : (n : ℕ) (b : Hlds) (ps : List Procedure) → unlined (add_procedures n b ps) ≡ made b.module_name b.types (b.procedures ++ ps)
 unfolding rule.with_procedure
 procedures_added n b [] = ap (λ (ps : List Procedure). made b.module_name b.types ps) (append_none b.procedures)
 procedures_added n b (p ∷ ps) =
     procedures_added (n + 1 + 1) (rule.with_procedure b (procedure_on_lines n (n + 1) p)) ps
-    ∙ ap (λ (xs : List Procedure). record { module_name = b.module_name; module_line = 0; types = map (family_on_line 0) b.types; procedures = xs })
+    ∙ ap (λ (xs : List Procedure). record { module_name = b.module_name; module_line = 0; types = map (type_definition_on_line 0) b.types; procedures = xs })
     (ap (map (procedure_on_lines 0 0)) (append_assoc b.procedures (procedure_on_lines n (n + 1) p ∷ []) ps)
     ∙ map-append (procedure_on_lines 0 0) b.procedures (procedure_on_lines n (n + 1) p ∷ ps)
     ∙ ap (λ (q : Procedure). map (procedure_on_lines 0 0) b.procedures ++ q ∷ map (procedure_on_lines 0 0) ps) (procedure_again n (n + 1) p)
@@ -269,7 +269,7 @@ name_kind_reads _ t h f = absurd (cc)
 
 -- the name of a module, which its declaration gives
 record IsModule (m : List ℕ) (i j : Input) : Type 0 where
-  allowed : (rule.is_name (token i).kind && not (bytes_eq m (codes "io"))) ≡ true
+  allowed : (rule.is_name (token i).kind && not (rule.is_library m)) ≡ true
   short : nat_lt i.limits.items (length m) ≡ false
   here : (token i).text ≡ m
   on : record (next i) { home = m } ≡ j
@@ -278,13 +278,13 @@ module_facts : (m : List ℕ) (i j : Input) → Is rule.module_name m i j → Is
 unfolding rule.module_name
 module_facts m i j h =
     let t = (token i).text in
-    let a = holds (rule.is_name (token i).kind && not (bytes_eq t (codes "io"))) _ _ _ h in
+    let a = holds (rule.is_name (token i).kind && not (rule.is_library t)) _ _ _ h in
     let b = bind_ok (take_name t i) _ _ a.1 in
     let f = take_facts t b.0.0 i b.0.1 b.1 in
     let c = ok_parts b.0.0 m (record b.0.1 { home = t }) j b.2 in
     let e : t ≡ m = f.1 ∙ c.0 in
     record {
-      allowed = subst (λ (x : List ℕ). (rule.is_name (token i).kind && not (bytes_eq x (codes "io"))) ≡ true) e a.0;
+      allowed = subst (λ (x : List ℕ). (rule.is_name (token i).kind && not (rule.is_library x)) ≡ true) e a.0;
       short = subst (λ (x : List ℕ). nat_lt i.limits.items (length x) ≡ false) e f.0;
       here = e;
       on = ap (λ (x : List ℕ). record (next i) { home = x }) (sym e) ∙ ap (λ (y : Input). record y { home = t }) f.2 ∙ c.1;
@@ -331,7 +331,7 @@ lines_lost : (b l : Hlds) (m : List ℕ) (ts : List HldsTypeDef) (ps : List Proc
     → made b.module_name b.types (b.procedures ++ ps) ≡ unlined l
 lines_lost b l m ts ps e t p n =
     let names : b.module_name ≡ m = ap (λ (x : Hlds). x.module_name) e in
-    let types : map (family_on_line 0) b.types ≡ map (family_on_line 0) ts = ap (λ (x : Hlds). x.types) e in
+    let types : map (type_definition_on_line 0) b.types ≡ map (type_definition_on_line 0) ts = ap (λ (x : Hlds). x.types) e in
     let none : map (procedure_on_lines 0 0) b.procedures ≡ [] = ap (λ (x : Hlds). x.procedures) e in
     let all : map (procedure_on_lines 0 0) (b.procedures ++ ps) ≡ map (procedure_on_lines 0 0) ps = map-append (procedure_on_lines 0 0) b.procedures ps ∙ ap (λ (xs : List Procedure). xs ++ map (procedure_on_lines 0 0) ps) none in
     rw (names, types, all, t, p, n) refl

@@ -18,10 +18,10 @@ use Rattle.md_reader.specs.Grammar.{Is, Sign, Listed, Enclosed}
 use Rattle.md_printer.specs.Layout.{Tokens, separated, further, arguments, in_parentheses}
 use Rattle.md_printer.specs.Printed as print
 use Rattle.md_printer.specs.Printed.{single}
-use Rattle.md_printer.specs.Lines.{family_on_line}
+use Rattle.md_printer.specs.Lines.{type_definition_on_line}
 use Rattle.md_printer.proofs.Onto.{onto, onto-append, at, Good, most, known, few_at}
-use Rattle.md_printer.proofs.Moves.{Still, sign_still, word_still, name_still, name_facts, sort_still, sort_facts, IsSort, mode_still, ho_mode_still, word_facts, type_name_name, functor_still, argument_still, declared_name_facts, declared_name_still, enclosed_still}
-use Rattle.md_printer.proofs.Takes.{IsHoMode, name_read, sign_takes, end_takes, name_takes, word_takes, sort_again, mode_takes, ho_mode_takes, ho_mode_facts, determinism_takes, type_name_takes, IsPrintable, printable, declared_name_takes}
+use Rattle.md_printer.proofs.Moves.{Still, sign_still, word_still, name_still, name_facts, simple_type_still, simple_type_facts, IsSimpleType, mode_still, ho_mode_still, word_facts, type_name_name, functor_still, argument_still, declared_name_facts, declared_name_still, enclosed_still}
+use Rattle.md_printer.proofs.Takes.{IsHoMode, name_read, sign_takes, end_takes, name_takes, word_takes, simple_type_again, mode_takes, ho_mode_takes, ho_mode_facts, determinism_takes, type_name_takes, IsPrintable, printable, declared_name_takes}
 
 -- in whatever state, the tokens of x are spelled as x
 abbrev pub Again : {A : Type 0} → (A → Input → Input → Type 0) → (A → Tokens) → A → Type 0
@@ -74,16 +74,16 @@ name_known f i j h a =
 abbrev type_words : List HldsType → Tokens
 type_words ts = closed (single print.type_word) (codes ")") ts
 
-sorts_again : (ts : List HldsType) (i j : Input) → Enclosed (Is rule.sort) kind.Close ts i j → Good i → Again (Enclosed (Is rule.sort) kind.Close) type_words ts
-sorts_again ts i j e a = enclosed_again (Is rule.sort) kind.Close (codes ")") (single print.type_word) spelled.reads_close sort_again sort_still ts i j e a
+simple_types_again : (ts : List HldsType) (i j : Input) → Enclosed (Is rule.simple_type) kind.Close ts i j → Good i → Again (Enclosed (Is rule.simple_type) kind.Close) type_words ts
+simple_types_again ts i j e a = enclosed_again (Is rule.simple_type) kind.Close (codes ")") (single print.type_word) spelled.reads_close simple_type_again simple_type_still ts i j e a
 
 functor_arguments_again : (ts : List HldsType) (i j : Input) → g.FunctorArguments ts i j → Good i → Again g.FunctorArguments (arguments (single print.type_word)) ts
 functor_arguments_again _ _ _ (g.FunctorArguments.none i) a n s m = g.FunctorArguments.none (at n s m)
 functor_arguments_again _ _ _ (g.FunctorArguments.some ts i j k sg e) a n s m =
-    subst (λ (u : Tokens). g.FunctorArguments ts (at n (onto u s) m) (at n s m)) (sym (arguments_are (Is rule.sort) kind.Close (single print.type_word) ts j k e))
+    subst (λ (u : Tokens). g.FunctorArguments ts (at n (onto u s) m) (at n s m)) (sym (arguments_are (Is rule.simple_type) kind.Close (single print.type_word) ts j k e))
     (g.FunctorArguments.some ts (at n (codes "(" ++ 32 ∷ onto (type_words ts) s) m) (at n (onto (type_words ts) s) m) (at n s m)
     (sign_takes kind.Open (codes "(") spelled.reads_open n (onto (type_words ts) s) m)
-    (sorts_again ts j k e ((sign_still kind.Open i j sg).good a) n s m))
+    (simple_types_again ts j k e ((sign_still kind.Open i j sg).good a) n s m))
 
 functor_again : (f : HldsFunctor) (i j : Input) → g.Functor f i j → Good i → Again g.Functor print.functor_tokens f
 functor_again _ _ _ (g.Functor.functor f ts i j k h e) a n s m =
@@ -96,7 +96,7 @@ abbrev pub type_rest : HldsTypeDef → Tokens
 type_rest t = codes "type" ∷ t.name ∷ codes "--->" ∷ separated print.functor_tokens (codes ";") t.functors
 
 pub type_again : (line : ℕ) (t : HldsTypeDef) (i j : Input) → g.TypeDeclaration line t i j → Good i → (n : ℕ) (s : List ℕ) (m : Input)
-    → g.TypeDeclaration n (family_on_line n t) (at n (onto (type_rest t) (46 ∷ 10 ∷ s)) m) (at (n + 1) s m)
+    → g.TypeDeclaration n (type_definition_on_line n t) (at n (onto (type_rest t) (46 ∷ 10 ∷ s)) m) (at (n + 1) s m)
 type_again line _ _ _ (g.TypeDeclaration.type_declaration t fs l i j k o p q w tn y fl e) a n s m =
     let own = type_name_name t j k tn in
     let b : Good j = (word_still (codes "type") l i j w).good a in
@@ -145,11 +145,11 @@ inst_again _ _ _ _ (g.Inst.inst ms d i j k l m n o p a b c e f h z) good q s w =
     (determinism_takes d q u1 w)
     (sign_takes kind.Close (codes ")") spelled.reads_close q s w))
 
-plain_tokens : (w : List ℕ) (t : HldsType) (i j : Input) (m : Mode) → IsSort w i j t → print.argument_tokens (t, m) ≡ print.type_word t ∷ codes "::" ∷ print.mode_word m ∷ []
-plain_tokens w _ i j m (IsSort.int e) = refl
-plain_tokens w _ i j m (IsSort.string e) = refl
-plain_tokens w _ i j m (IsSort.io e) = refl
-plain_tokens w _ i j m (IsSort.other a b c d e) = refl
+plain_tokens : (w : List ℕ) (t : HldsType) (i j : Input) (m : Mode) → IsSimpleType w i j t → print.argument_tokens (t, m) ≡ print.type_word t ∷ codes "::" ∷ print.mode_word m ∷ []
+plain_tokens w _ i j m (IsSimpleType.int e) = refl
+plain_tokens w _ i j m (IsSimpleType.string e) = refl
+plain_tokens w _ i j m (IsSimpleType.io e) = refl
+plain_tokens w _ i j m (IsSimpleType.other a b c d e) = refl
 
 higher_onto : (ts : List HldsType) (m : Mode) (ms : List Mode) (d : Det) (s : List ℕ)
     → onto (print.argument_tokens (closure (gathered_types ts) ms d, m)) s ≡ codes "pred" ++ 32 ∷ (codes "(" ++ 32 ∷ onto (type_words ts) (codes "::" ++ 32 ∷ (print.mode_word m ++ 32 ∷ onto (print.inst_tokens ms d) s)))
@@ -165,9 +165,9 @@ argument_again : (x : HldsType × Mode) (i j : Input) → g.Argument x i j → G
 argument_again _ _ _ (g.Argument.plain t m i j k l a b c) good n s w =
     let u1 : List ℕ = print.mode_word m ++ 32 ∷ s in
     let u2 : List ℕ = codes "::" ++ 32 ∷ u1 in
-    subst (λ (u : Tokens). g.Argument (t, m) (at n (onto u s) w) (at n s w)) (sym (plain_tokens (token i).text t i j m (sort_facts t i j a).1))
+    subst (λ (u : Tokens). g.Argument (t, m) (at n (onto u s) w) (at n s w)) (sym (plain_tokens (token i).text t i j m (simple_type_facts t i j a).1))
     (g.Argument.plain t m (at n (print.type_word t ++ 32 ∷ u2) w) (at n u2 w) (at n u1 w) (at n s w)
-    (sort_again t i j a good n u2 w)
+    (simple_type_again t i j a good n u2 w)
     (sign_takes kind.HasMode (codes "::") spelled.reads_has_mode n u1 w)
     (mode_takes m n s w))
 argument_again _ _ _ (g.Argument.higher_order ts m ms d i j k l n o p a b c e f h) good q s w =
@@ -177,13 +177,13 @@ argument_again _ _ _ (g.Argument.higher_order ts m ms d i j k l n o p a b c e f 
     let u4 : List ℕ = onto (type_words ts) u3 in
     let u5 : List ℕ = codes "(" ++ 32 ∷ u4 in
     let gk : Good k = (sign_still kind.Open j k b).good ((sign_still kind.Pred i j a).good good) in
-    let gn : Good n = (sign_still kind.HasMode l n e).good ((enclosed_still (Is rule.sort) kind.Close sort_still ts k l c).good gk) in
+    let gn : Good n = (sign_still kind.HasMode l n e).good ((enclosed_still (Is rule.simple_type) kind.Close simple_type_still ts k l c).good gk) in
     let go : Good o = (ho_mode_still m n o f).good gn in
     subst (λ (u : List ℕ). g.Argument (closure (gathered_types ts) ms d, m) (at q u w) (at q s w)) (sym (higher_onto ts m ms d s))
     (g.Argument.higher_order ts m ms d (at q (codes "pred" ++ 32 ∷ u5) w) (at q u5 w) (at q u4 w) (at q u3 w) (at q u2 w) (at q u1 w) (at q s w)
     (sign_takes kind.Pred (codes "pred") spelled.reads_pred q u5 w)
     (sign_takes kind.Open (codes "(") spelled.reads_open q u4 w)
-    (sorts_again ts k l c gk q u3 w)
+    (simple_types_again ts k l c gk q u3 w)
     (sign_takes kind.HasMode (codes "::") spelled.reads_has_mode q u2 w)
     (ho_mode_takes m (is_ho_mode m n o f) q u1 w)
     (inst_again ms d o p h go q s w))
@@ -201,16 +201,16 @@ pub same_home : (i j : Input) → Still i j → i.home ≡ j.home
 unfolding at
 same_home i j s = ap (λ (k : Input). k.home) (s.same 0 [])
 
-not_io_if : (b : Bool) (m : List ℕ) → rule.is_io (Some m) ≡ false → rule.is_io (cond b None (Some m)) ≡ false
-not_io_if true m h = refl
-not_io_if false m h = h
+own_if : (b : Bool) (m : List ℕ) → rule.is_of_library (Some m) ≡ false → rule.is_of_library (cond b None (Some m)) ≡ false
+own_if true m h = refl
+own_if false m h = h
 
-not_io_away : (home : List ℕ) (q : Option (List ℕ)) → rule.is_io q ≡ false → rule.is_io (rule.away_from home q) ≡ false
-not_io_away home None h = refl
-not_io_away home (Some m) h = not_io_if (bytes_eq m home) m h
+own_away : (home : List ℕ) (q : Option (List ℕ)) → rule.is_of_library q ≡ false → rule.is_of_library (rule.away_from home q) ≡ false
+own_away home None h = refl
+own_away home (Some m) h = own_if (bytes_eq m home) m h
 
-not_io : (home : List ℕ) (w : rule.Written) (q : PredName) → rule.is_io w.qualifier ≡ false → rule.meant home w ≡ q → rule.is_io q.qualifier ≡ false
-not_io home w q io e = subst (λ (q : PredName). rule.is_io q.qualifier ≡ false) e (not_io_away home w.qualifier io)
+own_name : (home : List ℕ) (w : rule.Written) (q : PredName) → rule.is_of_library w.qualifier ≡ false → rule.meant home w ≡ q → rule.is_of_library q.qualifier ≡ false
+own_name home w q io e = subst (λ (q : PredName). rule.is_of_library q.qualifier ≡ false) e (own_away home w.qualifier io)
 
 -- a predicate's declaration behind its `:-`
 abbrev pub declaration_rest : rule.Declaration → Tokens
@@ -226,7 +226,7 @@ pub declaration_again : (d : rule.Declaration) (i j : Input) → g.PredDeclarati
 declaration_again _ _ _ (g.PredDeclaration.pred_declaration q as' d i j k l m n o a b c e f h) good w s =
     let st = sign_still kind.Pred i j a in
     let nf = declared_name_facts q j k b in
-    let io : rule.is_io q.qualifier ≡ false = not_io j.home nf.0.written q nf.1 nf.0.meant in
+    let io : rule.is_of_library q.qualifier ≡ false = own_name j.home nf.0.written q nf.1 nf.0.meant in
     let pr : IsPrintable i.home q = subst (λ (home : List ℕ). IsPrintable home q) (sym (same_home i j st)) (printable q j k nf.0 (st.good good)) in
     let gk : Good k = (declared_name_still q j k b).good (st.good good) in
     let z : List ℕ = 46 ∷ 10 ∷ s in

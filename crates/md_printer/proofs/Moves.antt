@@ -113,50 +113,50 @@ chosen_at true p q i z h = inl (refl, h)
 chosen_at false p q i z h = inr (refl, h)
 
 -- a type is one of three words, or another name
-pub data IsSort (t : List ℕ) (i j : Input) : HldsType → Type 0 where
-  int : next i ≡ j → IsSort t i j number
-  string : next i ≡ j → IsSort t i j text
-  io : next i ≡ j → IsSort t i j world
-  other : bytes_eq t (codes "int") ≡ false → bytes_eq t (codes "string") ≡ false → bytes_eq t (codes "io") ≡ false → nat_lt i.limits.items (length t) ≡ false → next i ≡ j → IsSort t i j (named t)
+pub data IsSimpleType (t : List ℕ) (i j : Input) : HldsType → Type 0 where
+  int : next i ≡ j → IsSimpleType t i j number
+  string : next i ≡ j → IsSimpleType t i j text
+  io : next i ≡ j → IsSimpleType t i j world
+  other : bytes_eq t (codes "int") ≡ false → bytes_eq t (codes "string") ≡ false → bytes_eq t (codes "io") ≡ false → nat_lt i.limits.items (length t) ≡ false → next i ≡ j → IsSimpleType t i j (named t)
 
-sort_word : (x t : HldsType) (i j : Input) (w : List ℕ) → (next i ≡ j → IsSort w i j x) → ◌≡◌ {A = Outcome HldsType} (Ok (x, next i)) (Ok (t, j)) → IsSort w i j t
-sort_word x t i j w f h = let a = ok_parts x t (next i) j h in subst (λ (t : HldsType). IsSort w i j t) a.0 (f a.1)
+simple_type_word : (x t : HldsType) (i j : Input) (w : List ℕ) → (next i ≡ j → IsSimpleType w i j x) → ◌≡◌ {A = Outcome HldsType} (Ok (x, next i)) (Ok (t, j)) → IsSimpleType w i j t
+simple_type_word x t i j w f h = let a = ok_parts x t (next i) j h in subst (λ (t : HldsType). IsSimpleType w i j t) a.0 (f a.1)
 
-sort_name : (w : List ℕ) (t : HldsType) (i j : Input) → bytes_eq w (codes "int") ≡ false → bytes_eq w (codes "string") ≡ false → bytes_eq w (codes "io") ≡ false
-    → and_then (take_name w i) (λ n k. Ok (named n, k)) ≡ Ok (t, j) → IsSort w i j t
-sort_name w t i j a b c h =
+simple_type_name : (w : List ℕ) (t : HldsType) (i j : Input) → bytes_eq w (codes "int") ≡ false → bytes_eq w (codes "string") ≡ false → bytes_eq w (codes "io") ≡ false
+    → and_then (take_name w i) (λ n k. Ok (named n, k)) ≡ Ok (t, j) → IsSimpleType w i j t
+simple_type_name w t i j a b c h =
     let e = bind_ok (take_name w i) _ _ h in
     let f = take_facts w e.0.0 i e.0.1 e.1 in
     let r = ok_parts (named e.0.0) t e.0.1 j e.2 in
-    subst (λ (t : HldsType). IsSort w i j t) (ap named f.1 ∙ r.0) (other a b c f.0 (f.2 ∙ r.1))
+    subst (λ (t : HldsType). IsSimpleType w i j t) (ap named f.1 ∙ r.0) (other a b c f.0 (f.2 ∙ r.1))
 
-sort_facts_by : (w : List ℕ) (t : HldsType) (i j : Input) → rule.sort_named w i ≡ Ok (t, j) → IsSort w i j t
-sort_facts_by w t i j h =
+simple_type_facts_by : (w : List ℕ) (t : HldsType) (i j : Input) → rule.simple_type_named w i ≡ Ok (t, j) → IsSimpleType w i j t
+simple_type_facts_by w t i j h =
     elim (chosen_at (bytes_eq w (codes "int")) _ _ i _ h) [
-      | inl s ↦ sort_word number t i j w int s.1
+      | inl s ↦ simple_type_word number t i j w int s.1
       | inr s ↦ elim (chosen_at (bytes_eq w (codes "string")) _ _ i _ s.1) [
-        | inl q ↦ sort_word text t i j w string q.1
+        | inl q ↦ simple_type_word text t i j w string q.1
         | inr q ↦ elim (chosen_at (bytes_eq w (codes "io")) _ _ i _ q.1) [
-          | inl r ↦ sort_word world t i j w io r.1
-          | inr r ↦ sort_name w t i j s.0 q.0 r.0 r.1
+          | inl r ↦ simple_type_word world t i j w io r.1
+          | inr r ↦ simple_type_name w t i j s.0 q.0 r.0 r.1
         ]
       ]
     ]
 
-pub sort_facts : (t : HldsType) (i j : Input) → Is rule.sort t i j → (sees kind.Name i ≡ true) × IsSort (token i).text i j t
-unfolding rule.sort
-sort_facts t i j h =
+pub simple_type_facts : (t : HldsType) (i j : Input) → Is rule.simple_type t i j → (sees kind.Name i ≡ true) × IsSimpleType (token i).text i j t
+unfolding rule.simple_type
+simple_type_facts t i j h =
     let a = holds (sees kind.Name i) _ _ _ h in
-    (a.0, sort_facts_by (token i).text t i j a.1)
+    (a.0, simple_type_facts_by (token i).text t i j a.1)
 
-sort_next : (w : List ℕ) (t : HldsType) (i j : Input) → IsSort w i j t → next i ≡ j
-sort_next w _ i j (int e) = e
-sort_next w _ i j (string e) = e
-sort_next w _ i j (io e) = e
-sort_next w _ i j (other a b c d e) = e
+simple_type_next : (w : List ℕ) (t : HldsType) (i j : Input) → IsSimpleType w i j t → next i ≡ j
+simple_type_next w _ i j (int e) = e
+simple_type_next w _ i j (string e) = e
+simple_type_next w _ i j (io e) = e
+simple_type_next w _ i j (other a b c d e) = e
 
-pub sort_still : (t : HldsType) (i j : Input) → Is rule.sort t i j → Still i j
-sort_still t i j h = still_to i j (sort_next (token i).text t i j (sort_facts t i j h).1)
+pub simple_type_still : (t : HldsType) (i j : Input) → Is rule.simple_type t i j → Still i j
+simple_type_still t i j h = still_to i j (simple_type_next (token i).text t i j (simple_type_facts t i j h).1)
 
 -- ---- names of predicates
 
@@ -179,10 +179,10 @@ pub pred_name_facts : (q : PredName) (i j : Input) → Is rule.pred_name q i j �
 unfolding rule.pred_name
 pred_name_facts q i j h = written_facts (rule.written (token i)) q i j refl h
 
-declared_facts : (o : Option rule.Written) (q : PredName) (i j : Input) → rule.written (token i) ≡ o → rule.take_declared o i ≡ Ok (q, j) → (f : IsName q i j) × (rule.is_io f.written.qualifier ≡ false)
+declared_facts : (o : Option rule.Written) (q : PredName) (i j : Input) → rule.written (token i) ≡ o → rule.take_declared o i ≡ Ok (q, j) → (f : IsName q i j) × (rule.is_of_library f.written.qualifier ≡ false)
 declared_facts None q i j e h = absurd (cc)
 declared_facts (Some w) q i j e h =
-    elim (chosen_at (rule.is_io w.qualifier) _ _ i _ h) [
+    elim (chosen_at (rule.is_of_library w.qualifier) _ _ i _ h) [
       | inl s ↦ absurd (let r = s.1 in cc)
       | inr s ↦ (
           let a = fails (rule.is_long i.limits.items w) _ _ _ s.1 in
@@ -191,7 +191,7 @@ declared_facts (Some w) q i j e h =
           )
     ]
 
-pub declared_name_facts : (q : PredName) (i j : Input) → Is rule.declared_name q i j → (f : IsName q i j) × (rule.is_io f.written.qualifier ≡ false)
+pub declared_name_facts : (q : PredName) (i j : Input) → Is rule.declared_name q i j → (f : IsName q i j) × (rule.is_of_library f.written.qualifier ≡ false)
 unfolding rule.declared_name
 declared_name_facts q i j h = declared_facts (rule.written (token i)) q i j refl h
 
@@ -220,7 +220,7 @@ enclosed_still item k each _ _ _ (g.Enclosed.enclosed xs i j m l few s) = still_
 
 pub functor_arguments_still : (ts : List HldsType) (i j : Input) → g.FunctorArguments ts i j → Still i j
 functor_arguments_still _ _ _ (g.FunctorArguments.none i) = still_here i
-functor_arguments_still _ _ _ (g.FunctorArguments.some ts i j k s e) = still_on i j k (sign_still kind.Open i j s) (enclosed_still (Is rule.sort) kind.Close sort_still ts j k e)
+functor_arguments_still _ _ _ (g.FunctorArguments.some ts i j k s e) = still_on i j k (sign_still kind.Open i j s) (enclosed_still (Is rule.simple_type) kind.Close simple_type_still ts j k e)
 
 pub functor_still : (f : HldsFunctor) (i j : Input) → g.Functor f i j → Still i j
 functor_still _ _ _ (g.Functor.functor f ts i j k n a) = still_on i j k (name_still f i j n) (functor_arguments_still ts j k a)
@@ -242,11 +242,11 @@ inst_still _ _ _ _ (g.Inst.inst ms d i j k l m n o p a b c e f h c2) =
     (still_on n o p (determinism_still d n o h) (sign_still kind.Close o p c2))))))
 
 pub argument_still : (a : HldsType × Mode) (i j : Input) → g.Argument a i j → Still i j
-argument_still _ _ _ (g.Argument.plain t m i j k l a b c) = still_on i j l (sort_still t i j a) (still_on j k l (sign_still kind.HasMode j k b) (mode_still m k l c))
+argument_still _ _ _ (g.Argument.plain t m i j k l a b c) = still_on i j l (simple_type_still t i j a) (still_on j k l (sign_still kind.HasMode j k b) (mode_still m k l c))
 argument_still _ _ _ (g.Argument.higher_order ts m ms d i j k l n o p a b c e f h) =
     still_on i j p (sign_still kind.Pred i j a)
     (still_on j k p (sign_still kind.Open j k b)
-    (still_on k l p (enclosed_still (Is rule.sort) kind.Close sort_still ts k l c)
+    (still_on k l p (enclosed_still (Is rule.simple_type) kind.Close simple_type_still ts k l c)
     (still_on l n p (sign_still kind.HasMode l n e)
     (still_on n o p (ho_mode_still m n o f) (inst_still ms d o p h)))))
 
@@ -284,7 +284,7 @@ from_still i j k a b = on_to i j k (onward i j a) b
 
 -- a variable that is read
 pub record IsVariable (seen : List ℕ) (x : ℕ) (i j : Input) : Type 0 where
-  pub sort : sees kind.Variable i ≡ true
+  pub is_variable : sees kind.Variable i ≡ true
   pub new : list_any (λ y. y == place_of (token i).text i.vars) seen ≡ false
   pub short : nat_lt i.limits.items (length (token i).text) ≡ false
   pub place : place_of (token i).text i.vars ≡ x
@@ -301,7 +301,7 @@ variable_facts seen x i j h =
     let b = fails (list_any (λ y. y == place_of (token i).text i.vars) seen) _ _ _ a.1 in
     let c = fails (nat_lt i.limits.items (length (token i).text)) _ _ _ b.1 in
     let d = ok_parts (place_of (token i).text i.vars) x _ j c.1 in
-    record { sort = not_false (sees kind.Variable i) a.0; new = b.0; short = c.0; place = d.0; on = d.1 }
+    record { is_variable = not_false (sees kind.Variable i) a.0; new = b.0; short = c.0; place = d.0; on = d.1 }
 
 with_more : (b : Bool) (x : List ℕ) (xs vs : List (List ℕ)) → Within (cond b (xs ++ x ∷ []) xs) vs → Within xs vs
 with_more true x xs vs w = record { more = x ∷ w.more; whole = w.whole ∙ append_assoc xs (x ∷ []) w.more }

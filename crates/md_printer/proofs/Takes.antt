@@ -32,7 +32,7 @@ use Rattle.md_reader.specs.Grammar as g
 use Rattle.md_reader.specs.Grammar.{Is, Sign}
 use Rattle.md_printer.specs.Printed as print
 use Rattle.md_printer.proofs.Onto.{at, upon, at_token, at_stop, Good, most, greatest, most_bytes, known}
-use Rattle.md_printer.proofs.Moves.{ok_parts, IsSort, sort_facts, IsName, variable_facts, Within}
+use Rattle.md_printer.proofs.Moves.{ok_parts, IsSimpleType, simple_type_facts, IsName, variable_facts, Within}
 
 -- ---- kinds
 
@@ -145,17 +145,17 @@ determinism_takes det.Failure n s i = along (λ (j : Input). Is rule.determinism
 
 -- ---- types
 
-sort_takes : (w : List ℕ) (t : HldsType) (i j : Input) → Good i → IsSort w i j t → Reads kind.Name w → (n : ℕ) (s : List ℕ) (k : Input) → Is rule.sort t (at n (print.type_word t ++ 32 ∷ s) k) (at n s k)
-unfolding rule.sort take_name sees token next at
-sort_takes w _ i j good (IsSort.int e) r n s k = along (λ (m : Input). Is rule.sort number m (at n s k)) kind.Name (codes "int") spelled.reads_word_int n s k (rw (same_itself kind.Name) refl)
-sort_takes w _ i j good (IsSort.string e) r n s k = along (λ (m : Input). Is rule.sort text m (at n s k)) kind.Name (codes "string") spelled.reads_word_string n s k (rw (same_itself kind.Name) refl)
-sort_takes w _ i j good (IsSort.io e) r n s k = along (λ (m : Input). Is rule.sort world m (at n s k)) kind.Name (codes "io") spelled.reads_word_io n s k (rw (same_itself kind.Name) refl)
-sort_takes w _ i j good (IsSort.other a b c d e) r n s k = along (λ (m : Input). Is rule.sort (named w) m (at n s k)) kind.Name w r n s k (rw (same_itself kind.Name, a, b, c, known (λ l. l.items) i good (λ m. nat_lt m (length w) ≡ false) d) refl)
+simple_type_takes : (w : List ℕ) (t : HldsType) (i j : Input) → Good i → IsSimpleType w i j t → Reads kind.Name w → (n : ℕ) (s : List ℕ) (k : Input) → Is rule.simple_type t (at n (print.type_word t ++ 32 ∷ s) k) (at n s k)
+unfolding rule.simple_type take_name sees token next at
+simple_type_takes w _ i j good (IsSimpleType.int e) r n s k = along (λ (m : Input). Is rule.simple_type number m (at n s k)) kind.Name (codes "int") spelled.reads_word_int n s k (rw (same_itself kind.Name) refl)
+simple_type_takes w _ i j good (IsSimpleType.string e) r n s k = along (λ (m : Input). Is rule.simple_type text m (at n s k)) kind.Name (codes "string") spelled.reads_word_string n s k (rw (same_itself kind.Name) refl)
+simple_type_takes w _ i j good (IsSimpleType.io e) r n s k = along (λ (m : Input). Is rule.simple_type world m (at n s k)) kind.Name (codes "io") spelled.reads_word_io n s k (rw (same_itself kind.Name) refl)
+simple_type_takes w _ i j good (IsSimpleType.other a b c d e) r n s k = along (λ (m : Input). Is rule.simple_type (named w) m (at n s k)) kind.Name w r n s k (rw (same_itself kind.Name, a, b, c, known (λ l. l.items) i good (λ m. nat_lt m (length w) ≡ false) d) refl)
 
-pub sort_again : (t : HldsType) (i j : Input) → Is rule.sort t i j → Good i → (n : ℕ) (s : List ℕ) (k : Input) → Is rule.sort t (at n (print.type_word t ++ 32 ∷ s) k) (at n s k)
-sort_again t i j h a n s k =
-    let f = sort_facts t i j h in
-    sort_takes (token i).text t i j a f.1 (name_read i a f.0) n s k
+pub simple_type_again : (t : HldsType) (i j : Input) → Is rule.simple_type t i j → Good i → (n : ℕ) (s : List ℕ) (k : Input) → Is rule.simple_type t (at n (print.type_word t ++ 32 ∷ s) k) (at n s k)
+simple_type_again t i j h a n s k =
+    let f = simple_type_facts t i j h in
+    simple_type_takes (token i).text t i j a f.1 (name_read i a f.0) n s k
 
 pub type_name_takes : (t : List ℕ) → rule.is_own_type t ≡ true → Reads kind.Name t → nat_lt most (length t) ≡ false → (n : ℕ) (s : List ℕ) (i : Input) → Is rule.type_name t (at n (t ++ 32 ∷ s) i) (at n s i)
 unfolding rule.type_name name take_name sees token next at
@@ -168,9 +168,9 @@ kept q = record { qualifier = q.qualifier; name = q.name }
 
 -- a name that is printed as it's meant
 pub record IsPrintable (home : List ℕ) (q : PredName) : Type 0 where
-  pub sort : Kind
-  pub reads : Reads sort (print.written_name q)
-  pub back : rule.written_by (print.written_name q) sort ≡ Some (kept q)
+  pub kind_of_name : Kind
+  pub reads : Reads kind_of_name (print.written_name q)
+  pub back : rule.written_by (print.written_name q) kind_of_name ≡ Some (kept q)
   pub short : rule.is_long most (kept q) ≡ false
   pub meant : rule.away_from home q.qualifier ≡ q.qualifier
 
@@ -179,7 +179,7 @@ or_false true b h = absurd (cc)
 or_false false b h = (refl, h)
 
 plain_name : (home t : List ℕ) (q : PredName) → Reads kind.Name t → rule.is_long most (record { qualifier = None; name = t }) ≡ false → record { qualifier = None; name = t } ≡ q → IsPrintable home q
-plain_name home t q r short e = subst (IsPrintable home) e (record { sort = kind.Name; reads = r; back = refl; short = short; meant = refl })
+plain_name home t q r short e = subst (IsPrintable home) e (record { kind_of_name = kind.Name; reads = r; back = refl; short = short; meant = refl })
 
 -- a qualified token's two parts
 parts_of_qualified : (t : List ℕ) (f : IsQualified t) → (rule.qualifier_part t ≡ f.qualifier) × (rule.name_part t ≡ f.name)
@@ -195,7 +195,7 @@ away : (home q f : List ℕ) (b : Bool) (p : PredName) → bytes_eq q home ≡ b
 away home q f true p e is t whole r back alone short = let o = or_false (nat_lt most (length f)) (nat_lt most (length q)) short in plain_name home f p alone (rw o.0 refl) is
 away home q f false p e is t whole r back alone short =
     subst (IsPrintable home) is (record {
-      sort = kind.Qualified;
+      kind_of_name = kind.Qualified;
       reads = subst (Reads kind.Qualified) whole r;
       back = subst (λ (t : List ℕ). rule.qualified t ≡ Some (record { qualifier = Some q; name = f })) whole back;
       short = short;
@@ -230,12 +230,12 @@ printable q i j f a = printable_by (token i).kind i.home (token i).text f.writte
 pub pred_name_takes : (q : PredName) (i : Input) → IsPrintable i.home q → (n : ℕ) (s : List ℕ) → Is rule.pred_name q (at n (print.written_name q ++ 32 ∷ s) i) (at n s i)
 unfolding rule.pred_name rule.written token next at
 pred_name_takes q i p n s =
-    along (λ (j : Input). Is rule.pred_name q j (at n s i)) p.sort (print.written_name q) p.reads n s i (rw (p.back, p.short, p.meant) refl)
+    along (λ (j : Input). Is rule.pred_name q j (at n s i)) p.kind_of_name (print.written_name q) p.reads n s i (rw (p.back, p.short, p.meant) refl)
 
-pub declared_name_takes : (q : PredName) (i : Input) → IsPrintable i.home q → rule.is_io q.qualifier ≡ false → (n : ℕ) (s : List ℕ) → Is rule.declared_name q (at n (print.written_name q ++ 32 ∷ s) i) (at n s i)
+pub declared_name_takes : (q : PredName) (i : Input) → IsPrintable i.home q → rule.is_of_library q.qualifier ≡ false → (n : ℕ) (s : List ℕ) → Is rule.declared_name q (at n (print.written_name q ++ 32 ∷ s) i) (at n s i)
 unfolding rule.declared_name rule.written token next at
 declared_name_takes q i p io n s =
-    along (λ (j : Input). Is rule.declared_name q j (at n s i)) p.sort (print.written_name q) p.reads n s i (rw (p.back, io, p.short, p.meant) refl)
+    along (λ (j : Input). Is rule.declared_name q j (at n s i)) p.kind_of_name (print.written_name q) p.reads n s i (rw (p.back, io, p.short, p.meant) refl)
 
 same_qualifiers : (q : Option (List ℕ)) → same_qualifier q q ≡ true
 same_qualifiers None = refl
@@ -247,7 +247,7 @@ same_names q = rw (same_qualifiers q.qualifier, bytes_same q.name) refl
 pub this_name_takes : (q : PredName) (i : Input) → IsPrintable i.home q → (n : ℕ) (s : List ℕ) → Is (rule.this_name q) tt (at n (print.written_name q ++ 32 ∷ s) i) (at n s i)
 unfolding rule.this_name rule.written token next at
 this_name_takes q i p n s =
-    along (λ (j : Input). Is (rule.this_name q) tt j (at n s i)) p.sort (print.written_name q) p.reads n s i (rw (p.back, p.meant, same_qualifiers q.qualifier, bytes_same q.name) refl)
+    along (λ (j : Input). Is (rule.this_name q) tt j (at n s i)) p.kind_of_name (print.written_name q) p.reads n s i (rw (p.back, p.meant, same_qualifiers q.qualifier, bytes_same q.name) refl)
 
 -- ---- variables
 
@@ -286,7 +286,7 @@ variable_again vs seen x i j h a w n s =
     let f = variable_facts seen x i j h in
     let v : Within (with_variable (token i).text i.vars) vs = subst (λ (j : Input). Within j.vars vs) (sym f.on) w in
     let e : print.variable vs (place_of (token i).text i.vars) ≡ (token i).text = variable_name (token i).text i.vars vs v in
-    let r = takes_variable seen i f.sort f.new (known (λ l. l.items) i a (λ m. nat_lt m (length (token i).text) ≡ false) f.short) a n s in
+    let r = takes_variable seen i f.is_variable f.new (known (λ l. l.items) i a (λ m. nat_lt m (length (token i).text) ≡ false) f.short) a n s in
     subst (λ (x : ℕ). Is (variable seen) x (at n (print.variable vs x ++ 32 ∷ s) i) (at n s j)) f.place
     (subst (λ (j : Input). Is (variable seen) (place_of (token i).text i.vars) (at n (print.variable vs (place_of (token i).text i.vars) ++ 32 ∷ s) i) (at n s j)) f.on
     (subst (λ (t : List ℕ). Is (variable seen) (place_of (token i).text i.vars) (at n (t ++ 32 ∷ s) i) (at n s (record (next i) { vars = with_variable (token i).text i.vars }))) (sym e) r))

@@ -5,10 +5,10 @@ use Rattle.std.proofs.lemmas.List.{map-append}
 use Rattle.std.specs.List.{flat_map}
 use Rattle.md_hlds.specs.HldsGoal.{HldsGoal, At, HldsGoals, nothing, also, GoalExpr, SimpleGoal, CallGoal, HoCallGoal, ConjGoal, DisjGoal, IfGoal, NotGoal, SomeGoal}
 use Rattle.md_hlds.specs.Hlds.{HldsFunctor, HldsTypeDef, Procedure, Hlds}
-use Rattle.md_reader.specs.Duplicates.{Declared, is_among, first_second, declared_family, declared_construct, declared_constructs, declared_procedure, earlier, second_family, second_construct, second_procedure, duplicate}
+use Rattle.md_reader.specs.Duplicates.{Declared, is_among, first_second, declared_type_definition, declared_functor, declared_functors, declared_procedure, earlier, second_type_definition, second_functor, second_procedure, duplicate}
 use Rattle.md_printer.specs.Layout.{Tokens, sentence, in_parentheses}
-use Rattle.md_printer.specs.Printed.{goal_tokens, expr_tokens, goals_tokens, further_parts, enclosed, choice_tokens, quantified_tokens, variables, type_tokens, procedure_sentences, declaration_tokens, written, variables_in_parentheses, module_tokens, printed}
-use Rattle.md_printer.specs.Lines.{on_line, expr_on_line, goals_on_line, family_on_line, procedure_on_lines, unlined}
+use Rattle.md_printer.specs.Printed.{goal_tokens, expr_tokens, goals_tokens, further_goals, enclosed, choice_tokens, quantified_tokens, variables, type_tokens, procedure_sentences, declaration_tokens, written, variables_in_parentheses, module_tokens, printed}
+use Rattle.md_printer.specs.Lines.{on_line, expr_on_line, goals_on_line, type_definition_on_line, procedure_on_lines, unlined}
 
 -- ---- lines of lines
 
@@ -20,15 +20,15 @@ mutual
   expr_on_line_again m n (SimpleGoal s) = refl
   expr_on_line_again m n (CallGoal site q ys) = refl
   expr_on_line_again m n (HoCallGoal site f ys) = refl
-  expr_on_line_again m n (ConjGoal ps) = ap ConjGoal (parts_on_line_again m n ps)
-  expr_on_line_again m n (DisjGoal ps) = ap DisjGoal (parts_on_line_again m n ps)
+  expr_on_line_again m n (ConjGoal ps) = ap ConjGoal (goals_on_line_again m n ps)
+  expr_on_line_again m n (DisjGoal ps) = ap DisjGoal (goals_on_line_again m n ps)
   expr_on_line_again m n (IfGoal c t e) = rw (on_line_again m n c, on_line_again m n t, on_line_again m n e) refl
   expr_on_line_again m n (NotGoal c) = ap NotGoal (on_line_again m n c)
   expr_on_line_again m n (SomeGoal xs c) = ap (SomeGoal xs) (on_line_again m n c)
 
-  parts_on_line_again : (m n : ℕ) (ps : HldsGoals) → goals_on_line m (goals_on_line n ps) ≡ goals_on_line m ps
-  parts_on_line_again m n nothing = refl
-  parts_on_line_again m n (also p ps) = rw (on_line_again m n p, parts_on_line_again m n ps) refl
+  goals_on_line_again : (m n : ℕ) (ps : HldsGoals) → goals_on_line m (goals_on_line n ps) ≡ goals_on_line m ps
+  goals_on_line_again m n nothing = refl
+  goals_on_line_again m n (also p ps) = rw (on_line_again m n p, goals_on_line_again m n ps) refl
 
 pub procedure_again : (d c : ℕ) (p : Procedure) → procedure_on_lines 0 0 (procedure_on_lines d c p) ≡ procedure_on_lines 0 0 p
 procedure_again d c p = ap (λ (b : HldsGoal). record p { line = 0; clause_line = 0; body = b }) (on_line_again 0 c p.body)
@@ -43,8 +43,8 @@ mutual
   expr_same vs inner n (SimpleGoal s) = refl
   expr_same vs inner n (CallGoal site q ys) = refl
   expr_same vs inner n (HoCallGoal site f ys) = refl
-  expr_same vs inner n (ConjGoal ps) = ap (enclosed inner) (parts_same vs true (codes ",") n ps)
-  expr_same vs inner n (DisjGoal ps) = ap in_parentheses (parts_same vs false (codes ";") n ps)
+  expr_same vs inner n (ConjGoal ps) = ap (enclosed inner) (goals_same vs true (codes ",") n ps)
+  expr_same vs inner n (DisjGoal ps) = ap in_parentheses (goals_same vs false (codes ";") n ps)
   expr_same vs inner n (IfGoal c t e) =
       ap (λ (x : Tokens). choice_tokens x (goal_tokens vs false (on_line n t)) (goal_tokens vs false (on_line n e))) (goal_same vs false n c)
       ∙ ap (λ (x : Tokens). choice_tokens (goal_tokens vs false c) x (goal_tokens vs false (on_line n e))) (goal_same vs false n t)
@@ -52,19 +52,19 @@ mutual
   expr_same vs inner n (NotGoal c) = ap (λ (x : Tokens). codes "not" ∷ in_parentheses x) (goal_same vs false n c)
   expr_same vs inner n (SomeGoal xs c) = ap (quantified_tokens (variables vs xs)) (goal_same vs false n c)
 
-  parts_same : (vs : List (List ℕ)) (inner : Bool) (sign : List ℕ) (n : ℕ) (ps : HldsGoals) → goals_tokens vs inner sign (goals_on_line n ps) ≡ goals_tokens vs inner sign ps
-  parts_same vs inner sign n nothing = refl
-  parts_same vs inner sign n (also p ps) =
-      ap (λ (x : Tokens). x ++ further_parts vs inner sign (goals_on_line n ps)) (goal_same vs inner n p)
+  goals_same : (vs : List (List ℕ)) (inner : Bool) (sign : List ℕ) (n : ℕ) (ps : HldsGoals) → goals_tokens vs inner sign (goals_on_line n ps) ≡ goals_tokens vs inner sign ps
+  goals_same vs inner sign n nothing = refl
+  goals_same vs inner sign n (also p ps) =
+      ap (λ (x : Tokens). x ++ further_goals vs inner sign (goals_on_line n ps)) (goal_same vs inner n p)
       ∙ ap (λ (x : Tokens). goal_tokens vs inner p ++ x) (further_same vs inner sign n ps)
 
-  further_same : (vs : List (List ℕ)) (inner : Bool) (sign : List ℕ) (n : ℕ) (ps : HldsGoals) → further_parts vs inner sign (goals_on_line n ps) ≡ further_parts vs inner sign ps
+  further_same : (vs : List (List ℕ)) (inner : Bool) (sign : List ℕ) (n : ℕ) (ps : HldsGoals) → further_goals vs inner sign (goals_on_line n ps) ≡ further_goals vs inner sign ps
   further_same vs inner sign n nothing = refl
   further_same vs inner sign n (also p ps) =
-      ap (λ (x : Tokens). sign ∷ (x ++ further_parts vs inner sign (goals_on_line n ps))) (goal_same vs inner n p)
+      ap (λ (x : Tokens). sign ∷ (x ++ further_goals vs inner sign (goals_on_line n ps))) (goal_same vs inner n p)
       ∙ ap (λ (x : Tokens). sign ∷ (goal_tokens vs inner p ++ x)) (further_same vs inner sign n ps)
 
-types_same : (ts : List HldsTypeDef) → map type_tokens (map (family_on_line 0) ts) ≡ map type_tokens ts
+types_same : (ts : List HldsTypeDef) → map type_tokens (map (type_definition_on_line 0) ts) ≡ map type_tokens ts
 types_same [] = refl
 types_same (t ∷ ts) = ap (λ (xs : List Tokens). type_tokens t ∷ xs) (types_same ts)
 
@@ -112,20 +112,20 @@ second_same seen (d ∷ ds) =
     ∙ none_of (is_among d seen) 0 d.line _ _
     (ap (λ (xs : List Declared). is_none (first_second xs (map blank ds))) (sym (map-append blank seen (d ∷ []))) ∙ second_same (seen ++ d ∷ []) ds)
 
-families_blank : (ts : List HldsTypeDef) → map declared_family (map (family_on_line 0) ts) ≡ map blank (map declared_family ts)
-families_blank [] = refl
-families_blank (t ∷ ts) = ap (λ (xs : List Declared). blank (declared_family t) ∷ xs) (families_blank ts)
+type_definitions_blank : (ts : List HldsTypeDef) → map declared_type_definition (map (type_definition_on_line 0) ts) ≡ map blank (map declared_type_definition ts)
+type_definitions_blank [] = refl
+type_definitions_blank (t ∷ ts) = ap (λ (xs : List Declared). blank (declared_type_definition t) ∷ xs) (type_definitions_blank ts)
 
-constructs_of_one : (n : ℕ) (fs : List HldsFunctor) → map (declared_construct 0) fs ≡ map blank (map (declared_construct n) fs)
-constructs_of_one n [] = refl
-constructs_of_one n (f ∷ fs) = ap (λ (xs : List Declared). declared_construct 0 f ∷ xs) (constructs_of_one n fs)
+functors_of_one : (n : ℕ) (fs : List HldsFunctor) → map (declared_functor 0) fs ≡ map blank (map (declared_functor n) fs)
+functors_of_one n [] = refl
+functors_of_one n (f ∷ fs) = ap (λ (xs : List Declared). declared_functor 0 f ∷ xs) (functors_of_one n fs)
 
-constructs_blank : (ts : List HldsTypeDef) → flat_map declared_constructs (map (family_on_line 0) ts) ≡ map blank (flat_map declared_constructs ts)
-constructs_blank [] = refl
-constructs_blank (t ∷ ts) =
-    ap (λ (xs : List Declared). xs ++ flat_map declared_constructs (map (family_on_line 0) ts)) (constructs_of_one t.line t.functors)
-    ∙ ap (λ (xs : List Declared). map blank (declared_constructs t) ++ xs) (constructs_blank ts)
-    ∙ sym (map-append blank (declared_constructs t) (flat_map declared_constructs ts))
+functors_blank : (ts : List HldsTypeDef) → flat_map declared_functors (map (type_definition_on_line 0) ts) ≡ map blank (flat_map declared_functors ts)
+functors_blank [] = refl
+functors_blank (t ∷ ts) =
+    ap (λ (xs : List Declared). xs ++ flat_map declared_functors (map (type_definition_on_line 0) ts)) (functors_of_one t.line t.functors)
+    ∙ ap (λ (xs : List Declared). map blank (declared_functors t) ++ xs) (functors_blank ts)
+    ∙ sym (map-append blank (declared_functors t) (flat_map declared_functors ts))
 
 procedures_blank : (ps : List Procedure) → map declared_procedure (map (procedure_on_lines 0 0) ps) ≡ map blank (map declared_procedure ps)
 procedures_blank [] = refl
@@ -142,12 +142,12 @@ none_earlier (Some m) b None d e f = absurd (cc)
 none_earlier (Some m) b (Some n) d e f = none_some m b ∙ sym (none_some n d)
 
 duplicate_same : (l : Hlds) → is_none (duplicate (unlined l)) ≡ is_none (duplicate l)
-unfolding duplicate second_family second_construct second_procedure
+unfolding duplicate second_type_definition second_functor second_procedure
 duplicate_same l =
     none_earlier _ _ _ _
-    (ap (λ (xs : List Declared). is_none (first_second [] xs)) (families_blank l.types) ∙ second_same [] (map declared_family l.types))
+    (ap (λ (xs : List Declared). is_none (first_second [] xs)) (type_definitions_blank l.types) ∙ second_same [] (map declared_type_definition l.types))
     (none_earlier _ _ _ _
-    (ap (λ (xs : List Declared). is_none (first_second [] xs)) (constructs_blank l.types) ∙ second_same [] (flat_map declared_constructs l.types))
+    (ap (λ (xs : List Declared). is_none (first_second [] xs)) (functors_blank l.types) ∙ second_same [] (flat_map declared_functors l.types))
     (ap (λ (xs : List Declared). is_none (first_second [] xs)) (procedures_blank l.procedures) ∙ second_same [] (map declared_procedure l.procedures)))
 
 is_none_none : (o : Option ℕ) → is_none o ≡ true → o ≡ None

@@ -23,8 +23,8 @@ abbrev mutual
   goals_on_line n nothing = nothing
   goals_on_line n (also p ps) = also (on_line n p) (goals_on_line n ps)
 
-abbrev pub family_on_line : ℕ → HldsTypeDef → HldsTypeDef
-family_on_line n t = record t { line = n }
+abbrev pub type_definition_on_line : ℕ → HldsTypeDef → HldsTypeDef
+type_definition_on_line n t = record t { line = n }
 
 -- a predicate, with the line of its declaration and that of its clause
 abbrev pub procedure_on_lines : (declaration clause : ℕ) → Procedure → Procedure
@@ -35,7 +35,7 @@ abbrev pub unlined : Hlds → Hlds
 unlined l = record {
   module_name = l.module_name;
   module_line = 0;
-  types = map (family_on_line 0) l.types;
+  types = map (type_definition_on_line 0) l.types;
   procedures = map (procedure_on_lines 0 0) l.procedures;
 }
 

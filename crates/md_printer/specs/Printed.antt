@@ -12,7 +12,7 @@ use Rattle.md_hlds.specs.declared.goal.Op.{Op}
 use Rattle.md_hlds.specs.declared.goal.Op.TheVariants as op
 use Rattle.md_hlds.specs.declared.goal.Cmp.{Cmp}
 use Rattle.md_hlds.specs.declared.goal.Cmp.TheVariants as cmp
-use Rattle.md_hlds.specs.HldsGoal.{HldsGoal, At, HldsGoals, nothing, also, GoalExpr, SimpleGoal, CallGoal, HoCallGoal, ConjGoal, DisjGoal, IfGoal, NotGoal, SomeGoal, Simple, Succeeds, Fails, Unifies, Computes, Compares, WritesInt, WritesText, EndsLine}
+use Rattle.md_hlds.specs.HldsGoal.{HldsGoal, At, HldsGoals, nothing, also, GoalExpr, SimpleGoal, CallGoal, HoCallGoal, ConjGoal, DisjGoal, IfGoal, NotGoal, SomeGoal, Simple, Succeeds, Fails, Unifies, Computes, Compares, WritesInt, WritesText, EndsLine, Raises}
 use Rattle.md_hlds.specs.Hlds.{HldsType, number, text, world, named, closure, listed_types, HldsFunctor, HldsTypeDef, Procedure, Hlds}
 use Rattle.md_printer.specs.Layout.{Tokens, sentence, in_parentheses, separated, arguments}
 
@@ -88,6 +88,7 @@ simple_tokens names (Compares a c b) = variable names a ∷ comparison c ∷ var
 simple_tokens names (WritesInt x before after) = codes "io.write_int" ∷ variables_in_parentheses names (x ∷ before ∷ after ∷ [])
 simple_tokens names (WritesText x before after) = codes "io.write_string" ∷ variables_in_parentheses names (x ∷ before ∷ after ∷ [])
 simple_tokens names (EndsLine before after) = codes "io.nl" ∷ variables_in_parentheses names (before ∷ after ∷ [])
+simple_tokens names (Raises x) = codes "require.error" ∷ variables_in_parentheses names (x ∷ [])
 
 -- the tokens of a conjunction, which has parentheses where it is a part of a conjunction
 abbrev pub enclosed : Bool → Tokens → Tokens
@@ -118,11 +119,11 @@ abbrev mutual
   -- goals with a sign between them
   pub goals_tokens : (names : List (List ℕ)) → (inner : Bool) → (sign : List ℕ) → HldsGoals → Tokens
   goals_tokens names inner sign nothing = []
-  goals_tokens names inner sign (also p ps) = goal_tokens names inner p ++ further_parts names inner sign ps
+  goals_tokens names inner sign (also p ps) = goal_tokens names inner p ++ further_goals names inner sign ps
 
-  pub further_parts : (names : List (List ℕ)) → (inner : Bool) → (sign : List ℕ) → HldsGoals → Tokens
-  further_parts names inner sign nothing = []
-  further_parts names inner sign (also p ps) = sign ∷ (goal_tokens names inner p ++ further_parts names inner sign ps)
+  pub further_goals : (names : List (List ℕ)) → (inner : Bool) → (sign : List ℕ) → HldsGoals → Tokens
+  further_goals names inner sign nothing = []
+  further_goals names inner sign (also p ps) = sign ∷ (goal_tokens names inner p ++ further_goals names inner sign ps)
 
 -- ---- types
 

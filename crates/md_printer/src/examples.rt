@@ -90,6 +90,12 @@ pub(crate) const CODE: &str =
 pub(crate) const CODE_PRINTED: &str =
     ":- module t .\n:- type colour ---> red ; green ; blue .\n:- pred main ( io :: di , io :: uo ) is det .\nmain ( IO0 , IO ) :- IO = IO0 .\n:- pred code ( colour :: in , int :: out ) is det .\ncode ( C , N ) :- ( C = red , N = 1 ; C = green , N = 2 ) .\n";
 
+pub(crate) const ERROR: &str =
+    ":- module t.\n:- pred main(io::di, io::uo) is det.\nmain(IO0, IO) :- N = 2, f(N), IO = IO0.\n:- pred f(int::in) is det.\nf(N) :- Z = 0, ( N =< Z -> S = \"bad\", require.error(S) ; D = 1, M = N - D, f(M) ).\n";
+
+pub(crate) const ERROR_PRINTED: &str =
+    ":- module t .\n:- pred main ( io :: di , io :: uo ) is det .\nmain ( IO0 , IO ) :- N = 2 , f ( N ) , IO = IO0 .\n:- pred f ( int :: in ) is det .\nf ( N ) :- Z = 0 , ( N =< Z -> S = \"bad\" , require.error ( S ) ; D = 1 , M = N - D , f ( M ) ) .\n";
+
 pub(crate) const QUEENS: &str =
     ":- module queens.\n:- type list ---> nil ; cons(int, list).\n:- pred main(io::di, io::uo) is det.\nmain(IO0, IO) :- N = 6, up_to(N, L), E = nil,\n    ( some [Q] ( place(L, E, Q) ) -> S = \"solvable\" ; S = \"not solvable\" ),\n    io.write_string(S, IO0, IO1), io.nl(IO1, IO).\n:- pred up_to(int::in, list::out) is det.\nup_to(N, L) :- Z = 0, ( N =< Z -> L = nil ; D = 1, M = N - D, up_to(M, T), L = cons(N, T) ).\n:- pred place(list::in, list::in, list::out) is nondet.\nplace(Free, Done, Q) :- ( Free = nil, Q = Done\n    ; Free = cons(H, T), del(X, Free, Rest), D = 1, safe(X, D, Done),\n      Done1 = cons(X, Done), place(Rest, Done1, Q) ).\n:- pred del(int::out, list::in, list::out) is nondet.\ndel(X, L, R) :- L = cons(H, T), ( X = H, R = T ; del(X, T, R1), R = cons(H, R1) ).\n:- pred safe(int::in, int::in, list::in) is semidet.\nsafe(X, D, L) :- ( L = nil\n    ; L = cons(Y, T), U = X + D, V = X - D, not ( Y = U ), not ( Y = V ),\n      One = 1, D1 = D + One, safe(X, D1, T) ).\n";
 

@@ -6,7 +6,9 @@ ghost use Rattle.md_printer.specs.Printed as spec;
 
 use crate::layout::sign;
 use crate::names::variables;
-use crate::simple::{applied, arithmetic, closure_call, comparison, end_line, unification, write};
+use crate::simple::{
+    applied, arithmetic, closure_call, comparison, end_line, error, unification, write,
+};
 use md_base::{Name, NoMemory};
 use md_hlds::{Goal, GoalKind, Variables};
 
@@ -34,6 +36,7 @@ pub(crate) fn goal(
             write(text, names, "io.write_string", *x, *before, *after)
         }
         GoalKind::Nl(before, after) => end_line(text, names, *before, *after),
+        GoalKind::Error(x) => error(text, names, *x),
         GoalKind::Call(_, name, places) => applied(text, names, name, places),
         GoalKind::HoCall(_, closure, places) => closure_call(text, names, *closure, places),
         GoalKind::Conj(goals) => conjunction(text, names, inner, goals),

@@ -134,6 +134,15 @@ pub(crate) fn end_line(
     variables_in_parentheses(text, names, &[before, after])
 }
 
+/// Adds the builtin goal that throws an exception with a variable.
+#[tactic(auto, unfolding(crate::specs::Layout::laid))]
+pub(crate) fn error(text: &mut Vec<u8>, names: &[Name], x: u32) -> Result<(), NoMemory>
+    ensures { OnOk result (text.new.items ≡ text.old.items ++ laid (codes "require.error" ∷ spec.variables_in_parentheses names.now (x ∷ []))) }
+{
+    sign(text, "require.error")?;
+    variables_in_parentheses(text, names, &[x])
+}
+
 /// Adds a call of a closure with other arguments.
 #[tactic(auto, unfolding(crate::specs::Layout::laid))]
 pub(crate) fn closure_call(

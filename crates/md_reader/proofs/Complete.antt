@@ -69,14 +69,14 @@ module _ {A : Type 0} (R : A → Input → Input → Type 0) (item : Parser A) (
 
 -- ---- types
 
-pub sorts_complete : (ts : List HldsType) (i j : Input) → Enclosed (Is rule.sort) kind.Close ts i j → rule.sorts i ≡ Ok (ts, j)
-unfolding rule.sorts_from same_kind
-sorts_complete _ _ _ (enclosed ts i k j l few c) = listed_complete (Is rule.sort) rule.sort kind.Comma kind.Close refl (λ x i j m h _. h) rule.sorts_from (λ n found i. refl) i.limits.items [] ts i k j l few c
+pub simple_types_complete : (ts : List HldsType) (i j : Input) → Enclosed (Is rule.simple_type) kind.Close ts i j → rule.simple_types i ≡ Ok (ts, j)
+unfolding rule.simple_types_from same_kind
+simple_types_complete _ _ _ (enclosed ts i k j l few c) = listed_complete (Is rule.simple_type) rule.simple_type kind.Comma kind.Close refl (λ x i j m h _. h) rule.simple_types_from (λ n found i. refl) i.limits.items [] ts i k j l few c
 
 functor_arguments_complete : (ts : List HldsType) (i j : Input) → g.FunctorArguments ts i j → sees kind.Open j ≡ false → rule.functor_arguments i ≡ Ok (ts, j)
 unfolding rule.functor_arguments
-functor_arguments_complete _ _ _ (g.FunctorArguments.none i) e = passes kind.Open rule.sorts (pure []) i e
-functor_arguments_complete _ _ _ (g.FunctorArguments.some ts i j k s l) e = eats kind.Open rule.sorts (pure []) i j s ∙ sorts_complete ts j k l
+functor_arguments_complete _ _ _ (g.FunctorArguments.none i) e = passes kind.Open rule.simple_types (pure []) i e
+functor_arguments_complete _ _ _ (g.FunctorArguments.some ts i j k s l) e = eats kind.Open rule.simple_types (pure []) i j s ∙ simple_types_complete ts j k l
 
 no_arguments : (j m : Input) → Followed kind.Semicolon kind.End j m → sees kind.Open j ≡ false
 unfolding same_kind
@@ -93,9 +93,9 @@ functors_complete fs i k j l c =
     listed_complete g.Functor rule.functor kind.Semicolon kind.End refl functor_complete rule.functors_from (λ n found i. refl) (turns i) [] fs i k j l
     (listed_few g.Functor rule.functor kind.Semicolon kind.End refl functor_complete (functor_steady 0 []) refl refl fs i k j l c) c
 
-pub family_complete : (line : ℕ) (t : HldsTypeDef) (i j : Input) → g.TypeDeclaration line t i j → rule.family line i ≡ Ok (t, j)
-unfolding rule.family
-family_complete line _ _ _ (g.TypeDeclaration.type_declaration t fs at i j k m n o w y s l c) =
+pub type_definition_complete : (line : ℕ) (t : HldsTypeDef) (i j : Input) → g.TypeDeclaration line t i j → rule.type_definition line i ≡ Ok (t, j)
+unfolding rule.type_definition
+type_definition_complete line _ _ _ (g.TypeDeclaration.type_declaration t fs at i j k m n o w y s l c) =
     rw (w, y) (stepped kind.Yields _ k m s ∙ rw (functors_complete fs m n o l c) refl)
 
 -- ---- variables

@@ -14,8 +14,8 @@ use Rattle.md_reader.specs.Grammar as g
 use Rattle.md_reader.specs.Grammar.{Is, Sign, sign, Listed, last, also, Enclosed, enclosed, AreNew}
 use Rattle.md_reader.proofs.SteadyRules.{word_steady, type_name_steady, functors_steady, declared_name_steady}
 use Rattle.md_reader.proofs.SteadyPrograms.{declared_arguments_steady, determinism_steady, clause_steady}
-use Rattle.md_reader.proofs.Taking.{signed, expected, shut, stepped, eats, passes, unlike, sort_kind, word_kind, variable_among}
-use Rattle.md_reader.proofs.Complete.{stays, sign_fewer, seen_sign, listed_complete, sorts_complete, functors_complete, family_complete}
+use Rattle.md_reader.proofs.Taking.{signed, expected, shut, stepped, eats, passes, unlike, simple_type_kind, word_kind, variable_among}
+use Rattle.md_reader.proofs.Complete.{stays, sign_fewer, seen_sign, listed_complete, simple_types_complete, functors_complete, type_definition_complete}
 use Rattle.md_reader.proofs.CompleteGoals.{conjunction_complete}
 
 -- ---- predicates
@@ -33,14 +33,14 @@ unfolding rule.inst
 inst_complete _ _ _ _ (g.Inst.inst ms d i j k l m n o p a b c e s h z) =
     stepped kind.Open _ i j a ∙ rw (inst_modes_complete ms j k l m b c e) (stepped kind.Is _ m n s ∙ rw h (shut kind.Close (ms, d) o p z))
 
-ho_types_complete : (ts : List HldsType) (i j k l m : Input) → Sign kind.Pred i j → Sign kind.Open j k → Enclosed (Is rule.sort) kind.Close ts k l → Sign kind.HasMode l m → rule.ho_types i ≡ Ok (ts, m)
+ho_types_complete : (ts : List HldsType) (i j k l m : Input) → Sign kind.Pred i j → Sign kind.Open j k → Enclosed (Is rule.simple_type) kind.Close ts k l → Sign kind.HasMode l m → rule.ho_types i ≡ Ok (ts, m)
 unfolding rule.ho_types
-ho_types_complete ts i j k l m p o e s = stepped kind.Pred _ i j p ∙ (stepped kind.Open _ j k o ∙ rw (sorts_complete ts k l e) (shut kind.HasMode ts l m s))
+ho_types_complete ts i j k l m p o e s = stepped kind.Pred _ i j p ∙ (stepped kind.Open _ j k o ∙ rw (simple_types_complete ts k l e) (shut kind.HasMode ts l m s))
 
 argument_complete : (x : HldsType × Mode) (i j : Input) → g.Argument x i j → rule.argument i ≡ Ok (x, j)
 unfolding rule.argument rule.plain_argument rule.ho_argument same_kind
 argument_complete _ _ _ (g.Argument.plain t m i j k l s h w) =
-    rw (unlike kind.Name kind.Pred i (sort_kind t i j s) refl, s) (stepped kind.HasMode _ j k h ∙ rw w refl)
+    rw (unlike kind.Name kind.Pred i (simple_type_kind t i j s) refl, s) (stepped kind.HasMode _ j k h ∙ rw w refl)
 argument_complete _ _ _ (g.Argument.higher_order ts m ms d i j k l n o p a b e h w x) =
     rw (seen_sign kind.Pred i j a, ho_types_complete ts i j k l n a b e h, w, inst_complete ms d o p x) refl
 
@@ -130,8 +130,8 @@ pred_first : (x : rule.Declaration) (i j : Input) → g.PredDeclaration x i j �
 pred_first _ _ _ (g.PredDeclaration.pred_declaration q as' d i j k l m n o a b c s h z) = seen_sign kind.Pred i j a
 
 declared_complete : (before after : Hlds) (i j : Input) → g.Declared before after i j → rule.declared before i ≡ Ok (after, j)
-unfolding rule.declared rule.declared_procedure rule.declared_family rule.procedure same_kind
-declared_complete before _ _ _ (g.Declared.type t line i j k h d) = rw (h, unlike kind.Name kind.Pred j (type_first line t j k d) refl, family_complete line t j k d) refl
+unfolding rule.declared rule.declared_procedure rule.declared_type_definition rule.procedure same_kind
+declared_complete before _ _ _ (g.Declared.type t line i j k h d) = rw (h, unlike kind.Name kind.Pred j (type_first line t j k d) refl, type_definition_complete line t j k d) refl
 declared_complete before _ _ _ (g.Declared.predicate d c line i j k l h p q) = rw (h, pred_first d j k p, declaration_complete d j k p, clause_complete d.name (length d.args) c k l q) refl
 
 -- a declaration has more than one token

@@ -39,13 +39,13 @@ up_to_end_ends ts later = end_behind ts (later ++ the_end ∷ []) (end_behind la
 
 -- ---- tokens that are filled up begin a program
 
-begun : (us front fill : List Lexeme) → Done (λ _. Top) (Or Every (rule.start us)) IsStop (λ n. whole_program) (rule.start us) (front ++ fill) → Begins front
-begun us front fill d =
+begun : (us prefix fill : List Lexeme) → Done (λ _. Top) (Or Every (rule.start us)) IsStop (λ n. whole_program) (rule.start us) (prefix ++ fill) → Begins prefix
+begun us prefix fill d =
     let n = d.run.bound in
-    let i : Input = rule.start_within (all n) (up_to_end front fill) in
-    let read : whole_program (upon n ((front ++ fill) ++ the_end ∷ []) (rule.start us)) ≡ Ok (d.value, upon n (the_end ∷ []) d.end) = d.run.runs n (the_end ∷ []) (omega arith) (omega arith, refl) in
-    let moved : whole_program i ≡ Ok (d.value, upon n (the_end ∷ []) d.end) = subst (λ (ts : List Lexeme). whole_program (rule.start_within (all n) ts) ≡ Ok (d.value, upon n (the_end ∷ []) d.end)) (append_assoc front fill (the_end ∷ [])) read in
-    let s = program_sound d.value i (upon n (the_end ∷ []) d.end) (program_is i (up_to_end_ends front fill) ∙ moved) in
+    let i : Input = rule.start_within (all n) (up_to_end prefix fill) in
+    let read : whole_program (upon n ((prefix ++ fill) ++ the_end ∷ []) (rule.start us)) ≡ Ok (d.value, upon n (the_end ∷ []) d.end) = d.run.runs n (the_end ∷ []) (omega arith) (omega arith, refl) in
+    let moved : whole_program i ≡ Ok (d.value, upon n (the_end ∷ []) d.end) = subst (λ (ts : List Lexeme). whole_program (rule.start_within (all n) ts) ≡ Ok (d.value, upon n (the_end ∷ []) d.end)) (append_assoc prefix fill (the_end ∷ [])) read in
+    let s = program_sound d.value i (upon n (the_end ∷ []) d.end) (program_is i (up_to_end_ends prefix fill) ∙ moved) in
     record { limits = all n; within = record { later = fill; listing = d.value; end = upon n (the_end ∷ []) d.end; program = s.0; whole = s.1 } }
 
 -- ---- a program is read where the limits are wide enough
@@ -67,25 +67,25 @@ read_wider limits ts b =
     )
 
 -- no program begins with the tokens up to a fault for syntax and with it
-none_begins : (us : List Lexeme) (place : Place) (w : Broke (λ _. Top) Every IsStop (λ n. whole_program) (rule.start us) place) (t : Lexeme) (later : List Lexeme) → w.rest ≡ t ∷ later → Begins (w.front ++ t ∷ []) → ⊥
+none_begins : (us : List Lexeme) (place : Place) (w : Broke (λ _. Top) Every IsStop (λ n. whole_program) (rule.start us) place) (t : Lexeme) (later : List Lexeme) → w.rest ≡ t ∷ later → Begins (w.prefix ++ t ∷ []) → ⊥
 none_begins us place w t later e b =
-    let m = read_wider b.limits (w.front ++ t ∷ []) b.within in
+    let m = read_wider b.limits (w.prefix ++ t ∷ []) b.within in
     let n = m.0 + w.bound in
     let behind = b.within.later ++ the_end ∷ [] in
     let s = w.stuck n behind (omega arith) in
-    let stuck : whole_program (rule.start_within (all n) (w.front ++ t ∷ behind)) ≡ Err (Syntax s.0) = subst (λ (u : Lexeme). whole_program (rule.start_within (all n) (w.front ++ u ∷ behind)) ≡ Err (Syntax s.0)) (ap first e) s.1 in
-    let read : whole_program (rule.start_within (all n) (w.front ++ t ∷ behind)) ≡ Ok (b.within.listing, upon n b.within.end.rest b.within.end) = subst (λ (ts : List Lexeme). whole_program (rule.start_within (all n) ts) ≡ Ok (b.within.listing, upon n b.within.end.rest b.within.end)) (append_assoc w.front (t ∷ []) behind) (m.1 n (omega arith)) in
+    let stuck : whole_program (rule.start_within (all n) (w.prefix ++ t ∷ behind)) ≡ Err (Syntax s.0) = subst (λ (u : Lexeme). whole_program (rule.start_within (all n) (w.prefix ++ u ∷ behind)) ≡ Err (Syntax s.0)) (ap first e) s.1 in
+    let read : whole_program (rule.start_within (all n) (w.prefix ++ t ∷ behind)) ≡ Ok (b.within.listing, upon n b.within.end.rest b.within.end) = subst (λ (ts : List Lexeme). whole_program (rule.start_within (all n) ts) ≡ Ok (b.within.listing, upon n b.within.end.rest b.within.end)) (append_assoc w.prefix (t ∷ []) behind) (m.1 n (omega arith)) in
     absurd (cc)
 
 -- ---- the tokens up to the stop, with others behind them
 
 -- the tokens up to the first one of the last ones
-front_of : (front : List Lexeme) (t : Lexeme) (later more : List Lexeme) → recut (length later) more (front ++ t ∷ later) ≡ (front ++ t ∷ []) ++ more
-front_of [] t later more = let e : suc (length later) - length later ≡ 1 = omega arith in rw e refl
-front_of (f ∷ front) t later more =
-    let l = length-append front (t ∷ later) in
-    let e : suc (length (front ++ t ∷ later)) - length later ≡ suc (length (front ++ t ∷ later) - length later) = omega (arith, l) in
-    rw e (ap (λ (ts : List Lexeme). f ∷ ts) (front_of front t later more))
+prefix_of : (prefix : List Lexeme) (t : Lexeme) (later more : List Lexeme) → recut (length later) more (prefix ++ t ∷ later) ≡ (prefix ++ t ∷ []) ++ more
+prefix_of [] t later more = let e : suc (length later) - length later ≡ 1 = omega arith in rw e refl
+prefix_of (f ∷ prefix) t later more =
+    let l = length-append prefix (t ∷ later) in
+    let e : suc (length (prefix ++ t ∷ later)) - length later ≡ suc (length (prefix ++ t ∷ later) - length later) = omega (arith, l) in
+    rw e (ap (λ (ts : List Lexeme). f ∷ ts) (prefix_of prefix t later more))
 
 -- two stops of one refusal are as long
 as_long : (us vs : List Lexeme) (e : Refusal) → FaultAt us e → FaultAt vs e → length us ≡ length vs
@@ -94,14 +94,14 @@ as_long us vs (Limit place) a b = ap (λ (p : Place). p.left) (sym a ∙ b)
 as_long us vs NoMemory a b = absurd a
 
 -- tokens that are refused are refused whatever stands behind the stop
-pub stops : (ts : List Lexeme) (e : Refusal) (front : List Lexeme) (t : Lexeme) (later more : List Lexeme) (l : Hlds) (end : Input) → rule.program (rule.start ts) ≡ Err e → ts ≡ front ++ t ∷ later → FaultAt (t ∷ later) e → rule.program (rule.start ((front ++ t ∷ []) ++ more)) ≡ Ok (l, end) → ⊥
-stops ts e front t later more l end r whole here read =
+pub stops : (ts : List Lexeme) (e : Refusal) (prefix : List Lexeme) (t : Lexeme) (later more : List Lexeme) (l : Hlds) (end : Input) → rule.program (rule.start ts) ≡ Err e → ts ≡ prefix ++ t ∷ later → FaultAt (t ∷ later) e → rule.program (rule.start ((prefix ++ t ∷ []) ++ more)) ≡ Ok (l, end) → ⊥
+stops ts e prefix t later more l end r whole here read =
     let w = program_steady (length later) more (rule.start ts) in
     let stands : FaultAt w.stop e = subst (Stands w.stop) r w.stands in
     let long : length w.stop ≡ suc (length later) = as_long w.stop (t ∷ later) e stands here in
     let other = subst (λ (q : Outcome Hlds). Agree (length later) more q (rule.program (cut (length later) more (rule.start ts)))) r (w.agrees (omega (arith, long))) in
-    let same : recut (length later) more ts ≡ (front ++ t ∷ []) ++ more = ap (recut (length later) more) whole ∙ front_of front t later more in
-    let refused : rule.program (rule.start ((front ++ t ∷ []) ++ more)) ≡ Err other.0 = ap (λ (us : List Lexeme). rule.program (rule.start us)) (sym same) ∙ other.1 in
+    let same : recut (length later) more ts ≡ (prefix ++ t ∷ []) ++ more = ap (recut (length later) more) whole ∙ prefix_of prefix t later more in
+    let refused : rule.program (rule.start ((prefix ++ t ∷ []) ++ more)) ≡ Err other.0 = ap (λ (us : List Lexeme). rule.program (rule.start us)) (sym same) ∙ other.1 in
     absurd (cc)
 
 -- ---- the stop
@@ -136,16 +136,16 @@ kept_by text r e =
     subst (kept.Case (λ _. named.Top) beginning (rule.start (tokens_of text))) e (named.program_keeps (rule.start (tokens_of text)) beginning good named.begins_top)
 
 -- two stops at one place
-same_stop : (ts front rest before later : List Lexeme) (t : Lexeme) (place : Place) → ts ≡ front ++ rest → place ≡ at rest → ts ≡ before ++ t ∷ later → place ≡ at (t ∷ later) → (front ≡ before) × (rest ≡ t ∷ later)
-same_stop ts front rest before later t place e h f g =
-    same_split front rest before (t ∷ later) (sym e ∙ f) (ap (λ (p : Place). p.left) (sym h ∙ g))
+same_stop : (ts prefix rest before later : List Lexeme) (t : Lexeme) (place : Place) → ts ≡ prefix ++ rest → place ≡ at rest → ts ≡ before ++ t ∷ later → place ≡ at (t ∷ later) → (prefix ≡ before) × (rest ≡ t ∷ later)
+same_stop ts prefix rest before later t place e h f g =
+    same_split prefix rest before (t ∷ later) (sym e ∙ f) (ap (λ (p : Place). p.left) (sym h ∙ g))
 
 kept_before : (text : List ℕ) (place : Place) (before later : List Lexeme) (t : Lexeme) → kept.Broke beginning (rule.start (tokens_of text)) place → tokens_of text ≡ before ++ t ∷ later → place ≡ at (t ∷ later) → AreWithin standard beginning before
-kept_before text place before later t w e h = subst (AreWithin standard beginning) (same_stop (tokens_of text) w.front w.rest before later t place w.whole w.here e h).0 w.within
+kept_before text place before later t w e h = subst (AreWithin standard beginning) (same_stop (tokens_of text) w.prefix w.rest before later t place w.whole w.here e h).0 w.within
 
 over_there : (text : List ℕ) (place : Place) (before later : List Lexeme) (t : Lexeme) → kept.Over beginning (rule.start (tokens_of text)) place → tokens_of text ≡ before ++ t ∷ later → place ≡ at (t ∷ later) → Exceeds standard (past beginning before) t
 over_there text place before later t w e h =
-    let p = same_stop (tokens_of text) w.broke.front w.broke.rest before later t place w.broke.whole w.broke.here e h in
+    let p = same_stop (tokens_of text) w.broke.prefix w.broke.rest before later t place w.broke.whole w.broke.here e h in
     subst (λ (u : Lexeme). Exceeds standard (past beginning before) u) (ap first p.1) (subst (λ (ts : List Lexeme). Exceeds standard (past beginning ts) (first w.broke.rest)) p.0 w.exceeds)
 
 pub syntax_fault : (text : List ℕ) (place : Place) → rule.program (rule.start (tokens_of text)) ≡ Err (Syntax place) → IsSyntaxFault text place.line
@@ -155,13 +155,13 @@ syntax_fault text place r =
     let w : Broke (λ _. Top) Every IsStop (λ n. whole_program) i place = subst (λ (r : Outcome Hlds). Law (λ _. Top) Every IsStop (λ n. whole_program) i r) same (program_law i) in
     let s = some_left (tokens_of text) w.rest (Syntax place) r (tokens_end text) w.here in
     record {
-      before = w.front;
+      before = w.prefix;
       token = s.0;
       later = s.1;
-      tokens = w.whole ∙ ap (λ (vs : List Lexeme). w.front ++ vs) s.2;
+      tokens = w.whole ∙ ap (λ (vs : List Lexeme). w.prefix ++ vs) s.2;
       here = line_of w.rest place s.0 s.1 w.here s.2;
-      begins = begun (tokens_of text) w.front w.fill w.done;
-      within = kept_before text place w.front s.1 s.0 (kept_by text (Err (Syntax place)) r) (w.whole ∙ ap (λ (vs : List Lexeme). w.front ++ vs) s.2) (w.here ∙ ap at s.2);
+      begins = begun (tokens_of text) w.prefix w.fill w.done;
+      within = kept_before text place w.prefix s.1 s.0 (kept_by text (Err (Syntax place)) r) (w.whole ∙ ap (λ (vs : List Lexeme). w.prefix ++ vs) s.2) (w.here ∙ ap at s.2);
       none = none_begins (tokens_of text) place w s.0 s.1 s.2;
     }
 
@@ -171,17 +171,17 @@ limit_fault text place r =
     let same : whole_program i ≡ Err (Limit place) = sym (program_is i (tokens_end text)) ∙ r in
     let w : Over (λ _. Top) Every IsStop (λ n. whole_program) i place = subst (λ (r : Outcome Hlds). Law (λ _. Top) Every IsStop (λ n. whole_program) i r) same (program_law i) in
     let s = some_left (tokens_of text) w.rest (Limit place) r (tokens_end text) w.here in
-    let whole : tokens_of text ≡ w.front ++ s.0 ∷ s.1 = w.whole ∙ ap (λ (vs : List Lexeme). w.front ++ vs) s.2 in
-    let done : Done (λ _. Top) (Or Every i) IsStop (λ n. whole_program) i (w.front ++ s.0 ∷ w.fill) = subst (λ (u : Lexeme). Done (λ _. Top) (Or Every i) IsStop (λ n. whole_program) i (w.front ++ u ∷ w.fill)) (ap first s.2) w.done in
+    let whole : tokens_of text ≡ w.prefix ++ s.0 ∷ s.1 = w.whole ∙ ap (λ (vs : List Lexeme). w.prefix ++ vs) s.2 in
+    let done : Done (λ _. Top) (Or Every i) IsStop (λ n. whole_program) i (w.prefix ++ s.0 ∷ w.fill) = subst (λ (u : Lexeme). Done (λ _. Top) (Or Every i) IsStop (λ n. whole_program) i (w.prefix ++ u ∷ w.fill)) (ap first s.2) w.done in
     record {
-      before = w.front;
+      before = w.prefix;
       token = s.0;
       later = s.1;
       tokens = whole;
       here = line_of w.rest place s.0 s.1 w.here s.2;
-      begins = begun (tokens_of text) (w.front ++ s.0 ∷ []) w.fill (subst (λ (ts : List Lexeme). Done (λ _. Top) (Or Every i) IsStop (λ n. whole_program) i ts) (sym (append_assoc w.front (s.0 ∷ []) w.fill)) done);
-      within = kept_before text place w.front s.1 s.0 (kept_by text (Err (Limit place)) r).broke whole (w.here ∙ ap at s.2);
-      exceeds = over_there text place w.front s.1 s.0 (kept_by text (Err (Limit place)) r) whole (w.here ∙ ap at s.2);
+      begins = begun (tokens_of text) (w.prefix ++ s.0 ∷ []) w.fill (subst (λ (ts : List Lexeme). Done (λ _. Top) (Or Every i) IsStop (λ n. whole_program) i ts) (sym (append_assoc w.prefix (s.0 ∷ []) w.fill)) done);
+      within = kept_before text place w.prefix s.1 s.0 (kept_by text (Err (Limit place)) r).broke whole (w.here ∙ ap at s.2);
+      exceeds = over_there text place w.prefix s.1 s.0 (kept_by text (Err (Limit place)) r) whole (w.here ∙ ap at s.2);
     }
 
 -- ---- the tokens of a text that is a program's
@@ -286,10 +286,10 @@ accepted_within text l end r seen =
     let stop : (first end.rest).kind ≡ kind.Stop = kind_seen kind.Stop end seen in
     let some : 0 < length end.rest = ended_some end.rest (left_behind rule.program (program_steady 0 []) l (rule.start (tokens_of text)) end r (tokens_end text)) in
     let split : end.rest ≡ first end.rest ∷ drop 1 end.rest = some_first end.rest some in
-    let whole : tokens_of text ≡ w.front ++ first end.rest ∷ drop 1 end.rest = w.whole ∙ ap (λ (ts : List Lexeme). w.front ++ ts) split in
-    let last : drop 1 end.rest ≡ [] = tokens_last text w.front (drop 1 end.rest) (first end.rest) whole (ap is_final stop) in
-    let all : tokens_of text ≡ w.front ++ first end.rest ∷ [] = whole ∙ ap (λ (ts : List Lexeme). w.front ++ first end.rest ∷ ts) last in
-    subst (AreWithin standard beginning) (sym all) (kept.within_append beginning w.front (first end.rest ∷ []) w.within (sign_within kind.Stop any [] refl (past beginning w.front) (first end.rest) w.post stop, tt))
+    let whole : tokens_of text ≡ w.prefix ++ first end.rest ∷ drop 1 end.rest = w.whole ∙ ap (λ (ts : List Lexeme). w.prefix ++ ts) split in
+    let last : drop 1 end.rest ≡ [] = tokens_last text w.prefix (drop 1 end.rest) (first end.rest) whole (ap is_final stop) in
+    let all : tokens_of text ≡ w.prefix ++ first end.rest ∷ [] = whole ∙ ap (λ (ts : List Lexeme). w.prefix ++ first end.rest ∷ ts) last in
+    subst (AreWithin standard beginning) (sym all) (kept.within_append beginning w.prefix (first end.rest ∷ []) w.within (sign_within kind.Stop any [] refl (past beginning w.prefix) (first end.rest) w.post stop, tt))
   where
     some_first : (ts : List Lexeme) → 0 < length ts → ts ≡ first ts ∷ drop 1 ts
     some_first [] h = absurd (omega (arith, h))

@@ -39,23 +39,23 @@ State = List ℕ → List (List ℕ) → Type 0
 
 -- The rule takes these tokens, whatever stands behind them, if that begins with one of K. These and what stands behind
 -- them begin with one of F.
-pub record Run {A : Type 0} (F K : Lexeme → Type 0) (P : ℕ → Parser A) (i : Input) (front : List Lexeme) (x : A) (j : Input) : Type 0 where
+pub record Run {A : Type 0} (F K : Lexeme → Type 0) (P : ℕ → Parser A) (i : Input) (prefix : List Lexeme) (x : A) (j : Input) : Type 0 where
   pub bound : ℕ
-  pub runs : (n : ℕ) (tail : List Lexeme) → bound ≤ n → Fit K tail → P n (upon n (front ++ tail) i) ≡ Ok (x, upon n tail j)
-  pub starts : (tail : List Lexeme) → Fit K tail → Fit F (front ++ tail)
+  pub runs : (n : ℕ) (tail : List Lexeme) → bound ≤ n → Fit K tail → P n (upon n (prefix ++ tail) i) ≡ Ok (x, upon n tail j)
+  pub starts : (tail : List Lexeme) → Fit K tail → Fit F (prefix ++ tail)
 
-pub record Done {A : Type 0} (R : A → State) (F K : Lexeme → Type 0) (P : ℕ → Parser A) (i : Input) (front : List Lexeme) : Type 0 where
+pub record Done {A : Type 0} (R : A → State) (F K : Lexeme → Type 0) (P : ℕ → Parser A) (i : Input) (prefix : List Lexeme) : Type 0 where
   pub value : A
   pub end : Input
   pub post : R value end.home end.vars
-  pub run : Run F K P i front value end
+  pub run : Run F K P i prefix value end
 
 -- what the rule read, it reads whatever stands behind it
 pub record Took {A : Type 0} (R : A → State) (F K : Lexeme → Type 0) (P : ℕ → Parser A) (i : Input) (x : A) (j : Input) : Type 0 where
-  pub front : List Lexeme
-  pub whole : i.rest ≡ front ++ j.rest
+  pub prefix : List Lexeme
+  pub whole : i.rest ≡ prefix ++ j.rest
   pub post : R x j.home j.vars
-  pub run : Run (Or F i) (Or K j) P i front x j
+  pub run : Run (Or F i) (Or K j) P i prefix x j
 
 -- the outcome is a fault for syntax
 abbrev pub Stuck : {A : Type 0} → Outcome A → Type 0
@@ -63,23 +63,23 @@ Stuck r = (place : Place) × (r ≡ Err (Syntax place))
 
 -- the tokens before a fault for syntax can be filled up; with the fault there is one whatever stands behind it
 pub record Broke {A : Type 0} (R : A → State) (F K : Lexeme → Type 0) (P : ℕ → Parser A) (i : Input) (place : Place) : Type 0 where
-  pub front : List Lexeme
+  pub prefix : List Lexeme
   pub rest : List Lexeme
-  pub whole : i.rest ≡ front ++ rest
+  pub whole : i.rest ≡ prefix ++ rest
   pub here : place ≡ at rest
   pub fill : List Lexeme
-  pub done : Done R (Or F i) K P i (front ++ fill)
+  pub done : Done R (Or F i) K P i (prefix ++ fill)
   pub bound : ℕ
-  pub stuck : (n : ℕ) (later : List Lexeme) → bound ≤ n → Stuck (P n (upon n (front ++ first rest ∷ later) i))
+  pub stuck : (n : ℕ) (later : List Lexeme) → bound ≤ n → Stuck (P n (upon n (prefix ++ first rest ∷ later) i))
 
 -- the tokens up to a fault for a limit and with it can be filled up
 pub record Over {A : Type 0} (R : A → State) (F K : Lexeme → Type 0) (P : ℕ → Parser A) (i : Input) (place : Place) : Type 0 where
-  pub front : List Lexeme
+  pub prefix : List Lexeme
   pub rest : List Lexeme
-  pub whole : i.rest ≡ front ++ rest
+  pub whole : i.rest ≡ prefix ++ rest
   pub here : place ≡ at rest
   pub fill : List Lexeme
-  pub done : Done R (Or F i) K P i (front ++ first rest ∷ fill)
+  pub done : Done R (Or F i) K P i (prefix ++ first rest ∷ fill)
 
 abbrev pub Law : {A : Type 0} → (A → State) → (F K : Lexeme → Type 0) → (ℕ → Parser A) → Input → Outcome A → Type 0
 Law R F K P i (Ok p) = Took R F K P i p.0 p.1
@@ -98,71 +98,71 @@ pub record Fills {A : Type 0} (S : State) (R : A → State) (F K : Lexeme → Ty
 
 -- ---- lists
 
-first_filled : (front rest later : List Lexeme) → first (front ++ first rest ∷ later) ≡ first (front ++ rest)
+first_filled : (prefix rest later : List Lexeme) → first (prefix ++ first rest ∷ later) ≡ first (prefix ++ rest)
 first_filled [] rest later = refl
-first_filled (t ∷ front) rest later = refl
+first_filled (t ∷ prefix) rest later = refl
 
-some_filled : (front later : List Lexeme) (t : Lexeme) → 0 < length (front ++ t ∷ later)
-some_filled front later t = let l = length-append front (t ∷ later) in omega (arith, l)
+some_filled : (prefix later : List Lexeme) (t : Lexeme) → 0 < length (prefix ++ t ∷ later)
+some_filled prefix later t = let l = length-append prefix (t ∷ later) in omega (arith, l)
 
 -- up to the fault and with it the tokens begin with what came next
-pub fit_filled : (K : Lexeme → Type 0) (j : Input) (front rest later : List Lexeme) → j.rest ≡ front ++ rest → Fit (Or K j) (front ++ first rest ∷ later)
-fit_filled K j front rest later e =
-    let same : first (front ++ first rest ∷ later) ≡ first j.rest = first_filled front rest later ∙ sym (ap first e) in
-    (some_filled front later (first rest), inr (ap (λ (t : Lexeme). t.kind) same, ap (λ (t : Lexeme). t.line) same))
+pub fit_filled : (K : Lexeme → Type 0) (j : Input) (prefix rest later : List Lexeme) → j.rest ≡ prefix ++ rest → Fit (Or K j) (prefix ++ first rest ∷ later)
+fit_filled K j prefix rest later e =
+    let same : first (prefix ++ first rest ∷ later) ≡ first j.rest = first_filled prefix rest later ∙ sym (ap first e) in
+    (some_filled prefix later (first rest), inr (ap (λ (t : Lexeme). t.kind) same, ap (λ (t : Lexeme). t.line) same))
 
 -- ---- one rule after the other
 
-pub joined : {A B : Type 0} (F G K : Lexeme → Type 0) (P : ℕ → Parser A) (U : A → ℕ → Parser B) (i : Input) (front more : List Lexeme) (x : A) (y : B) (j k : Input) → Run F G P i front x j → Run G K (U x) j more y k
-    → Run F K (λ n. P n >>= (λ x. U x n)) i (front ++ more) y k
-joined F G K P U i front more x y j k a b = record {
+pub joined : {A B : Type 0} (F G K : Lexeme → Type 0) (P : ℕ → Parser A) (U : A → ℕ → Parser B) (i : Input) (prefix more : List Lexeme) (x : A) (y : B) (j k : Input) → Run F G P i prefix x j → Run G K (U x) j more y k
+    → Run F K (λ n. P n >>= (λ x. U x n)) i (prefix ++ more) y k
+joined F G K P U i prefix more x y j k a b = record {
   bound = a.bound + b.bound;
   runs = λ n tail le fit.
-      let h : P n (upon n (front ++ (more ++ tail)) i) ≡ Ok (x, upon n (more ++ tail) j) = a.runs n (more ++ tail) (omega (arith, le)) (b.starts tail fit) in
+      let h : P n (upon n (prefix ++ (more ++ tail)) i) ≡ Ok (x, upon n (more ++ tail) j) = a.runs n (more ++ tail) (omega (arith, le)) (b.starts tail fit) in
       let q : U x n (upon n (more ++ tail) j) ≡ Ok (y, upon n tail k) = b.runs n tail (omega (arith, le)) fit in
-      rw (append_assoc front more tail, h) q;
-  starts = λ tail fit. subst (Fit F) (sym (append_assoc front more tail)) (a.starts (more ++ tail) (b.starts tail fit));
+      rw (append_assoc prefix more tail, h) q;
+  starts = λ tail fit. subst (Fit F) (sym (append_assoc prefix more tail)) (a.starts (more ++ tail) (b.starts tail fit));
 }
 
-pub done_joined : {A B : Type 0} (Q : B → State) (F G K : Lexeme → Type 0) (P : ℕ → Parser A) (U : A → ℕ → Parser B) (i : Input) (front more : List Lexeme) (x : A) (j : Input) → Run F G P i front x j → Done Q G K (U x) j more
-    → Done Q F K (λ n. P n >>= (λ x. U x n)) i (front ++ more)
-done_joined Q F G K P U i front more x j a b = record { value = b.value; end = b.end; post = b.post; run = joined F G K P U i front more x b.value j b.end a b.run }
+pub done_joined : {A B : Type 0} (Q : B → State) (F G K : Lexeme → Type 0) (P : ℕ → Parser A) (U : A → ℕ → Parser B) (i : Input) (prefix more : List Lexeme) (x : A) (j : Input) → Run F G P i prefix x j → Done Q G K (U x) j more
+    → Done Q F K (λ n. P n >>= (λ x. U x n)) i (prefix ++ more)
+done_joined Q F G K P U i prefix more x j a b = record { value = b.value; end = b.end; post = b.post; run = joined F G K P U i prefix more x b.value j b.end a b.run }
 
-done_moved : {A : Type 0} (R : A → State) (F K : Lexeme → Type 0) (P : ℕ → Parser A) (i : Input) (front more rest : List Lexeme) → Done R F K P i (front ++ (more ++ rest)) → Done R F K P i ((front ++ more) ++ rest)
-done_moved R F K P i front more rest d = subst (λ (ts : List Lexeme). Done R F K P i ts) (sym (append_assoc front more rest)) d
+done_moved : {A : Type 0} (R : A → State) (F K : Lexeme → Type 0) (P : ℕ → Parser A) (i : Input) (prefix more rest : List Lexeme) → Done R F K P i (prefix ++ (more ++ rest)) → Done R F K P i ((prefix ++ more) ++ rest)
+done_moved R F K P i prefix more rest d = subst (λ (ts : List Lexeme). Done R F K P i ts) (sym (append_assoc prefix more rest)) d
 
-whole_joined : (ts front us more vs : List Lexeme) → ts ≡ front ++ us → us ≡ more ++ vs → ts ≡ (front ++ more) ++ vs
-whole_joined ts front us more vs a b = a ∙ (ap (λ (ws : List Lexeme). front ++ ws) b ∙ sym (append_assoc front more vs))
+whole_joined : (ts prefix us more vs : List Lexeme) → ts ≡ prefix ++ us → us ≡ more ++ vs → ts ≡ (prefix ++ more) ++ vs
+whole_joined ts prefix us more vs a b = a ∙ (ap (λ (ws : List Lexeme). prefix ++ ws) b ∙ sym (append_assoc prefix more vs))
 
 -- the first rule has read
 after_took : {A B : Type 0} (R : A → State) (Q : B → State) (F G K : Lexeme → Type 0) (P : ℕ → Parser A) (U : A → ℕ → Parser B) (i : Input) (x : A) (j : Input) (s : Outcome B) → Took R F G P i x j → Law Q G K (U x) j s
     → Law Q F K (λ n. P n >>= (λ x. U x n)) i s
 after_took R Q F G K P U i x j (Ok q) a b = record {
-  front = a.front ++ b.front;
-  whole = whole_joined i.rest a.front j.rest b.front q.1.rest a.whole b.whole;
+  prefix = a.prefix ++ b.prefix;
+  whole = whole_joined i.rest a.prefix j.rest b.prefix q.1.rest a.whole b.whole;
   post = b.post;
-  run = joined (Or F i) (Or G j) (Or K q.1) P U i a.front b.front x q.0 j q.1 a.run b.run;
+  run = joined (Or F i) (Or G j) (Or K q.1) P U i a.prefix b.prefix x q.0 j q.1 a.run b.run;
 }
 after_took R Q F G K P U i x j (Err (Syntax place)) a b = record {
-  front = a.front ++ b.front;
+  prefix = a.prefix ++ b.prefix;
   rest = b.rest;
-  whole = whole_joined i.rest a.front j.rest b.front b.rest a.whole b.whole;
+  whole = whole_joined i.rest a.prefix j.rest b.prefix b.rest a.whole b.whole;
   here = b.here;
   fill = b.fill;
-  done = done_moved Q (Or F i) K (λ n. P n >>= (λ x. U x n)) i a.front b.front b.fill (done_joined Q (Or F i) (Or G j) K P U i a.front (b.front ++ b.fill) x j a.run b.done);
+  done = done_moved Q (Or F i) K (λ n. P n >>= (λ x. U x n)) i a.prefix b.prefix b.fill (done_joined Q (Or F i) (Or G j) K P U i a.prefix (b.prefix ++ b.fill) x j a.run b.done);
   bound = a.run.bound + b.bound;
   stuck = λ n later le.
-      let h : P n (upon n (a.front ++ (b.front ++ first b.rest ∷ later)) i) ≡ Ok (x, upon n (b.front ++ first b.rest ∷ later) j) = a.run.runs n (b.front ++ first b.rest ∷ later) (omega (arith, le)) (fit_filled G j b.front b.rest later b.whole) in
+      let h : P n (upon n (a.prefix ++ (b.prefix ++ first b.rest ∷ later)) i) ≡ Ok (x, upon n (b.prefix ++ first b.rest ∷ later) j) = a.run.runs n (b.prefix ++ first b.rest ∷ later) (omega (arith, le)) (fit_filled G j b.prefix b.rest later b.whole) in
       let s = b.stuck n later (omega (arith, le)) in
-      (s.0, rw (append_assoc a.front b.front (first b.rest ∷ later), h) s.1);
+      (s.0, rw (append_assoc a.prefix b.prefix (first b.rest ∷ later), h) s.1);
 }
 after_took R Q F G K P U i x j (Err (Limit place)) a b = record {
-  front = a.front ++ b.front;
+  prefix = a.prefix ++ b.prefix;
   rest = b.rest;
-  whole = whole_joined i.rest a.front j.rest b.front b.rest a.whole b.whole;
+  whole = whole_joined i.rest a.prefix j.rest b.prefix b.rest a.whole b.whole;
   here = b.here;
   fill = b.fill;
-  done = done_moved Q (Or F i) K (λ n. P n >>= (λ x. U x n)) i a.front b.front (first b.rest ∷ b.fill) (done_joined Q (Or F i) (Or G j) K P U i a.front (b.front ++ first b.rest ∷ b.fill) x j a.run b.done);
+  done = done_moved Q (Or F i) K (λ n. P n >>= (λ x. U x n)) i a.prefix b.prefix (first b.rest ∷ b.fill) (done_joined Q (Or F i) (Or G j) K P U i a.prefix (b.prefix ++ first b.rest ∷ b.fill) x j a.run b.done);
 }
 after_took R Q F G K P U i x j (Err NoMemory) a b = b
 
@@ -174,24 +174,24 @@ bind_at R Q F G K P U i (Ok p) f w go fill = after_took R Q F G K P U i p.0 p.1 
 bind_at R Q F G K P U i (Err (Syntax place)) f w go fill =
     let c = fill w.done.value w.done.end w.done.post in
     record {
-      front = w.front;
+      prefix = w.prefix;
       rest = w.rest;
       whole = w.whole;
       here = w.here;
       fill = w.fill ++ c.0;
-      done = subst (λ (ts : List Lexeme). Done Q (Or F i) K (λ n. P n >>= (λ x. U x n)) i ts) (append_assoc w.front w.fill c.0) (done_joined Q (Or F i) G K P U i (w.front ++ w.fill) c.0 w.done.value w.done.end w.done.run c.1);
+      done = subst (λ (ts : List Lexeme). Done Q (Or F i) K (λ n. P n >>= (λ x. U x n)) i ts) (append_assoc w.prefix w.fill c.0) (done_joined Q (Or F i) G K P U i (w.prefix ++ w.fill) c.0 w.done.value w.done.end w.done.run c.1);
       bound = w.bound;
       stuck = λ n later le. let s = w.stuck n later le in (s.0, rw s.1 refl);
     }
 bind_at R Q F G K P U i (Err (Limit place)) f w go fill =
     let c = fill w.done.value w.done.end w.done.post in
     record {
-      front = w.front;
+      prefix = w.prefix;
       rest = w.rest;
       whole = w.whole;
       here = w.here;
       fill = w.fill ++ c.0;
-      done = subst (λ (ts : List Lexeme). Done Q (Or F i) K (λ n. P n >>= (λ x. U x n)) i ts) (append_assoc w.front (first w.rest ∷ w.fill) c.0) (done_joined Q (Or F i) G K P U i (w.front ++ first w.rest ∷ w.fill) c.0 w.done.value w.done.end w.done.run c.1);
+      done = subst (λ (ts : List Lexeme). Done Q (Or F i) K (λ n. P n >>= (λ x. U x n)) i ts) (append_assoc w.prefix (first w.rest ∷ w.fill) c.0) (done_joined Q (Or F i) G K P U i (w.prefix ++ first w.rest ∷ w.fill) c.0 w.done.value w.done.end w.done.run c.1);
     }
 bind_at R Q F G K P U i (Err NoMemory) f w go fill = w
 
@@ -216,22 +216,22 @@ nothing_run K x i = record { bound = 0; runs = λ n tail le fit. refl; starts = 
 
 pub given : {A : Type 0} (S : State) (R : A → State) (K : Lexeme → Type 0) (x : A) → ((home : List ℕ) (vars : List (List ℕ)) → S home vars → R x home vars) → Fills S R K K (pure x) (λ n. pure x)
 given S R K x k = record {
-  law = λ i s. record { front = []; whole = refl; post = k i.home i.vars s; run = nothing_run (Or K i) x i };
+  law = λ i s. record { prefix = []; whole = refl; post = k i.home i.vars s; run = nothing_run (Or K i) x i };
   fill = λ i s. ([], record { value = x; end = i; post = k i.home i.vars s; run = nothing_run K x i });
 }
 
 -- ---- a rule that refuses the next token
 
-pub wider : {A : Type 0} (F G K : Lexeme → Type 0) (P : ℕ → Parser A) (i : Input) (front : List Lexeme) (x : A) (j : Input) → ((t : Lexeme) → F t → G t) → Run F K P i front x j → Run G K P i front x j
-wider F G K P i front x j w a = record { bound = a.bound; runs = a.runs; starts = λ tail fit. let f = a.starts tail fit in (f.0, w (first (front ++ tail)) f.1) }
+pub wider : {A : Type 0} (F G K : Lexeme → Type 0) (P : ℕ → Parser A) (i : Input) (prefix : List Lexeme) (x : A) (j : Input) → ((t : Lexeme) → F t → G t) → Run F K P i prefix x j → Run G K P i prefix x j
+wider F G K P i prefix x j w a = record { bound = a.bound; runs = a.runs; starts = λ tail fit. let f = a.starts tail fit in (f.0, w (first (prefix ++ tail)) f.1) }
 
-pub done_wider : {A : Type 0} (R : A → State) (F G K : Lexeme → Type 0) (P : ℕ → Parser A) (i : Input) (front : List Lexeme) → ((t : Lexeme) → F t → G t) → Done R F K P i front → Done R G K P i front
-done_wider R F G K P i front w d = record { value = d.value; end = d.end; post = d.post; run = wider F G K P i front d.value d.end w d.run }
+pub done_wider : {A : Type 0} (R : A → State) (F G K : Lexeme → Type 0) (P : ℕ → Parser A) (i : Input) (prefix : List Lexeme) → ((t : Lexeme) → F t → G t) → Done R F K P i prefix → Done R G K P i prefix
+done_wider R F G K P i prefix w d = record { value = d.value; end = d.end; post = d.post; run = wider F G K P i prefix d.value d.end w d.run }
 
 pub refused_at : {A : Type 0} (R : A → State) (F K : Lexeme → Type 0) (P : ℕ → Parser A) (i : Input) → Fill R (Or F i) K P i → ((n : ℕ) (later : List Lexeme) → Stuck (P n (upon n (first i.rest ∷ later) i))) → Law R F K P i (refuse i)
 unfolding place token
 refused_at R F K P i c s = record {
-  front = [];
+  prefix = [];
   rest = i.rest;
   whole = refl;
   here = refl;
@@ -247,9 +247,9 @@ or_wider F G i w t (inr a) = inr a
 
 -- where other tokens may begin it too
 pub law_wider : {A : Type 0} (R : A → State) (F G K : Lexeme → Type 0) (P : ℕ → Parser A) (i : Input) (r : Outcome A) → ((t : Lexeme) → F t → G t) → Law R F K P i r → Law R G K P i r
-law_wider R F G K P i (Ok p) w a = record { front = a.front; whole = a.whole; post = a.post; run = wider (Or F i) (Or G i) (Or K p.1) P i a.front p.0 p.1 (or_wider F G i w) a.run }
-law_wider R F G K P i (Err (Syntax place)) w a = record { front = a.front; rest = a.rest; whole = a.whole; here = a.here; fill = a.fill; done = done_wider R (Or F i) (Or G i) K P i (a.front ++ a.fill) (or_wider F G i w) a.done; bound = a.bound; stuck = a.stuck }
-law_wider R F G K P i (Err (Limit place)) w a = record { front = a.front; rest = a.rest; whole = a.whole; here = a.here; fill = a.fill; done = done_wider R (Or F i) (Or G i) K P i (a.front ++ first a.rest ∷ a.fill) (or_wider F G i w) a.done }
+law_wider R F G K P i (Ok p) w a = record { prefix = a.prefix; whole = a.whole; post = a.post; run = wider (Or F i) (Or G i) (Or K p.1) P i a.prefix p.0 p.1 (or_wider F G i w) a.run }
+law_wider R F G K P i (Err (Syntax place)) w a = record { prefix = a.prefix; rest = a.rest; whole = a.whole; here = a.here; fill = a.fill; done = done_wider R (Or F i) (Or G i) K P i (a.prefix ++ a.fill) (or_wider F G i w) a.done; bound = a.bound; stuck = a.stuck }
+law_wider R F G K P i (Err (Limit place)) w a = record { prefix = a.prefix; rest = a.rest; whole = a.whole; here = a.here; fill = a.fill; done = done_wider R (Or F i) (Or G i) K P i (a.prefix ++ first a.rest ∷ a.fill) (or_wider F G i w) a.done }
 law_wider R F G K P i (Err NoMemory) w a = a
 
 pub loosened : {A : Type 0} (S : State) (R : A → State) (F G K : Lexeme → Type 0) (p : Parser A) (P : ℕ → Parser A) → ((t : Lexeme) → F t → G t) → Fills S R F K p P → Fills S R G K p P
@@ -260,13 +260,13 @@ loosened S R F G K p P w a = record {
 
 -- ---- less that is known after it, or more before it
 
-post_wider : {A : Type 0} (R Q : A → State) (F K : Lexeme → Type 0) (P : ℕ → Parser A) (i : Input) (front : List Lexeme) → ((x : A) (home : List ℕ) (vars : List (List ℕ)) → R x home vars → Q x home vars) → Done R F K P i front → Done Q F K P i front
-post_wider R Q F K P i front w d = record { value = d.value; end = d.end; post = w d.value d.end.home d.end.vars d.post; run = d.run }
+post_wider : {A : Type 0} (R Q : A → State) (F K : Lexeme → Type 0) (P : ℕ → Parser A) (i : Input) (prefix : List Lexeme) → ((x : A) (home : List ℕ) (vars : List (List ℕ)) → R x home vars → Q x home vars) → Done R F K P i prefix → Done Q F K P i prefix
+post_wider R Q F K P i prefix w d = record { value = d.value; end = d.end; post = w d.value d.end.home d.end.vars d.post; run = d.run }
 
 pub law_restated : {A : Type 0} (R Q : A → State) (F K : Lexeme → Type 0) (P : ℕ → Parser A) (i : Input) (r : Outcome A) → ((x : A) (home : List ℕ) (vars : List (List ℕ)) → R x home vars → Q x home vars) → Law R F K P i r → Law Q F K P i r
-law_restated R Q F K P i (Ok p) w a = record { front = a.front; whole = a.whole; post = w p.0 p.1.home p.1.vars a.post; run = a.run }
-law_restated R Q F K P i (Err (Syntax place)) w a = record { front = a.front; rest = a.rest; whole = a.whole; here = a.here; fill = a.fill; done = post_wider R Q (Or F i) K P i (a.front ++ a.fill) w a.done; bound = a.bound; stuck = a.stuck }
-law_restated R Q F K P i (Err (Limit place)) w a = record { front = a.front; rest = a.rest; whole = a.whole; here = a.here; fill = a.fill; done = post_wider R Q (Or F i) K P i (a.front ++ first a.rest ∷ a.fill) w a.done }
+law_restated R Q F K P i (Ok p) w a = record { prefix = a.prefix; whole = a.whole; post = w p.0 p.1.home p.1.vars a.post; run = a.run }
+law_restated R Q F K P i (Err (Syntax place)) w a = record { prefix = a.prefix; rest = a.rest; whole = a.whole; here = a.here; fill = a.fill; done = post_wider R Q (Or F i) K P i (a.prefix ++ a.fill) w a.done; bound = a.bound; stuck = a.stuck }
+law_restated R Q F K P i (Err (Limit place)) w a = record { prefix = a.prefix; rest = a.rest; whole = a.whole; here = a.here; fill = a.fill; done = post_wider R Q (Or F i) K P i (a.prefix ++ first a.rest ∷ a.fill) w a.done }
 law_restated R Q F K P i (Err NoMemory) w a = a
 
 pub restated : {A : Type 0} (S T : State) (R Q : A → State) (F K : Lexeme → Type 0) (p : Parser A) (P : ℕ → Parser A) → ((home : List ℕ) (vars : List (List ℕ)) → T home vars → S home vars) → ((x : A) (home : List ℕ) (vars : List (List ℕ)) → R x home vars → Q x home vars) → Fills S R F K p P → Fills T Q F K p P

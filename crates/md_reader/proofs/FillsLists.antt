@@ -7,39 +7,39 @@ use Rattle.md_token.specs.Token.{Lexeme}
 use Rattle.md_reader.specs.declared.refused.Refusal.TheVariants.{Syntax, Limit, NoMemory}
 use Rattle.md_reader.specs.Input.{Input, Parser, Outcome, ◌>>=◌, ◌>>◌, and_then, pure, limit, eat, expect, first, place, token, sees, next, after}
 use Rattle.md_reader.proofs.Fills.{upon, Fit, Or, Every, Never, State, Run, Done, Law, Fill, Fills, Stuck, fit_filled, bind_at, bound, given, law_wider, done_wider, done_joined}
-use Rattle.md_reader.proofs.FillsTokens.{live, front_live, seen_live, expects}
+use Rattle.md_reader.proofs.FillsTokens.{live, prefix_live, seen_live, expects}
 
 -- ---- a rule that does the same
 
 module _ {A : Type 0} (R : A → State) (F K : Lexeme → Type 0) (P Q : ℕ → Parser A) (i : Input) (b : ℕ) where
-  run_like : ((n : ℕ) (ts : List Lexeme) → b ≤ n → Fit F ts → P n (upon n ts i) ≡ Q n (upon n ts i)) → (front : List Lexeme) (x : A) (j : Input) (G : Lexeme → Type 0) → Run F G Q i front x j → Run F G P i front x j
-  run_like e front x j G a = record {
+  run_like : ((n : ℕ) (ts : List Lexeme) → b ≤ n → Fit F ts → P n (upon n ts i) ≡ Q n (upon n ts i)) → (prefix : List Lexeme) (x : A) (j : Input) (G : Lexeme → Type 0) → Run F G Q i prefix x j → Run F G P i prefix x j
+  run_like e prefix x j G a = record {
     bound = b + a.bound;
-    runs = λ n tail le fit. e n (front ++ tail) (omega (arith, le)) (a.starts tail fit) ∙ a.runs n tail (omega (arith, le)) fit;
+    runs = λ n tail le fit. e n (prefix ++ tail) (omega (arith, le)) (a.starts tail fit) ∙ a.runs n tail (omega (arith, le)) fit;
     starts = a.starts;
   }
 
-  done_like : ((n : ℕ) (ts : List Lexeme) → b ≤ n → Fit F ts → P n (upon n ts i) ≡ Q n (upon n ts i)) → (front : List Lexeme) → Done R F K Q i front → Done R F K P i front
-  done_like e front d = record { value = d.value; end = d.end; post = d.post; run = run_like e front d.value d.end K d.run }
+  done_like : ((n : ℕ) (ts : List Lexeme) → b ≤ n → Fit F ts → P n (upon n ts i) ≡ Q n (upon n ts i)) → (prefix : List Lexeme) → Done R F K Q i prefix → Done R F K P i prefix
+  done_like e prefix d = record { value = d.value; end = d.end; post = d.post; run = run_like e prefix d.value d.end K d.run }
 
   pub fill_like : ((n : ℕ) (ts : List Lexeme) → b ≤ n → Fit F ts → P n (upon n ts i) ≡ Q n (upon n ts i)) → Fill R F K Q i → Fill R F K P i
   fill_like e c = (c.0, done_like e c.0 c.1)
 
 pub law_like : {A : Type 0} (R : A → State) (F K : Lexeme → Type 0) (P Q : ℕ → Parser A) (i : Input) (b : ℕ) (r : Outcome A) → ((n : ℕ) (ts : List Lexeme) → b ≤ n → Fit (Or F i) ts → P n (upon n ts i) ≡ Q n (upon n ts i)) → Law R F K Q i r → Law R F K P i r
-law_like R F K P Q i b (Ok p) e a = record { front = a.front; whole = a.whole; post = a.post; run = run_like R (Or F i) K P Q i b e a.front p.0 p.1 (Or K p.1) a.run }
+law_like R F K P Q i b (Ok p) e a = record { prefix = a.prefix; whole = a.whole; post = a.post; run = run_like R (Or F i) K P Q i b e a.prefix p.0 p.1 (Or K p.1) a.run }
 law_like R F K P Q i b (Err (Syntax place)) e a = record {
-  front = a.front;
+  prefix = a.prefix;
   rest = a.rest;
   whole = a.whole;
   here = a.here;
   fill = a.fill;
-  done = done_like R (Or F i) K P Q i b e (a.front ++ a.fill) a.done;
+  done = done_like R (Or F i) K P Q i b e (a.prefix ++ a.fill) a.done;
   bound = b + a.bound;
   stuck = λ n later le.
       let s = a.stuck n later (omega (arith, le)) in
-      (s.0, e n (a.front ++ first a.rest ∷ later) (omega (arith, le)) (fit_filled F i a.front a.rest later a.whole) ∙ s.1);
+      (s.0, e n (a.prefix ++ first a.rest ∷ later) (omega (arith, le)) (fit_filled F i a.prefix a.rest later a.whole) ∙ s.1);
 }
-law_like R F K P Q i b (Err (Limit place)) e a = record { front = a.front; rest = a.rest; whole = a.whole; here = a.here; fill = a.fill; done = done_like R (Or F i) K P Q i b e (a.front ++ first a.rest ∷ a.fill) a.done }
+law_like R F K P Q i b (Err (Limit place)) e a = record { prefix = a.prefix; rest = a.rest; whole = a.whole; here = a.here; fill = a.fill; done = done_like R (Or F i) K P Q i b e (a.prefix ++ first a.rest ∷ a.fill) a.done }
 law_like R F K P Q i b (Err NoMemory) e a = a
 
 -- ---- what the kind and the line of the next token choose
@@ -74,34 +74,34 @@ module _ {B : Type 0} (R : B → State) (F K : Lexeme → Type 0) (k : Kind) (P 
   unfolding after sees token next
   left n ts e = rw e refl
 
-  run_behind : (H G : Lexeme → Type 0) (front : List Lexeme) (x : B) (j : Input) → same_kind (first i.rest).kind k ≡ true → Run H G P (next i) front x j → Run (Or F i) G Perhaps i (first i.rest ∷ front) x j
+  run_behind : (H G : Lexeme → Type 0) (prefix : List Lexeme) (x : B) (j : Input) → same_kind (first i.rest).kind k ≡ true → Run H G P (next i) prefix x j → Run (Or F i) G Perhaps i (first i.rest ∷ prefix) x j
   unfolding next
-  run_behind H G front x j e a = record {
+  run_behind H G prefix x j e a = record {
     bound = a.bound;
-    runs = λ n tail le fit. passed n (first i.rest ∷ (front ++ tail)) e ∙ a.runs n tail le fit;
+    runs = λ n tail le fit. passed n (first i.rest ∷ (prefix ++ tail)) e ∙ a.runs n tail le fit;
     starts = λ tail fit. (omega arith, inr (refl, refl));
   }
 
-  done_behind : (front : List Lexeme) → same_kind (first i.rest).kind k ≡ true → Done R (Or Every (next i)) K P (next i) front → Done R (Or F i) K Perhaps i (first i.rest ∷ front)
-  done_behind front e d = record { value = d.value; end = d.end; post = d.post; run = run_behind (Or Every (next i)) K front d.value d.end e d.run }
+  done_behind : (prefix : List Lexeme) → same_kind (first i.rest).kind k ≡ true → Done R (Or Every (next i)) K P (next i) prefix → Done R (Or F i) K Perhaps i (first i.rest ∷ prefix)
+  done_behind prefix e d = record { value = d.value; end = d.end; post = d.post; run = run_behind (Or Every (next i)) K prefix d.value d.end e d.run }
 
-  whole_behind : (front us : List Lexeme) → live (first i.rest).kind ≡ true → (next i).rest ≡ front ++ us → i.rest ≡ (first i.rest ∷ front) ++ us
+  whole_behind : (prefix us : List Lexeme) → live (first i.rest).kind ≡ true → (next i).rest ≡ prefix ++ us → i.rest ≡ (first i.rest ∷ prefix) ++ us
   unfolding next
-  whole_behind front us l e = front_live i.rest l ∙ ap (λ (ts : List Lexeme). first i.rest ∷ ts) e
+  whole_behind prefix us l e = prefix_live i.rest l ∙ ap (λ (ts : List Lexeme). first i.rest ∷ ts) e
 
   behind_sign : (r : Outcome B) → same_kind (first i.rest).kind k ≡ true → live (first i.rest).kind ≡ true → Law R Every K P (next i) r → Law R F K Perhaps i r
-  behind_sign (Ok p) e l a = record { front = first i.rest ∷ a.front; whole = whole_behind a.front p.1.rest l a.whole; post = a.post; run = run_behind (Or Every (next i)) (Or K p.1) a.front p.0 p.1 e a.run }
+  behind_sign (Ok p) e l a = record { prefix = first i.rest ∷ a.prefix; whole = whole_behind a.prefix p.1.rest l a.whole; post = a.post; run = run_behind (Or Every (next i)) (Or K p.1) a.prefix p.0 p.1 e a.run }
   behind_sign (Err (Syntax place)) e l a = record {
-    front = first i.rest ∷ a.front;
+    prefix = first i.rest ∷ a.prefix;
     rest = a.rest;
-    whole = whole_behind a.front a.rest l a.whole;
+    whole = whole_behind a.prefix a.rest l a.whole;
     here = a.here;
     fill = a.fill;
-    done = done_behind (a.front ++ a.fill) e a.done;
+    done = done_behind (a.prefix ++ a.fill) e a.done;
     bound = a.bound;
-    stuck = λ n later le. stuck_behind n (a.front ++ first a.rest ∷ later) e (a.stuck n later le);
+    stuck = λ n later le. stuck_behind n (a.prefix ++ first a.rest ∷ later) e (a.stuck n later le);
   }
-  behind_sign (Err (Limit place)) e l a = record { front = first i.rest ∷ a.front; rest = a.rest; whole = whole_behind a.front a.rest l a.whole; here = a.here; fill = a.fill; done = done_behind (a.front ++ first a.rest ∷ a.fill) e a.done }
+  behind_sign (Err (Limit place)) e l a = record { prefix = first i.rest ∷ a.prefix; rest = a.rest; whole = whole_behind a.prefix a.rest l a.whole; here = a.here; fill = a.fill; done = done_behind (a.prefix ++ first a.rest ∷ a.fill) e a.done }
   behind_sign (Err NoMemory) e l a = a
 
   other : ((t : Lexeme) → F t → same_kind t.kind k ≡ false) → same_kind (first i.rest).kind k ≡ false → (ts : List Lexeme) → Fit (Or F i) ts → same_kind (first ts).kind k ≡ false
@@ -132,10 +132,10 @@ perhaps S R F K k p q P Q l f a c = record {
 -- ---- lists with a limit
 
 -- an item that there may not be is one token
-pub single : (front rest : List Lexeme) (t : Lexeme) → t ∷ rest ≡ front ++ rest → front ≡ t ∷ []
+pub single : (prefix rest : List Lexeme) (t : Lexeme) → t ∷ rest ≡ prefix ++ rest → prefix ≡ t ∷ []
 single [] rest t e = absurd (let l = ap length e in omega (arith, l))
 single (u ∷ []) rest t e = sym (ap (λ (ts : List Lexeme). first ts ∷ []) e)
-single (u ∷ v ∷ front) rest t e = absurd (let l = ap length e in let m = length-append front rest in omega (arith, l, m))
+single (u ∷ v ∷ prefix) rest t e = absurd (let l = ap length e in let m = length-append prefix rest in omega (arith, l, m))
 
 -- A rule with a limit: items with commas between them, and a closing sign, each by what was found before.
 module _ {A B X : Type 0} (item : X → Parser A) (step : X → A → X) (done : X → A → B) (closing : Kind) (from : ℕ → X → Parser B) (S : X → State) (T : B → State) (F : Lexeme → Type 0) where
@@ -203,16 +203,16 @@ module _ {A B X : Type 0} (item : X → Parser A) (step : X → A → X) (done :
     excess_by : (c : ℕ) (x : X) (i : Input) (r : Outcome A) → Law (λ a. S (step x a)) F Every (λ m. item x) i r → ((a : A) (j : Input) → r ≡ Ok (a, j) → i.rest ≡ first i.rest ∷ j.rest) → Law T F K (Body c x) i (and_then r (λ a j. limit i))
     unfolding place token
     excess_by c x i (Ok p) w one =
-        let alone : w.front ≡ first i.rest ∷ [] = single w.front p.1.rest (first i.rest) (sym (one p.0 p.1 refl) ∙ w.whole) in
+        let alone : w.prefix ≡ first i.rest ∷ [] = single w.prefix p.1.rest (first i.rest) (sym (one p.0 p.1 refl) ∙ w.whole) in
         let f = item_fill c x p.0 p.1 w.post in
         record {
-          front = [];
+          prefix = [];
           rest = i.rest;
           whole = refl;
           here = refl;
           fill = f.0;
           done = subst (λ (ts : List Lexeme). Done T (Or F i) K (Body c x) i (ts ++ f.0)) alone
-              (done_joined T (Or F i) (Or Every p.1) K (λ m. item x) (λ a m. Item (m - suc c) x a) i w.front f.0 p.0 p.1 w.run (done_wider T Every (Or Every p.1) K (λ m. Item (m - suc c) x p.0) p.1 f.0 (λ t e. inl e) f.1));
+              (done_joined T (Or F i) (Or Every p.1) K (λ m. item x) (λ a m. Item (m - suc c) x a) i w.prefix f.0 p.0 p.1 w.run (done_wider T Every (Or Every p.1) K (λ m. Item (m - suc c) x p.0) p.1 f.0 (λ t e. inl e) f.1));
         }
     excess_by c x i (Err e) w one =
         bind_at (λ a. S (step x a)) T F Every K (λ m. item x) (λ a m. Item (m - suc c) x a) i (Err e) (λ a. limit) w (λ a j q r. absurd (cc)) (λ a j r. item_fill c x a j r)

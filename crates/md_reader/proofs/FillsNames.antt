@@ -129,14 +129,14 @@ variable_at h F K seen i e s = variable_law h F K seen i s (variable_fill h (Or 
 pub sites : (S : State) (K : Lexeme → Type 0) → Fills S (λ _. S) K K site (λ n. site)
 unfolding site
 sites S K = record {
-  law = λ i s. record { front = []; whole = refl; post = s; run = record { bound = 0; runs = λ n tail le fit. refl; starts = λ tail fit. fit } };
+  law = λ i s. record { prefix = []; whole = refl; post = s; run = record { bound = 0; runs = λ n tail le fit. refl; starts = λ tail fit. fit } };
   fill = λ i s. ([], record { value = i.sites; end = record i { sites = i.sites + 1 }; post = s; run = record { bound = 0; runs = λ n tail le fit. refl; starts = λ tail fit. fit } });
 }
 
 pub clause_ends : (h : List ℕ) (K : Lexeme → Type 0) → Fills (Home h) (λ _. Home h) K K end_clause (λ n. end_clause)
 unfolding end_clause
 clause_ends h K = record {
-  law = λ i s. record { front = []; whole = refl; post = s; run = record { bound = 0; runs = λ n tail le fit. refl; starts = λ tail fit. fit } };
+  law = λ i s. record { prefix = []; whole = refl; post = s; run = record { bound = 0; runs = λ n tail le fit. refl; starts = λ tail fit. fit } };
   fill = λ i s. ([], record { value = i.vars; end = record i { vars = [] }; post = s; run = record { bound = 0; runs = λ n tail le fit. refl; starts = λ tail fit. fit } });
 }
 
@@ -223,12 +223,12 @@ module _ (h : List ℕ) (K : Lexeme → Type 0) (i : Input) (s : Home h i.home i
   unfolding rule.declared_name token next
   declared_fill F f = filled_by (Declared h) F K (λ n. rule.declared_name) i (spelled kind.Name (codes "a") i) (rule.meant i.home plain) i.vars (bytes_of plain) f (declared_by_word (spelled kind.Name (codes "a") i) plain (plain_written i)) (λ n tail le. rw (plain_written i, not_long n plain le) refl)
 
-  declared_long : (w : rule.Written) (b : Bool) → rule.written (token i) ≡ Some w → rule.is_io w.qualifier ≡ false → Law (Declared h) Every K (λ n. rule.declared_name) i (cond b (limit i) (Ok (rule.meant i.home w, next i)))
+  declared_long : (w : rule.Written) (b : Bool) → rule.written (token i) ≡ Some w → rule.is_of_library w.qualifier ≡ false → Law (Declared h) Every K (λ n. rule.declared_name) i (cond b (limit i) (Ok (rule.meant i.home w, next i)))
   unfolding rule.declared_name rule.written token next
   declared_long w true e f = over_at (Declared h) Every K (λ n. rule.declared_name) i (rule.meant i.home w) i.vars (bytes_of w) (λ n tail le. rw (e, f, not_long n w le) refl) (declared_by_word (first i.rest) w e)
   declared_long w false e f = taken_at (Declared h) Every K (λ n. rule.declared_name) i (rule.meant i.home w) i.vars (bytes_of w) (λ n tail le. rw (e, f, not_long n w le) refl) (written_live (first i.rest).text (first i.rest).kind w e) (declared_by_word (first i.rest) w e)
 
-  declared_io : (w : rule.Written) (b : Bool) → rule.written (token i) ≡ Some w → rule.is_io w.qualifier ≡ b → Law (Declared h) Every K (λ n. rule.declared_name) i (cond b refuse (rule.take_written (Some w)) i)
+  declared_io : (w : rule.Written) (b : Bool) → rule.written (token i) ≡ Some w → rule.is_of_library w.qualifier ≡ b → Law (Declared h) Every K (λ n. rule.declared_name) i (cond b refuse (rule.take_written (Some w)) i)
   unfolding rule.declared_name token
   declared_io w true e f = refused_at (Declared h) Every K (λ n. rule.declared_name) i (declared_fill (Or Every i) (inl tt)) (λ n later. (place (upon n (first i.rest ∷ later) i), rw (e, f) refl))
   declared_io w false e f = declared_long w (rule.is_long i.limits.items w) e f
@@ -236,7 +236,7 @@ module _ (h : List ℕ) (K : Lexeme → Type 0) (i : Input) (s : Home h i.home i
   declared_by : (o : Option rule.Written) → rule.written (token i) ≡ o → Law (Declared h) Every K (λ n. rule.declared_name) i (rule.take_declared o i)
   unfolding rule.declared_name token
   declared_by None e = refused_at (Declared h) Every K (λ n. rule.declared_name) i (declared_fill (Or Every i) (inl tt)) (λ n later. (place (upon n (first i.rest ∷ later) i), rw e refl))
-  declared_by (Some w) e = declared_io w (rule.is_io w.qualifier) e refl
+  declared_by (Some w) e = declared_io w (rule.is_of_library w.qualifier) e refl
 
 pub declared_names : (h : List ℕ) (K : Lexeme → Type 0) → Fills (Home h) (Declared h) Every K rule.declared_name (λ n. rule.declared_name)
 unfolding rule.declared_name

@@ -15,7 +15,7 @@ use Rattle.md_reader.proofs.Steps.{ok_input}
 use Rattle.md_reader.proofs.Fills.{upon, Fit, Or, Every, Never, State, Done, Took, Law, Fills, bind_at, sequel, given, law_wider, done_joined, loosened}
 use Rattle.md_reader.proofs.FillsTokens.{live, mark, seen_kind, expects, expect_at}
 use Rattle.md_reader.proofs.FillsLists.{law_like, fill_like, perhaps, Lists, Item, Body, lists, excess, item_fill, single}
-use Rattle.md_reader.proofs.FillsTypes.{mode_words, determinisms, ho_modes, sort_words, sorts, sort_one, limited}
+use Rattle.md_reader.proofs.FillsTypes.{mode_words, determinisms, ho_modes, simple_type_words, simple_types, simple_type_one, limited}
 
 -- ---- one of two rules, by a sign that neither takes
 
@@ -114,18 +114,18 @@ NotPred t = same_kind t.kind kind.Pred ≡ false
 plains : (S : State) (K : Lexeme → Type 0) → Fills S (λ _. S) NotPred K rule.plain_argument (λ n. rule.plain_argument)
 unfolding rule.plain_argument same_kind
 plains S K =
-    sequel S (λ _. S) (λ _. S) NotPred Every K rule.sort _ (sort_words S NotPred Every (λ i. refl))
+    sequel S (λ _. S) (λ _. S) NotPred Every K rule.simple_type _ (simple_type_words S NotPred Every (λ i. refl))
     (λ t. sequel S (λ _. S) (λ _. S) Every Every K (expect kind.HasMode) _ (expects S Every Every kind.HasMode refl (λ i. tt))
     (λ _. sequel S (λ _. S) (λ _. S) Every K K rule.mode_word (λ m. pure (t, m)) (mode_words S K)
     (λ m. given S (λ _. S) K (t, m) (λ home vars s. s))))
 
 abbrev HoRest : Parser (List HldsType)
-HoRest = expect kind.Open >> (rule.sorts >>= (λ ts. expect kind.HasMode >> pure ts))
+HoRest = expect kind.Open >> (rule.simple_types >>= (λ ts. expect kind.HasMode >> pure ts))
 
 ho_rest : (S : State) → Fills S (λ _. S) Every Every HoRest (λ n. HoRest)
 ho_rest S =
-    sequel S (λ _. S) (λ _. S) Every Every Every (expect kind.Open) (λ _. rule.sorts >>= (λ ts. expect kind.HasMode >> pure ts)) (expects S Every Every kind.Open refl (λ i. tt))
-    (λ _. sequel S (λ _. S) (λ _. S) Every Every Every rule.sorts (λ ts. expect kind.HasMode >> pure ts) (sorts S Every)
+    sequel S (λ _. S) (λ _. S) Every Every Every (expect kind.Open) (λ _. rule.simple_types >>= (λ ts. expect kind.HasMode >> pure ts)) (expects S Every Every kind.Open refl (λ i. tt))
+    (λ _. sequel S (λ _. S) (λ _. S) Every Every Every rule.simple_types (λ ts. expect kind.HasMode >> pure ts) (simple_types S Every)
     (λ ts. closing S Every Every kind.HasMode ts refl (λ i. tt)))
 
 ho_types_at : (S : State) (i : Input) → kind_at i ≡ kind.Pred → S i.home i.vars → Law (λ _. S) Never Every (λ n. rule.ho_types) i (rule.ho_types i)
@@ -166,10 +166,10 @@ argument_fills S K = loosened S (λ _. S) NotPred Every K rule.argument (λ n. r
 abbrev stop : Lexeme
 stop = record { kind = kind.Stop; text = []; line = 0 }
 
-one_before : (t u : Lexeme) (front rest : List Lexeme) → t ∷ u ∷ [] ≡ front ++ rest → length rest ≡ 1 → front ≡ t ∷ []
+one_before : (t u : Lexeme) (prefix rest : List Lexeme) → t ∷ u ∷ [] ≡ prefix ++ rest → length rest ≡ 1 → prefix ≡ t ∷ []
 one_before t u [] rest e l = absurd (let m = ap length e in omega (arith, l, m))
 one_before t u (v ∷ []) rest e l = sym (ap (λ (ts : List Lexeme). first ts ∷ []) e)
-one_before t u (v ∷ w ∷ front) rest e l = absurd (let m = ap length e in let n = length-append front rest in omega (arith, l, m, n))
+one_before t u (v ∷ w ∷ prefix) rest e l = absurd (let m = ap length e in let n = length-append prefix rest in omega (arith, l, m, n))
 
 -- a rule that is at fault behind its first token can be filled up from there
 begun : {A : Type 0} (S : State) (K : Lexeme → Type 0) (p : Parser A) (i : Input) (m : ℕ) (place : Place) (r : Outcome A) → r ≡ Err (Syntax place) → place.left ≡ 1 → Law (λ _. S) Every K (λ n. p) (upon m (first i.rest ∷ stop ∷ []) i) r → (fill : List Lexeme) × Done (λ _. S) (Or Every i) K (λ n. p) i (first i.rest ∷ fill)
@@ -177,7 +177,7 @@ begun S K p i m place (Ok x) e l w = absurd (cc)
 begun S K p i m place (Err (Syntax other)) e l w =
     let same : other ≡ place = cc in
     let left : length w.rest ≡ 1 = sym (ap (λ (q : Place). q.left) w.here) ∙ (ap (λ (q : Place). q.left) same ∙ l) in
-    let alone : w.front ≡ first i.rest ∷ [] = one_before (first i.rest) stop w.front w.rest w.whole left in
+    let alone : w.prefix ≡ first i.rest ∷ [] = one_before (first i.rest) stop w.prefix w.rest w.whole left in
     (w.fill, subst (λ (ts : List Lexeme). Done (λ _. S) (Or Every i) K (λ n. p) i (ts ++ w.fill)) alone (record { value = w.done.value; end = w.done.end; post = w.done.post; run = record { bound = w.done.run.bound; runs = w.done.run.runs; starts = w.done.run.starts } }))
 begun S K p i m place (Err (Limit other)) e l w = absurd (cc)
 begun S K p i m place (Err NoMemory) e l w = absurd (cc)
@@ -186,16 +186,16 @@ pred_begun : (S : State) (i : Input) → sees kind.Pred i ≡ true → (place : 
 unfolding rule.argument rule.ho_argument rule.ho_types expect sees token next place same_kind
 pred_begun S i e = (record { line = 0; left = 1 }, rw e refl, refl)
 
-plain_stuck : (t : HldsType) (m : ℕ) (i j : Input) → rule.sort (upon m (first i.rest ∷ stop ∷ []) i) ≡ Ok (t, upon m (stop ∷ []) j) → rule.plain_argument (upon m (first i.rest ∷ stop ∷ []) i) ≡ Err (Syntax (record { line = 0; left = 1 }))
+plain_stuck : (t : HldsType) (m : ℕ) (i j : Input) → rule.simple_type (upon m (first i.rest ∷ stop ∷ []) i) ≡ Ok (t, upon m (stop ∷ []) j) → rule.plain_argument (upon m (first i.rest ∷ stop ∷ []) i) ≡ Err (Syntax (record { line = 0; left = 1 }))
 unfolding rule.plain_argument expect sees token place same_kind
 plain_stuck t m i j e = rw e refl
 
-plain_begun : (S : State) (i : Input) (t : HldsType) (j : Input) → sees kind.Pred i ≡ false → Took (λ _. S) Every Every (λ n. rule.sort) i t j → i.rest ≡ first i.rest ∷ j.rest → (m : ℕ) × (rule.argument (upon m (first i.rest ∷ stop ∷ []) i) ≡ Err (Syntax (record { line = 0; left = 1 })))
+plain_begun : (S : State) (i : Input) (t : HldsType) (j : Input) → sees kind.Pred i ≡ false → Took (λ _. S) Every Every (λ n. rule.simple_type) i t j → i.rest ≡ first i.rest ∷ j.rest → (m : ℕ) × (rule.argument (upon m (first i.rest ∷ stop ∷ []) i) ≡ Err (Syntax (record { line = 0; left = 1 })))
 unfolding rule.argument sees token
 plain_begun S i t j e w one =
-    let alone : w.front ≡ first i.rest ∷ [] = single w.front j.rest (first i.rest) (sym one ∙ w.whole) in
-    let read : rule.sort (upon w.run.bound (w.front ++ stop ∷ []) i) ≡ Ok (t, upon w.run.bound (stop ∷ []) j) = w.run.runs w.run.bound (stop ∷ []) (omega arith) (omega arith, inl tt) in
-    let here : rule.sort (upon w.run.bound (first i.rest ∷ stop ∷ []) i) ≡ Ok (t, upon w.run.bound (stop ∷ []) j) = subst (λ (ts : List Lexeme). rule.sort (upon w.run.bound (ts ++ stop ∷ []) i) ≡ Ok (t, upon w.run.bound (stop ∷ []) j)) alone read in
+    let alone : w.prefix ≡ first i.rest ∷ [] = single w.prefix j.rest (first i.rest) (sym one ∙ w.whole) in
+    let read : rule.simple_type (upon w.run.bound (w.prefix ++ stop ∷ []) i) ≡ Ok (t, upon w.run.bound (stop ∷ []) j) = w.run.runs w.run.bound (stop ∷ []) (omega arith) (omega arith, inl tt) in
+    let here : rule.simple_type (upon w.run.bound (first i.rest ∷ stop ∷ []) i) ≡ Ok (t, upon w.run.bound (stop ∷ []) j) = subst (λ (ts : List Lexeme). rule.simple_type (upon w.run.bound (ts ++ stop ∷ []) i) ≡ Ok (t, upon w.run.bound (stop ∷ []) j)) alone read in
     (w.run.bound, rw e (plain_stuck t w.run.bound i j here))
 
 abbrev more_args : List (HldsType × Mode) → HldsType × Mode → List (HldsType × Mode)
@@ -220,7 +220,7 @@ module _ (S : State) (K : Lexeme → Type 0) (c : ℕ) (xs : List (HldsType × M
   over_by d =
       let f = item_fill (λ _. rule.argument) more_args more_args kind.Close rule.arguments_from (λ _. S) (λ _. S) Every (argument_lists S) K c xs d.1.value d.1.end d.1.post in
       record {
-        front = [];
+        prefix = [];
         rest = i.rest;
         whole = refl;
         here = refl;
@@ -232,25 +232,25 @@ module _ (S : State) (K : Lexeme → Type 0) (c : ℕ) (xs : List (HldsType × M
   pred_over e = let b = pred_begun S i e in over_by (begun S Every rule.argument i 0 b.0 _ b.1 b.2 ((argument_fills S Every).law (upon 0 (first i.rest ∷ stop ∷ []) i) s))
 
   -- where no type comes, the argument is at fault as it would be where there may be one
-  plain_refused : (e : Refusal) → rule.sort i ≡ Err e → sees kind.Pred i ≡ false → rule.argument i ≡ Err e
+  plain_refused : (e : Refusal) → rule.simple_type i ≡ Err e → sees kind.Pred i ≡ false → rule.argument i ≡ Err e
   unfolding rule.argument rule.plain_argument
   plain_refused e h f = rw (f, h) refl
 
-  sort_refused : (e : Refusal) → rule.sort i ≡ Err e → sees kind.Pred i ≡ false → Law (λ _. S) Every K Args i (Err e)
-  sort_refused e h f =
+  simple_type_refused : (e : Refusal) → rule.simple_type i ≡ Err e → sees kind.Pred i ≡ false → Law (λ _. S) Every K Args i (Err e)
+  simple_type_refused e h f =
       bind_at (λ _. S) (λ _. S) Every Every K (λ n. rule.argument) (λ a m. Item (λ _. rule.argument) more_args more_args kind.Close rule.arguments_from (λ _. S) (λ _. S) Every (m - suc c) xs a) i (Err e) (λ _. limit)
       (subst (λ (r : Outcome (HldsType × Mode)). Law (λ _. S) Every Every (λ n. rule.argument) i r) (plain_refused e h f) ((argument_fills S Every).law i s))
       (λ a j q r. absurd (cc)) (λ a j r. item_fill (λ _. rule.argument) more_args more_args kind.Close rule.arguments_from (λ _. S) (λ _. S) Every (argument_lists S) K c xs a j r)
 
-  sort_over : (r : Outcome HldsType) → rule.sort i ≡ r → sees kind.Pred i ≡ false → Law (λ _. S) Every Every (λ n. rule.sort) i r → Law (λ _. S) Every K Args i (and_then r (λ t j. limit i))
-  sort_over (Ok p) e f w =
-      let b = plain_begun S i p.0 p.1 f w (sort_one p.0 i p.1 e) in
+  simple_type_over : (r : Outcome HldsType) → rule.simple_type i ≡ r → sees kind.Pred i ≡ false → Law (λ _. S) Every Every (λ n. rule.simple_type) i r → Law (λ _. S) Every K Args i (and_then r (λ t j. limit i))
+  simple_type_over (Ok p) e f w =
+      let b = plain_begun S i p.0 p.1 f w (simple_type_one p.0 i p.1 e) in
       over_by (begun S Every rule.argument i b.0 (record { line = 0; left = 1 }) _ b.1 refl ((argument_fills S Every).law (upon b.0 (first i.rest ∷ stop ∷ []) i) s))
-  sort_over (Err e') e f w = sort_refused e' e f
+  simple_type_over (Err e') e f w = simple_type_refused e' e f
 
-  excess_forked : (b : Bool) → sees kind.Pred i ≡ b → Law (λ _. S) Every K Args i (cond b (limit i) (and_then (rule.sort i) (λ t j. limit i)))
+  excess_forked : (b : Bool) → sees kind.Pred i ≡ b → Law (λ _. S) Every K Args i (cond b (limit i) (and_then (rule.simple_type i) (λ t j. limit i)))
   excess_forked true e = pred_over e
-  excess_forked false e = sort_over (rule.sort i) refl e ((sort_words S Every Every (λ j. tt)).law i s)
+  excess_forked false e = simple_type_over (rule.simple_type i) refl e ((simple_type_words S Every Every (λ j. tt)).law i s)
 
   excess_law : Law (λ _. S) Every K Args i (rule.arguments_from 0 xs i)
   unfolding rule.arguments_from rule.excess

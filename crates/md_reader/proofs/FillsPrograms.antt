@@ -16,10 +16,10 @@ use Rattle.md_reader.proofs.SteadyPrograms.{declared_rest_steady, heading_steady
 use Rattle.md_reader.proofs.Complete.{stays, sign_fewer}
 use Rattle.md_reader.proofs.Steps.{sign_of}
 use Rattle.md_reader.proofs.Fills.{upon, Fit, Or, Every, Never, State, Run, Law, Fill, Fills, refused_at, bind_at, sequel, given, law_wider, done_wider, loosened, law_restated}
-use Rattle.md_reader.proofs.FillsTokens.{live, spelled, front_live, not_less, expects, words, Home}
+use Rattle.md_reader.proofs.FillsTokens.{live, spelled, prefix_live, not_less, expects, words, Home}
 use Rattle.md_reader.proofs.FillsLists.{law_like}
 use Rattle.md_reader.proofs.FillsTurns.{follows}
-use Rattle.md_reader.proofs.FillsTypes.{families}
+use Rattle.md_reader.proofs.FillsTypes.{type_definitions}
 use Rattle.md_reader.proofs.FillsPredicates.{NotPred, forked, sees_pred, closing}
 use Rattle.md_reader.proofs.FillsClauses.{procedure_at}
 
@@ -45,23 +45,23 @@ module _ (K : Lexeme → Type 0) (i : Input) where
   abbrev Module : ℕ → Parser (List ℕ)
   Module n = rule.module_name
 
-  module_run : (F G : Lexeme → Type 0) (t : Lexeme) (ts : List Lexeme) → F t → (rule.is_name t.kind && not (bytes_eq t.text (codes "io"))) ≡ true → Run F G Module i (t ∷ []) t.text (record i { rest = ts; home = t.text })
+  module_run : (F G : Lexeme → Type 0) (t : Lexeme) (ts : List Lexeme) → F t → (rule.is_name t.kind && not (rule.is_library t.text)) ≡ true → Run F G Module i (t ∷ []) t.text (record i { rest = ts; home = t.text })
   unfolding rule.module_name take_name token next
   module_run F G t ts f e = record { bound = length t.text; runs = λ n tail le fit. rw (e, not_less n (length t.text) le) refl; starts = λ tail fit. (omega arith, f) }
 
   module_fill : (F : Lexeme → Type 0) → F (spelled kind.Name (codes "a") i) → Fill (λ _. Top) F K Module i
   module_fill F f = (spelled kind.Name (codes "a") i ∷ [], record { value = codes "a"; end = record i { home = codes "a" }; post = tt; run = module_run F K (spelled kind.Name (codes "a") i) i.rest f refl })
 
-  module_by : (b c : Bool) → (rule.is_name (token i).kind && not (bytes_eq (token i).text (codes "io"))) ≡ b → nat_lt i.limits.items (length (token i).text) ≡ c → Law (λ _. Top) Every K Module i (cond b (homed (token i).text i) (refuse i))
+  module_by : (b c : Bool) → (rule.is_name (token i).kind && not (rule.is_library (token i).text)) ≡ b → nat_lt i.limits.items (length (token i).text) ≡ c → Law (λ _. Top) Every K Module i (cond b (homed (token i).text i) (refuse i))
   unfolding rule.module_name take_name token next place
-  module_by true true e f = rw f (record { front = []; rest = i.rest; whole = refl; here = refl; fill = []; done = record { value = (first i.rest).text; end = record i { home = (first i.rest).text }; post = tt; run = module_run (Or Every i) K (first i.rest) i.rest (inl tt) e } })
-  module_by true false e f = rw f (record { front = first i.rest ∷ []; whole = front_live i.rest (module_live (first i.rest).kind (both (rule.is_name (first i.rest).kind) (not (bytes_eq (first i.rest).text (codes "io"))) e)); post = tt; run = module_run (Or Every i) (Or K (record (next i) { home = (first i.rest).text })) (first i.rest) (drop 1 i.rest) (inl tt) e })
+  module_by true true e f = rw f (record { prefix = []; rest = i.rest; whole = refl; here = refl; fill = []; done = record { value = (first i.rest).text; end = record i { home = (first i.rest).text }; post = tt; run = module_run (Or Every i) K (first i.rest) i.rest (inl tt) e } })
+  module_by true false e f = rw f (record { prefix = first i.rest ∷ []; whole = prefix_live i.rest (module_live (first i.rest).kind (both (rule.is_name (first i.rest).kind) (not (rule.is_library (first i.rest).text)) e)); post = tt; run = module_run (Or Every i) (Or K (record (next i) { home = (first i.rest).text })) (first i.rest) (drop 1 i.rest) (inl tt) e })
   module_by false c e f = refused_at (λ _. Top) Every K Module i (module_fill (Or Every i) (inl tt)) (λ n later. (place (upon n (first i.rest ∷ later) i), rw e refl))
 
 module_names : (K : Lexeme → Type 0) → Fills Top (λ _. Top) Every K rule.module_name (λ n. rule.module_name)
 unfolding rule.module_name
 module_names K = record {
-  law = λ i s. module_by K i (rule.is_name (token i).kind && not (bytes_eq (token i).text (codes "io"))) (nat_lt i.limits.items (length (token i).text)) refl refl;
+  law = λ i s. module_by K i (rule.is_name (token i).kind && not (rule.is_library (token i).text)) (nat_lt i.limits.items (length (token i).text)) refl refl;
   fill = λ i s. module_fill K i Every tt;
 }
 
@@ -80,7 +80,7 @@ IsDeclare t = t.kind ≡ kind.Declare
 
 module _ (h : List ℕ) (l : Hlds) where
   abbrev either : ℕ → Parser Hlds
-  either line = λ i. cond (sees kind.Pred i) (rule.declared_procedure l line i) (rule.declared_family l line i)
+  either line = λ i. cond (sees kind.Pred i) (rule.declared_procedure l line i) (rule.declared_type_definition l line i)
 
   procedure_way : (line : ℕ) (i : Input) → sees kind.Pred i ≡ true → Home h i.home i.vars → Law (λ _. Home h) Never Every (λ n. rule.declared_procedure l line) i (rule.declared_procedure l line i)
   unfolding rule.declared_procedure
@@ -88,14 +88,14 @@ module _ (h : List ℕ) (l : Hlds) where
       bind_at (λ _. Home h) (λ _. Home h) Never Every Every (λ n. rule.procedure line) (λ p n. pure (rule.with_procedure l p)) i (rule.procedure line i) (λ p. pure (rule.with_procedure l p)) (procedure_at h Every line i (sees_pred i e) s)
       (λ p j r q. (given (Home h) (λ _. Home h) Every (rule.with_procedure l p) (λ home vars s. s)).law j q) (λ p j q. (given (Home h) (λ _. Home h) Every (rule.with_procedure l p) (λ home vars s. s)).fill j q)
 
-  family_way : (line : ℕ) → Fills (Home h) (λ _. Home h) NotPred Every (rule.declared_family l line) (λ n. rule.declared_family l line)
-  unfolding rule.declared_family same_kind
-  family_way line = sequel (Home h) (λ _. Home h) (λ _. Home h) NotPred Every Every (rule.family line) (λ t. pure (rule.with_family l t)) (families (Home h) NotPred Every line (λ i. refl)) (λ t. given (Home h) (λ _. Home h) Every (rule.with_family l t) (λ home vars s. s))
+  type_definition_way : (line : ℕ) → Fills (Home h) (λ _. Home h) NotPred Every (rule.declared_type_definition l line) (λ n. rule.declared_type_definition l line)
+  unfolding rule.declared_type_definition same_kind
+  type_definition_way line = sequel (Home h) (λ _. Home h) (λ _. Home h) NotPred Every Every (rule.type_definition line) (λ t. pure (rule.with_type_definition l t)) (type_definitions (Home h) NotPred Every line (λ i. refl)) (λ t. given (Home h) (λ _. Home h) Every (rule.with_type_definition l t) (λ home vars s. s))
 
   ways : (line : ℕ) → Fills (Home h) (λ _. Home h) Every Every (either line) (λ n. either line)
   ways line =
       loosened (Home h) (λ _. Home h) NotPred Every Every (either line) (λ n. either line) (λ t e. tt)
-      (forked (Home h) (λ _. Home h) NotPred Every kind.Pred (rule.declared_procedure l line) (rule.declared_family l line) (λ t e. e) (λ i e s. procedure_way line i e s) (family_way line))
+      (forked (Home h) (λ _. Home h) NotPred Every kind.Pred (rule.declared_procedure l line) (rule.declared_type_definition l line) (λ t e. e) (λ i e s. procedure_way line i e s) (type_definition_way line))
 
   declareds : Fills (Home h) (λ _. Home h) IsDeclare Every (rule.declared l) (λ n. rule.declared l)
   unfolding rule.declared
@@ -115,9 +115,9 @@ all_declared l = λ i. all_from (length i.rest) l i
 declared_fewer : (l m : Hlds) (i j : Input) → rule.declared l i ≡ Ok (m, j) → length j.rest < length i.rest
 unfolding rule.declared same_kind
 declared_fewer l m i j e =
-    let b = bind_ok (expect kind.Declare i) (λ line. λ k. cond (sees kind.Pred k) (rule.declared_procedure l line k) (rule.declared_family l line k)) (m, j) e in
+    let b = bind_ok (expect kind.Declare i) (λ line. λ k. cond (sees kind.Pred k) (rule.declared_procedure l line k) (rule.declared_type_definition l line k)) (m, j) e in
     let a = sign_fewer kind.Declare i b.0.1 (sign_of kind.Declare b.0.0 i b.0.1 b.1) refl in
-    let c = stays (λ k. cond (sees kind.Pred k) (rule.declared_procedure l b.0.0 k) (rule.declared_family l b.0.0 k)) (declared_rest_steady 0 [] l b.0.0) m b.0.1 j b.2 in
+    let c = stays (λ k. cond (sees kind.Pred k) (rule.declared_procedure l b.0.0 k) (rule.declared_type_definition l b.0.0 k)) (declared_rest_steady 0 [] l b.0.0) m b.0.1 j b.2 in
     omega (arith, a, c)
 
 none_first : (ts : List Lexeme) → length ts ≡ 0 → first ts ≡ first []
@@ -163,7 +163,7 @@ left_behind p P x i j e h =
 
 declared_steady : (l : Hlds) → Steady 0 [] (rule.declared l)
 unfolding rule.declared
-declared_steady l = bound 0 [] (expect kind.Declare) (λ line. λ k. cond (sees kind.Pred k) (rule.declared_procedure l line k) (rule.declared_family l line k)) (expected 0 [] kind.Declare refl) (λ line. declared_rest_steady 0 [] l line)
+declared_steady l = bound 0 [] (expect kind.Declare) (λ line. λ k. cond (sees kind.Pred k) (rule.declared_procedure l line k) (rule.declared_type_definition l line k)) (expected 0 [] kind.Declare refl) (λ line. declared_rest_steady 0 [] l line)
 
 pub ended_some : (ts : List Lexeme) → HasEnd ts → 0 < length ts
 ended_some [] h = absurd h
@@ -225,7 +225,7 @@ module _ (h : List ℕ) where
   all_law_by : (b : Bool) (l : Hlds) (i : Input) → sees kind.Stop i ≡ b → Home h i.home i.vars → ((m : Hlds) (j : Input) → rule.declared l i ≡ Ok (m, j) → Home h j.home j.vars → Law (λ _. Home h) Every IsStop (λ n. all_declared m) j (all_declared m j))
       → Law (λ _. Home h) Every IsStop (λ n. all_declared l) i (cond b (Ok (l, i)) ((rule.declared l >>= all_declared) i))
   unfolding sees token
-  all_law_by true l i e s rec = record { front = []; whole = refl; post = s; run = record { bound = 0; runs = λ n tail le fit. at_stop l n tail i (like_stop i tail e fit); starts = λ tail fit. (fit.0, inl tt) } }
+  all_law_by true l i e s rec = record { prefix = []; whole = refl; post = s; run = record { bound = 0; runs = λ n tail le fit. at_stop l n tail i (like_stop i tail e fit); starts = λ tail fit. (fit.0, inl tt) } }
   all_law_by false l i e s rec =
       law_wider (λ _. Home h) IsDeclare Every IsStop (λ n. all_declared l) i ((rule.declared l >>= all_declared) i) (λ t f. tt)
       (law_like (λ _. Home h) IsDeclare IsStop (λ n. all_declared l) (λ n. rule.declared l >>= all_declared) i 0 ((rule.declared l >>= all_declared) i) (λ n ts le fit. past_stop l n ts i (like_other i ts e fit))

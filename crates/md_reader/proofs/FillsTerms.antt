@@ -139,7 +139,7 @@ module _ (h : List ℕ) (x y : ℕ) where
 
   more_by : (o : Option Op) (i : Input) → rule.operator (first i.rest).kind ≡ o → Seen h (x ∷ y ∷ []) i.home i.vars → Law (λ _. Home h) BehindGoal BehindGoal (λ n. more) i (rule.arithmetic x y o i)
   more_by None i e s = record {
-    front = [];
+    prefix = [];
     whole = refl;
     post = s.0;
     run = record {

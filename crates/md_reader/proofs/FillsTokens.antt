@@ -52,9 +52,9 @@ pub first_live : (ts : List Lexeme) → live (first ts).kind ≡ true → 0 < le
 first_live [] e = absurd (cc)
 first_live (t ∷ ts) e = omega arith
 
-pub front_live : (ts : List Lexeme) → live (first ts).kind ≡ true → ts ≡ first ts ∷ drop 1 ts
-front_live [] e = absurd (cc)
-front_live (t ∷ ts) e = refl
+pub prefix_live : (ts : List Lexeme) → live (first ts).kind ≡ true → ts ≡ first ts ∷ drop 1 ts
+prefix_live [] e = absurd (cc)
+prefix_live (t ∷ ts) e = refl
 
 pub seen_kind : (k : Kind) (i : Input) → sees k i ≡ true → (first i.rest).kind ≡ k
 unfolding token
@@ -75,15 +75,15 @@ module _ {A : Type 0} (R : A → State) (F K : Lexeme → Type 0) (P : ℕ → P
 
   pub taken_whole : i.rest ≡ first i.rest ∷ drop 1 i.rest → R x i.home vars → Law R F K P i (Ok (x, record (next i) { vars = vars }))
   unfolding next
-  taken_whole w r = record { front = first i.rest ∷ []; whole = w; post = r; run = next_run (Or K (record (next i) { vars = vars })) (drop 1 i.rest) }
+  taken_whole w r = record { prefix = first i.rest ∷ []; whole = w; post = r; run = next_run (Or K (record (next i) { vars = vars })) (drop 1 i.rest) }
 
   pub taken_at : live (first i.rest).kind ≡ true → R x i.home vars → Law R F K P i (Ok (x, record (next i) { vars = vars }))
-  taken_at l r = taken_whole (front_live i.rest l) r
+  taken_at l r = taken_whole (prefix_live i.rest l) r
 
   -- and it is at fault for a limit
   pub over_at : R x i.home vars → Law R F K P i (limit i)
   unfolding place token
-  over_at r = record { front = []; rest = i.rest; whole = refl; here = refl; fill = []; done = record { value = x; end = record i { vars = vars }; post = r; run = next_run K i.rest } }
+  over_at r = record { prefix = []; rest = i.rest; whole = refl; here = refl; fill = []; done = record { value = x; end = record i { vars = vars }; post = r; run = next_run K i.rest } }
 
 -- one token fills a rule up
 pub filled_by : {A : Type 0} (R : A → State) (F K : Lexeme → Type 0) (P : ℕ → Parser A) (i : Input) (t : Lexeme) (x : A) (vars : List (List ℕ)) (b : ℕ) → F t → R x i.home vars → ((n : ℕ) (tail : List Lexeme) → b ≤ n → P n (upon n (t ∷ tail) i) ≡ Ok (x, record (upon n tail i) { vars = vars })) → Fill R F K P i

@@ -4,7 +4,7 @@ use Rattle.std.specs.Prelude.{codes}
 use Rattle.std.specs.Str.{bytes_eq}
 use Rattle.md_hlds.specs.declared.types.Mode.TheVariants as mode
 use Rattle.md_hlds.specs.declared.types.Det.TheVariants as det
-use Rattle.md_hlds.specs.Hlds.{HldsType, named, number as int_sort, text as string_sort, world as io_sort}
+use Rattle.md_hlds.specs.Hlds.{HldsType, named, number as int_type, text as string_type, world as io_type}
 use Rattle.md_token.specs.declared.kind.Kind.TheVariants as kind
 use Rattle.md_token.specs.Kinds.{same_kind}
 use Rattle.md_token.specs.Token.{Lexeme}
@@ -14,16 +14,16 @@ use Rattle.md_reader.proofs.Steps.{same_itself, ok_input}
 use Rattle.md_reader.proofs.Complete.{stays}
 use Rattle.md_reader.proofs.SteadyRules.{functor_steady}
 use Rattle.md_reader.proofs.Fills.{upon, Or, Every, State, Law, Fill, Fills, refused_at, sequel, given}
-use Rattle.md_reader.proofs.FillsTokens.{live, spelled, front_live, seen_live, taken_at, taken_whole, over_at, filled_by, not_less, expects, words, names, take_name_at}
+use Rattle.md_reader.proofs.FillsTokens.{live, spelled, prefix_live, seen_live, taken_at, taken_whole, over_at, filled_by, not_less, expects, words, names, take_name_at}
 use Rattle.md_reader.proofs.FillsLists.{law_like, fill_like, perhaps, Lists, lists, excess}
 use Rattle.md_reader.proofs.FillsTurns.{Loop, turns}
 
 -- ---- words by their bytes
 
 module _ {A : Type 0} (S : State) (K : Lexeme → Type 0) (f : List ℕ → Option A) (none : f [] ≡ None) (w : List ℕ) (v : A) (known : f w ≡ Some v) (p : Parser A) (is : (i : Input) → p i ≡ rule.take_word (f (token i).text) i) where
-  word_front : (ts : List Lexeme) (x : A) → f (first ts).text ≡ Some x → ts ≡ first ts ∷ drop 1 ts
-  word_front [] x e = absurd (let q = sym none ∙ e in cc)
-  word_front (t ∷ ts) x e = refl
+  word_prefix : (ts : List Lexeme) (x : A) → f (first ts).text ≡ Some x → ts ≡ first ts ∷ drop 1 ts
+  word_prefix [] x e = absurd (let q = sym none ∙ e in cc)
+  word_prefix (t ∷ ts) x e = refl
 
   coded_fill : (F : Lexeme → Type 0) (i : Input) → F (spelled kind.Name w i) → S i.home i.vars → Fill (λ _. S) F K (λ n. p) i
   unfolding token next
@@ -32,7 +32,7 @@ module _ {A : Type 0} (S : State) (K : Lexeme → Type 0) (f : List ℕ → Opti
   coded_by : (i : Input) (o : Option A) → f (token i).text ≡ o → S i.home i.vars → Law (λ _. S) Every K (λ n. p) i (rule.take_word o i)
   unfolding token next
   coded_by i None e s = refused_at (λ _. S) Every K (λ n. p) i (coded_fill (Or Every i) i (inl tt) s) (λ n later. (place (upon n (first i.rest ∷ later) i), is (upon n (first i.rest ∷ later) i) ∙ rw e refl))
-  coded_by i (Some x) e s = taken_whole (λ _. S) Every K (λ n. p) i x i.vars 0 (λ n tail le. is (upon n (first i.rest ∷ tail) i) ∙ rw e refl) (word_front i.rest x e) s
+  coded_by i (Some x) e s = taken_whole (λ _. S) Every K (λ n. p) i x i.vars 0 (λ n tail le. is (upon n (first i.rest ∷ tail) i) ∙ rw e refl) (word_prefix i.rest x e) s
 
   pub coded : Fills S (λ _. S) Every K p (λ n. p)
   coded = record {
@@ -55,34 +55,34 @@ ho_modes S K = coded S K rule.ho_mode_named refl (codes "in") mode.In refl rule.
 -- ---- types
 
 module _ (S : State) (F K : Lexeme → Type 0) (i : Input) (s : S i.home i.vars) where
-  sort_fill : (G : Lexeme → Type 0) → G (spelled kind.Name (codes "int") i) → Fill (λ _. S) G K (λ n. rule.sort) i
-  unfolding rule.sort sees token next
-  sort_fill G f = filled_by (λ _. S) G K (λ n. rule.sort) i (spelled kind.Name (codes "int") i) int_sort i.vars 0 f s (λ n tail le. rw (same_itself kind.Name) refl)
+  simple_type_fill : (G : Lexeme → Type 0) → G (spelled kind.Name (codes "int") i) → Fill (λ _. S) G K (λ n. rule.simple_type) i
+  unfolding rule.simple_type sees token next
+  simple_type_fill G f = filled_by (λ _. S) G K (λ n. rule.simple_type) i (spelled kind.Name (codes "int") i) int_type i.vars 0 f s (λ n tail le. rw (same_itself kind.Name) refl)
 
   own_by : (b : Bool) → sees kind.Name i ≡ true → bytes_eq (token i).text (codes "int") ≡ false → bytes_eq (token i).text (codes "string") ≡ false → bytes_eq (token i).text (codes "io") ≡ false
-      → Law (λ _. S) F K (λ n. rule.sort) i (and_then (cond b (limit i) (Ok ((token i).text, next i))) (λ n. pure (named n)))
-  unfolding rule.sort take_name sees token next
-  own_by true e x y z = over_at (λ _. S) F K (λ n. rule.sort) i (named (first i.rest).text) i.vars (length (first i.rest).text) (λ n tail le. rw (e, x, y, z, not_less n (length (first i.rest).text) le) refl) s
-  own_by false e x y z = taken_at (λ _. S) F K (λ n. rule.sort) i (named (first i.rest).text) i.vars (length (first i.rest).text) (λ n tail le. rw (e, x, y, z, not_less n (length (first i.rest).text) le) refl) (seen_live kind.Name i e refl) s
+      → Law (λ _. S) F K (λ n. rule.simple_type) i (and_then (cond b (limit i) (Ok ((token i).text, next i))) (λ n. pure (named n)))
+  unfolding rule.simple_type take_name sees token next
+  own_by true e x y z = over_at (λ _. S) F K (λ n. rule.simple_type) i (named (first i.rest).text) i.vars (length (first i.rest).text) (λ n tail le. rw (e, x, y, z, not_less n (length (first i.rest).text) le) refl) s
+  own_by false e x y z = taken_at (λ _. S) F K (λ n. rule.simple_type) i (named (first i.rest).text) i.vars (length (first i.rest).text) (λ n tail le. rw (e, x, y, z, not_less n (length (first i.rest).text) le) refl) (seen_live kind.Name i e refl) s
 
-  sort_named_by : (a b c : Bool) → sees kind.Name i ≡ true → bytes_eq (token i).text (codes "int") ≡ a → bytes_eq (token i).text (codes "string") ≡ b → bytes_eq (token i).text (codes "io") ≡ c
-      → Law (λ _. S) F K (λ n. rule.sort) i (cond a (advance >> pure int_sort) (cond b (advance >> pure string_sort) (cond c (advance >> pure io_sort) (take_name (token i).text >>= (λ n. pure (named n))))) i)
-  unfolding rule.sort take_name sees token next
-  sort_named_by true b c e x y z = taken_at (λ _. S) F K (λ n. rule.sort) i int_sort i.vars 0 (λ n tail le. rw (e, x) refl) (seen_live kind.Name i e refl) s
-  sort_named_by false true c e x y z = taken_at (λ _. S) F K (λ n. rule.sort) i string_sort i.vars 0 (λ n tail le. rw (e, x, y) refl) (seen_live kind.Name i e refl) s
-  sort_named_by false false true e x y z = taken_at (λ _. S) F K (λ n. rule.sort) i io_sort i.vars 0 (λ n tail le. rw (e, x, y, z) refl) (seen_live kind.Name i e refl) s
-  sort_named_by false false false e x y z = own_by (nat_lt i.limits.items (length (token i).text)) e x y z
+  simple_type_named_by : (a b c : Bool) → sees kind.Name i ≡ true → bytes_eq (token i).text (codes "int") ≡ a → bytes_eq (token i).text (codes "string") ≡ b → bytes_eq (token i).text (codes "io") ≡ c
+      → Law (λ _. S) F K (λ n. rule.simple_type) i (cond a (advance >> pure int_type) (cond b (advance >> pure string_type) (cond c (advance >> pure io_type) (take_name (token i).text >>= (λ n. pure (named n))))) i)
+  unfolding rule.simple_type take_name sees token next
+  simple_type_named_by true b c e x y z = taken_at (λ _. S) F K (λ n. rule.simple_type) i int_type i.vars 0 (λ n tail le. rw (e, x) refl) (seen_live kind.Name i e refl) s
+  simple_type_named_by false true c e x y z = taken_at (λ _. S) F K (λ n. rule.simple_type) i string_type i.vars 0 (λ n tail le. rw (e, x, y) refl) (seen_live kind.Name i e refl) s
+  simple_type_named_by false false true e x y z = taken_at (λ _. S) F K (λ n. rule.simple_type) i io_type i.vars 0 (λ n tail le. rw (e, x, y, z) refl) (seen_live kind.Name i e refl) s
+  simple_type_named_by false false false e x y z = own_by (nat_lt i.limits.items (length (token i).text)) e x y z
 
-  sort_by : (b : Bool) → sees kind.Name i ≡ b → Fill (λ _. S) (Or F i) K (λ n. rule.sort) i → Law (λ _. S) F K (λ n. rule.sort) i (cond b (rule.sort_named (token i).text i) (refuse i))
-  unfolding rule.sort sees token
-  sort_by true e c = sort_named_by (bytes_eq (token i).text (codes "int")) (bytes_eq (token i).text (codes "string")) (bytes_eq (token i).text (codes "io")) e refl refl refl
-  sort_by false e c = refused_at (λ _. S) F K (λ n. rule.sort) i c (λ n later. (place (upon n (first i.rest ∷ later) i), rw e refl))
+  simple_type_by : (b : Bool) → sees kind.Name i ≡ b → Fill (λ _. S) (Or F i) K (λ n. rule.simple_type) i → Law (λ _. S) F K (λ n. rule.simple_type) i (cond b (rule.simple_type_named (token i).text i) (refuse i))
+  unfolding rule.simple_type sees token
+  simple_type_by true e c = simple_type_named_by (bytes_eq (token i).text (codes "int")) (bytes_eq (token i).text (codes "string")) (bytes_eq (token i).text (codes "io")) e refl refl refl
+  simple_type_by false e c = refused_at (λ _. S) F K (λ n. rule.simple_type) i c (λ n later. (place (upon n (first i.rest ∷ later) i), rw e refl))
 
-pub sort_words : (S : State) (F K : Lexeme → Type 0) → ((i : Input) → F (spelled kind.Name (codes "int") i)) → Fills S (λ _. S) F K rule.sort (λ n. rule.sort)
-unfolding rule.sort
-sort_words S F K f = record {
-  law = λ i s. sort_by S F K i s (sees kind.Name i) refl (sort_fill S F K i s (Or F i) (inl (f i)));
-  fill = λ i s. sort_fill S F K i s F (f i);
+pub simple_type_words : (S : State) (F K : Lexeme → Type 0) → ((i : Input) → F (spelled kind.Name (codes "int") i)) → Fills S (λ _. S) F K rule.simple_type (λ n. rule.simple_type)
+unfolding rule.simple_type
+simple_type_words S F K f = record {
+  law = λ i s. simple_type_by S F K i s (sees kind.Name i) refl (simple_type_fill S F K i s (Or F i) (inl (f i)));
+  fill = λ i s. simple_type_fill S F K i s F (f i);
 }
 
 -- ---- names that are declared
@@ -109,43 +109,43 @@ type_names S K = record {
 
 -- a token that was taken
 pub one_token : (ts us : List Lexeme) → live (first ts).kind ≡ true → us ≡ drop 1 ts → ts ≡ first ts ∷ us
-one_token ts us l e = front_live ts l ∙ ap (λ (vs : List Lexeme). first ts ∷ vs) (sym e)
+one_token ts us l e = prefix_live ts l ∙ ap (λ (vs : List Lexeme). first ts ∷ vs) (sym e)
 
 own_behind : (b : Bool) (w : List ℕ) (t : HldsType) (i j : Input) → and_then (cond b (limit i) (Ok (w, next i))) (λ n. pure (named n)) ≡ Ok (t, j) → next i ≡ j
 own_behind true w t i j h = absurd (cc)
 own_behind false w t i j h = ok_input (named w) t (next i) j h
 
-named_behind : (a b c : Bool) (w : List ℕ) (t : HldsType) (i j : Input) → cond a (advance >> pure int_sort) (cond b (advance >> pure string_sort) (cond c (advance >> pure io_sort) (take_name w >>= (λ n. pure (named n))))) i ≡ Ok (t, j) → next i ≡ j
+named_behind : (a b c : Bool) (w : List ℕ) (t : HldsType) (i j : Input) → cond a (advance >> pure int_type) (cond b (advance >> pure string_type) (cond c (advance >> pure io_type) (take_name w >>= (λ n. pure (named n))))) i ≡ Ok (t, j) → next i ≡ j
 unfolding take_name
-named_behind true b c w t i j h = ok_input int_sort t (next i) j h
-named_behind false true c w t i j h = ok_input string_sort t (next i) j h
-named_behind false false true w t i j h = ok_input io_sort t (next i) j h
+named_behind true b c w t i j h = ok_input int_type t (next i) j h
+named_behind false true c w t i j h = ok_input string_type t (next i) j h
+named_behind false false true w t i j h = ok_input io_type t (next i) j h
 named_behind false false false w t i j h = own_behind (nat_lt i.limits.items (length w)) w t i j h
 
-sort_behind : (b : Bool) (t : HldsType) (i j : Input) → sees kind.Name i ≡ b → cond b (rule.sort_named (token i).text i) (refuse i) ≡ Ok (t, j) → i.rest ≡ first i.rest ∷ j.rest
+simple_type_behind : (b : Bool) (t : HldsType) (i j : Input) → sees kind.Name i ≡ b → cond b (rule.simple_type_named (token i).text i) (refuse i) ≡ Ok (t, j) → i.rest ≡ first i.rest ∷ j.rest
 unfolding next
-sort_behind true t i j e h = one_token i.rest j.rest (seen_live kind.Name i e refl) (sym (ap (λ (m : Input). m.rest) (named_behind (bytes_eq (token i).text (codes "int")) (bytes_eq (token i).text (codes "string")) (bytes_eq (token i).text (codes "io")) (token i).text t i j h)))
-sort_behind false t i j e h = absurd (cc)
+simple_type_behind true t i j e h = one_token i.rest j.rest (seen_live kind.Name i e refl) (sym (ap (λ (m : Input). m.rest) (named_behind (bytes_eq (token i).text (codes "int")) (bytes_eq (token i).text (codes "string")) (bytes_eq (token i).text (codes "io")) (token i).text t i j h)))
+simple_type_behind false t i j e h = absurd (cc)
 
-pub sort_one : (t : HldsType) (i j : Input) → rule.sort i ≡ Ok (t, j) → i.rest ≡ first i.rest ∷ j.rest
-unfolding rule.sort
-sort_one t i j h = sort_behind (sees kind.Name i) t i j refl h
+pub simple_type_one : (t : HldsType) (i j : Input) → rule.simple_type i ≡ Ok (t, j) → i.rest ≡ first i.rest ∷ j.rest
+unfolding rule.simple_type
+simple_type_one t i j h = simple_type_behind (sees kind.Name i) t i j refl h
 
-sort_lists : (S : State) → Lists (λ _. rule.sort) (λ ts t. ts ++ t ∷ []) (λ ts t. ts ++ t ∷ []) kind.Close rule.sorts_from (λ _. S) (λ _. S) Every
-unfolding rule.sorts_from same_kind
-sort_lists S = record {
+simple_type_lists : (S : State) → Lists (λ _. rule.simple_type) (λ ts t. ts ++ t ∷ []) (λ ts t. ts ++ t ∷ []) kind.Close rule.simple_types_from (λ _. S) (λ _. S) Every
+unfolding rule.simple_types_from same_kind
+simple_type_lists S = record {
   more = λ n x i. refl;
   lives = refl;
   differ = refl;
-  items = λ _. sort_words S Every Every (λ i. tt);
+  items = λ _. simple_type_words S Every Every (λ i. tt);
   posts = λ x a home vars s. s;
 }
 
-sorts_within : (S : State) (K : Lexeme → Type 0) (n c : ℕ) (ts : List HldsType) → Fills S (λ _. S) Every K (rule.sorts_from n ts) (λ m. rule.sorts_from (m - c) ts)
-unfolding rule.sorts_from
-sorts_within S K n c ts =
-    lists (λ _. rule.sort) (λ ts t. ts ++ t ∷ []) (λ ts t. ts ++ t ∷ []) kind.Close rule.sorts_from (λ _. S) (λ _. S) Every (sort_lists S) K
-    (excess (λ _. rule.sort) (λ ts t. ts ++ t ∷ []) (λ ts t. ts ++ t ∷ []) kind.Close rule.sorts_from (λ _. S) (λ _. S) Every (sort_lists S) K (λ x t i j h. sort_one t i j h) (λ x i. refl))
+simple_types_within : (S : State) (K : Lexeme → Type 0) (n c : ℕ) (ts : List HldsType) → Fills S (λ _. S) Every K (rule.simple_types_from n ts) (λ m. rule.simple_types_from (m - c) ts)
+unfolding rule.simple_types_from
+simple_types_within S K n c ts =
+    lists (λ _. rule.simple_type) (λ ts t. ts ++ t ∷ []) (λ ts t. ts ++ t ∷ []) kind.Close rule.simple_types_from (λ _. S) (λ _. S) Every (simple_type_lists S) K
+    (excess (λ _. rule.simple_type) (λ ts t. ts ++ t ∷ []) (λ ts t. ts ++ t ∷ []) kind.Close rule.simple_types_from (λ _. S) (λ _. S) Every (simple_type_lists S) K (λ x t i j h. simple_type_one t i j h) (λ x i. refl))
     n c ts
 
 same_limit : {A : Type 0} (from : ℕ → Parser A) (n : ℕ) (i : Input) → from n i ≡ from (n - 0) i
@@ -158,8 +158,8 @@ limited S R F K from f = record {
   fill = λ i s. fill_like R F K (λ m i. from i.limits.items i) (λ m. from (m - 0)) i 0 (λ n ts le fit. same_limit from n (upon n ts i)) ((f 0).fill i s);
 }
 
-pub sorts : (S : State) (K : Lexeme → Type 0) → Fills S (λ _. S) Every K rule.sorts (λ n. rule.sorts)
-sorts S K = limited S (λ _. S) Every K (λ n. rule.sorts_from n []) (λ n. sorts_within S K n 0 [])
+pub simple_types : (S : State) (K : Lexeme → Type 0) → Fills S (λ _. S) Every K rule.simple_types (λ n. rule.simple_types)
+simple_types S K = limited S (λ _. S) Every K (λ n. rule.simple_types_from n []) (λ n. simple_types_within S K n 0 [])
 
 -- what may stand behind a functor
 abbrev pub Behind : Lexeme → Type 0
@@ -172,7 +172,7 @@ behind_differs t (inr e) = rw e refl
 
 functor_arguments : (S : State) → Fills S (λ _. S) Behind Behind rule.functor_arguments (λ n. rule.functor_arguments)
 unfolding rule.functor_arguments
-functor_arguments S = perhaps S (λ _. S) Behind Behind kind.Open rule.sorts (pure []) (λ n. rule.sorts) (λ n. pure []) refl behind_differs (sorts S Behind) (given S (λ _. S) Behind [] (λ home vars s. s))
+functor_arguments S = perhaps S (λ _. S) Behind Behind kind.Open rule.simple_types (pure []) (λ n. rule.simple_types) (λ n. pure []) refl behind_differs (simple_types S Behind) (given S (λ _. S) Behind [] (λ home vars s. s))
 
 functors_one : (S : State) → Fills S (λ _. S) Every Behind rule.functor (λ n. rule.functor)
 unfolding rule.functor
@@ -217,9 +217,9 @@ functors S K =
 
 -- ---- declarations of types
 
-pub families : (S : State) (F K : Lexeme → Type 0) (line : ℕ) → ((i : Input) → F (spelled kind.Name (codes "type") i)) → Fills S (λ _. S) F K (rule.family line) (λ n. rule.family line)
-unfolding rule.family
-families S F K line f =
+pub type_definitions : (S : State) (F K : Lexeme → Type 0) (line : ℕ) → ((i : Input) → F (spelled kind.Name (codes "type") i)) → Fills S (λ _. S) F K (rule.type_definition line) (λ n. rule.type_definition line)
+unfolding rule.type_definition
+type_definitions S F K line f =
     sequel S (λ _. S) (λ _. S) F Every K (word (codes "type")) _ (words S F Every (codes "type") f)
     (λ _. sequel S (λ _. S) (λ _. S) Every Every K rule.type_name _ (type_names S Every)
     (λ t. sequel S (λ _. S) (λ _. S) Every Every K (expect kind.Yields) _ (expects S Every Every kind.Yields refl (λ i. tt))

@@ -8,7 +8,7 @@ use Rattle.md_hlds.specs.declared.program.Pred.{Pred}
 use Rattle.md_hlds.specs.Hlds.{hlds_type_of, hlds_types_of, hlds_functor_of, hlds_functors_of, args_of, type_def_of, type_defs_of, procedure_of, procedures_of}
 use Rattle.md_reader.specs.declared.program.Draft.{Draft}
 use Rattle.md_reader.specs.Views.{draft_of}
-use Rattle.md_reader.specs.Rules.{with_procedure, with_family}
+use Rattle.md_reader.specs.Rules.{with_procedure, with_type_definition}
 
 pub hlds_types_of-append : (ts us : List Ty) → hlds_types_of (ts ++ us) ≡ hlds_types_of ts ++ hlds_types_of us
 hlds_types_of-append [] us = refl
@@ -35,14 +35,14 @@ pub with_one_procedure : (before after : Draft) (p : Pred) → after.module ≡ 
 unfolding with_procedure
 with_one_procedure before after p m l t e = rw (m, l, t, e, procedures_of-append before.preds.items (p ∷ [])) refl
 
-pub with_one_family : (before after : Draft) (t : TypeDef) → after.module ≡ before.module → after.module_line ≡ before.module_line → after.preds ≡ before.preds → after.types.items ≡ before.types.items ++ t ∷ [] → draft_of after ≡ with_family (draft_of before) (type_def_of t)
-unfolding with_family
-with_one_family before after t m l p e = rw (m, l, p, e, type_defs_of-append before.types.items (t ∷ [])) refl
+pub with_one_type_definition : (before after : Draft) (t : TypeDef) → after.module ≡ before.module → after.module_line ≡ before.module_line → after.preds ≡ before.preds → after.types.items ≡ before.types.items ++ t ∷ [] → draft_of after ≡ with_type_definition (draft_of before) (type_def_of t)
+unfolding with_type_definition
+with_one_type_definition before after t m l p e = rw (m, l, p, e, type_defs_of-append before.types.items (t ∷ [])) refl
 
 pub length_args_of : (as' : List (Ty × Mode)) → length (args_of as') ≡ length as'
 length_args_of [] = refl
 length_args_of (a ∷ as') = ap suc (length_args_of as')
 
-pub length_sorts_of : (ts : List Ty) → length (hlds_types_of ts) ≡ length ts
-length_sorts_of [] = refl
-length_sorts_of (t ∷ ts) = ap suc (length_sorts_of ts)
+pub length_types_of : (ts : List Ty) → length (hlds_types_of ts) ≡ length ts
+length_types_of [] = refl
+length_types_of (t ∷ ts) = ap suc (length_types_of ts)

@@ -17,14 +17,14 @@ use Rattle.md_reader.proofs.Steps.{bind_ok, closed, made, sign_of, eaten, Found,
 
 -- ---- lists
 
-pub sorts_found : (n : ℕ) (found xs : List HldsType) (i j : Input) → rule.sorts_from n found i ≡ Ok (xs, j) → Found (Is rule.sort) kind.Comma kind.Close n found xs i j
-unfolding rule.sorts_from
-sorts_found zero found xs i j h = let a = bind_ok (rule.sort i) _ _ h in absurd (let e = a.2 in cc)
-sorts_found (suc n) found xs i j h =
-    let a = bind_ok (rule.sort i) _ _ h in
+pub simple_types_found : (n : ℕ) (found xs : List HldsType) (i j : Input) → rule.simple_types_from n found i ≡ Ok (xs, j) → Found (Is rule.simple_type) kind.Comma kind.Close n found xs i j
+unfolding rule.simple_types_from
+simple_types_found zero found xs i j h = let a = bind_ok (rule.simple_type i) _ _ h in absurd (let e = a.2 in cc)
+simple_types_found (suc n) found xs i j h =
+    let a = bind_ok (rule.simple_type i) _ _ h in
     elim (eaten kind.Comma a.0.1 _ _ _ a.2) [
-      | inl s ↦ found_also (Is rule.sort) kind.Comma kind.Close n found xs a.0.0 i a.0.1 (next a.0.1) j a.1 s.0 (sorts_found n (found ++ a.0.0 ∷ []) xs (next a.0.1) j s.1)
-      | inr q ↦ let b = closed kind.Close (found ++ a.0.0 ∷ []) xs a.0.1 j q in found_last (Is rule.sort) kind.Comma kind.Close n found xs a.0.0 i a.0.1 j a.1 b.0 b.1
+      | inl s ↦ found_also (Is rule.simple_type) kind.Comma kind.Close n found xs a.0.0 i a.0.1 (next a.0.1) j a.1 s.0 (simple_types_found n (found ++ a.0.0 ∷ []) xs (next a.0.1) j s.1)
+      | inr q ↦ let b = closed kind.Close (found ++ a.0.0 ∷ []) xs a.0.1 j q in found_last (Is rule.simple_type) kind.Comma kind.Close n found xs a.0.0 i a.0.1 j a.1 b.0 b.1
     ]
 
 pub modes_found : (n : ℕ) (found xs : List Mode) (i j : Input) → rule.modes_from n found i ≡ Ok (xs, j) → Found (Is rule.mode_word) kind.Comma kind.Close n found xs i j
@@ -43,7 +43,7 @@ pub functor_arguments_sound : (ts : List HldsType) (i j : Input) → rule.functo
 unfolding rule.functor_arguments
 functor_arguments_sound ts i j h =
     elim (eaten kind.Open i _ _ _ h) [
-      | inl s ↦ g.FunctorArguments.some ts i (next i) j s.0 (enclosed_found (Is rule.sort) kind.Close ts (next i) j (sorts_found (next i).limits.items [] ts (next i) j s.1))
+      | inl s ↦ g.FunctorArguments.some ts i (next i) j s.0 (enclosed_found (Is rule.simple_type) kind.Close ts (next i) j (simple_types_found (next i).limits.items [] ts (next i) j s.1))
       | inr q ↦ nothing (λ ts. g.FunctorArguments ts i) [] ts i j q (g.FunctorArguments.none i)
     ]
 
@@ -64,9 +64,9 @@ functors_found (suc n) found xs i j h =
       | inr q ↦ let b = closed kind.End (found ++ a.0.0 ∷ []) xs a.0.1 j q in found_last g.Functor kind.Semicolon kind.End n found xs a.0.0 i a.0.1 j (functor_sound a.0.0 i a.0.1 a.1) b.0 b.1
     ]
 
-pub family_sound : (line : ℕ) (t : HldsTypeDef) (i j : Input) → rule.family line i ≡ Ok (t, j) → g.TypeDeclaration line t i j
-unfolding rule.family rule.functors
-family_sound line t i j h =
+pub type_definition_sound : (line : ℕ) (t : HldsTypeDef) (i j : Input) → rule.type_definition line i ≡ Ok (t, j) → g.TypeDeclaration line t i j
+unfolding rule.type_definition rule.functors
+type_definition_sound line t i j h =
     let a = bind_ok (word (codes "type") i) _ _ h in
     let b = bind_ok (rule.type_name a.0.1) _ _ a.2 in
     let c = bind_ok (expect kind.Yields b.0.1) _ _ b.2 in

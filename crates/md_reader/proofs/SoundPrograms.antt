@@ -12,7 +12,7 @@ use Rattle.md_reader.specs.Rules as rule
 use Rattle.md_reader.specs.Grammar as g
 use Rattle.md_reader.specs.Grammar.{Is, Sign, sign, Listed, last, also, Enclosed, enclosed, AreNew}
 use Rattle.md_reader.proofs.Steps.{bind_ok, closed, made, chosen, sign_of, eaten, Found, found_last, found_also, variable_new, nothing, enclosed_found}
-use Rattle.md_reader.proofs.Sound.{sorts_found, modes_found, family_sound}
+use Rattle.md_reader.proofs.Sound.{simple_types_found, modes_found, type_definition_sound}
 use Rattle.md_reader.proofs.SoundGoals.{conjunction_sound}
 use Rattle.md_reader.specs.Input.{variable}
 use Rattle.md_reader.specs.Grammar.{Spells, Repeats}
@@ -44,9 +44,9 @@ ho_argument_sound x i j h =
     let a = bind_ok (rule.ho_types i) _ _ h in
     let a1 = bind_ok (expect kind.Pred i) _ _ a.1 in
     let a2 = bind_ok (expect kind.Open a1.0.1) _ _ a1.2 in
-    let a3 = bind_ok (rule.sorts a2.0.1) _ _ a2.2 in
+    let a3 = bind_ok (rule.simple_types a2.0.1) _ _ a2.2 in
     let a4 = closed kind.HasMode a3.0.0 a.0.0 a3.0.1 a.0.1 a3.2 in
-    let ts = enclosed_found (Is rule.sort) kind.Close a3.0.0 a2.0.1 a3.0.1 (sorts_found a2.0.1.limits.items [] a3.0.0 a2.0.1 a3.0.1 a3.1) in
+    let ts = enclosed_found (Is rule.simple_type) kind.Close a3.0.0 a2.0.1 a3.0.1 (simple_types_found a2.0.1.limits.items [] a3.0.0 a2.0.1 a3.0.1 a3.1) in
     let b = bind_ok (rule.ho_mode a.0.1) _ _ a.2 in
     let c = made rule.inst (λ n. (closure (gathered_types a.0.0) n.0 n.1, b.0.0)) x b.0.1 j b.2 in
     subst (λ (x : HldsType × Mode). g.Argument x i j) (sym c.2)
@@ -56,7 +56,7 @@ ho_argument_sound x i j h =
 plain_argument_sound : (x : HldsType × Mode) (i j : Input) → rule.plain_argument i ≡ Ok (x, j) → g.Argument x i j
 unfolding rule.plain_argument
 plain_argument_sound x i j h =
-    let a = bind_ok (rule.sort i) _ _ h in
+    let a = bind_ok (rule.simple_type i) _ _ h in
     let b = bind_ok (expect kind.HasMode a.0.1) _ _ a.2 in
     let c = made rule.mode_word (λ m. (a.0.0, m)) x b.0.1 j b.2 in
     subst (λ (x : HldsType × Mode). g.Argument x i j) (sym c.2)
@@ -73,7 +73,7 @@ argument_sound x i j h =
 excess_none : (i : Input) (x : List (HldsType × Mode) × Input) → rule.excess i ≡ Ok x → ⊥
 unfolding rule.excess
 excess_none i x h =
-    elim (chosen (sees kind.Pred i) (limit i) (and_then (rule.sort i) (λ t j. limit i)) (Ok x) h) [ inl l ↦ cc | inr r ↦ let a = bind_ok (rule.sort i) _ _ r.1 in (let e = a.2 in cc) ]
+    elim (chosen (sees kind.Pred i) (limit i) (and_then (rule.simple_type i) (λ t j. limit i)) (Ok x) h) [ inl l ↦ cc | inr r ↦ let a = bind_ok (rule.simple_type i) _ _ r.1 in (let e = a.2 in cc) ]
 
 arguments_found : (n : ℕ) (found xs : List (HldsType × Mode)) (i j : Input) → rule.arguments_from n found i ≡ Ok (xs, j) → Found g.Argument kind.Comma kind.Close n found xs i j
 unfolding rule.arguments_from
@@ -166,10 +166,10 @@ clause_sound q n c i j h =
 -- ---- programs
 
 declared_sound : (before after : Hlds) (i j : Input) → rule.declared before i ≡ Ok (after, j) → g.Declared before after i j
-unfolding rule.declared rule.declared_procedure rule.declared_family rule.procedure
+unfolding rule.declared rule.declared_procedure rule.declared_type_definition rule.procedure
 declared_sound before after i j h =
     let a = bind_ok (expect kind.Declare i) _ _ h in
-    elim (chosen (sees kind.Pred a.0.1) (rule.declared_procedure before a.0.0 a.0.1) (rule.declared_family before a.0.0 a.0.1) (Ok (after, j)) a.2) [
+    elim (chosen (sees kind.Pred a.0.1) (rule.declared_procedure before a.0.0 a.0.1) (rule.declared_type_definition before a.0.0 a.0.1) (Ok (after, j)) a.2) [
       | inl l ↦
           let b = made (rule.procedure a.0.0) (rule.with_procedure before) after a.0.1 j l.1 in
           let d = bind_ok (rule.declaration a.0.1) _ _ b.1 in
@@ -178,9 +178,9 @@ declared_sound before after i j h =
           (subst (λ (p : Procedure). g.Declared before (rule.with_procedure before p) i j) (sym c.2)
           (g.Declared.predicate d.0.0 c.0 a.0.0 i a.0.1 d.0.1 j a.1 (declaration_sound d.0.0 a.0.1 d.0.1 d.1) (clause_sound d.0.0.name (length d.0.0.args) c.0 d.0.1 j c.1)))
       | inr r ↦
-          let b = made (rule.family a.0.0) (rule.with_family before) after a.0.1 j r.1 in
+          let b = made (rule.type_definition a.0.0) (rule.with_type_definition before) after a.0.1 j r.1 in
           subst (λ (l : Hlds). g.Declared before l i j) (sym b.2)
-          (g.Declared.type b.0 a.0.0 i a.0.1 j a.1 (family_sound a.0.0 b.0 a.0.1 j b.1))
+          (g.Declared.type b.0 a.0.0 i a.0.1 j a.1 (type_definition_sound a.0.0 b.0 a.0.1 j b.1))
     ]
 
 declarations_sound : (n : ℕ) (before after : Hlds) (i j : Input) → rule.declarations_from n before i ≡ Ok (after, j) → g.Declarations before after i j × (sees kind.Stop j ≡ true)

@@ -15,18 +15,18 @@ use Rattle.md_reader.proofs.Taking.{kind_seen}
 -- ---- places behind a place
 
 pub record Behind (ts us : List Lexeme) : Type 0 where
-  pub front : List Lexeme
-  pub all : ts ≡ front ++ us
+  pub prefix : List Lexeme
+  pub all : ts ≡ prefix ++ us
   pub ends : HasEnd ts → HasEnd us
 
 whole : (ts : List Lexeme) → Behind ts ts
-whole ts = record { front = []; all = refl; ends = λ h. h }
+whole ts = record { prefix = []; all = refl; ends = λ h. h }
 
 further : (ts us vs : List Lexeme) → Behind ts us → Behind us vs → Behind ts vs
-further ts us vs a b = record { front = a.front ++ b.front; all = a.all ∙ (ap (λ (ws : List Lexeme). a.front ++ ws) b.all ∙ sym (append_assoc a.front b.front vs)); ends = λ h. b.ends (a.ends h) }
+further ts us vs a b = record { prefix = a.prefix ++ b.prefix; all = a.all ∙ (ap (λ (ws : List Lexeme). a.prefix ++ ws) b.all ∙ sym (append_assoc a.prefix b.prefix vs)); ends = λ h. b.ends (a.ends h) }
 
 pub shorter : (ts us : List Lexeme) → Behind ts us → length us ≤ length ts
-shorter ts us b = let l = length-append b.front us in let e = ap length b.all in omega (arith, l, e)
+shorter ts us b = let l = length-append b.prefix us in let e = ap length b.all in omega (arith, l, e)
 
 -- the next token isn't the one behind which the text ends
 abbrev pub Goes : Input → Type 0
@@ -47,7 +47,7 @@ goes k t i e s f =
 
 drop_behind : (ts : List Lexeme) → is_end (first ts) ≡ false → Behind ts (drop 1 ts)
 drop_behind [] e = whole []
-drop_behind (t ∷ ts) e = record { front = t ∷ []; all = refl; ends = λ h. elim h [ inl f ↦ absurd (cc) | inr r ↦ r ] }
+drop_behind (t ∷ ts) e = record { prefix = t ∷ []; all = refl; ends = λ h. elim h [ inl f ↦ absurd (cc) | inr r ↦ r ] }
 
 next_behind : (i : Input) → Goes i → Behind i.rest (next i).rest
 unfolding next token

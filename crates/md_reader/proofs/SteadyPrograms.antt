@@ -13,7 +13,7 @@ use Rattle.md_reader.specs.Input.{Input, Parser, ◌>>=◌, ◌>>◌, and_then, 
 use Rattle.md_reader.specs.Rules as rule
 use Rattle.md_token.proofs.Ends.{is_final, is_end, is_empty}
 use Rattle.md_reader.proofs.Steady.{Same, Steady, Goes, goes_by, cut, bound, given, faulty, limited, tested, tested_by, token_cut, same_when, same_bind, by_token, passing, expected, excess, turned, begun}
-use Rattle.md_reader.proofs.SteadyRules.{kind_is, take_name_at, word_steady, ending, going, perhaps, variable_steady, end_clause_steady, declared_name_steady, this_name_steady, sort_steady, sorts_steady, family_steady}
+use Rattle.md_reader.proofs.SteadyRules.{kind_is, take_name_at, word_steady, ending, going, perhaps, variable_steady, end_clause_steady, declared_name_steady, this_name_steady, simple_type_steady, simple_types_steady, type_definition_steady}
 use Rattle.md_reader.proofs.SteadyGoals.{conjunction_steady}
 
 module _ (d : ℕ) (more : List Lexeme) where
@@ -63,7 +63,7 @@ module _ (d : ℕ) (more : List Lexeme) where
 
   ho_types_steady : Stable rule.ho_types
   unfolding rule.ho_types
-  ho_types_steady = bound d more (expect kind.Pred) _ (expected d more kind.Pred refl) (λ _. bound d more (expect kind.Open) _ (expected d more kind.Open refl) (λ _. bound d more rule.sorts _ (sorts_steady d more) (λ ts. ending d more kind.HasMode refl ts)))
+  ho_types_steady = bound d more (expect kind.Pred) _ (expected d more kind.Pred refl) (λ _. bound d more (expect kind.Open) _ (expected d more kind.Open refl) (λ _. bound d more rule.simple_types _ (simple_types_steady d more) (λ ts. ending d more kind.HasMode refl ts)))
 
   ho_argument_steady : Stable rule.ho_argument
   unfolding rule.ho_argument
@@ -71,7 +71,7 @@ module _ (d : ℕ) (more : List Lexeme) where
 
   plain_argument_steady : Stable rule.plain_argument
   unfolding rule.plain_argument
-  plain_argument_steady = bound d more rule.sort _ (sort_steady d more) (λ t. bound d more (expect kind.HasMode) _ (expected d more kind.HasMode refl) (λ _. bound d more rule.mode_word _ mode_word_steady (λ m. given d more (t, m))))
+  plain_argument_steady = bound d more rule.simple_type _ (simple_type_steady d more) (λ t. bound d more (expect kind.HasMode) _ (expected d more kind.HasMode refl) (λ _. bound d more rule.mode_word _ mode_word_steady (λ m. given d more (t, m))))
 
   pub argument_steady : Stable rule.argument
   unfolding rule.argument sees
@@ -79,7 +79,7 @@ module _ (d : ℕ) (more : List Lexeme) where
 
   excess_steady : Stable {A = List (HldsType × Mode)} rule.excess
   unfolding rule.excess sees
-  excess_steady = by_token d more (λ t i. cond (same_kind t.kind kind.Pred) (limit i) (and_then (rule.sort i) (λ t j. limit i))) (λ t i e. tested d more i.rest (same_kind t.kind kind.Pred) _ _ _ _ (limited d more {A = List (HldsType × Mode)} i) (excess d more rule.sort (sort_steady d more) i))
+  excess_steady = by_token d more (λ t i. cond (same_kind t.kind kind.Pred) (limit i) (and_then (rule.simple_type i) (λ t j. limit i))) (λ t i e. tested d more i.rest (same_kind t.kind kind.Pred) _ _ _ _ (limited d more {A = List (HldsType × Mode)} i) (excess d more rule.simple_type (simple_type_steady d more) i))
 
   arguments_from_steady : (n : ℕ) (found : List (HldsType × Mode)) → Stable (rule.arguments_from n found)
   unfolding rule.arguments_from
@@ -126,16 +126,16 @@ module _ (d : ℕ) (more : List Lexeme) where
   unfolding rule.declared_procedure
   declared_procedure_steady l line = bound d more (rule.procedure line) _ (procedure_steady line) (λ p. given d more (rule.with_procedure l p))
 
-  declared_family_steady : (l : Hlds) (line : ℕ) → Stable (rule.declared_family l line)
-  unfolding rule.declared_family
-  declared_family_steady l line = bound d more (rule.family line) _ (family_steady d more line) (λ t. given d more (rule.with_family l t))
+  declared_type_definition_steady : (l : Hlds) (line : ℕ) → Stable (rule.declared_type_definition l line)
+  unfolding rule.declared_type_definition
+  declared_type_definition_steady l line = bound d more (rule.type_definition line) _ (type_definition_steady d more line) (λ t. given d more (rule.with_type_definition l t))
 
-  pub declared_rest_steady : (l : Hlds) (line : ℕ) → Stable (λ i. cond (sees kind.Pred i) (rule.declared_procedure l line i) (rule.declared_family l line i))
+  pub declared_rest_steady : (l : Hlds) (line : ℕ) → Stable (λ i. cond (sees kind.Pred i) (rule.declared_procedure l line i) (rule.declared_type_definition l line i))
   unfolding sees
-  declared_rest_steady l line = by_token d more (λ t i. cond (same_kind t.kind kind.Pred) (rule.declared_procedure l line i) (rule.declared_family l line i)) (λ t i e. tested d more i.rest (same_kind t.kind kind.Pred) _ _ _ _ (declared_procedure_steady l line i) (declared_family_steady l line i))
+  declared_rest_steady l line = by_token d more (λ t i. cond (same_kind t.kind kind.Pred) (rule.declared_procedure l line i) (rule.declared_type_definition l line i)) (λ t i e. tested d more i.rest (same_kind t.kind kind.Pred) _ _ _ _ (declared_procedure_steady l line i) (declared_type_definition_steady l line i))
 
   set_home_steady : (m : List ℕ) → Stable (rule.set_home m)
-  set_home_steady m i = record { stop = i.rest; behind = record { front = []; all = refl; ends = λ h. h }; stands = refl; agrees = λ _. refl }
+  set_home_steady m i = record { stop = i.rest; behind = record { prefix = []; all = refl; ends = λ h. h }; stands = refl; agrees = λ _. refl }
 
   name_goes : (k : Kind) → rule.is_name k ≡ true → is_final k ≡ false
   name_goes kind.Stop h = absurd (cc)
@@ -149,8 +149,8 @@ module _ (d : ℕ) (more : List Lexeme) where
   module_name_steady : Stable rule.module_name
   unfolding rule.module_name
   module_name_steady =
-      by_token d more (λ t i. cond (rule.is_name t.kind && not (bytes_eq t.text (codes "io"))) ((take_name t.text >>= (λ m. rule.set_home t.text >> pure m)) i) (refuse i))
-      (λ t i e. tested_by d more i.rest (rule.is_name t.kind && not (bytes_eq t.text (codes "io"))) _ _ _ _
+      by_token d more (λ t i. cond (rule.is_name t.kind && not (rule.is_library t.text)) ((take_name t.text >>= (λ m. rule.set_home t.text >> pure m)) i) (refuse i))
+      (λ t i e. tested_by d more i.rest (rule.is_name t.kind && not (rule.is_library t.text)) _ _ _ _
       (λ s. same_bind d more i.rest (take_name t.text i) (take_name t.text (cut d more i)) (λ m. rule.set_home t.text >> pure m) (take_name_at d more t.text i (goes_by i (ap is_final (kind_is d more t i e) ∙ name_goes t.kind (both _ _ s)))) (λ m. bound d more (rule.set_home t.text) (λ _. pure m) (set_home_steady t.text) (λ _. given d more m)))
       (λ _. faulty d more {A = List ℕ} i))
 
@@ -166,7 +166,7 @@ module _ (d : ℕ) (more : List Lexeme) where
       same_when d more i.rest (rule.declarations_from (suc n) l i) (cond (same_kind (token i).kind kind.Stop) (Ok (l, cut d more i)) ((rule.declared l >>= rule.declarations_from m) (cut d more i))) (rule.declarations_from (suc m) l (cut d more i))
       (λ h. rw (token_cut d more i h) refl)
       (tested d more i.rest (same_kind (token i).kind kind.Stop) _ _ _ _ (given d more l i)
-      (begun d more kind.Declare i (λ line k. cond (sees kind.Pred k) (rule.declared_procedure l line k) (rule.declared_family l line k)) (rule.declarations_from n) (rule.declarations_from m) refl refl (declared_rest_steady l) rec))
+      (begun d more kind.Declare i (λ line k. cond (sees kind.Pred k) (rule.declared_procedure l line k) (rule.declared_type_definition l line k)) (rule.declarations_from n) (rule.declarations_from m) refl refl (declared_rest_steady l) rec))
 
   declarations_steady : (l : Hlds) → Stable (rule.declarations l)
   unfolding rule.declarations rule.declarations_from rule.declared same_kind

@@ -8,7 +8,7 @@ use Rattle.md_hlds.specs.declared.goal.Op.{Op}
 use Rattle.md_hlds.specs.declared.goal.Cmp.{Cmp}
 use Rattle.md_hlds.specs.declared.goal.Term.TheVariants as term
 use Rattle.md_hlds.specs.HldsGoal.{GoalExpr, SimpleGoal, Unifies, Computes, Compares}
-use Rattle.md_hlds.specs.Hlds.{HldsType, number as int_sort, text as string_sort, world as io_sort, named}
+use Rattle.md_hlds.specs.Hlds.{HldsType, number as int_type, text as string_type, world as io_type, named}
 use Rattle.md_token.specs.declared.kind.Kind.{Kind}
 use Rattle.md_token.specs.declared.kind.Kind.TheVariants as kind
 use Rattle.md_token.specs.Kinds.{same_kind}
@@ -59,11 +59,11 @@ module _ (d : ℕ) (more : List Lexeme) where
 
   pub site_steady : Stable site
   unfolding site
-  site_steady i = record { stop = i.rest; behind = record { front = []; all = refl; ends = λ h. h }; stands = refl; agrees = λ _. refl }
+  site_steady i = record { stop = i.rest; behind = record { prefix = []; all = refl; ends = λ h. h }; stands = refl; agrees = λ _. refl }
 
   pub end_clause_steady : Stable end_clause
   unfolding end_clause
-  end_clause_steady i = record { stop = i.rest; behind = record { front = []; all = refl; ends = λ h. h }; stands = refl; agrees = λ _. refl }
+  end_clause_steady i = record { stop = i.rest; behind = record { prefix = []; all = refl; ends = λ h. h }; stands = refl; agrees = λ _. refl }
 
   -- a token that is a name of a predicate or a functor
   written_goes : (text : List ℕ) (k : Kind) (w : rule.Written) → rule.written_by text k ≡ Some w → is_final k ≡ false
@@ -89,7 +89,7 @@ module _ (d : ℕ) (more : List Lexeme) where
 
   take_declared_at : (o : Option rule.Written) (i : Input) → ((w : rule.Written) → o ≡ Some w → Goes i) → Same d more i.rest (rule.take_declared o i) (rule.take_declared o (cut d more i))
   take_declared_at None i g = faulty d more i
-  take_declared_at (Some w) i g = chosen_at (rule.is_io w.qualifier) refuse (rule.take_written (Some w)) i (faulty d more i) (take_written_at (Some w) i g)
+  take_declared_at (Some w) i g = chosen_at (rule.is_of_library w.qualifier) refuse (rule.take_written (Some w)) i (faulty d more i) (take_written_at (Some w) i g)
 
   pub declared_name_steady : Stable rule.declared_name
   unfolding rule.declared_name
@@ -226,31 +226,31 @@ module _ (d : ℕ) (more : List Lexeme) where
 
   -- ---- types
 
-  sort_word : (t : HldsType) (i : Input) → Goes i → Same d more i.rest ((advance >> pure t) i) ((advance >> pure t) (cut d more i))
-  sort_word t i g = passing d more (pure t) i g (given d more t)
+  simple_type_word : (t : HldsType) (i : Input) → Goes i → Same d more i.rest ((advance >> pure t) i) ((advance >> pure t) (cut d more i))
+  simple_type_word t i g = passing d more (pure t) i g (given d more t)
 
-  sort_named_at : (t : List ℕ) (i : Input) → Goes i → Same d more i.rest (rule.sort_named t i) (rule.sort_named t (cut d more i))
-  sort_named_at t i g =
-      chosen_at (bytes_eq t (codes "int")) _ _ i (sort_word int_sort i g)
-      (chosen_at (bytes_eq t (codes "string")) _ _ i (sort_word string_sort i g)
-      (chosen_at (bytes_eq t (codes "io")) _ _ i (sort_word io_sort i g)
+  simple_type_named_at : (t : List ℕ) (i : Input) → Goes i → Same d more i.rest (rule.simple_type_named t i) (rule.simple_type_named t (cut d more i))
+  simple_type_named_at t i g =
+      chosen_at (bytes_eq t (codes "int")) _ _ i (simple_type_word int_type i g)
+      (chosen_at (bytes_eq t (codes "string")) _ _ i (simple_type_word string_type i g)
+      (chosen_at (bytes_eq t (codes "io")) _ _ i (simple_type_word io_type i g)
       (same_bind d more i.rest (take_name t i) (take_name t (cut d more i)) (λ n. pure (named n)) (take_name_at t i g) (λ n. given d more (named n)))))
 
-  pub sort_steady : Stable rule.sort
-  unfolding rule.sort sees
-  sort_steady = by_token d more (λ t i. cond (same_kind t.kind kind.Name) (rule.sort_named t.text i) (refuse i)) (λ t i e. tested_by d more i.rest (same_kind t.kind kind.Name) _ _ _ _ (λ s. sort_named_at t.text i (goes kind.Name t i e s refl)) (λ _. faulty d more {A = HldsType} i))
+  pub simple_type_steady : Stable rule.simple_type
+  unfolding rule.simple_type sees
+  simple_type_steady = by_token d more (λ t i. cond (same_kind t.kind kind.Name) (rule.simple_type_named t.text i) (refuse i)) (λ t i e. tested_by d more i.rest (same_kind t.kind kind.Name) _ _ _ _ (λ s. simple_type_named_at t.text i (goes kind.Name t i e s refl)) (λ _. faulty d more {A = HldsType} i))
 
-  sorts_from_steady : (n : ℕ) (found : List HldsType) → Stable (rule.sorts_from n found)
-  unfolding rule.sorts_from
-  sorts_from_steady zero found = excess d more rule.sort sort_steady
-  sorts_from_steady (suc n) found = going rule.sort kind.Comma kind.Close refl refl (λ t. rule.sorts_from n (found ++ t ∷ [])) (λ t. found ++ t ∷ []) sort_steady (λ t. sorts_from_steady n (found ++ t ∷ []))
+  simple_types_from_steady : (n : ℕ) (found : List HldsType) → Stable (rule.simple_types_from n found)
+  unfolding rule.simple_types_from
+  simple_types_from_steady zero found = excess d more rule.simple_type simple_type_steady
+  simple_types_from_steady (suc n) found = going rule.simple_type kind.Comma kind.Close refl refl (λ t. rule.simple_types_from n (found ++ t ∷ [])) (λ t. found ++ t ∷ []) simple_type_steady (λ t. simple_types_from_steady n (found ++ t ∷ []))
 
-  pub sorts_steady : Stable rule.sorts
-  sorts_steady i = sorts_from_steady i.limits.items [] i
+  pub simple_types_steady : Stable rule.simple_types
+  simple_types_steady i = simple_types_from_steady i.limits.items [] i
 
   functor_arguments_steady : Stable rule.functor_arguments
   unfolding rule.functor_arguments
-  functor_arguments_steady = perhaps kind.Open refl rule.sorts (pure []) sorts_steady (given d more [])
+  functor_arguments_steady = perhaps kind.Open refl rule.simple_types (pure []) simple_types_steady (given d more [])
 
   pub functor_steady : Stable rule.functor
   unfolding rule.functor
@@ -266,6 +266,6 @@ module _ (d : ℕ) (more : List Lexeme) where
   unfolding rule.type_name
   type_name_steady = by_token d more (λ t i. cond (rule.is_own_type t.text) (name i) (refuse i)) (λ t i e. tested d more i.rest (rule.is_own_type t.text) _ _ _ _ (name_steady i) (faulty d more {A = List ℕ} i))
 
-  pub family_steady : (line : ℕ) → Stable (rule.family line)
-  unfolding rule.family
-  family_steady line = bound d more (word (codes "type")) _ (word_steady (codes "type")) (λ _. bound d more rule.type_name _ type_name_steady (λ t. bound d more (expect kind.Yields) _ (expected d more kind.Yields refl) (λ _. bound d more rule.functors _ functors_steady (λ fs. given d more _))))
+  pub type_definition_steady : (line : ℕ) → Stable (rule.type_definition line)
+  unfolding rule.type_definition
+  type_definition_steady line = bound d more (word (codes "type")) _ (word_steady (codes "type")) (λ _. bound d more rule.type_name _ type_name_steady (λ t. bound d more (expect kind.Yields) _ (expected d more kind.Yields refl) (λ _. bound d more rule.functors _ functors_steady (λ fs. given d more _))))

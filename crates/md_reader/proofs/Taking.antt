@@ -96,10 +96,10 @@ variable_kind seen x i j h =
     let p = past_three (not (sees kind.Variable i)) (list_any (λ y. y == place_of (token i).text i.vars) seen) (nat_lt i.limits.items (length (token i).text)) _ _ _ _ _ h in
     kind_seen kind.Variable i (turned (sees kind.Variable i) p.0)
 
-pub sort_kind : (t : HldsType) (i j : Input) → rule.sort i ≡ Ok (t, j) → kind_at i ≡ kind.Name
-unfolding rule.sort
-sort_kind t i j h =
-    elim (chosen (sees kind.Name i) (rule.sort_named (token i).text i) (refuse i) (Ok (t, j)) h) [
+pub simple_type_kind : (t : HldsType) (i j : Input) → rule.simple_type i ≡ Ok (t, j) → kind_at i ≡ kind.Name
+unfolding rule.simple_type
+simple_type_kind t i j h =
+    elim (chosen (sees kind.Name i) (rule.simple_type_named (token i).text i) (refuse i) (Ok (t, j)) h) [
       | inl l ↦ kind_seen kind.Name i l.0
       | inr r ↦ absurd (let e = r.1 in cc)
     ]

@@ -35,24 +35,24 @@ State = Point → Type 0
 
 -- it took tokens that are within the limits
 pub record Took {A : Type 0} (Q : A → State) (s : Point) (i : Input) (x : A) (j : Input) : Type 0 where
-  pub front : List Lexeme
-  pub whole : i.rest ≡ front ++ j.rest
-  pub within : AreWithin standard s front
-  pub post : Q x (past s front)
+  pub prefix : List Lexeme
+  pub whole : i.rest ≡ prefix ++ j.rest
+  pub within : AreWithin standard s prefix
+  pub post : Q x (past s prefix)
   pub good : Good j
 
 -- the tokens up to the one that it refused are within the limits
 pub record Broke (s : Point) (i : Input) (place : Place) : Type 0 where
-  pub front : List Lexeme
+  pub prefix : List Lexeme
   pub rest : List Lexeme
-  pub whole : i.rest ≡ front ++ rest
+  pub whole : i.rest ≡ prefix ++ rest
   pub here : place ≡ at rest
-  pub within : AreWithin standard s front
+  pub within : AreWithin standard s prefix
 
 -- and the one that it refused isn't
 pub record Over (s : Point) (i : Input) (place : Place) : Type 0 where
   pub broke : Broke s i place
-  pub exceeds : Exceeds standard (past s broke.front) (first broke.rest)
+  pub exceeds : Exceeds standard (past s broke.prefix) (first broke.rest)
 
 abbrev pub Case : {A : Type 0} → (A → State) → Point → Input → Outcome A → Type 0
 Case Q s i (Ok p) = Took Q s i p.0 p.1
@@ -73,38 +73,38 @@ pub within_append : (s : Point) (a b : List Lexeme) → AreWithin standard s a �
 within_append s [] b h k = k
 within_append s (t ∷ a) b h k = (h.0, within_append (behind t.kind s) a b h.1 k)
 
-whole_append : (ts front us more vs : List Lexeme) → ts ≡ front ++ us → us ≡ more ++ vs → ts ≡ (front ++ more) ++ vs
-whole_append ts front us more vs e f = e ∙ (ap (λ (ws : List Lexeme). front ++ ws) f ∙ sym (append_assoc front more vs))
+whole_append : (ts prefix us more vs : List Lexeme) → ts ≡ prefix ++ us → us ≡ more ++ vs → ts ≡ (prefix ++ more) ++ vs
+whole_append ts prefix us more vs e f = e ∙ (ap (λ (ws : List Lexeme). prefix ++ ws) f ∙ sym (append_assoc prefix more vs))
 
-abbrev broke_behind : (s : Point) (i j : Input) (front : List Lexeme) (place : Place) → i.rest ≡ front ++ j.rest → AreWithin standard s front → Broke (past s front) j place → Broke s i place
-broke_behind s i j front place e h w = record {
-  front = front ++ w.front;
+abbrev broke_behind : (s : Point) (i j : Input) (prefix : List Lexeme) (place : Place) → i.rest ≡ prefix ++ j.rest → AreWithin standard s prefix → Broke (past s prefix) j place → Broke s i place
+broke_behind s i j prefix place e h w = record {
+  prefix = prefix ++ w.prefix;
   rest = w.rest;
-  whole = whole_append i.rest front j.rest w.front w.rest e w.whole;
+  whole = whole_append i.rest prefix j.rest w.prefix w.rest e w.whole;
   here = w.here;
-  within = within_append s front w.front h w.within;
+  within = within_append s prefix w.prefix h w.within;
 }
 
 -- what a rule does behind tokens that were taken
-pub case_behind : {A : Type 0} (Q : A → State) (s : Point) (i j : Input) (front : List Lexeme) (r : Outcome A) → i.rest ≡ front ++ j.rest → AreWithin standard s front → Case Q (past s front) j r → Case Q s i r
-case_behind Q s i j front (Ok p) e h w = record {
-  front = front ++ w.front;
-  whole = whole_append i.rest front j.rest w.front p.1.rest e w.whole;
-  within = within_append s front w.front h w.within;
-  post = subst (Q p.0) (sym (past_append s front w.front)) w.post;
+pub case_behind : {A : Type 0} (Q : A → State) (s : Point) (i j : Input) (prefix : List Lexeme) (r : Outcome A) → i.rest ≡ prefix ++ j.rest → AreWithin standard s prefix → Case Q (past s prefix) j r → Case Q s i r
+case_behind Q s i j prefix (Ok p) e h w = record {
+  prefix = prefix ++ w.prefix;
+  whole = whole_append i.rest prefix j.rest w.prefix p.1.rest e w.whole;
+  within = within_append s prefix w.prefix h w.within;
+  post = subst (Q p.0) (sym (past_append s prefix w.prefix)) w.post;
   good = w.good;
 }
-case_behind Q s i j front (Err (Syntax place)) e h w = broke_behind s i j front place e h w
-case_behind Q s i j front (Err (Limit place)) e h w = record {
-  broke = broke_behind s i j front place e h w.broke;
-  exceeds = subst (λ (p : Point). Exceeds standard p (first w.broke.rest)) (sym (past_append s front w.broke.front)) w.exceeds;
+case_behind Q s i j prefix (Err (Syntax place)) e h w = broke_behind s i j prefix place e h w
+case_behind Q s i j prefix (Err (Limit place)) e h w = record {
+  broke = broke_behind s i j prefix place e h w.broke;
+  exceeds = subst (λ (p : Point). Exceeds standard p (first w.broke.rest)) (sym (past_append s prefix w.broke.prefix)) w.exceeds;
 }
-case_behind Q s i j front (Err NoMemory) e h w = w
+case_behind Q s i j prefix (Err NoMemory) e h w = w
 
 -- ---- the ways to make a rule
 
 pub bound_at : {A B : Type 0} (Q : A → State) (R : B → State) (s : Point) (i : Input) (r : Outcome A) (f : A → Parser B) → Case Q s i r → ((x : A) → Keeps (Q x) (f x) R) → Case R s i (and_then r f)
-bound_at Q R s i (Ok p) f w F = case_behind R s i p.1 w.front (f p.0 p.1) w.whole w.within (F p.0 p.1 (past s w.front) w.good w.post)
+bound_at Q R s i (Ok p) f w F = case_behind R s i p.1 w.prefix (f p.0 p.1) w.whole w.within (F p.0 p.1 (past s w.prefix) w.good w.post)
 bound_at Q R s i (Err (Syntax place)) f w F = w
 bound_at Q R s i (Err (Limit place)) f w F = w
 bound_at Q R s i (Err NoMemory) f w F = w
@@ -113,14 +113,14 @@ pub bound : {A B : Type 0} (P : State) (Q : A → State) (R : B → State) (p : 
 bound P Q R p f a b i s g h = bound_at Q R s i (p i) f (a i s g h) b
 
 pub given_at : {A : Type 0} (Q : A → State) (x : A) (i : Input) (s : Point) → Good i → Q x s → Case Q s i (Ok (x, i))
-given_at Q x i s g q = record { front = []; whole = refl; within = tt; post = q; good = g }
+given_at Q x i s g q = record { prefix = []; whole = refl; within = tt; post = q; good = g }
 
 pub given : {A : Type 0} (P : State) (Q : A → State) (x : A) → ((s : Point) → P s → Q x s) → Keeps P (pure x) Q
 given P Q x k i s g h = given_at Q x i s g (k s h)
 
 pub broke_here : (s : Point) (i : Input) → Broke s i (place i)
 unfolding place token
-broke_here s i = record { front = []; rest = i.rest; whole = refl; here = refl; within = tt }
+broke_here s i = record { prefix = []; rest = i.rest; whole = refl; here = refl; within = tt }
 
 pub faulty_at : {A : Type 0} (Q : A → State) (s : Point) (i : Input) → Case Q s i (refuse i)
 faulty_at Q s i = broke_here s i
@@ -130,7 +130,7 @@ faulty P Q i s g h = broke_here s i
 
 pub over_here : (s : Point) (i : Input) → Exceeds standard s (token i) → Over s i (place i)
 unfolding place token
-over_here s i e = record { broke = record { front = []; rest = i.rest; whole = refl; here = refl; within = tt }; exceeds = e }
+over_here s i e = record { broke = record { prefix = []; rest = i.rest; whole = refl; here = refl; within = tt }; exceeds = e }
 
 pub either_by : {A : Type 0} (Q : A → State) (s : Point) (i : Input) (b : Bool) (p q : Outcome A) → (b ≡ true → Case Q s i p) → (b ≡ false → Case Q s i q) → Case Q s i (cond b p q)
 either_by Q s i true p q a b = a refl
@@ -140,7 +140,7 @@ pub peeked : (P : State) → Keeps P peek (λ _. P)
 peeked P i s g h = given_at (λ _. P) (token i) i s g h
 
 pub case_wider : {A : Type 0} (Q R : A → State) (s : Point) (i : Input) (r : Outcome A) → ((x : A) (u : Point) → Q x u → R x u) → Case Q s i r → Case R s i r
-case_wider Q R s i (Ok p) w a = record { front = a.front; whole = a.whole; within = a.within; post = w p.0 (past s a.front) a.post; good = a.good }
+case_wider Q R s i (Ok p) w a = record { prefix = a.prefix; whole = a.whole; within = a.within; post = w p.0 (past s a.prefix) a.post; good = a.good }
 case_wider Q R s i (Err (Syntax place)) w a = a
 case_wider Q R s i (Err (Limit place)) w a = a
 case_wider Q R s i (Err NoMemory) w a = a
@@ -151,15 +151,15 @@ wider P Q R p w a i s g h = case_wider Q R s i (p i) w (a i s g h)
 
 -- ---- the next token is taken
 
-front_is : (ts : List Lexeme) → is_final (first ts).kind ≡ false → ts ≡ first ts ∷ drop 1 ts
-front_is [] e = absurd (cc)
-front_is (t ∷ ts) e = refl
+prefix_is : (ts : List Lexeme) → is_final (first ts).kind ≡ false → ts ≡ first ts ∷ drop 1 ts
+prefix_is [] e = absurd (cc)
+prefix_is (t ∷ ts) e = refl
 
 pub taken : {A : Type 0} (Q : A → State) (x : A) (s : Point) (i j : Input) → j.rest ≡ (next i).rest → Good j → is_final (kind_at i) ≡ false → (Exceeds standard s (token i) → ⊥) → Q x (behind (kind_at i) s) → Case Q s i (Ok (x, j))
 unfolding token next
 taken Q x s i j e g final within post = record {
-  front = first i.rest ∷ [];
-  whole = front_is i.rest final ∙ ap (λ (ts : List Lexeme). first i.rest ∷ ts) (sym e);
+  prefix = first i.rest ∷ [];
+  whole = prefix_is i.rest final ∙ ap (λ (ts : List Lexeme). first i.rest ∷ ts) (sym e);
   within = (within, tt);
   post = post;
   good = g;

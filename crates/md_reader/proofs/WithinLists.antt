@@ -15,7 +15,7 @@ use Rattle.md_reader.specs.Rules as rule
 use Rattle.md_reader.specs.Excess.{Opened, AList, Point, opens_list, open_behind}
 use Rattle.md_reader.proofs.Within.{Good, State, Case, Keeps, Step, bound, given, given_at, faulty, faulty_at, case_wider, passed, perhaps, then, ending}
 use Rattle.md_reader.proofs.WithinTokens.{any, unsigned, is_minus, is_comma, is_full, Sits, mute, sign_within, sign_step, list_step, Solo, solo_at, only, IsFull, excess, name_one}
-use Rattle.md_reader.proofs.WithinNames.{NameFits, word_one, variable_one, pred_name_one, positive_solo, negated_one, literal_solo, sort_one, type_name_one}
+use Rattle.md_reader.proofs.WithinNames.{NameFits, word_one, variable_one, pred_name_one, positive_solo, negated_one, literal_solo, simple_type_one, type_name_one}
 
 -- ---- lists
 
@@ -159,7 +159,7 @@ term_keeps x o i s g w = term_at x (kind_at i) o i s refl g w
 
 site_keeps : (o : List Opened) → Keeps (Sits any o) site (λ _. Sits any o)
 unfolding site
-site_keeps o i s g w = record { front = []; whole = refl; within = tt; post = w; good = record { limits = g.limits; proper = g.proper; home = g.home } }
+site_keeps o i s g w = record { prefix = []; whole = refl; within = tt; post = w; good = record { limits = g.limits; proper = g.proper; home = g.home } }
 
 called_keeps : (q : PredName) (ys : List ℕ) (b : Option GoalExpr) (o : List Opened) → Keeps (Sits any o) (rule.called q ys b) (λ _. Sits any o)
 called_keeps q ys (Some t) o = given (Sits any o) (λ _. Sits any o) t (λ s w. w)
@@ -208,24 +208,24 @@ relation_keeps o =
 
 -- ---- types
 
-pub sort_keeps : (o : List Opened) → Keeps (Sits any o) rule.sort (λ _. Sits any o)
-sort_keeps o = only any any (λ (_ : HldsType). ⊤) o rule.sort sort_one
+pub simple_type_keeps : (o : List Opened) → Keeps (Sits any o) rule.simple_type (λ _. Sits any o)
+simple_type_keeps o = only any any (λ (_ : HldsType). ⊤) o rule.simple_type simple_type_one
 
-sorts_from_keeps : (o : List Opened) (n commas : ℕ) (found : List HldsType) → commas + n ≡ standard.items → Keeps (Turn commas n o) (rule.sorts_from n found) (λ _. Sits any o)
-unfolding rule.sorts_from
-sorts_from_keeps o zero commas found e i s g w = excess any (λ (_ : HldsType). ⊤) (λ (_ : List HldsType). Sits any o) rule.sort sort_one i s g (turn_full commas o s e w)
-sorts_from_keeps o (suc n) commas found e i s g w =
-    listed any any commas n o kind.Close (λ _. Sits any o) rule.sort (λ t. rule.sorts_from n (found ++ t ∷ [])) (λ t. found ++ t ∷ []) e (close_step any any commas o refl) (sort_keeps (AList commas ∷ o))
-    (λ t. sorts_from_keeps o n (suc commas) (found ++ t ∷ []) (omega (arith, e))) (λ x s w. w) i s g w
+simple_types_from_keeps : (o : List Opened) (n commas : ℕ) (found : List HldsType) → commas + n ≡ standard.items → Keeps (Turn commas n o) (rule.simple_types_from n found) (λ _. Sits any o)
+unfolding rule.simple_types_from
+simple_types_from_keeps o zero commas found e i s g w = excess any (λ (_ : HldsType). ⊤) (λ (_ : List HldsType). Sits any o) rule.simple_type simple_type_one i s g (turn_full commas o s e w)
+simple_types_from_keeps o (suc n) commas found e i s g w =
+    listed any any commas n o kind.Close (λ _. Sits any o) rule.simple_type (λ t. rule.simple_types_from n (found ++ t ∷ [])) (λ t. found ++ t ∷ []) e (close_step any any commas o refl) (simple_type_keeps (AList commas ∷ o))
+    (λ t. simple_types_from_keeps o n (suc commas) (found ++ t ∷ []) (omega (arith, e))) (λ x s w. w) i s g w
 
-pub sorts_keep : (o : List Opened) → Keeps (Sits any (AList 0 ∷ o)) rule.sorts (λ _. Sits any o)
-sorts_keep o = at_most (Sits any (AList 0 ∷ o)) (λ _. Sits any o) (λ n. rule.sorts_from n []) (λ i s g w. sorts_from_keeps o standard.items 0 [] refl i s g (first_turn any o s w))
+pub simple_types_keep : (o : List Opened) → Keeps (Sits any (AList 0 ∷ o)) rule.simple_types (λ _. Sits any o)
+simple_types_keep o = at_most (Sits any (AList 0 ∷ o)) (λ _. Sits any o) (λ n. rule.simple_types_from n []) (λ i s g w. simple_types_from_keeps o standard.items 0 [] refl i s g (first_turn any o s w))
 
 functor_arguments_keep : (o : List Opened) → Keeps (Sits opens_list o) rule.functor_arguments (λ _. Sits any o)
 unfolding rule.functor_arguments
 functor_arguments_keep o =
-    perhaps kind.Open (Sits opens_list o) (Sits any (AList 0 ∷ o)) (list_step opens_list any o (λ k h. h) refl) (λ _. Sits any o) rule.sorts (pure [])
-    (sorts_keep o) (given (Sits opens_list o) (λ _. Sits any o) [] (λ s w. sits_any opens_list o s w))
+    perhaps kind.Open (Sits opens_list o) (Sits any (AList 0 ∷ o)) (list_step opens_list any o (λ k h. h) refl) (λ _. Sits any o) rule.simple_types (pure [])
+    (simple_types_keep o) (given (Sits opens_list o) (λ _. Sits any o) [] (λ s w. sits_any opens_list o s w))
 
 functor_keeps : (o : List Opened) → Keeps (Sits any o) rule.functor (λ _. Sits any o)
 unfolding rule.functor
@@ -247,9 +247,9 @@ functors_keep : Keeps (Sits any []) rule.functors (λ _. Sits any [])
 unfolding rule.functors
 functors_keep i s g w = functors_from_keeps (length i.rest) [] i s g w
 
-pub family_keeps : (line : ℕ) → Keeps (Sits any []) (rule.family line) (λ _. Sits any [])
-unfolding rule.family
-family_keeps line =
+pub type_definition_keeps : (line : ℕ) → Keeps (Sits any []) (rule.type_definition line) (λ _. Sits any [])
+unfolding rule.type_definition
+type_definition_keeps line =
     bound (Sits any []) (λ _. Sits any []) (λ _. Sits any []) (word (codes "type")) _ (only any any (λ (_ : ℕ). ⊤) [] (word (codes "type")) (word_one (codes "type") any refl (omega arith)))
     (λ _. bound (Sits any []) (λ _. Sits any []) (λ _. Sits any []) rule.type_name _ (only any any (λ (x : List ℕ). length x ≤ standard.items) [] rule.type_name type_name_one)
     (λ t. then kind.Yields (Sits any []) (Sits any []) (flat_step kind.Yields any any [] refl refl (λ l. refl) refl refl) (λ _. Sits any []) _

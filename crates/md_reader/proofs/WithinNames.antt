@@ -12,7 +12,7 @@ use Rattle.md_hlds.specs.declared.types.Det.TheVariants as det
 use Rattle.md_hlds.specs.declared.goal.PredName.{PredName}
 use Rattle.md_hlds.specs.declared.goal.Term.TheVariants as term
 use Rattle.md_hlds.specs.HldsGoal.{GoalExpr, SimpleGoal, Unifies}
-use Rattle.md_hlds.specs.Hlds.{HldsType, number as int_sort, text as string_sort, world as io_sort, named, same_qualifier}
+use Rattle.md_hlds.specs.Hlds.{HldsType, number as int_type, text as string_type, world as io_type, named, same_qualifier}
 use Rattle.md_token.specs.declared.kind.Kind.{Kind}
 use Rattle.md_token.specs.declared.kind.Kind.TheVariants as kind
 use Rattle.md_token.specs.Kinds.{same_kind}
@@ -181,7 +181,7 @@ pred_name_one i last g h = take_written_solo (rule.written (token i)) i last g r
 
 declared_solo : (o : Option rule.Written) (i : Input) (last : Kind) → Good i → rule.written (token i) ≡ o → Solo opens_list NameFits last i (rule.take_declared o i)
 declared_solo None i last g e = refl
-declared_solo (Some w) i last g e = declared_by (rule.is_io w.qualifier)
+declared_solo (Some w) i last g e = declared_by (rule.is_of_library w.qualifier)
   where
     declared_by : (b : Bool) → Solo opens_list NameFits last i (cond b refuse (rule.take_written (Some w)) i)
     declared_by true = refl
@@ -373,31 +373,31 @@ determinism_one i last g h = code_solo rule.det_named det_code (rule.det_named (
 
 -- ---- types
 
-sort_single : (t : HldsType) (i : Input) (last : Kind) → Good i → kind_at i ≡ kind.Name → length (token i).text ≤ standard.items → Single any (λ (_ : HldsType). ⊤) last i t (next i)
-sort_single t i last g k l = record { is = (ap flat k, refl); fits = subst (λ (k : Kind). Fits k last (token i).text) (sym k) l; value = tt; rest = refl; good = good_next i g }
+simple_type_single : (t : HldsType) (i : Input) (last : Kind) → Good i → kind_at i ≡ kind.Name → length (token i).text ≤ standard.items → Single any (λ (_ : HldsType). ⊤) last i t (next i)
+simple_type_single t i last g k l = record { is = (ap flat k, refl); fits = subst (λ (k : Kind). Fits k last (token i).text) (sym k) l; value = tt; rest = refl; good = good_next i g }
 
-own_sort : (i : Input) (last : Kind) (r : Outcome (List ℕ)) → Solo any (λ (x : List ℕ). length x ≤ standard.items) last i r → Solo any (λ (_ : HldsType). ⊤) last i (and_then r (λ n. pure (named n)))
-own_sort i last (Ok p) a = record { is = a.is; fits = a.fits; value = tt; rest = a.rest; good = a.good }
-own_sort i last (Err (Syntax at)) a = a
-own_sort i last (Err (Limit at)) a = a
-own_sort i last (Err NoMemory) a = a
+own_simple_type : (i : Input) (last : Kind) (r : Outcome (List ℕ)) → Solo any (λ (x : List ℕ). length x ≤ standard.items) last i r → Solo any (λ (_ : HldsType). ⊤) last i (and_then r (λ n. pure (named n)))
+own_simple_type i last (Ok p) a = record { is = a.is; fits = a.fits; value = tt; rest = a.rest; good = a.good }
+own_simple_type i last (Err (Syntax at)) a = a
+own_simple_type i last (Err (Limit at)) a = a
+own_simple_type i last (Err NoMemory) a = a
 
-pub sort_one : One any any (λ (_ : HldsType). ⊤) rule.sort
-unfolding rule.sort
-sort_one i last g h =
-    solo_by any (λ (_ : HldsType). ⊤) last i (sees kind.Name i) (rule.sort_named (token i).text i) (refuse i)
-    (λ e. let k = kind_seen kind.Name i e in sort_by (bytes_eq (token i).text (codes "int")) (bytes_eq (token i).text (codes "string")) (bytes_eq (token i).text (codes "io")) refl refl refl k)
+pub simple_type_one : One any any (λ (_ : HldsType). ⊤) rule.simple_type
+unfolding rule.simple_type
+simple_type_one i last g h =
+    solo_by any (λ (_ : HldsType). ⊤) last i (sees kind.Name i) (rule.simple_type_named (token i).text i) (refuse i)
+    (λ e. let k = kind_seen kind.Name i e in simple_type_by (bytes_eq (token i).text (codes "int")) (bytes_eq (token i).text (codes "string")) (bytes_eq (token i).text (codes "io")) refl refl refl k)
     (λ e. refl)
   where
     short_text : (w : List ℕ) → bytes_eq (token i).text w ≡ true → length w ≤ standard.items → length (token i).text ≤ standard.items
     short_text w e l = subst (λ (x : List ℕ). length x ≤ standard.items) (sym (same_text (token i).text w e)) l
 
-    sort_by : (a b c : Bool) → bytes_eq (token i).text (codes "int") ≡ a → bytes_eq (token i).text (codes "string") ≡ b → bytes_eq (token i).text (codes "io") ≡ c → kind_at i ≡ kind.Name
-        → Solo any (λ (_ : HldsType). ⊤) last i (cond a (advance >> pure int_sort) (cond b (advance >> pure string_sort) (cond c (advance >> pure io_sort) (take_name (token i).text >>= (λ n. pure (named n))))) i)
-    sort_by true b c d e f k = sort_single int_sort i last g k (short_text (codes "int") d (omega arith))
-    sort_by false true c d e f k = sort_single string_sort i last g k (short_text (codes "string") e (omega arith))
-    sort_by false false true d e f k = sort_single io_sort i last g k (short_text (codes "io") f (omega arith))
-    sort_by false false false d e f k = own_sort i last (take_name (token i).text i) (named_solo any refl i last g k)
+    simple_type_by : (a b c : Bool) → bytes_eq (token i).text (codes "int") ≡ a → bytes_eq (token i).text (codes "string") ≡ b → bytes_eq (token i).text (codes "io") ≡ c → kind_at i ≡ kind.Name
+        → Solo any (λ (_ : HldsType). ⊤) last i (cond a (advance >> pure int_type) (cond b (advance >> pure string_type) (cond c (advance >> pure io_type) (take_name (token i).text >>= (λ n. pure (named n))))) i)
+    simple_type_by true b c d e f k = simple_type_single int_type i last g k (short_text (codes "int") d (omega arith))
+    simple_type_by false true c d e f k = simple_type_single string_type i last g k (short_text (codes "string") e (omega arith))
+    simple_type_by false false true d e f k = simple_type_single io_type i last g k (short_text (codes "io") f (omega arith))
+    simple_type_by false false false d e f k = own_simple_type i last (take_name (token i).text i) (named_solo any refl i last g k)
 
 pub type_name_one : One any any (λ (x : List ℕ). length x ≤ standard.items) rule.type_name
 unfolding rule.type_name
@@ -422,7 +422,7 @@ name_kinds _ e = absurd (cc)
 pub module_one : One any any (λ (_ : List ℕ). ⊤) rule.module_name
 unfolding rule.module_name take_name
 module_one i last g h =
-    solo_by any (λ (_ : List ℕ). ⊤) last i (rule.is_name (kind_at i) && not (bytes_eq (token i).text (codes "io"))) ((take_name (token i).text >>= (λ m. rule.set_home (token i).text >> pure m)) i) (refuse i)
+    solo_by any (λ (_ : List ℕ). ⊤) last i (rule.is_name (kind_at i) && not (rule.is_library (token i).text)) ((take_name (token i).text >>= (λ m. rule.set_home (token i).text >> pure m)) i) (refuse i)
     (λ e. let k = name_kinds (kind_at i) (both_true _ _ e).0 in home_by (nat_lt i.limits.items (length (token i).text)) refl k.0 k.1)
     (λ e. refl)
   where

@@ -12,8 +12,8 @@ use Rattle.md_reader.specs.Rules as rule
 use Rattle.md_reader.specs.Excess.{Opened, AList, Point, beginning, opens_list, item}
 use Rattle.md_reader.proofs.Within.{Case, Keeps, Step, bound, given, given_at, faulty, over_here, either_by, peeked, wider, perhaps, then, ending}
 use Rattle.md_reader.proofs.WithinTokens.{any, starts, Sits, list_step, sign_step, one, only, IsFull, excess}
-use Rattle.md_reader.proofs.WithinNames.{NameFits, mode_one, ho_mode_one, determinism_one, declared_name_one, this_name_one, sort_one, word_one, module_one}
-use Rattle.md_reader.proofs.WithinLists.{Turn, turn_full, first_turn, listed, at_most, close_step, variable_keeps, sorts_keep, sort_keeps, sits_any, flat_step, family_keeps}
+use Rattle.md_reader.proofs.WithinNames.{NameFits, mode_one, ho_mode_one, determinism_one, declared_name_one, this_name_one, simple_type_one, word_one, module_one}
+use Rattle.md_reader.proofs.WithinLists.{Turn, turn_full, first_turn, listed, at_most, close_step, variable_keeps, simple_types_keep, simple_type_keeps, sits_any, flat_step, type_definition_keeps}
 use Rattle.md_reader.proofs.WithinGoals.{conjunction_keeps}
 
 mode_keeps : (o : List Opened) → Keeps (Sits any o) rule.mode_word (λ _. Sits opens_list o)
@@ -68,7 +68,7 @@ unfolding rule.ho_types
 ho_types_keep o =
     then kind.Pred (Sits any o) (Sits opens_list o) (pred_step any o) (λ _. Sits any o) _
     (λ _. then kind.Open (Sits opens_list o) (Sits any (AList 0 ∷ o)) (open_list o) (λ _. Sits any o) _
-    (λ _. bound (Sits any (AList 0 ∷ o)) (λ _. Sits any o) (λ _. Sits any o) rule.sorts _ (sorts_keep o) (λ ts. ending kind.HasMode (Sits any o) (Sits any o) (has_mode o) (λ _. Sits any o) ts (λ s w. w))))
+    (λ _. bound (Sits any (AList 0 ∷ o)) (λ _. Sits any o) (λ _. Sits any o) rule.simple_types _ (simple_types_keep o) (λ ts. ending kind.HasMode (Sits any o) (Sits any o) (has_mode o) (λ _. Sits any o) ts (λ s w. w))))
 
 -- ---- arguments of a declaration
 
@@ -82,7 +82,7 @@ ho_argument_keeps o =
 plain_argument_keeps : (o : List Opened) → Keeps (Sits any o) rule.plain_argument (λ _. Sits any o)
 unfolding rule.plain_argument
 plain_argument_keeps o =
-    bound (Sits any o) (λ _. Sits any o) (λ _. Sits any o) rule.sort _ (sort_keeps o)
+    bound (Sits any o) (λ _. Sits any o) (λ _. Sits any o) rule.simple_type _ (simple_type_keeps o)
     (λ t. then kind.HasMode (Sits any o) (Sits any o) (has_mode o) (λ _. Sits any o) _
     (λ _. bound (Sits any o) (λ _. Sits any o) (λ _. Sits any o) rule.mode_word _ (mode_settles o) (λ m. given (Sits any o) (λ _. Sits any o) (t, m) (λ s w. w))))
 
@@ -93,8 +93,8 @@ argument_keeps o i s g w = either_by (λ _. Sits any o) s i (sees kind.Pred i) (
 excess_keeps : (Q : List (HldsType × Mode) → Point → Type 0) → Keeps IsFull rule.excess Q
 unfolding rule.excess
 excess_keeps Q i s g w =
-    either_by Q s i (sees kind.Pred i) (limit i) (and_then (rule.sort i) (λ t j. limit i))
-    (λ e. over_here s i (item w.last w.full)) (λ e. excess any (λ (_ : HldsType). ⊤) Q rule.sort sort_one i s g w)
+    either_by Q s i (sees kind.Pred i) (limit i) (and_then (rule.simple_type i) (λ t j. limit i))
+    (λ e. over_here s i (item w.last w.full)) (λ e. excess any (λ (_ : HldsType). ⊤) Q rule.simple_type simple_type_one i s g w)
 
 -- no more than a list may have
 abbrev pub Few : List (HldsType × Mode) → List Opened → Point → Type 0
@@ -180,7 +180,7 @@ body_keeps =
 
 end_clause_keeps : Keeps Top end_clause (λ _. Top)
 unfolding end_clause
-end_clause_keeps i s g w = record { front = []; whole = refl; within = tt; post = w; good = record { limits = g.limits; proper = g.proper; home = g.home } }
+end_clause_keeps i s g w = record { prefix = []; whole = refl; within = tt; post = w; good = record { limits = g.limits; proper = g.proper; home = g.home } }
 
 clause_keeps : (q : PredName) (arity : ℕ) → NameFits q → arity ≤ standard.items → Keeps Top (rule.clause q arity) (λ _. Top)
 unfolding rule.clause
@@ -214,12 +214,12 @@ heading_keeps =
     (λ m. ending kind.End Top Top (flat_step kind.End any any [] refl refl (λ l. refl) refl refl) (λ _. Top) _ (λ s w. w))))
 
 declared_keeps : (l : Hlds) → Keeps Top (rule.declared l) (λ _. Top)
-unfolding rule.declared rule.declared_procedure rule.declared_family
+unfolding rule.declared rule.declared_procedure rule.declared_type_definition
 declared_keeps l =
     then kind.Declare Top Top declare_step (λ _. Top) _
-    (λ line i s g w. either_by (λ _. Top) s i (sees kind.Pred i) (rule.declared_procedure l line i) (rule.declared_family l line i)
+    (λ line i s g w. either_by (λ _. Top) s i (sees kind.Pred i) (rule.declared_procedure l line i) (rule.declared_type_definition l line i)
     (λ e. bound Top (λ _. Top) (λ _. Top) (rule.procedure line) _ (procedure_keeps line) (λ p. given Top (λ _. Top) (rule.with_procedure l p) (λ s w. w)) i s g w)
-    (λ e. bound Top (λ _. Top) (λ _. Top) (rule.family line) _ (family_keeps line) (λ t. given Top (λ _. Top) (rule.with_family l t) (λ s w. w)) i s g w))
+    (λ e. bound Top (λ _. Top) (λ _. Top) (rule.type_definition line) _ (type_definition_keeps line) (λ t. given Top (λ _. Top) (rule.with_type_definition l t) (λ s w. w)) i s g w))
 
 declarations_from_keep : (n : ℕ) (l : Hlds) → Keeps Top (rule.declarations_from n l) (λ _. Top)
 unfolding rule.declarations_from

@@ -29,7 +29,7 @@ abbrev empty : Hlds
 empty = record { module_name = codes "t"; module_line = 2; types = []; procedures = [] }
 
 empty_read : reading (codes "\n:- module t.") ≡ Ok empty
-unfolding reading same_kind token.tokens_of token.front_at token.token_at token.name_at token.word_kind token.sign_at token.colon_at token.single_at input.token input.sees input.next input.expect input.take_name input.word rule.module_name rule.heading rule.declarations rule.declarations_from rule.program twice.duplicate twice.second_family twice.second_construct twice.second_procedure
+unfolding reading same_kind token.tokens_of token.prefix_at token.token_at token.name_at token.word_kind token.sign_at token.colon_at token.single_at input.token input.sees input.next input.expect input.take_name input.word rule.module_name rule.heading rule.declarations rule.declarations_from rule.program twice.duplicate twice.second_type_definition twice.second_functor twice.second_procedure
 empty_read = refl
 
 pub spells_the_empty_program : Spells (codes "\n:- module t.") empty
@@ -55,7 +55,7 @@ loops = record {
 }
 
 loops_read : reading (codes ":- module t.\n:- pred p is det.\np :- X = -5,\n( t.p ).") ≡ Ok loops
-unfolding reading same_kind token.tokens_of token.front_at token.token_at token.name_at token.word_kind token.sign_at token.colon_at token.single_at input.token input.sees input.next input.expect input.take_name input.word rule.module_name rule.heading rule.declarations rule.declarations_from rule.program twice.duplicate twice.second_family twice.second_construct twice.second_procedure token.variable_at token.dash_at number.number_of number.meaning input.after input.name input.variable input.with_variable input.end_clause input.site input.place rule.qualified rule.written rule.pred_name rule.declared_name rule.this_name rule.variables_from rule.arguments rule.negated rule.second rule.application rule.call rule.relation rule.unit rule.units_from rule.units rule.conjunction rule.within rule.determinism rule.declared_arguments rule.head rule.declared_determinism rule.declaration rule.body rule.clause rule.procedure_from rule.procedure rule.with_procedure rule.declared_procedure rule.declared rule.open_goal rule.group
+unfolding reading same_kind token.tokens_of token.prefix_at token.token_at token.name_at token.word_kind token.sign_at token.colon_at token.single_at input.token input.sees input.next input.expect input.take_name input.word rule.module_name rule.heading rule.declarations rule.declarations_from rule.program twice.duplicate twice.second_type_definition twice.second_functor twice.second_procedure token.variable_at token.dash_at number.number_of number.meaning input.after input.name input.variable input.with_variable input.end_clause input.site input.place rule.qualified rule.written rule.pred_name rule.declared_name rule.this_name rule.variables_from rule.arguments rule.negated rule.second rule.application rule.call rule.relation rule.unit rule.units_from rule.units rule.conjunction rule.within rule.determinism rule.declared_arguments rule.head rule.declared_determinism rule.declaration rule.body rule.clause rule.procedure_from rule.procedure rule.with_procedure rule.declared_procedure rule.declared rule.open_goal rule.group
 loops_read = refl
 
 pub spells_a_conjunction : Spells (codes ":- module t.\n:- pred p is det.\np :- X = -5,\n( t.p ).") loops
@@ -63,7 +63,7 @@ spells_a_conjunction = reading_sound (codes ":- module t.\n:- pred p is det.\np 
 
 -- a type that is declared a second time
 twice_read : reading (codes ":- module t.\n:- type a ---> b.\n:- type a ---> c.") ≡ Err (refused.Duplicate 3)
-unfolding reading same_kind token.tokens_of token.front_at token.token_at token.name_at token.word_kind token.sign_at token.colon_at token.single_at input.token input.sees input.next input.expect input.take_name input.word rule.module_name rule.heading rule.declarations rule.declarations_from rule.program twice.duplicate twice.second_family twice.second_construct twice.second_procedure token.dash_at input.after input.name input.place rule.functor_arguments rule.functor rule.functors_from rule.functors rule.type_name rule.family rule.with_family rule.declared_family rule.declared
+unfolding reading same_kind token.tokens_of token.prefix_at token.token_at token.name_at token.word_kind token.sign_at token.colon_at token.single_at input.token input.sees input.next input.expect input.take_name input.word rule.module_name rule.heading rule.declarations rule.declarations_from rule.program twice.duplicate twice.second_type_definition twice.second_functor twice.second_procedure token.dash_at input.after input.name input.place rule.functor_arguments rule.functor rule.functors_from rule.functors rule.type_name rule.type_definition rule.with_type_definition rule.declared_type_definition rule.declared
 twice_read = refl
 
 pub repeats_a_type : Repeats (codes ":- module t.\n:- type a ---> b.\n:- type a ---> c.") 3
@@ -71,28 +71,28 @@ repeats_a_type = reading_repeats (codes ":- module t.\n:- type a ---> b.\n:- typ
 
 -- a name where a declaration may begin
 pub a_name_is_at_fault : IsSyntaxFault (codes ":- module t.\np") 2
-unfolding same_kind token.tokens_of token.front_at token.token_at token.name_at token.word_kind token.sign_at token.colon_at token.single_at input.token input.sees input.next input.expect input.take_name input.word rule.module_name rule.heading rule.declarations rule.declarations_from rule.program rule.declared input.place
+unfolding same_kind token.tokens_of token.prefix_at token.token_at token.name_at token.word_kind token.sign_at token.colon_at token.single_at input.token input.sees input.next input.expect input.take_name input.word rule.module_name rule.heading rule.declarations rule.declarations_from rule.program rule.declared input.place
 a_name_is_at_fault = at_fault (codes ":- module t.\np") (refusal.Syntax (record { line = 2; left = 2 })) refl
 
 -- an integer past the greatest one
 pub an_integer_is_at_fault : IsLimitFault (codes ":- module t.\n:- pred p is det.\np :-\nX = 9223372036854775808.") 4
-unfolding reading same_kind token.tokens_of token.front_at token.token_at token.name_at token.word_kind token.sign_at token.colon_at token.single_at input.token input.sees input.next input.expect input.take_name input.word rule.module_name rule.heading rule.declarations rule.declarations_from rule.program twice.duplicate twice.second_family twice.second_construct twice.second_procedure token.variable_at token.dash_at number.number_of number.meaning input.after input.name input.variable input.with_variable input.end_clause input.site input.place rule.qualified rule.written rule.pred_name rule.declared_name rule.this_name rule.variables_from rule.arguments rule.negated rule.second rule.application rule.call rule.relation rule.unit rule.units_from rule.units rule.conjunction rule.within rule.determinism rule.declared_arguments rule.head rule.declared_determinism rule.declaration rule.body rule.clause rule.procedure_from rule.procedure rule.with_procedure rule.declared_procedure rule.declared rule.open_goal rule.group rule.positive
+unfolding reading same_kind token.tokens_of token.prefix_at token.token_at token.name_at token.word_kind token.sign_at token.colon_at token.single_at input.token input.sees input.next input.expect input.take_name input.word rule.module_name rule.heading rule.declarations rule.declarations_from rule.program twice.duplicate twice.second_type_definition twice.second_functor twice.second_procedure token.variable_at token.dash_at number.number_of number.meaning input.after input.name input.variable input.with_variable input.end_clause input.site input.place rule.qualified rule.written rule.pred_name rule.declared_name rule.this_name rule.variables_from rule.arguments rule.negated rule.second rule.application rule.call rule.relation rule.unit rule.units_from rule.units rule.conjunction rule.within rule.determinism rule.declared_arguments rule.head rule.declared_determinism rule.declaration rule.body rule.clause rule.procedure_from rule.procedure rule.with_procedure rule.declared_procedure rule.declared rule.open_goal rule.group rule.positive
 an_integer_is_at_fault = at_fault (codes ":- module t.\n:- pred p is det.\np :-\nX = 9223372036854775808.") (refusal.Limit (record { line = 4; left = 3 })) refl
 
 -- ---- what is open behind tokens
 
 -- a list with two commas, in a goal, in a goal
 pub a_list_is_open : past beginning (take 11 (tokens_of (codes "p :- not ( ( q(X, Y, Z"))) ≡ record { last = kind.Comma; around = AList 2 ∷ AGoal ∷ AGoal ∷ [] }
-unfolding same_kind token.tokens_of token.front_at token.token_at token.name_at token.word_kind token.sign_at token.colon_at token.single_at token.variable_at token.dash_at
+unfolding same_kind token.tokens_of token.prefix_at token.token_at token.name_at token.word_kind token.sign_at token.colon_at token.single_at token.variable_at token.dash_at
 a_list_is_open = refl
 
 -- behind `in` a list of modes is open, and the goal's commas are none of a list's
 pub modes_are_open : past beginning (take 7 (tokens_of (codes "in(pred(in, out"))) ≡ record { last = kind.Name; around = AList 1 ∷ AList 0 ∷ [] }
-unfolding same_kind token.tokens_of token.front_at token.token_at token.name_at token.word_kind token.sign_at token.colon_at token.single_at token.variable_at token.dash_at
+unfolding same_kind token.tokens_of token.prefix_at token.token_at token.name_at token.word_kind token.sign_at token.colon_at token.single_at token.variable_at token.dash_at
 modes_are_open = refl
 
 pub no_list_is_open : past beginning (take 8 (tokens_of (codes "p :- ( q(X), r"))) ≡ record { last = kind.Comma; around = AGoal ∷ [] }
-unfolding same_kind token.tokens_of token.front_at token.token_at token.name_at token.word_kind token.sign_at token.colon_at token.single_at token.variable_at token.dash_at
+unfolding same_kind token.tokens_of token.prefix_at token.token_at token.name_at token.word_kind token.sign_at token.colon_at token.single_at token.variable_at token.dash_at
 no_list_is_open = refl
 
 -- two items, one goal, two bytes, and integers up to 5
@@ -100,13 +100,13 @@ abbrev few : Limits
 few = record { items = 2; goals = 1; bytes = 2; integer = 5 }
 
 pub the_third_item_is_too_many : (t : Lexeme) → Exceeds few (past beginning (take 8 (tokens_of (codes "p :- q(X, Y, Z")))) t
-unfolding same_kind token.tokens_of token.front_at token.token_at token.name_at token.word_kind token.sign_at token.colon_at token.single_at token.variable_at token.dash_at
+unfolding same_kind token.tokens_of token.prefix_at token.token_at token.name_at token.word_kind token.sign_at token.colon_at token.single_at token.variable_at token.dash_at
 the_third_item_is_too_many t = item refl refl
 
 pub the_second_goal_is_too_many : Exceeds few (past beginning (take 4 (tokens_of (codes "p :- not ( ( q")))) (record { kind = kind.Open; text = codes "("; line = 1 })
-unfolding same_kind token.tokens_of token.front_at token.token_at token.name_at token.word_kind token.sign_at token.colon_at token.single_at token.variable_at token.dash_at
+unfolding same_kind token.tokens_of token.prefix_at token.token_at token.name_at token.word_kind token.sign_at token.colon_at token.single_at token.variable_at token.dash_at
 the_second_goal_is_too_many = goal refl refl (omega arith)
 
 pub minus_seven_is_too_small : Exceeds few (past beginning (take 3 (tokens_of (codes "X = -7")))) (record { kind = kind.Integer; text = codes "7"; line = 1 })
-unfolding same_kind token.tokens_of token.front_at token.token_at token.name_at token.word_kind token.sign_at token.colon_at token.single_at token.variable_at token.dash_at number.number_of
+unfolding same_kind token.tokens_of token.prefix_at token.token_at token.name_at token.word_kind token.sign_at token.colon_at token.single_at token.variable_at token.dash_at number.number_of
 minus_seven_is_too_small = long (negative refl refl (omega arith))

@@ -23,14 +23,14 @@ abbrev pub first_second : (seen : List Declared) → List Declared → Option �
 first_second seen [] = None
 first_second seen (d ∷ ds) = if is_among d seen then Some d.line else first_second (seen ++ d ∷ []) ds
 
-abbrev pub declared_family : HldsTypeDef → Declared
-declared_family t = record { qualifier = None; name = t.name; arity = 0; line = t.line }
+abbrev pub declared_type_definition : HldsTypeDef → Declared
+declared_type_definition t = record { qualifier = None; name = t.name; arity = 0; line = t.line }
 
-abbrev pub declared_construct : (line : ℕ) → HldsFunctor → Declared
-declared_construct line f = record { qualifier = None; name = f.name; arity = length f.args; line = line }
+abbrev pub declared_functor : (line : ℕ) → HldsFunctor → Declared
+declared_functor line f = record { qualifier = None; name = f.name; arity = length f.args; line = line }
 
-abbrev pub declared_constructs : HldsTypeDef → List Declared
-declared_constructs t = map (declared_construct t.line) t.functors
+abbrev pub declared_functors : HldsTypeDef → List Declared
+declared_functors t = map (declared_functor t.line) t.functors
 
 -- the arity of a predicate is no part of what it is declared as
 abbrev pub declared_procedure : Procedure → Declared
@@ -41,15 +41,15 @@ earlier None b = b
 earlier (Some a) None = Some a
 earlier (Some a) (Some b) = Some (min a b)
 
-unfoldable pub second_family : Hlds → Option ℕ
-second_family l = first_second [] (map declared_family l.types)
+unfoldable pub second_type_definition : Hlds → Option ℕ
+second_type_definition l = first_second [] (map declared_type_definition l.types)
 
-unfoldable pub second_construct : Hlds → Option ℕ
-second_construct l = first_second [] (flat_map declared_constructs l.types)
+unfoldable pub second_functor : Hlds → Option ℕ
+second_functor l = first_second [] (flat_map declared_functors l.types)
 
 unfoldable pub second_procedure : Hlds → Option ℕ
 second_procedure l = first_second [] (map declared_procedure l.procedures)
 
 -- the line of the first second declaration
 unfoldable pub duplicate : Hlds → Option ℕ
-duplicate l = earlier (second_family l) (earlier (second_construct l) (second_procedure l))
+duplicate l = earlier (second_type_definition l) (earlier (second_functor l) (second_procedure l))

@@ -120,7 +120,7 @@ mutual
 
 pub data FunctorArguments : List HldsType → Input → Input → Type 0 where
   none : (i : Input) → FunctorArguments [] i i
-  some : (ts : List HldsType) (i j k : Input) → Sign kind.Open i j → Enclosed (Is rule.sort) kind.Close ts j k → FunctorArguments ts i k
+  some : (ts : List HldsType) (i j k : Input) → Sign kind.Open i j → Enclosed (Is rule.simple_type) kind.Close ts j k → FunctorArguments ts i k
 
 pub data Functor : HldsFunctor → Input → Input → Type 0 where
   functor : (f : List ℕ) (ts : List HldsType) (i j k : Input) → Is name f i j → FunctorArguments ts j k → Functor (record { name = f; args = ts }) i k
@@ -136,8 +136,8 @@ pub data Inst : List Mode → Det → Input → Input → Type 0 where
   inst : (ms : List Mode) (d : Det) (i j k l m n o p : Input) → Sign kind.Open i j → Sign kind.Pred j k → Sign kind.Open k l → Enclosed (Is rule.mode_word) kind.Close ms l m → Sign kind.Is m n → Is rule.determinism d n o → Sign kind.Close o p → Inst ms d i p
 
 pub data Argument : HldsType × Mode → Input → Input → Type 0 where
-  plain : (t : HldsType) (m : Mode) (i j k l : Input) → Is rule.sort t i j → Sign kind.HasMode j k → Is rule.mode_word m k l → Argument (t, m) i l
-  higher_order : (ts : List HldsType) (m : Mode) (ms : List Mode) (d : Det) (i j k l n o p : Input) → Sign kind.Pred i j → Sign kind.Open j k → Enclosed (Is rule.sort) kind.Close ts k l → Sign kind.HasMode l n → Is rule.ho_mode m n o → Inst ms d o p → Argument (closure (gathered_types ts) ms d, m) i p
+  plain : (t : HldsType) (m : Mode) (i j k l : Input) → Is rule.simple_type t i j → Sign kind.HasMode j k → Is rule.mode_word m k l → Argument (t, m) i l
+  higher_order : (ts : List HldsType) (m : Mode) (ms : List Mode) (d : Det) (i j k l n o p : Input) → Sign kind.Pred i j → Sign kind.Open j k → Enclosed (Is rule.simple_type) kind.Close ts k l → Sign kind.HasMode l n → Is rule.ho_mode m n o → Inst ms d o p → Argument (closure (gathered_types ts) ms d, m) i p
 
 pub data DeclaredArguments : List (HldsType × Mode) → Input → Input → Type 0 where
   none : (i : Input) → DeclaredArguments [] i i
@@ -160,7 +160,7 @@ pub data PredClause (q : PredName) (arity : ℕ) : rule.Clause → Input → Inp
 
 -- a declaration of a type, or of a predicate with its clause, which is the next of the program's
 pub data Declared (before : Hlds) : Hlds → Input → Input → Type 0 where
-  type : (t : HldsTypeDef) (line : ℕ) (i j k : Input) → Is (expect kind.Declare) line i j → TypeDeclaration line t j k → Declared before (rule.with_family before t) i k
+  type : (t : HldsTypeDef) (line : ℕ) (i j k : Input) → Is (expect kind.Declare) line i j → TypeDeclaration line t j k → Declared before (rule.with_type_definition before t) i k
   predicate : (d : rule.Declaration) (c : rule.Clause) (line : ℕ) (i j k l : Input) → Is (expect kind.Declare) line i j → PredDeclaration d j k → PredClause d.name (length d.args) c k l → Declared before (rule.with_procedure before (rule.procedure_from line d c)) i l
 
 pub data Declarations : (before after : Hlds) → Input → Input → Type 0 where

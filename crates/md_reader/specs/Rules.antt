@@ -12,8 +12,8 @@ use Rattle.md_hlds.specs.declared.goal.Op.{Op}
 use Rattle.md_hlds.specs.declared.goal.Op.TheVariants as op
 use Rattle.md_hlds.specs.declared.goal.Cmp.{Cmp}
 use Rattle.md_hlds.specs.declared.goal.Cmp.TheVariants as cmp
-use Rattle.md_hlds.specs.HldsGoal.{HldsGoal, At, GoalExpr, SimpleGoal, CallGoal, HoCallGoal, ConjGoal, DisjGoal, IfGoal, NotGoal, SomeGoal, gathered, Succeeds, Fails, Unifies, Computes, Compares, WritesInt, WritesText, EndsLine}
-use Rattle.md_hlds.specs.Hlds.{HldsType, number as int_sort, text as string_sort, world as io_sort, named, closure, gathered_types, HldsFunctor, HldsTypeDef, Procedure, Hlds, same_qualifier}
+use Rattle.md_hlds.specs.HldsGoal.{HldsGoal, At, GoalExpr, SimpleGoal, CallGoal, HoCallGoal, ConjGoal, DisjGoal, IfGoal, NotGoal, SomeGoal, gathered, Succeeds, Fails, Unifies, Computes, Compares, WritesInt, WritesText, EndsLine, Raises}
+use Rattle.md_hlds.specs.Hlds.{HldsType, number as int_type, text as string_type, world as io_type, named, closure, gathered_types, HldsFunctor, HldsTypeDef, Procedure, Hlds, same_qualifier}
 use Rattle.md_token.specs.declared.kind.Kind.{Kind}
 use Rattle.md_token.specs.declared.kind.Kind.TheVariants as kind
 use Rattle.md_token.specs.Kinds.{same_kind}
@@ -69,14 +69,18 @@ take_written (Some w) = λ i. if is_long i.limits.items w then limit i else Ok (
 unfoldable pub pred_name : Parser PredName
 pred_name = λ i. take_written (written (token i)) i
 
--- the name of a predicate that is declared
-abbrev pub is_io : Option (List ℕ) → Bool
-is_io None = false
-is_io (Some qualifier) = bytes_eq qualifier (codes "io")
+-- the modules that the builtin goals are of
+abbrev pub is_library : List ℕ → Bool
+is_library m = bytes_eq m (codes "io") || bytes_eq m (codes "require")
 
+abbrev pub is_of_library : Option (List ℕ) → Bool
+is_of_library None = false
+is_of_library (Some qualifier) = is_library qualifier
+
+-- the name of a predicate that is declared, which is of none of these modules
 abbrev pub take_declared : Option Written → Parser PredName
 take_declared None = refuse
-take_declared (Some w) = if is_io w.qualifier then refuse else take_written (Some w)
+take_declared (Some w) = if is_of_library w.qualifier then refuse else take_written (Some w)
 
 unfoldable pub declared_name : Parser PredName
 declared_name = λ i. take_declared (written (token i)) i
@@ -190,15 +194,21 @@ term_after x = λ i. term_by x (kind_at i) i
 
 -- ---- goals
 
-abbrev pub is_builtin : List ℕ → PredName → Bool
-is_builtin p q = is_io q.qualifier && bytes_eq q.name p
+abbrev pub is_qualified_by : (m : List ℕ) → Option (List ℕ) → Bool
+is_qualified_by m None = false
+is_qualified_by m (Some qualifier) = bytes_eq qualifier m
+
+-- q is the name of the builtin goal p of the module m
+abbrev pub is_builtin : (m p : List ℕ) → PredName → Bool
+is_builtin m p q = is_qualified_by m q.qualifier && bytes_eq q.name p
 
 -- a call of this name with these variables that is a builtin goal
 abbrev pub builtin : PredName → List ℕ → Option GoalExpr
-builtin q (a ∷ b ∷ []) = if is_builtin (codes "nl") q then Some (SimpleGoal (EndsLine a b)) else None
+builtin q (x ∷ []) = if is_builtin (codes "require") (codes "error") q then Some (SimpleGoal (Raises x)) else None
+builtin q (a ∷ b ∷ []) = if is_builtin (codes "io") (codes "nl") q then Some (SimpleGoal (EndsLine a b)) else None
 builtin q (x ∷ a ∷ b ∷ []) =
-    if is_builtin (codes "write_int") q then Some (SimpleGoal (WritesInt x a b))
-    else if is_builtin (codes "write_string") q then Some (SimpleGoal (WritesText x a b))
+    if is_builtin (codes "io") (codes "write_int") q then Some (SimpleGoal (WritesInt x a b))
+    else if is_builtin (codes "io") (codes "write_string") q then Some (SimpleGoal (WritesText x a b))
     else None
 builtin q _ = None
 
@@ -377,32 +387,32 @@ within (suc room) = conjunction room
 
 -- ---- types
 
-abbrev pub sort_named : List ℕ → Parser HldsType
-sort_named t =
-    if bytes_eq t (codes "int") then advance >> pure int_sort
-    else if bytes_eq t (codes "string") then advance >> pure string_sort
-    else if bytes_eq t (codes "io") then advance >> pure io_sort
+abbrev pub simple_type_named : List ℕ → Parser HldsType
+simple_type_named t =
+    if bytes_eq t (codes "int") then advance >> pure int_type
+    else if bytes_eq t (codes "string") then advance >> pure string_type
+    else if bytes_eq t (codes "io") then advance >> pure io_type
     else take_name t >>= (λ n. pure (named n))
 
-unfoldable pub sort : Parser HldsType
-sort = λ i. if sees kind.Name i then sort_named (token i).text i else refuse i
+unfoldable pub simple_type : Parser HldsType
+simple_type = λ i. if sees kind.Name i then simple_type_named (token i).text i else refuse i
 
 -- n more types, at most, after those so far, and `)`
-unfoldable pub sorts_from : (n : ℕ) → List HldsType → Parser (List HldsType)
-sorts_from zero found = λ i. and_then (sort i) (λ t j. limit i)
-sorts_from (suc n) found = do
-  t ← sort
+unfoldable pub simple_types_from : (n : ℕ) → List HldsType → Parser (List HldsType)
+simple_types_from zero found = λ i. and_then (simple_type i) (λ t j. limit i)
+simple_types_from (suc n) found = do
+  t ← simple_type
   more ← eat kind.Comma
-  if more then sorts_from n (found ++ t ∷ []) else (do expect kind.Close; pure (found ++ t ∷ []))
+  if more then simple_types_from n (found ++ t ∷ []) else (do expect kind.Close; pure (found ++ t ∷ []))
 
-abbrev pub sorts : Parser (List HldsType)
-sorts = λ i. sorts_from i.limits.items [] i
+abbrev pub simple_types : Parser (List HldsType)
+simple_types = λ i. simple_types_from i.limits.items [] i
 
 -- nothing, or types in parentheses
 unfoldable pub functor_arguments : Parser (List HldsType)
 functor_arguments = do
   some ← eat kind.Open
-  if some then sorts else pure []
+  if some then simple_types else pure []
 
 unfoldable pub functor : Parser HldsFunctor
 functor = do
@@ -428,8 +438,8 @@ unfoldable pub type_name : Parser (List ℕ)
 type_name = λ i. if is_own_type (token i).text then name i else refuse i
 
 -- a type's declaration from `type` on
-unfoldable pub family : (line : ℕ) → Parser HldsTypeDef
-family line = do
+unfoldable pub type_definition : (line : ℕ) → Parser HldsTypeDef
+type_definition line = do
   word (codes "type")
   t ← type_name
   expect kind.Yields
@@ -507,7 +517,7 @@ unfoldable pub ho_types : Parser (List HldsType)
 ho_types = do
   expect kind.Pred
   expect kind.Open
-  ts ← sorts
+  ts ← simple_types
   expect kind.HasMode
   pure ts
 
@@ -520,7 +530,7 @@ ho_argument = do
 
 unfoldable pub plain_argument : Parser (HldsType × Mode)
 plain_argument = do
-  t ← sort
+  t ← simple_type
   expect kind.HasMode
   m ← mode_word
   pure (t, m)
@@ -530,7 +540,7 @@ argument = λ i. if sees kind.Pred i then ho_argument i else plain_argument i
 
 -- the first token of an argument is at fault
 unfoldable pub excess : {A : Type 0} → Parser A
-excess = λ i. if sees kind.Pred i then limit i else and_then (sort i) (λ t j. limit i)
+excess = λ i. if sees kind.Pred i then limit i else and_then (simple_type i) (λ t j. limit i)
 
 unfoldable pub arguments_from : (n : ℕ) → List (HldsType × Mode) → Parser (List (HldsType × Mode))
 arguments_from zero found = excess
@@ -643,7 +653,7 @@ set_home m = λ i. Ok (tt, record i { home = m })
 
 unfoldable pub module_name : Parser (List ℕ)
 module_name = λ i.
-    if is_name (token i).kind && not (bytes_eq (token i).text (codes "io"))
+    if is_name (token i).kind && not (is_library (token i).text)
     then (do m ← take_name (token i).text; set_home (token i).text; pure m) i
     else refuse i
 
@@ -656,8 +666,8 @@ heading = do
   expect kind.End
   pure (record { module_name = m; module_line = line; types = []; procedures = [] })
 
-unfoldable pub with_family : Hlds → HldsTypeDef → Hlds
-with_family l t = record l { types = l.types ++ t ∷ [] }
+unfoldable pub with_type_definition : Hlds → HldsTypeDef → Hlds
+with_type_definition l t = record l { types = l.types ++ t ∷ [] }
 
 unfoldable pub with_procedure : Hlds → Procedure → Hlds
 with_procedure l p = record l { procedures = l.procedures ++ p ∷ [] }
@@ -667,16 +677,16 @@ declared_procedure l line = do
   p ← procedure line
   pure (with_procedure l p)
 
-unfoldable pub declared_family : Hlds → (line : ℕ) → Parser Hlds
-declared_family l line = do
-  t ← family line
-  pure (with_family l t)
+unfoldable pub declared_type_definition : Hlds → (line : ℕ) → Parser Hlds
+declared_type_definition l line = do
+  t ← type_definition line
+  pure (with_type_definition l t)
 
 -- a declaration of a type, or of a predicate with its clause
 unfoldable pub declared : Hlds → Parser Hlds
 declared l = do
   line ← expect kind.Declare
-  λ i. if sees kind.Pred i then declared_procedure l line i else declared_family l line i
+  λ i. if sees kind.Pred i then declared_procedure l line i else declared_type_definition l line i
 
 unfoldable pub declarations_from : (n : ℕ) → Hlds → Parser Hlds
 declarations_from zero l = refuse

@@ -7,7 +7,7 @@ ghost use Rattle.md_reader.specs.Rules as spec;
 
 use crate::input::{Input, MOST};
 use crate::refused::Refusal;
-use crate::types::{sort, sorts};
+use crate::types::{simple_type, simple_types};
 use md_hlds::{Det, HoTy, Mode, Ty};
 use md_token::{Kind, is_word};
 
@@ -45,7 +45,7 @@ fn excess(input: &mut Input<'_>) -> Refusal
     if input.sees(Kind::Pred) {
         return excess;
     }
-    match sort(input) {
+    match simple_type(input) {
         Ok(_) => excess,
         Err(refusal) => refusal,
     }
@@ -66,10 +66,10 @@ fn argument(input: &mut Input<'_>) -> Result<(Ty, Mode), Refusal>
 fn plain_argument(input: &mut Input<'_>) -> Result<(Ty, Mode), Refusal>
     ensures { Reads (λ arg. (hlds_type_of arg.0, arg.1)) (spec.plain_argument (input_of input.old)) result (input_of input.new) }
 {
-    let sort = sort(input)?;
+    let simple_type = simple_type(input)?;
     input.expect(Kind::HasMode)?;
     let mode = mode(input)?;
-    Ok((sort, mode))
+    Ok((simple_type, mode))
 }
 
 /// Takes a higher-order argument: its types, its mode, and the modes and the determinism of its inst.
@@ -85,11 +85,11 @@ fn ho_argument(input: &mut Input<'_>) -> Result<(Ty, Mode), Refusal>
 
 #[tactic(auto, unfolding(crate::specs::Rules::ho_types))]
 fn ho_types(input: &mut Input<'_>) -> Result<Vec<Ty>, Refusal>
-    ensures { Reads (λ sorts. hlds_types_of sorts.items) (spec.ho_types (input_of input.old)) result (input_of input.new) }
+    ensures { Reads (λ types. hlds_types_of types.items) (spec.ho_types (input_of input.old)) result (input_of input.new) }
 {
     input.expect(Kind::Pred)?;
     input.expect(Kind::Open)?;
-    let types = sorts(input)?;
+    let types = simple_types(input)?;
     input.expect(Kind::HasMode)?;
     Ok(types)
 }

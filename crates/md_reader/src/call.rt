@@ -74,29 +74,31 @@ fn builtin(name: &PredName, variables: &[u32]) -> Option<GoalKind>
     ensures { option_map expr_of result ≡ spec.builtin name.now variables.now }
 {
     match variables {
-        [before, after] if is_builtin("nl", name) => Some(GoalKind::Nl(*before, *after)),
-        [x, before, after] if is_builtin("write_int", name) => {
+        [x] if is_builtin("require", "error", name) => Some(GoalKind::Error(*x)),
+        [before, after] if is_builtin("io", "nl", name) => Some(GoalKind::Nl(*before, *after)),
+        [x, before, after] if is_builtin("io", "write_int", name) => {
             Some(GoalKind::WriteInt(*x, *before, *after))
         }
-        [x, before, after] if is_builtin("write_string", name) => {
+        [x, before, after] if is_builtin("io", "write_string", name) => {
             Some(GoalKind::WriteStr(*x, *before, *after))
         }
         _ => None,
     }
 }
 
-fn is_builtin(builtin: &str, name: &PredName) -> bool
-    ensures { result ≡ spec.is_builtin builtin.now name.now }
+/// Whether this is the name of a builtin goal of a module.
+fn is_builtin(library: &str, builtin: &str, name: &PredName) -> bool
+    ensures { result ≡ spec.is_builtin library.now builtin.now name.now }
 {
-    is_io(&name.qualifier) && is_word(name.name.as_bytes(), builtin)
+    is_qualified_by(library, &name.qualifier) && is_word(name.name.as_bytes(), builtin)
 }
 
-fn is_io(qualifier: &Option<Name>) -> bool
-    ensures { result ≡ spec.is_io qualifier.now }
+fn is_qualified_by(library: &str, qualifier: &Option<Name>) -> bool
+    ensures { result ≡ spec.is_qualified_by library.now qualifier.now }
 {
     match qualifier {
         None => false,
-        Some(qualifier) => is_word(qualifier.as_bytes(), "io"),
+        Some(qualifier) => is_word(qualifier.as_bytes(), library),
     }
 }
 

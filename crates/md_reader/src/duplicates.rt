@@ -30,10 +30,10 @@ pub(crate) struct Declared<'a> {
 pub(crate) fn duplicate(alloc: Global, program: &Program) -> Result<Option<u32>, NoMemory>
     ensures { IfOk result (λ line. line ≡ spec.duplicate (hlds_of program.now)) }
 {
-    let family = second_family(alloc, program)?;
-    let construct = second_construct(alloc, program)?;
+    let type_definition = second_type_definition(alloc, program)?;
+    let functor = second_functor(alloc, program)?;
     let procedure = second_procedure(alloc, program)?;
-    Ok(earlier(family, earlier(construct, procedure)))
+    Ok(earlier(type_definition, earlier(functor, procedure)))
 }
 
 fn earlier(a: Option<u32>, b: Option<u32>) -> Option<u32>
@@ -46,20 +46,20 @@ fn earlier(a: Option<u32>, b: Option<u32>) -> Option<u32>
     }
 }
 
-#[tactic(auto, unfolding(crate::specs::Duplicates::second_family))]
-fn second_family(alloc: Global, program: &Program) -> Result<Option<u32>, NoMemory>
-    ensures { IfOk result (λ line. line ≡ spec.second_family (hlds_of program.now)) }
+#[tactic(auto, unfolding(crate::specs::Duplicates::second_type_definition))]
+fn second_type_definition(alloc: Global, program: &Program) -> Result<Option<u32>, NoMemory>
+    ensures { IfOk result (λ line. line ≡ spec.second_type_definition (hlds_of program.now)) }
 {
-    let declared = families(alloc, &program.types)?;
+    let declared = type_definitions(alloc, &program.types)?;
     first_second(alloc, &declared)
 }
 
-#[tactic(auto, unfolding(crate::specs::Duplicates::second_construct))]
-fn second_construct(alloc: Global, program: &Program) -> Result<Option<u32>, NoMemory>
-    ensures { IfOk result (λ line. line ≡ spec.second_construct (hlds_of program.now)) }
+#[tactic(auto, unfolding(crate::specs::Duplicates::second_functor))]
+fn second_functor(alloc: Global, program: &Program) -> Result<Option<u32>, NoMemory>
+    ensures { IfOk result (λ line. line ≡ spec.second_functor (hlds_of program.now)) }
 {
     let mut declared = Vec::new(alloc);
-    constructs(&mut declared, &program.types)?;
+    functors(&mut declared, &program.types)?;
     first_second(alloc, &declared)
 }
 
@@ -84,39 +84,39 @@ fn first_second(alloc: Global, declared: &[Declared<'_>]) -> Result<Option<u32>,
     Ok(None)
 }
 
-fn families<'a>(alloc: Global, types: &'a [TypeDef]) -> Result<Vec<Declared<'a>>, NoMemory>
-    ensures { IfOk result (λ declared. all_declared declared.items ≡ map spec.declared_family (type_defs_of types.now)) }
+fn type_definitions<'a>(alloc: Global, types: &'a [TypeDef]) -> Result<Vec<Declared<'a>>, NoMemory>
+    ensures { IfOk result (λ declared. all_declared declared.items ≡ map spec.declared_type_definition (type_defs_of types.now)) }
 {
     let mut declared = Vec::new(alloc);
-    for family in types {
+    for type_definition in types {
         let key = Key {
             qualifier: None,
-            name: family.name.as_bytes(),
+            name: type_definition.name.as_bytes(),
             arity: 0,
         };
         declared.push(Declared {
             key,
-            line: family.line,
+            line: type_definition.line,
         })?;
     }
     Ok(declared)
 }
 
-fn constructs<'a>(declared: &mut Vec<Declared<'a>>, types: &'a [TypeDef]) -> Result<(), NoMemory>
-    ensures { OnOk result (all_declared declared.new.items ≡ all_declared declared.old.items ++ flat_map spec.declared_constructs (type_defs_of types.now)) }
+fn functors<'a>(declared: &mut Vec<Declared<'a>>, types: &'a [TypeDef]) -> Result<(), NoMemory>
+    ensures { OnOk result (all_declared declared.new.items ≡ all_declared declared.old.items ++ flat_map spec.declared_functors (type_defs_of types.now)) }
 {
-    for family in types {
-        constructs_of_one(declared, family.line, &family.functors)?;
+    for type_definition in types {
+        functors_of_one(declared, type_definition.line, &type_definition.functors)?;
     }
     Ok(())
 }
 
-fn constructs_of_one<'a>(
+fn functors_of_one<'a>(
     declared: &mut Vec<Declared<'a>>,
     line: u32,
     functors: &'a [Functor],
 ) -> Result<(), NoMemory>
-    ensures { OnOk result (all_declared declared.new.items ≡ all_declared declared.old.items ++ map (spec.declared_construct line) (hlds_functors_of functors.now)) }
+    ensures { OnOk result (all_declared declared.new.items ≡ all_declared declared.old.items ++ map (spec.declared_functor line) (hlds_functors_of functors.now)) }
 {
     for functor in functors {
         let key = Key {
@@ -129,7 +129,7 @@ fn constructs_of_one<'a>(
     Ok(())
 }
 
-#[tactic(auto, using(crate::proofs::Lists::length_sorts_of))]
+#[tactic(auto, using(crate::proofs::Lists::length_types_of))]
 fn arity(args: &[Ty]) -> usize
     ensures { result ≡ length (hlds_types_of args.now) }
 {

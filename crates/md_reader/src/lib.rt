@@ -24,10 +24,4 @@ pub use reading::read;
 pub use refused::Refused;
 
 #[cfg(test)]
-mod end_tests;
-#[cfg(test)]
-mod limit_tests;
-#[cfg(test)]
-mod long_tests;
-#[cfg(test)]
 mod tests;

@@ -127,25 +127,32 @@ fn take_written(input: &mut Input<'_>, written: Written<'_>) -> Result<PredName,
     Ok(name)
 }
 
-/// Takes the name of a predicate that is declared: it isn't qualified by `io`.
+/// Takes the name of a predicate that is declared: it is of no module that the builtin goals are of.
 #[tactic(auto, unfolding(crate::specs::Rules::declared_name))]
 pub(crate) fn declared_name(input: &mut Input<'_>) -> Result<PredName, Refusal>
     ensures { Reads (λ name. name) (spec.declared_name (input_of input.old)) result (input_of input.new) }
 {
     match name_in(input.token()) {
         None => Err(input.refuse()),
-        Some(written) if is_io(written.qualifier) => Err(input.refuse()),
+        Some(written) if is_of_library(written.qualifier) => Err(input.refuse()),
         Some(written) => take_written(input, written),
     }
 }
 
-fn is_io(qualifier: Option<&[u8]>) -> bool
-    ensures { result ≡ spec.is_io (option_map (λ q. q.now) qualifier.entry) }
+fn is_of_library(qualifier: Option<&[u8]>) -> bool
+    ensures { result ≡ spec.is_of_library (option_map (λ q. q.now) qualifier.entry) }
 {
     match qualifier {
         None => false,
-        Some(qualifier) => is_word(qualifier, "io"),
+        Some(qualifier) => is_library(qualifier),
     }
+}
+
+/// Whether the builtin goals are of the module of this name.
+pub(crate) fn is_library(name: &[u8]) -> bool
+    ensures { result ≡ spec.is_library name.now }
+{
+    is_word(name, "io") || is_word(name, "require")
 }
 
 /// Takes that name once more, at the head of its clause.

@@ -6,12 +6,13 @@ ghost use Rattle.md_reader.specs.Rules as spec;
 ghost use Rattle.md_reader.specs.Views.{draft_of};
 
 use crate::input::Input;
+use crate::names::is_library;
 use crate::procedure::procedure;
 use crate::refused::Refusal;
-use crate::types::family;
+use crate::types::type_definition;
 use md_base::{Name, NoMemory};
 use md_hlds::{Pred, Program, TypeDef};
-use md_token::{Kind, is_word};
+use md_token::Kind;
 
 /// A program, as far as it was read.
 #[derive(Drop)]
@@ -76,7 +77,7 @@ fn module_name(input: &mut Input<'_>) -> Result<Name, Refusal>
     ensures { Reads (λ name. name) (spec.module_name (input_of input.old)) result (input_of input.new) }
 {
     let token = input.token();
-    if !is_name(token.kind) || is_word(token.text, "io") {
+    if !is_name(token.kind) || is_library(token.text) {
         return Err(input.refuse());
     }
     let name = input.take_name(token.text)?;
@@ -124,7 +125,7 @@ fn declared(input: &mut Input<'_>, draft: &mut Draft) -> Result<(), Refusal>
     if input.sees(Kind::Pred) {
         declared_procedure(input, draft, line)
     } else {
-        declared_family(input, draft, line)
+        declared_type_definition(input, draft, line)
     }
 }
 
@@ -137,11 +138,15 @@ fn declared_procedure(input: &mut Input<'_>, draft: &mut Draft, line: u32) -> Re
     Ok(())
 }
 
-#[tactic(auto, unfolding(crate::specs::Rules::declared_family))]
-fn declared_family(input: &mut Input<'_>, draft: &mut Draft, line: u32) -> Result<(), Refusal>
-    ensures { Reads (λ _. draft_of draft.new) (spec.declared_family (draft_of draft.old) line (input_of input.old)) result (input_of input.new) }
+#[tactic(auto, unfolding(crate::specs::Rules::declared_type_definition))]
+fn declared_type_definition(
+    input: &mut Input<'_>,
+    draft: &mut Draft,
+    line: u32,
+) -> Result<(), Refusal>
+    ensures { Reads (λ _. draft_of draft.new) (spec.declared_type_definition (draft_of draft.old) line (input_of input.old)) result (input_of input.new) }
 {
-    let family = family(input, line)?;
-    draft.types.push(family)?;
+    let type_definition = type_definition(input, line)?;
+    draft.types.push(type_definition)?;
     Ok(())
 }

@@ -11,9 +11,9 @@ use md_hlds::{Functor, Ty, TypeDef};
 use md_token::{Kind, is_word};
 
 /// Takes a type that is no higher-order one.
-#[tactic(auto, unfolding(crate::specs::Rules::sort))]
-pub(crate) fn sort(input: &mut Input<'_>) -> Result<Ty, Refusal>
-    ensures { Reads hlds_type_of (spec.sort (input_of input.old)) result (input_of input.new) }
+#[tactic(auto, unfolding(crate::specs::Rules::simple_type))]
+pub(crate) fn simple_type(input: &mut Input<'_>) -> Result<Ty, Refusal>
+    ensures { Reads hlds_type_of (spec.simple_type (input_of input.old)) result (input_of input.new) }
 {
     if !input.sees(Kind::Name) {
         return Err(input.refuse());
@@ -34,32 +34,32 @@ pub(crate) fn sort(input: &mut Input<'_>) -> Result<Ty, Refusal>
 
 /// Takes one or more types, and `)`.
 #[tactic(auto, unfolding(crate::specs::Input::input_of))]
-pub(crate) fn sorts(input: &mut Input<'_>) -> Result<Vec<Ty>, Refusal>
-    ensures { Reads (λ sorts. hlds_types_of sorts.items) (spec.sorts (input_of input.old)) result (input_of input.new) }
+pub(crate) fn simple_types(input: &mut Input<'_>) -> Result<Vec<Ty>, Refusal>
+    ensures { Reads (λ types. hlds_types_of types.items) (spec.simple_types (input_of input.old)) result (input_of input.new) }
 {
-    sorts_at_most(input, MOST)
+    simple_types_at_most(input, MOST)
 }
 
-fn sorts_at_most(input: &mut Input<'_>, count: usize) -> Result<Vec<Ty>, Refusal>
-    ensures { Reads (λ sorts. hlds_types_of sorts.items) (spec.sorts_from count [] (input_of input.old)) result (input_of input.new) }
+fn simple_types_at_most(input: &mut Input<'_>, count: usize) -> Result<Vec<Ty>, Refusal>
+    ensures { Reads (λ types. hlds_types_of types.items) (spec.simple_types_from count [] (input_of input.old)) result (input_of input.new) }
 {
     let mut found = Vec::new(input.alloc);
     for _turn in 0..count {
-        found.push(sort(input)?)?;
+        found.push(simple_type(input)?)?;
         if !input.eat(Kind::Comma) {
             input.expect(Kind::Close)?;
             return Ok(found);
         }
     }
     let excess = input.limit();
-    sort(input)?;
+    simple_type(input)?;
     Err(excess)
 }
 
 /// Takes the declaration of a type from `type` on. Its line is that of its `:-`.
-#[tactic(auto, unfolding(crate::specs::Rules::family))]
-pub(crate) fn family(input: &mut Input<'_>, line: u32) -> Result<TypeDef, Refusal>
-    ensures { Reads type_def_of (spec.family line (input_of input.old)) result (input_of input.new) }
+#[tactic(auto, unfolding(crate::specs::Rules::type_definition))]
+pub(crate) fn type_definition(input: &mut Input<'_>, line: u32) -> Result<TypeDef, Refusal>
+    ensures { Reads type_def_of (spec.type_definition line (input_of input.old)) result (input_of input.new) }
 {
     input.word("type")?;
     let name = type_name(input)?;
@@ -116,10 +116,10 @@ fn functor(input: &mut Input<'_>) -> Result<Functor, Refusal>
 
 #[tactic(auto, unfolding(crate::specs::Rules::functor_arguments))]
 fn functor_arguments(input: &mut Input<'_>) -> Result<Vec<Ty>, Refusal>
-    ensures { Reads (λ sorts. hlds_types_of sorts.items) (spec.functor_arguments (input_of input.old)) result (input_of input.new) }
+    ensures { Reads (λ types. hlds_types_of types.items) (spec.functor_arguments (input_of input.old)) result (input_of input.new) }
 {
     if !input.eat(Kind::Open) {
         return Ok(Vec::new(input.alloc));
     }
-    sorts(input)
+    simple_types(input)
 }

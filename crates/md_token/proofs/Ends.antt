@@ -2,9 +2,9 @@
 use Rattle.std.proofs.Common.{◌≡◌, ℕ, zero, suc, List, [], ◌∷◌, refl, Bool, true, false, ◌&&◌, ◌⊎◌, inl, inr}
 use Rattle.md_token.specs.declared.kind.Kind.{Kind}
 use Rattle.md_token.specs.declared.kind.Kind.TheVariants as kind
-use Rattle.md_token.specs.declared.scan.Front.{Front}
-use Rattle.md_token.specs.declared.scan.Front.TheVariants as front
-use Rattle.md_token.specs.Token.{Lexeme, lexemes, tokens_of, put, front_at, more_of, line_past}
+use Rattle.md_token.specs.declared.scan.Prefix.{Prefix}
+use Rattle.md_token.specs.declared.scan.Prefix.TheVariants as prefix
+use Rattle.md_token.specs.Token.{Lexeme, lexemes, tokens_of, put, prefix_at, more_of, line_past}
 
 abbrev pub is_final : Kind → Bool
 is_final kind.Stop = true
@@ -23,15 +23,15 @@ abbrev pub HasEnd : List Lexeme → Type 0
 HasEnd [] = ⊥
 HasEnd (t ∷ ts) = (is_end t ≡ true) ⊎ HasEnd ts
 
-put_end : (line b : ℕ) (bytes : List ℕ) (f : Front) (later : List Lexeme) → HasEnd later → HasEnd (put line b bytes f later)
-put_end line b bytes (front.Gap more) later h = h
-put_end line b bytes (front.Piece k more) later h = inr h
-put_end line b bytes front.Unknown later h = inl refl
+put_end : (line b : ℕ) (bytes : List ℕ) (f : Prefix) (later : List Lexeme) → HasEnd later → HasEnd (put line b bytes f later)
+put_end line b bytes (prefix.Gap more) later h = h
+put_end line b bytes (prefix.Piece k more) later h = inr h
+put_end line b bytes prefix.Unknown later h = inl refl
 
 lexemes_end : (skip line : ℕ) (text : List ℕ) → HasEnd (lexemes skip line text)
 lexemes_end skip line [] = inl refl
 lexemes_end (suc skip) line (b ∷ bytes) = lexemes_end skip line bytes
-lexemes_end zero line (b ∷ bytes) = put_end line b bytes (front_at b bytes) _ (lexemes_end (more_of (front_at b bytes)) (line_past (front_at b bytes) b line) bytes)
+lexemes_end zero line (b ∷ bytes) = put_end line b bytes (prefix_at b bytes) _ (lexemes_end (more_of (prefix_at b bytes)) (line_past (prefix_at b bytes) b line) bytes)
 
 pub tokens_end : (text : List ℕ) → HasEnd (tokens_of text)
 unfolding tokens_of

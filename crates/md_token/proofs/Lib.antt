@@ -1,5 +1,8 @@
+pub mod Cuts
 pub mod Ends
+pub mod Found
 pub mod Literals
+pub mod Longest
 pub mod Proper
 pub mod Scans
 pub mod Spelled

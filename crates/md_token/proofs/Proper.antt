@@ -8,10 +8,10 @@ use Rattle.std.specs.Str.{bytes_eq}
 use Rattle.std.proofs.lemmas.Slice.Eq.{bytes_eq-Decides}
 use Rattle.md_token.specs.declared.kind.Kind.{Kind}
 use Rattle.md_token.specs.declared.kind.Kind.TheVariants as kind
-use Rattle.md_token.specs.declared.scan.Front.{Front}
-use Rattle.md_token.specs.declared.scan.Front.TheVariants as front
+use Rattle.md_token.specs.declared.scan.Prefix.{Prefix}
+use Rattle.md_token.specs.declared.scan.Prefix.TheVariants as prefix
 use Rattle.md_token.specs.declared.string.Within.TheVariants as within
-use Rattle.md_token.specs.Token.{Lexeme, is_blank, is_percent, is_in_line, is_word_byte, word_kind, qualifies, name_at, variable_at, string_at, string_end, ends, single_at, colon_at, dash_at, sign_at, token_at, front_of_token, front_at, more_of, line_past, put, lexemes, tokens_of}
+use Rattle.md_token.specs.Token.{Lexeme, is_blank, is_percent, is_in_line, is_word_byte, word_kind, qualifies, name_at, variable_at, string_at, string_end, ends, single_at, colon_at, dash_at, sign_at, token_at, prefix_of_token, prefix_at, more_of, line_past, put, lexemes, tokens_of}
 use Rattle.md_token.proofs.Ends.{is_final}
 
 -- ---- tokens as texts have them
@@ -172,14 +172,14 @@ token_next b bytes p e = by (is_ascii_lowercase b) refl
     by true h = name_next b bytes p (some_is (name_at b bytes) (sym (lowered b bytes h) ∙ e))
     by false h = even_next b bytes p h (sym (ap finds_odd e) ∙ other_even b bytes h)
 
-piece_next : (b : ℕ) (bytes : List ℕ) (k : Kind) (n : ℕ) → front_at b bytes ≡ front.Piece k n → IsNext b bytes k n
-unfolding front_at
+piece_next : (b : ℕ) (bytes : List ℕ) (k : Kind) (n : ℕ) → prefix_at b bytes ≡ prefix.Piece k n → IsNext b bytes k n
+unfolding prefix_at
 piece_next b bytes k n e = by (is_blank b) (is_percent b) (token_at b bytes) refl e
   where
-    some_piece : (p : Kind × ℕ) → front.Piece p.0 p.1 ≡ front.Piece k n → p ≡ (k, n)
+    some_piece : (p : Kind × ℕ) → prefix.Piece p.0 p.1 ≡ prefix.Piece k n → p ≡ (k, n)
     some_piece p h = let a : p.0 ≡ k = cc in let c : p.1 ≡ n = cc in rw (← a, ← c) refl
 
-    by : (x y : Bool) (o : Option (Kind × ℕ)) → token_at b bytes ≡ o → cond x (front.Gap 0) (cond y (front.Gap (prefix_len is_in_line bytes)) (front_of_token o)) ≡ front.Piece k n → IsNext b bytes k n
+    by : (x y : Bool) (o : Option (Kind × ℕ)) → token_at b bytes ≡ o → cond x (prefix.Gap 0) (cond y (prefix.Gap (prefix_len is_in_line bytes)) (prefix_of_token o)) ≡ prefix.Piece k n → IsNext b bytes k n
     by true y o t h = absurd (cc)
     by false true o t h = absurd (cc)
     by false false None t h = absurd (cc)
@@ -198,26 +198,26 @@ AreOfText ts = AreProper ts × EndsLast ts
 last_proper : (k : Kind) (line : ℕ) → is_reserved k ≡ false → IsProper (record { kind = k; text = []; line = line })
 last_proper k line e = record { word = λ h. absurd (cc); reserved = λ h. absurd (let q = sym h ∙ e in cc) }
 
-put_proper : (line b : ℕ) (bytes : List ℕ) (f : Front) (later : List Lexeme) → front_at b bytes ≡ f → AreOfText later → AreOfText (put line b bytes f later)
-put_proper line b bytes (front.Gap more) later e h = h
-put_proper line b bytes (front.Piece k more) later e h =
+put_proper : (line b : ℕ) (bytes : List ℕ) (f : Prefix) (later : List Lexeme) → prefix_at b bytes ≡ f → AreOfText later → AreOfText (put line b bytes f later)
+put_proper line b bytes (prefix.Gap more) later e h = h
+put_proper line b bytes (prefix.Piece k more) later e h =
     let p = piece_next b bytes k more e in
     ((record { word = p.0; reserved = p.1 }, h.0), (λ q. absurd (let r = sym q ∙ p.2 in cc), h.1))
-put_proper line b bytes front.Unknown later e h = ((last_proper kind.Bad line refl, tt), (λ q. refl, tt))
+put_proper line b bytes prefix.Unknown later e h = ((last_proper kind.Bad line refl, tt), (λ q. refl, tt))
 
 lexemes_proper : (skip line : ℕ) (text : List ℕ) → AreOfText (lexemes skip line text)
 lexemes_proper skip line [] = ((last_proper kind.Stop line refl, tt), (λ q. refl, tt))
 lexemes_proper (suc skip) line (b ∷ bytes) = lexemes_proper skip line bytes
-lexemes_proper zero line (b ∷ bytes) = put_proper line b bytes (front_at b bytes) _ refl (lexemes_proper (more_of (front_at b bytes)) (line_past (front_at b bytes) b line) bytes)
+lexemes_proper zero line (b ∷ bytes) = put_proper line b bytes (prefix_at b bytes) _ refl (lexemes_proper (more_of (prefix_at b bytes)) (line_past (prefix_at b bytes) b line) bytes)
 
 pub tokens_proper : (text : List ℕ) → AreProper (tokens_of text)
 unfolding tokens_of
 tokens_proper text = (lexemes_proper 0 1 text).0
 
-end_last : (front later : List Lexeme) (t : Lexeme) → EndsLast (front ++ t ∷ later) → is_final t.kind ≡ true → later ≡ []
+end_last : (prefix later : List Lexeme) (t : Lexeme) → EndsLast (prefix ++ t ∷ later) → is_final t.kind ≡ true → later ≡ []
 end_last [] later t h e = h.0 e
-end_last (u ∷ front) later t h e = end_last front later t h.1 e
+end_last (u ∷ prefix) later t h e = end_last prefix later t h.1 e
 
-pub tokens_last : (text : List ℕ) (front later : List Lexeme) (t : Lexeme) → tokens_of text ≡ front ++ t ∷ later → is_final t.kind ≡ true → later ≡ []
+pub tokens_last : (text : List ℕ) (prefix later : List Lexeme) (t : Lexeme) → tokens_of text ≡ prefix ++ t ∷ later → is_final t.kind ≡ true → later ≡ []
 unfolding tokens_of
-tokens_last text front later t e f = end_last front later t (subst EndsLast e (lexemes_proper 0 1 text).1) f
+tokens_last text prefix later t e f = end_last prefix later t (subst EndsLast e (lexemes_proper 0 1 text).1) f

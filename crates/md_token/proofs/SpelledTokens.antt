@@ -9,11 +9,11 @@ use Rattle.std.specs.List.{prefix_len}
 use Rattle.std.specs.Char.{is_ascii_digit, is_ascii_uppercase, is_ascii_lowercase}
 use Rattle.md_token.specs.declared.kind.Kind.{Kind}
 use Rattle.md_token.specs.declared.kind.Kind.TheVariants as kind
-use Rattle.md_token.specs.declared.scan.Front.{Front}
-use Rattle.md_token.specs.declared.scan.Front.TheVariants as front
+use Rattle.md_token.specs.declared.scan.Prefix.{Prefix}
+use Rattle.md_token.specs.declared.scan.Prefix.TheVariants as prefix
 use Rattle.md_token.specs.declared.string.Within.TheVariants as within
 use Rattle.md_token.specs.Literal.{inside}
-use Rattle.md_token.specs.Token.{Lexeme, lexemes, tokens_of, put, more_of, line_past, front_at, front_of_token, token_at, name_at, variable_at, string_at, string_end, sign_at, single_at, colon_at, dash_at, ends, qualifies, word_kind, is_word_byte, is_blank, is_percent}
+use Rattle.md_token.specs.Token.{Lexeme, lexemes, tokens_of, put, more_of, line_past, prefix_at, prefix_of_token, token_at, name_at, variable_at, string_at, string_end, sign_at, single_at, colon_at, dash_at, ends, qualifies, word_kind, is_word_byte, is_blank, is_percent}
 use Rattle.md_token.proofs.Spelled.{Reads}
 use Rattle.md_token.proofs.SpelledWords.{AllPass, taken_pass, drop_one_more, lower_is_word, reads_name, reads_qualified, reads_variable}
 use Rattle.md_token.proofs.SpelledTexts.{Writes, written, inside_written}
@@ -45,7 +45,7 @@ abbrev pub AllFine : List Lexeme → Type 0
 AllFine [] = ⊤
 AllFine (t ∷ ts) = Fine t.kind t.text × AllFine ts
 
-both : {A : Type 0} (P : A → Type 0) (b : Bool) (x y : A) → (b ≡ true → P x) → (b ≡ false → P y) → P (cond b x y)
+pub both : {A : Type 0} (P : A → Type 0) (b : Bool) (x y : A) → (b ≡ true → P x) → (b ≡ false → P y) → P (cond b x y)
 both P true x y f g = f refl
 both P false x y f g = g refl
 
@@ -164,31 +164,31 @@ token_fine b bytes =
     both (OptionFine b bytes) (is_ascii_digit b) _ _ (λ _. OptionFine.found kind.Integer _ tt) (λ _.
     both (OptionFine b bytes) (b == 34) _ _ (λ _. string_fine b bytes) (λ _. sign_fine b bytes))))
 
-data FrontFine (b : ℕ) (bytes : List ℕ) : Front → Type 0 where
-  gap : (more : ℕ) → FrontFine b bytes (front.Gap more)
-  piece : (k : Kind) (more : ℕ) → Fine k (b ∷ take more bytes) → FrontFine b bytes (front.Piece k more)
-  unknown : FrontFine b bytes front.Unknown
+data PrefixFine (b : ℕ) (bytes : List ℕ) : Prefix → Type 0 where
+  gap : (more : ℕ) → PrefixFine b bytes (prefix.Gap more)
+  piece : (k : Kind) (more : ℕ) → Fine k (b ∷ take more bytes) → PrefixFine b bytes (prefix.Piece k more)
+  unknown : PrefixFine b bytes prefix.Unknown
 
-of_token_fine : (b : ℕ) (bytes : List ℕ) (o : Option (Kind × ℕ)) → OptionFine b bytes o → FrontFine b bytes (front_of_token o)
-of_token_fine b bytes _ OptionFine.nothing = FrontFine.unknown
-of_token_fine b bytes _ (OptionFine.found k n h) = FrontFine.piece k n h
+of_token_fine : (b : ℕ) (bytes : List ℕ) (o : Option (Kind × ℕ)) → OptionFine b bytes o → PrefixFine b bytes (prefix_of_token o)
+of_token_fine b bytes _ OptionFine.nothing = PrefixFine.unknown
+of_token_fine b bytes _ (OptionFine.found k n h) = PrefixFine.piece k n h
 
-front_fine : (b : ℕ) (bytes : List ℕ) → FrontFine b bytes (front_at b bytes)
-unfolding front_at
-front_fine b bytes =
-    both (FrontFine b bytes) (is_blank b) _ _ (λ _. FrontFine.gap _) (λ _.
-    both (FrontFine b bytes) (is_percent b) _ _ (λ _. FrontFine.gap _) (λ _. of_token_fine b bytes (token_at b bytes) (token_fine b bytes)))
+prefix_fine : (b : ℕ) (bytes : List ℕ) → PrefixFine b bytes (prefix_at b bytes)
+unfolding prefix_at
+prefix_fine b bytes =
+    both (PrefixFine b bytes) (is_blank b) _ _ (λ _. PrefixFine.gap _) (λ _.
+    both (PrefixFine b bytes) (is_percent b) _ _ (λ _. PrefixFine.gap _) (λ _. of_token_fine b bytes (token_at b bytes) (token_fine b bytes)))
 
-put_fine : (line b : ℕ) (bytes : List ℕ) (f : Front) (later : List Lexeme) → FrontFine b bytes f → AllFine later → AllFine (put line b bytes f later)
-put_fine line b bytes _ later (FrontFine.gap more) a = a
-put_fine line b bytes _ later (FrontFine.piece k more h) a = (h, a)
-put_fine line b bytes _ later FrontFine.unknown a = (tt, tt)
+put_fine : (line b : ℕ) (bytes : List ℕ) (f : Prefix) (later : List Lexeme) → PrefixFine b bytes f → AllFine later → AllFine (put line b bytes f later)
+put_fine line b bytes _ later (PrefixFine.gap more) a = a
+put_fine line b bytes _ later (PrefixFine.piece k more h) a = (h, a)
+put_fine line b bytes _ later PrefixFine.unknown a = (tt, tt)
 
 lexemes_fine : (skip line : ℕ) (bytes : List ℕ) → AllFine (lexemes skip line bytes)
 lexemes_fine skip line [] = (tt, tt)
 lexemes_fine (suc skip) line (b ∷ bytes) = lexemes_fine skip line bytes
 lexemes_fine zero line (b ∷ bytes) =
-    put_fine line b bytes (front_at b bytes) _ (front_fine b bytes) (lexemes_fine (more_of (front_at b bytes)) (line_past (front_at b bytes) b line) bytes)
+    put_fine line b bytes (prefix_at b bytes) _ (prefix_fine b bytes) (lexemes_fine (more_of (prefix_at b bytes)) (line_past (prefix_at b bytes) b line) bytes)
 
 pub tokens_fine : (text : List ℕ) → AllFine (tokens_of text)
 unfolding tokens_of

@@ -1,5 +1,5 @@
 -- Names, variables and integers that are read as themselves.
-use Rattle.std.specs.Prelude.{⊤, decimal}
+use Rattle.std.specs.Prelude.{decimal}
 use Rattle.std.proofs.Common.{◌≡◌, ℕ, suc, ◌+◌, ◌*◌, ◌<◌, ◌/◌, ◌%◌, ◌^◌, Bool, true, false, cond, ◌&&◌, ◌||◌, ◌==◌, Some, List, [], ◌∷◌, ◌++◌, length, take, drop, refl, ap, ◌∙◌, append_assoc, arith, add-one}
 use Rattle.std.proofs.Math.Seq.{take-append_seam, drop-append_seam}
 use Rattle.std.proofs.lemmas.List.{length-append}
@@ -9,13 +9,9 @@ use Rattle.std.specs.List.{prefix_len}
 use Rattle.std.specs.Char.{is_ascii_digit, is_ascii_uppercase, is_ascii_lowercase}
 use Rattle.md_token.specs.declared.kind.Kind.TheVariants as kind
 use Rattle.md_token.specs.Literal.{number_of, with_digit}
-use Rattle.md_token.specs.Token.{front_at, front_of_token, token_at, name_at, variable_at, word_kind, is_word_byte, is_blank, is_percent}
+use Rattle.md_token.specs.Token.{prefix_at, prefix_of_token, token_at, name_at, variable_at, word_kind, is_word_byte, is_blank, is_percent}
+pub use Rattle.md_token.specs.Spelling.{AllPass}
 use Rattle.md_token.proofs.Spelled.{Reads}
-
--- each byte passes a test
-abbrev pub AllPass : (ℕ → Bool) → List ℕ → Type 0
-AllPass p [] = ⊤
-AllPass p (b ∷ w) = (p b ≡ true) × AllPass p w
 
 pub pass_append : (p : ℕ → Bool) (v w : List ℕ) → AllPass p v → AllPass p w → AllPass p (v ++ w)
 pass_append p [] w a c = c
@@ -35,14 +31,14 @@ taken_pass p (b ∷ bytes) = taken_by p b bytes bytes (prefix_len p bytes) (p b)
 
 -- ---- names
 
-past_blanks : (b : ℕ) (bytes : List ℕ) → 37 < b → front_at b bytes ≡ front_of_token (token_at b bytes)
-unfolding front_at
+past_blanks : (b : ℕ) (bytes : List ℕ) → 37 < b → prefix_at b bytes ≡ prefix_of_token (token_at b bytes)
+unfolding prefix_at
 past_blanks b bytes h =
     let e : is_blank b ≡ false = grind arith in
     let f : is_percent b ≡ false = grind arith in
     rw (e, f) refl
 
-lower_is_late : (b : ℕ) → is_ascii_lowercase b ≡ true → 37 < b
+pub lower_is_late : (b : ℕ) → is_ascii_lowercase b ≡ true → 37 < b
 lower_is_late b h = grind arith
 
 pub lower_is_word : (b : ℕ) → is_ascii_lowercase b ≡ true → is_word_byte b ≡ true
@@ -52,7 +48,7 @@ named : (b : ℕ) (w rest : List ℕ) → AllPass is_word_byte w → name_at b (
 unfolding name_at
 named b w rest a = rw (prefix_of is_word_byte w 32 rest a refl, drop-append_seam w (32 ∷ rest), take-append_seam w (32 ∷ rest)) refl
 
-at_lower : (b : ℕ) (bytes : List ℕ) → is_ascii_lowercase b ≡ true → front_at b bytes ≡ front_of_token (Some (name_at b bytes))
+at_lower : (b : ℕ) (bytes : List ℕ) → is_ascii_lowercase b ≡ true → prefix_at b bytes ≡ prefix_of_token (Some (name_at b bytes))
 unfolding token_at
 at_lower b bytes h = past_blanks b bytes (lower_is_late b h) ∙ rw h refl
 
@@ -61,7 +57,7 @@ reads_name b w h a = record {
   head = b;
   tail = w;
   whole = refl;
-  front = λ rest. at_lower b (w ++ 32 ∷ rest) h ∙ rw (named b w rest a) refl;
+  prefix = λ rest. at_lower b (w ++ 32 ∷ rest) h ∙ rw (named b w rest a) refl;
 }
 
 qualified_length : (v w : List ℕ) (c : ℕ) → length v + 1 + (1 + length w) ≡ length (v ++ 46 ∷ c ∷ w)
@@ -91,21 +87,21 @@ reads_qualified b c v w h a g d = record {
   head = b;
   tail = v ++ 46 ∷ c ∷ w;
   whole = refl;
-  front = λ rest.
+  prefix = λ rest.
       at_lower b ((v ++ 46 ∷ c ∷ w) ++ 32 ∷ rest) h
       ∙ rw (append_assoc v (46 ∷ c ∷ w) (32 ∷ rest), qualified_at b c v w rest a g d, qualified_length v w c) refl;
 }
 
 -- ---- variables
 
-upper_is_late : (b : ℕ) → (is_ascii_uppercase b || b == 95) ≡ true → (37 < b) × (is_ascii_lowercase b ≡ false)
+pub upper_is_late : (b : ℕ) → (is_ascii_uppercase b || b == 95) ≡ true → (37 < b) × (is_ascii_lowercase b ≡ false)
 upper_is_late b h = (grind arith, grind arith)
 
 variable_from : (b : ℕ) (w rest : List ℕ) → AllPass is_word_byte w → (b == 95 && length w == 0) ≡ false → variable_at b (w ++ 32 ∷ rest) ≡ Some (kind.Variable, length w)
 unfolding variable_at
 variable_from b w rest a e = rw (prefix_of is_word_byte w 32 rest a refl, e) refl
 
-at_upper : (b : ℕ) (bytes : List ℕ) → (is_ascii_uppercase b || b == 95) ≡ true → front_at b bytes ≡ front_of_token (variable_at b bytes)
+at_upper : (b : ℕ) (bytes : List ℕ) → (is_ascii_uppercase b || b == 95) ≡ true → prefix_at b bytes ≡ prefix_of_token (variable_at b bytes)
 unfolding token_at
 at_upper b bytes h = let l = upper_is_late b h in past_blanks b bytes l.0 ∙ rw (l.1, h) refl
 
@@ -114,7 +110,7 @@ reads_variable b w h a e = record {
   head = b;
   tail = w;
   whole = refl;
-  front = λ rest. at_upper b (w ++ 32 ∷ rest) h ∙ ap front_of_token (variable_from b w rest a e);
+  prefix = λ rest. at_upper b (w ++ 32 ∷ rest) h ∙ ap prefix_of_token (variable_from b w rest a e);
 }
 
 -- ---- integers
@@ -134,10 +130,10 @@ decimal_digits =
     (λ n h. digits (48 + n) [] (digit_of n h) tt)
     (λ n ds h before. more_digits ds (48 + n % 10) (digit_of (n % 10) (omega arith)) before)
 
-digit_is_late : (b : ℕ) → is_ascii_digit b ≡ true → (37 < b) × (is_ascii_lowercase b ≡ false) × ((is_ascii_uppercase b || b == 95) ≡ false)
+pub digit_is_late : (b : ℕ) → is_ascii_digit b ≡ true → (37 < b) × (is_ascii_lowercase b ≡ false) × ((is_ascii_uppercase b || b == 95) ≡ false)
 digit_is_late b h = (grind arith, grind arith, grind arith)
 
-at_digit : (b : ℕ) (bytes : List ℕ) → is_ascii_digit b ≡ true → front_at b bytes ≡ front_of_token (Some (kind.Integer, prefix_len is_ascii_digit bytes))
+at_digit : (b : ℕ) (bytes : List ℕ) → is_ascii_digit b ≡ true → prefix_at b bytes ≡ prefix_of_token (Some (kind.Integer, prefix_len is_ascii_digit bytes))
 unfolding token_at
 at_digit b bytes h = let l = digit_is_late b h in past_blanks b bytes l.0 ∙ rw (l.1, l.2, h) refl
 
@@ -146,7 +142,7 @@ reads_digits _ (digits b w h a) = record {
   head = b;
   tail = w;
   whole = refl;
-  front = λ rest. at_digit b (w ++ 32 ∷ rest) h ∙ rw (prefix_of is_ascii_digit w 32 rest a refl) refl;
+  prefix = λ rest. at_digit b (w ++ 32 ∷ rest) h ∙ rw (prefix_of is_ascii_digit w 32 rest a refl) refl;
 }
 
 next_number : (n m : ℕ) (ds : List ℕ) → n < 10 → number_of ds ≡ m → number_of (ds ++ (48 + n) ∷ []) ≡ 10 * m + n

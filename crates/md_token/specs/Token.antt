@@ -1,12 +1,12 @@
--- The tokens of a text, with their lines. At each place the longest token is taken.
+-- The tokens of a text with their lines, found by going along its bytes. That they are what `Spelling` says is proved.
 use Rattle.std.specs.Prelude.{ℕ, zero, suc, ◌+◌, Bool, true, false, not, ◌&&◌, ◌||◌, ◌==◌, nat_le, if◌then◌else◌, List, [], ◌∷◌, take, drop, map, slice_index, Option, Some, None, option_map, codes}
 use Rattle.std.specs.List.{prefix_len}
 use Rattle.std.specs.Char.{is_ascii_digit, is_ascii_uppercase, is_ascii_lowercase, is_ascii_alphanumeric}
 use Rattle.std.specs.Str.{bytes_eq}
 use Rattle.md_token.specs.declared.kind.Kind.{Kind}
 use Rattle.md_token.specs.declared.kind.Kind.TheVariants as kind
-use Rattle.md_token.specs.declared.scan.Front.{Front}
-use Rattle.md_token.specs.declared.scan.Front.TheVariants as front
+use Rattle.md_token.specs.declared.scan.Prefix.{Prefix}
+use Rattle.md_token.specs.declared.scan.Prefix.TheVariants as prefix
 use Rattle.md_token.specs.declared.string.Within.{Within}
 use Rattle.md_token.specs.declared.string.Within.TheVariants as within
 use Rattle.md_token.specs.declared.token.Token.{Token}
@@ -151,41 +151,41 @@ token_at b bytes =
     else if b == 34 then string_at bytes
     else sign_at b bytes
 
-abbrev pub front_of_token : Option (Kind × ℕ) → Front
-front_of_token None = front.Unknown
-front_of_token (Some found) = front.Piece found.0 found.1
+abbrev pub prefix_of_token : Option (Kind × ℕ) → Prefix
+prefix_of_token None = prefix.Unknown
+prefix_of_token (Some found) = prefix.Piece found.0 found.1
 
 -- what a text begins with: white space or a comment, or a token, of so many bytes after the first; or bytes that make
 -- no token
-unfoldable pub front_at : ℕ → List ℕ → Front
-front_at b bytes =
-    if is_blank b then front.Gap 0
-    else if is_percent b then front.Gap (prefix_len is_in_line bytes)
-    else front_of_token (token_at b bytes)
+unfoldable pub prefix_at : ℕ → List ℕ → Prefix
+prefix_at b bytes =
+    if is_blank b then prefix.Gap 0
+    else if is_percent b then prefix.Gap (prefix_len is_in_line bytes)
+    else prefix_of_token (token_at b bytes)
 
-abbrev pub more_of : Front → ℕ
-more_of (front.Gap more) = more
-more_of (front.Piece k more) = more
-more_of front.Unknown = 0
+abbrev pub more_of : Prefix → ℕ
+more_of (prefix.Gap more) = more
+more_of (prefix.Piece k more) = more
+more_of prefix.Unknown = 0
 
--- a front, before the tokens of what comes later
-abbrev pub put : (line b : ℕ) → List ℕ → Front → List Lexeme → List Lexeme
-put line b bytes (front.Gap more) later = later
-put line b bytes (front.Piece k more) later = record { kind = k; text = b ∷ take more bytes; line = line } ∷ later
-put line b bytes front.Unknown later = record { kind = kind.Bad; text = []; line = line } ∷ []
+-- a prefix, before the tokens of what comes later
+abbrev pub put : (line b : ℕ) → List ℕ → Prefix → List Lexeme → List Lexeme
+put line b bytes (prefix.Gap more) later = later
+put line b bytes (prefix.Piece k more) later = record { kind = k; text = b ∷ take more bytes; line = line } ∷ later
+put line b bytes prefix.Unknown later = record { kind = kind.Bad; text = []; line = line } ∷ []
 
--- the line past a front that begins with b on a line
-abbrev pub line_past : Front → ℕ → ℕ → ℕ
-line_past (front.Gap more) b line = if b == 10 then line + 1 else line
-line_past (front.Piece k more) b line = line
-line_past front.Unknown b line = line
+-- the line past a prefix that begins with b on a line
+abbrev pub line_past : Prefix → ℕ → ℕ → ℕ
+line_past (prefix.Gap more) b line = if b == 10 then line + 1 else line
+line_past (prefix.Piece k more) b line = line
+line_past prefix.Unknown b line = line
 
 -- The tokens of a text from a line on, whose first `skip` bytes belong to what went before. Behind the last one stands
 -- Stop, which is the text's end, or Bad, where bytes make no token. No token and no comment has a line feed.
 abbrev pub lexemes : (skip line : ℕ) → List ℕ → List Lexeme
 lexemes skip line [] = record { kind = kind.Stop; text = []; line = line } ∷ []
 lexemes (suc skip) line (b ∷ bytes) = lexemes skip line bytes
-lexemes zero line (b ∷ bytes) = put line b bytes (front_at b bytes) (lexemes (more_of (front_at b bytes)) (line_past (front_at b bytes) b line) bytes)
+lexemes zero line (b ∷ bytes) = put line b bytes (prefix_at b bytes) (lexemes (more_of (prefix_at b bytes)) (line_past (prefix_at b bytes) b line) bytes)
 
 -- the tokens of a whole text
 unfoldable pub tokens_of : List ℕ → List Lexeme

@@ -4,6 +4,7 @@
 
 mod bytes;
 mod kind;
+mod laws;
 mod literal;
 mod scan;
 mod sign;
@@ -15,6 +16,7 @@ mod word;
 
 pub use bytes::word_length;
 pub use kind::{Kind, same_kind};
+pub use laws::a_text_is_cut_in_one_way;
 pub use literal::{number_of, string_value};
 pub use scan::tokens;
 pub use token::Token;

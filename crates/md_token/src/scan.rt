@@ -1,5 +1,6 @@
 // The tokens of a whole text, one after the other.
-ghost use Rattle.std.specs.Prelude.{◌≡◌, ◌≤◌, ◌<◌, ◌+◌, length, drop, slice_index, IfSome, IfOk};
+ghost use Rattle.std.specs.Prelude.{◌≡◌, List, ◌≤◌, ◌<◌, ◌+◌, length, drop, slice_index, IfSome, IfOk};
+ghost use Rattle.md_token.specs.Spelling.{Cut};
 ghost use Rattle.md_token.specs.Token as spec;
 
 use crate::bytes::{digits_length, is_blank, line_length};
@@ -10,10 +11,21 @@ use crate::{Kind, Token};
 use md_base::NoMemory;
 use std::alloc::Global;
 
-/// The tokens of a text. Behind the last one stands `Stop`, the end of the text, or `Bad`, at the first byte of what makes
-/// no token. The text has fewer than 4,294,967,295 bytes.
-#[tactic(auto, unfolding(crate::specs::Token::tokens_of))]
+/// The tokens of a text: how it is cut into tokens, at each place the longest one, and in no other way. Behind the last
+/// one stands `Stop`, the end of the text, or `Bad`, at the first byte of what makes no token. The text has fewer than
+/// 4,294,967,295 bytes.
 pub fn tokens<'a>(alloc: Global, text: &'a [u8]) -> Result<Vec<Token<'a>>, NoMemory>
+    requires { length text.now < 4294967295 }
+    ensures cut { IfOk result (λ found. Cut 1 text.now (spec.lexemes_of found.items)) }
+    ensures no_other { (ts : List spec.Lexeme) → Cut 1 text.now ts → IfOk result (λ found. spec.lexemes_of found.items ≡ ts) }
+    ensures scanned { IfOk result (λ found. spec.lexemes_of found.items ≡ spec.tokens_of text.now) }
+{
+    scanned(alloc, text)
+}
+
+/// The tokens of a text, taken one after the other.
+#[tactic(auto, unfolding(crate::specs::Token::tokens_of))]
+fn scanned<'a>(alloc: Global, text: &'a [u8]) -> Result<Vec<Token<'a>>, NoMemory>
     requires { length text.now < 4294967295 }
     ensures { IfOk result (λ found. spec.lexemes_of found.items ≡ spec.tokens_of text.now) }
 {
@@ -21,20 +33,20 @@ pub fn tokens<'a>(alloc: Global, text: &'a [u8]) -> Result<Vec<Token<'a>>, NoMem
     let mut rest = text;
     let mut line = 1;
     while !rest.is_empty() {
-        match front_at(rest) {
-            Front::Gap(more) => {
+        match prefix_at(rest) {
+            Prefix::Gap(more) => {
                 if rest[0] == b'\n' {
                     line += 1;
                 }
                 let (_, after) = rest.split_at(more + 1);
                 rest = after;
             }
-            Front::Piece(kind, more) => {
+            Prefix::Piece(kind, more) => {
                 let (text, after) = rest.split_at(more + 1);
                 found.push(Token { kind, text, line })?;
                 rest = after;
             }
-            Front::Unknown => {
+            Prefix::Unknown => {
                 found.push(Token {
                     kind: Kind::Bad,
                     text: b"",
@@ -54,7 +66,7 @@ pub fn tokens<'a>(alloc: Global, text: &'a [u8]) -> Result<Vec<Token<'a>>, NoMem
 
 /// What a text begins with.
 #[derive(Clone, Copy)]
-pub(crate) enum Front {
+pub(crate) enum Prefix {
     /// White space or a comment: how many bytes it has after its first.
     Gap(usize),
     /// A token: how many bytes it has after its first.
@@ -64,22 +76,22 @@ pub(crate) enum Front {
 }
 
 /// What a text that isn't empty begins with.
-#[tactic(auto, unfolding(crate::specs::Token::front_at))]
-fn front_at(text: &[u8]) -> Front
+#[tactic(auto, unfolding(crate::specs::Token::prefix_at))]
+fn prefix_at(text: &[u8]) -> Prefix
     requires { 1 ≤ length text.now }
-    ensures front { result ≡ spec.front_at (slice_index text.now 0) (drop 1 text.now) }
+    ensures prefix { result ≡ spec.prefix_at (slice_index text.now 0) (drop 1 text.now) }
     ensures within { spec.more_of result + 1 ≤ length text.now }
 {
     let byte = text[0];
     let (_, bytes) = text.split_at(1);
     if is_blank(byte) {
-        Front::Gap(0)
+        Prefix::Gap(0)
     } else if byte == b'%' {
-        Front::Gap(line_length(bytes))
+        Prefix::Gap(line_length(bytes))
     } else {
         match token_at(text) {
-            None => Front::Unknown,
-            Some((kind, more)) => Front::Piece(kind, more),
+            None => Prefix::Unknown,
+            Some((kind, more)) => Prefix::Piece(kind, more),
         }
     }
 }

@@ -16,7 +16,7 @@ use Rattle.md_reader.proofs.reading.read.Goals as goal
 pub returns-in-Err : goal.returns-in-Err
 unfolding reading
 returns-in-Err c =
-    let e : input_of c.start_input-input.result ≡ start (tokens_of c.args.text.now) = c.start_input-input.ensures ∙ ap start (ap lexemes_of c.deref.ensures.value ∙ c.in_ok-tokens.ensures) in
+    let e : input_of c.start_input-input.result ≡ start (tokens_of c.args.text.now) = c.start_input-input.ensures ∙ ap start (ap lexemes_of c.deref.ensures.value ∙ c.in_ok-tokens.ensures.scanned) in
     let answer : IsAnswer (Err c.refused.result) c.args.text.now = λ n.
     let m : c.in-Err.refusal ≢ refusal.NoMemory = λ h. n (c.refused.ensures ∙ ap refused_of h) in
     rw (rw e at (c.in-Err.ensures m)) (ap Err (sym c.refused.ensures)) in
@@ -34,7 +34,7 @@ returns-in-Err c =
 pub returns-in-None : goal.returns-in-None
 unfolding reading
 returns-in-None c =
-    let e : input_of c.start_input-input.result ≡ start (tokens_of c.args.text.now) = c.start_input-input.ensures ∙ ap start (ap lexemes_of c.deref.ensures.value ∙ c.in_ok-tokens.ensures) in
+    let e : input_of c.start_input-input.result ≡ start (tokens_of c.args.text.now) = c.start_input-input.ensures ∙ ap start (ap lexemes_of c.deref.ensures.value ∙ c.in_ok-tokens.ensures.scanned) in
     let d : duplicate (hlds_of c.in-Ok.program) ≡ None = sym c.in_ok-duplicate-in-Ok.ensures ∙ c.in-None.is in
     let read : reading c.args.text.now ≡ Ok (hlds_of c.in-Ok.program) = rw (rw e at c.in-Ok.ensures, d) refl in
     record {
@@ -51,7 +51,7 @@ returns-in-None c =
 pub returns : goal.returns
 unfolding reading
 returns c =
-    let e : input_of c.start_input-input.result ≡ start (tokens_of c.args.text.now) = c.start_input-input.ensures ∙ ap start (ap lexemes_of c.deref.ensures.value ∙ c.in_ok-tokens.ensures) in
+    let e : input_of c.start_input-input.result ≡ start (tokens_of c.args.text.now) = c.start_input-input.ensures ∙ ap start (ap lexemes_of c.deref.ensures.value ∙ c.in_ok-tokens.ensures.scanned) in
     let d : duplicate (hlds_of c.in-Ok.program) ≡ Some c.in-Some.line = sym c.in_ok-duplicate-in-Ok.ensures ∙ c.in-Some.is in
     let read : reading c.args.text.now ≡ Err (refused.Duplicate c.in-Some.line) = rw (rw e at c.in-Ok.ensures, d) refl in
     record {
