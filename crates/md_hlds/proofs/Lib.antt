@@ -4,4 +4,5 @@ pub mod DepthLemmas
 pub mod ProcedureLemmas
 pub mod SiteLemmas
 pub mod TraceLemmas
+pub mod Rules
 pub mod Worked
