@@ -95,6 +95,20 @@ valid_sound f valid =
       };
     }
 
+-- who calls is there
+pub caller_there : (f : ProfileRows) → IsValid f → (k from : ℕ) (row : LinkRow) → slice_get f.links k ≡ Some row → row.caller ≡ Some from → from < length f.nodes
+caller_there f valid zero from row at called =
+    let root = root_of (slice_get f.links 0) valid.rows.root in
+    let same : root.0 ≡ row = (let e : Some root.0 ≡ Some row = sym root.1 ∙ at in cc) in
+    let none : row.caller ≡ None = rw (← same) root.2.caller in
+    let e : None ≡ Some from = sym none ∙ called in
+    cc
+caller_there f valid (suc p) from row at called =
+    let all = has_all f valid p row at in
+    let e : Some all.start ≡ Some from = sym all.caller ∙ called in
+    let same : all.start ≡ from = cc in
+    rw same at all.start_there
+
 -- each site of a link is there; the root link has none
 sites_there : (f : ProfileRows) → IsValid f → (k : ℕ) (row : LinkRow) → slice_get f.links k ≡ Some row → IfSome row.site (λ s. s < length f.statics.sites)
 sites_there f valid zero row at =

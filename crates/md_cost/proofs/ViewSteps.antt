@@ -25,6 +25,7 @@ use Rattle.md_cost.specs.Tree.{IsTree}
 use Rattle.md_cost.specs.View.{Row, View, OfLink, OfContext, OfClique, OfProcedure, OfSite, OfModule}
 use Rattle.md_cost.specs.FileView.{ArePaths, IsFileView, path_sum, file_own, total_by, total_by_link, total_from}
 use Rattle.md_cost.proofs.PathSteps.{path_stops, path_goes}
+use Rattle.md_cost.proofs.EntrySteps.{entry_there}
 use Rattle.md_cost.proofs.SumSteps.{sum_same}
 use Rattle.md_cost.proofs.ClimbSteps.{entries_rise, start_there, ends_at}
 use Rattle.md_cost.proofs.TreeSteps.{rises, ends_at as end_at, row_at, callees_there}
@@ -105,7 +106,7 @@ module _ (f : ProfileRows) (sound : AreSound (length f.nodes) f.links) (cliques 
     | inr none ↦ omega arith
   ]
 
-  some_cliques : 0 < clique_count cliques
+  pub some_cliques : 0 < clique_count cliques
   some_cliques = let size = tree.cliques_are.each in let some = sound.some_contexts in let lt = lt_clique_count cliques 0 (omega arith) in omega arith
 
   root_entry : get_or found 0 0 ≡ 0
@@ -199,3 +200,38 @@ module _ (f : ProfileRows) (sound : AreSound (length f.nodes) f.links) (cliques 
       ∙ ap (λ (ks : List ℕ). total_by (path_sum is.paths f.links) f ks v.entries row m) (view_cliques v is)
       ∙ ap (λ (es : List ℕ). total_by (path_sum is.paths f.links) f cliques es row m) (view_entries v is)
       ∙ by_same (path_sum is.paths f.links) (path_total cliques found f.links) (path_sum_is is.paths paths) row m
+
+  -- the root link has the total of clique 0
+  pub link_root : (v : View) → IsFileView f v → (p : ℕ) (row : LinkRow) (m : Measure) → slice_get f.links p ≡ Some row → row.caller ≡ None → v.total (OfLink p) m ≡ v.total (OfClique 0) m
+  link_root v is p row m at none = view_total v is (OfLink p) m ∙ (rw (at, none) refl) ∙ sym (view_total v is (OfClique 0) m)
+
+  pub link_inside : (v : View) → IsFileView f v → (p from : ℕ) (row : LinkRow) (m : Measure) → slice_get f.links p ≡ Some row → row.caller ≡ Some from → get_or cliques from 0 ≡ get_or cliques row.callee 0 → v.total (OfLink p) m ≡ None
+  link_inside v is p from row m at some same = view_total v is (OfLink p) m ∙ (rw (at, some, eq-eqb (get_or cliques from 0) (get_or cliques row.callee 0) same) refl)
+
+  -- a link that leaves is the entry of the clique where it ends, and of no other
+  entry_alone : (p from : ℕ) (row : LinkRow) → slice_get f.links p ≡ Some row → row.caller ≡ Some from → (get_or cliques from 0 ≡ get_or cliques row.callee 0 → ⊥)
+      → (d : ℕ) → d < length cliques → eqb (get_or found (get_or cliques d 0) 0) p ≡ eqb (get_or cliques d 0) (get_or cliques row.callee 0)
+  entry_alone p from row at some out d lt =
+      let end : slice_get (ends f.links) p ≡ Some (Some from, row.callee) = end_at f.links p row at ∙ ap (λ (o : Option ℕ). Some (o, row.callee)) some in
+      let there = callee_there p row at in
+      let enter : enters cliques (get_or cliques row.callee 0) (Some from, row.callee) ≡ true = rw (eq-eqb (get_or cliques row.callee 0) (get_or cliques row.callee 0) refl, ne_eqb (get_or cliques from 0) (get_or cliques row.callee 0) out) refl in
+      elim (cases_eq (get_or cliques d 0) (get_or cliques row.callee 0)) [
+        | inl same ↦ (
+            let entry = entry_of p (get_or cliques row.callee 0) (Some from) row.callee end enter (lt_clique_count cliques row.callee there) in
+            rw same (rw (eq-eqb (get_or found (get_or cliques row.callee 0) 0) p entry, eq-eqb (get_or cliques row.callee 0) (get_or cliques row.callee 0) refl) refl))
+        | inr other ↦ (
+            let apart : get_or found (get_or cliques d 0) 0 ≡ p → ⊥ = λ e.
+              (let its = entry_there cliques (ends f.links) found tree.entries_are (get_or cliques d 0) (lt_clique_count cliques d lt) in
+              let link : Some its.link ≡ Some (Some from, row.callee) = sym (rw e at its.there) ∙ end in
+              let is : its.link ≡ (Some from, row.callee) = cc in
+              let parts = enters_parts cliques (get_or cliques d 0) (Some from) row.callee (ap (enters cliques (get_or cliques d 0)) (sym is) ∙ its.enters_it) in
+              other (sym parts.0)) in
+            rw (ne_eqb (get_or found (get_or cliques d 0) 0) p apart, ne_eqb (get_or cliques d 0) (get_or cliques row.callee 0) other) refl)
+      ]
+
+  pub link_leaving : (v : View) → IsFileView f v → (p from : ℕ) (row : LinkRow) (m : Measure) → slice_get f.links p ≡ Some row → row.caller ≡ Some from → (get_or cliques from 0 ≡ get_or cliques row.callee 0 → ⊥) → v.total (OfLink p) m ≡ v.total (OfClique (get_or cliques row.callee 0)) m
+  link_leaving v is p from row m at some out =
+      view_total v is (OfLink p) m
+      ∙ (rw (at, some, ne_eqb (get_or cliques from 0) (get_or cliques row.callee 0) out) refl)
+      ∙ ap (λ (s : ℕ). Some s) (total_same (λ d. eqb (get_or found (get_or cliques d 0) 0) p) (λ d. eqb (get_or cliques d 0) (get_or cliques row.callee 0)) m (entry_alone p from row at some out))
+      ∙ sym (view_total v is (OfClique (get_or cliques row.callee 0)) m)

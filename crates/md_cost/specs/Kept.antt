@@ -1,12 +1,11 @@
--- What a `Loaded` keeps: the own sums and the totals of its contexts and cliques.
+-- What a `Loaded` keeps: the tree of its valid profile, and the sums of each kind of row.
 use Rattle.std.specs.Prelude.{length}
+use Rattle.md_dynamic.specs.Valid.{IsValid}
 use Rattle.md_cost.specs.declared.loaded.Loaded.TheInside.{Inside}
-use Rattle.md_cost.specs.Loading.{IsSoundProfile}
+use Rattle.md_cost.specs.Costs.{AreCosts}
 use Rattle.md_cost.specs.Tree.{IsTree}
-use Rattle.md_cost.specs.Climbing.{AreOwn, AreTotals}
 
 pub record IsKept (a : Inside) : Type 0 where
-  pub sound : IsSoundProfile a.profile
-  pub tree : IsTree (length a.profile.nodes) a.profile.links a.cliques a.entries.items
-  pub own : AreOwn a.cliques a.profile.links a.own.nodes.items a.own.cliques.items
-  pub totals : AreTotals a.cliques a.entries.items a.profile.links a.totals.nodes.items a.totals.cliques.items
+  pub valid : IsValid a.profile
+  pub tree : IsTree (length a.profile.nodes) a.profile.links a.tree.cliques a.tree.entries.items
+  pub costs : AreCosts a.profile a.tree.cliques a.costs

@@ -3,6 +3,7 @@
 #![tactic(auto)]
 
 mod by_key;
+mod costs;
 mod descent;
 mod grouping;
 mod keys;

@@ -1,13 +1,15 @@
-use Rattle.std.proofs.Common.{◌<◌, length, arith}
+use Rattle.std.proofs.Common.{◌≡◌, ◌<◌, ℕ, length, get_or, Some, sym, ap, ◌∙◌, arith}
 use Rattle.std.proofs.lemmas.List.{get_or_read}
-use Rattle.md_cost.specs.SumOf.{zero_sums}
+use Rattle.md_clique.specs.Cliques.{clique_count}
+use Rattle.md_cost.specs.declared.sums.Sums.{Sums}
+use Rattle.md_cost.specs.SumOf.{sum_of, zero_sums}
 use Rattle.md_cost.proofs.loaded.Loaded.node_total.Goals as goal
 
 pub returns : goal.returns
 returns c =
-    let kept = c.self.invariant.totals in
-    let each = kept.each_node in
+    let kept = c.self.invariant.costs.contexts in
+    let each = kept.each in
     let number = c.number.ensures in
-    let there : c.args.node < length c.self.inside.cliques = rw (← c.self.view_is) at c.requires in
-    let read = get_or_read c.self.inside.totals.nodes.items c.number.result c.index.result.now (omega arith) c.index.ensures zero_sums in
-    λ m. rw (← c.self.view_is, read, c.number.ensures) (kept.of_node c.args.node m there)
+    let there : c.args.node < length c.self.inside.profile.nodes = rw (← c.self.view_is) at c.requires in
+    let read = get_or_read c.self.inside.costs.totals.nodes.items c.number.result c.index.result.now (omega arith) c.index.ensures zero_sums in
+    λ v m is. kept.is v c.args.node m (rw (← c.self.view_is) at is) there ∙ ap (λ (s : Sums). Some (sum_of s m)) (sym (read ∙ ap (λ (i : ℕ). get_or c.self.inside.costs.totals.nodes.items i zero_sums) number))

@@ -1,0 +1,69 @@
+// The sums of a profile: own counts and totals of each kind of row.
+ghost use Rattle.std.specs.Prelude.{◌≡◌, IfOk, length};
+ghost use Rattle.md_dynamic.specs.Valid.{IsValid};
+ghost use Rattle.md_cost.specs.Climbing.{AreTotals};
+ghost use Rattle.md_cost.specs.Costs.{AreCosts};
+ghost use Rattle.md_cost.specs.Paths.{EntriesRise};
+ghost use Rattle.md_cost.specs.Tree.{IsTree};
+
+use crate::Sums;
+use crate::descent::descend;
+use crate::kinds::{Kind, of_modules, of_procedures, of_sites};
+use crate::own::{Own, own_sums};
+use crate::totals::climb;
+use crate::tree::Tree;
+use md_base::NoMemory;
+use md_dynamic::Profile;
+use std::alloc::Global;
+
+/// The own counts of contexts, the totals of contexts and cliques, and both of procedures, modules and call sites.
+#[derive(Drop)]
+pub struct Costs {
+    pub own: Vec<Sums>,
+    pub totals: Own,
+    pub procedures: Kind,
+    pub modules: Kind,
+    pub sites: Kind,
+}
+
+/// Sums the counts of a valid profile, whose cliques are each entered by one link, in time and memory linear in
+/// contexts, links, procedures, modules and call sites.
+pub fn sum_costs(alloc: Global, profile: &Profile, tree: &Tree) -> Result<Costs, NoMemory>
+    requires valid { IsValid profile.now }
+    requires tree { IsTree (length profile.now.nodes) profile.now.links tree.now.cliques tree.now.entries.items }
+    requires rise { EntriesRise tree.now.cliques tree.now.entries.items profile.now.links }
+    ensures { IfOk result (λ costs. AreCosts profile.now tree.now.cliques costs) }
+{
+    let nodes = profile.nodes().len() as u32;
+    let own = own_sums(alloc, &tree.cliques, nodes, profile.links())?;
+    let totals = total_sums(alloc, profile, tree, nodes)?;
+    let children = descend(alloc, tree, profile.links(), nodes)?;
+    let procedures = of_procedures(alloc, profile, tree, &children, &own, &totals)?;
+    let modules = of_modules(alloc, profile, tree, &children, &own, &totals)?;
+    let sites = of_sites(alloc, profile, tree, &children, &own, &totals)?;
+    Ok(Costs {
+        own: own.nodes,
+        totals,
+        procedures,
+        modules,
+        sites,
+    })
+}
+
+/// The totals of contexts and cliques.
+fn total_sums(
+    alloc: Global,
+    profile: &Profile,
+    tree: &Tree,
+    nodes: u32,
+) -> Result<Own, NoMemory>
+    requires valid { IsValid profile.now }
+    requires tree { IsTree (length profile.now.nodes) profile.now.links tree.now.cliques tree.now.entries.items }
+    requires rise { EntriesRise tree.now.cliques tree.now.entries.items profile.now.links }
+    requires nodes { nodes ≡ length profile.now.nodes }
+    ensures { IfOk result (λ totals. AreTotals tree.now.cliques tree.now.entries.items profile.now.links totals.nodes.items totals.cliques.items) }
+{
+    let mut totals = own_sums(alloc, &tree.cliques, nodes, profile.links())?;
+    climb(&tree.cliques, &tree.entries, profile.links(), &mut totals);
+    Ok(totals)
+}
