@@ -15,6 +15,8 @@ BUILTINS = {
     (("io", "write_string"), 3): [("string", "in")] + STATE,
     (("io", "nl"), 2): STATE,
 }
+# throws: nothing comes after it
+ERROR = ("require", "error")
 
 
 class Fault(Exception):
@@ -444,6 +446,10 @@ class Modes:
 
     def call_goal(self, goal, bound, used, strict):
         _, line, name, variables = goal
+        if name == ERROR and len(variables) == 1:
+            self.classes[id(goal)] = "throws"
+            bound, used, _ = self.take_arguments(variables, [("string", "in")], line, bound, used, strict)
+            return bound, used, False
         pairs = BUILTINS.get((name, len(variables)))
         if pairs is None:
             if name not in self.called:
@@ -521,6 +527,8 @@ class Determinism:
         if kind in ("fail", "comparison"):
             return True, 0 if kind == "fail" else 1
         found = self.modes.classes.get(id(goal))
+        if found == "throws":
+            return False, 0
         if found == "deconstruct":
             return not self.always_matches(goal, begins_arm), 1
         return PAIRS.get(found, (found == "test", 1))

@@ -1,7 +1,6 @@
 -- What a rule took can be filled up: programs.
 use Rattle.std.proofs.Common.{◌≡◌, ℕ, zero, suc, ◌≤◌, ◌<◌, List, [], ◌∷◌, length, drop, refl, Bool, true, false, cond, not, ◌&&◌, inl, inr, Ok, sym, ap, ◌∙◌, arith, subst, nat_lt}
 use Rattle.std.specs.Prelude.{⊤, codes}
-use Rattle.std.specs.Str.{bytes_eq}
 use Rattle.md_hlds.specs.Hlds.{Hlds}
 use Rattle.md_token.specs.declared.kind.Kind.{Kind}
 use Rattle.md_token.specs.declared.kind.Kind.TheVariants as kind

@@ -30,6 +30,8 @@ pub mod Taking
 pub mod Turns
 pub mod Words
 pub mod Worked
+pub mod WorkedGoals
+pub mod WorkedPrograms
 pub mod Within
 pub mod WithinTokens
 pub mod WithinNames

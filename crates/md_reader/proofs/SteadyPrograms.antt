@@ -6,7 +6,6 @@ use Rattle.md_hlds.specs.Hlds.{HldsType, closure, gathered_types, Hlds}
 use Rattle.md_token.specs.declared.kind.Kind.TheVariants as kind
 use Rattle.md_token.specs.Kinds.{same_kind}
 use Rattle.md_token.specs.Token.{Lexeme}
-use Rattle.std.specs.Str.{bytes_eq}
 use Rattle.std.specs.Prelude.{codes}
 use Rattle.md_token.specs.declared.kind.Kind.{Kind}
 use Rattle.md_reader.specs.Input.{Input, Parser, ◌>>=◌, ◌>>◌, and_then, pure, refuse, limit, sees, token, expect, word, take_name, variable, end_clause}
