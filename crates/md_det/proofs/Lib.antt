@@ -1,3 +1,4 @@
+mod Rules
 pub mod Worked
 pub mod Noted
 pub mod Functors

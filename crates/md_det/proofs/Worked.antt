@@ -99,7 +99,7 @@ with_body det body = program (list_type ∷ type_of 30 (codes "box") (functor (c
     ∷ predicate 8 (codes "none") [] Failure 0 (fail 9) ∷ [])
 
 -- what the body of p is found to be, where it isn't what is declared
-abbrev pub inferred : Det → List HldsGoal → List (Option DetFault)
+unfoldable pub inferred : Det → List HldsGoal → List (Option DetFault)
 unfolding det_fault
 inferred det bodies = map (λ b. det_fault (with_body det b)) bodies
 

@@ -18,3 +18,4 @@ pub mod ShareLoops
 pub mod Sharing
 pub mod Insides
 pub mod RoleLemmas
+pub mod Rules

@@ -1,21 +1,20 @@
 -- In a program without a fault of modes the unifications and the higher-order calls have a role, and no other goal has.
-use Rattle.std.proofs.Common.{◌≡◌, refl, ap, sym, ◌∙◌, subst, ℕ, zero, suc, Bool, true, false, List, [], ◌∷◌, ◌++◌, map, Option, Some, None, is_some, MatchOption, slice_get, Bor}
+use Rattle.std.proofs.Common.{◌≡◌, refl, ap, sym, ◌∙◌, subst, ℕ, zero, suc, Bool, true, false, List, [], ◌∷◌, ◌++◌, map, None, is_some, slice_get}
 use Rattle.std.proofs.lemmas.List.{map-append}
 use Rattle.std.specs.Prelude.{Ok, Err, cond}
-use Rattle.md_hlds.specs.HldsGoal.{Simple, Succeeds, Fails, Unifies, Computes, Compares, WritesInt, WritesText, EndsLine, Raises, HldsGoal, At, GoalExpr, SimpleGoal, CallGoal, HoCallGoal, ConjGoal, DisjGoal, IfGoal, NotGoal, SomeGoal, HldsGoals, nothing, also, goals_within, goals_below, goals_among}
+use Rattle.md_hlds.specs.HldsGoal.{Simple, Succeeds, Fails, Unifies, Computes, Compares, WritesInt, WritesText, EndsLine, Raises, HldsGoal, At, SimpleGoal, CallGoal, HoCallGoal, ConjGoal, DisjGoal, IfGoal, NotGoal, SomeGoal, HldsGoals, nothing, also, goals_within, goals_among}
 use Rattle.md_hlds.specs.Hlds.{HldsType, number, text, world, named, closure, Procedure, Hlds, clause_goals, goal_at}
 use Rattle.md_inst.specs.declared.fault.ModeFault.{ModeFault}
 use Rattle.md_inst.specs.declared.fault.ModeFault.TheVariants.{NoMain}
-use Rattle.md_inst.specs.Verdict.{Verdict, ◌>>=◌, ◌>>◌, fine, fault_unless}
-use Rattle.md_inst.specs.HldsTypes.{is_world}
+use Rattle.md_inst.specs.Verdict.{Verdict, ◌>>=◌, ◌>>◌, fault_unless}
 use Rattle.md_inst.specs.Instantiation.{Instantiation, free, has, InstMap, known_at}
 use Rattle.md_inst.specs.Arguments.{is_spent}
 use Rattle.md_inst.specs.Simple.{apply_sort, apply_known}
 use Rattle.md_modes.specs.Branches.{After, after, outside}
-use Rattle.md_modes.specs.Goals.{Scope, within, variables, goal, expr, each, arms, reached, binds_inside}
-use Rattle.md_modes.specs.Modes.{entry, scope_of, end, clause, clauses, checked, fault_of, mode_fault, has_main}
+use Rattle.md_modes.specs.Goals.{Scope, within, variables, goal, each, arms, binds_inside}
+use Rattle.md_modes.specs.Modes.{entry, scope_of, clause, clauses, checked, fault_of, mode_fault, has_main}
 use Rattle.md_modes.specs.Declarations as declarations
-use Rattle.md_modes.specs.Notes.{Role, role_of, role_of_closure, has_role, is_with_role, Note, known_after, notes, inner_notes, each_notes, arm_notes, clause_notes, notes_from, program_notes}
+use Rattle.md_modes.specs.Notes.{role_of, role_of_closure, has_role, is_with_role, Note, known_after, notes, each_notes, arm_notes, clause_notes, notes_from, program_notes}
 use Rattle.md_modes.specs.Classes.{role_at, role_of_note}
 
 -- what was found on the way to a verdict without a fault

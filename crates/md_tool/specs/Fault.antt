@@ -59,7 +59,7 @@ text_of why.IoInBacktracking = codes "io in backtracking"
 
 -- the line that tells of a fault in a command on this file
 abbrev pub fault_line : Fault → List ℕ → List ℕ
-fault_line Usage file = plain_line (codes "usage: check, run, report, page, serve or gen")
+fault_line Usage file = plain_line (codes "usage: see the table of commands")
 fault_line Read file = file_line file (codes "read fault")
 fault_line TooLong file = file_line file (codes "longer than 1048576 bytes")
 fault_line (Refused line w) file = place_line file line (text_of w)

@@ -73,7 +73,7 @@ impl Fault {
         ensures { IfOk result (λ line. string_bytes line ≡ fault_line self file.now) }
     {
         match self {
-            Fault::Usage => plain(alloc, "usage: check, run, report, page, serve or gen"),
+            Fault::Usage => plain(alloc, "usage: see the table of commands"),
             Fault::Read => of_file(alloc, file, "read fault"),
             Fault::TooLong => of_file(alloc, file, "longer than 1048576 bytes"),
             Fault::Refused { line, why } => refused(alloc, file, line, why),

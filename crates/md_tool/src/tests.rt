@@ -99,7 +99,7 @@ fn programs_write_what_they_say(rt: HostRuntime) -> Result<(), Fail> {
 
 #[test]
 fn words_are_a_command_or_a_usage_fault(rt: HostRuntime) -> Result<(), Fail> {
-    const USAGE: &str = "mdprof: usage: check, run, report, page, serve or gen\n";
+    const USAGE: &str = "mdprof: usage: see the table of commands\n";
     for (words, err, status) in [
         (["run", "a.m"].as_slice(), "", 0),
         (["run", "--", "a.m"].as_slice(), "", 0),

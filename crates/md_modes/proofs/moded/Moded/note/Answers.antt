@@ -1,7 +1,6 @@
-use Rattle.std.proofs.Common.{◌∙◌, ap, subst}
+use Rattle.std.proofs.Common.{◌∙◌, ap}
 use Rattle.md_hlds.specs.Hlds.{hlds_of}
 use Rattle.md_hlds.specs.declared.program.Program.{Program}
-use Rattle.md_modes.specs.Modes.{mode_fault}
 use Rattle.md_modes.specs.Notes.{program_notes}
 use Rattle.md_modes.proofs.NoteLemmas.{note_found}
 use Rattle.md_modes.proofs.RoleLemmas.{role_told}
