@@ -1,8 +1,8 @@
 -- Sums by key are sums over links: what each context sums over the links whose line has it, a key sums over the links
 -- whose line has a context of that key, where no line has two.
-use Rattle.std.proofs.Common.{◌≡◌, ◌≢◌, ℕ, zero, suc, ◌+◌, ◌<◌, ◌≤◌, Bool, true, false, ◌&&◌, ◌||◌, eqb, ltb, cond, List, [], ◌∷◌, length, get_or, Option, Some, None, refl, sym, ap, ◌∙◌, inl, inr, subst, arith}
+use Rattle.std.proofs.Common.{◌≡◌, ℕ, zero, suc, ◌+◌, ◌<◌, ◌≤◌, Bool, true, false, ◌&&◌, ◌||◌, eqb, ltb, cond, List, [], ◌∷◌, get_or, Option, Some, None, refl, sym, ap, ◌∙◌, inl, inr, arith}
 use Rattle.std.specs.List.{list_any, slice_get, sum_by}
-use Rattle.std.proofs.lemmas.Bool.{cases_eq, cases_lt, cases_order, cases_Bool, eq-eqb, ne_eqb, eqb-true, lt-ltb, le-ltb, ltb-true, and_parts, false≢true}
+use Rattle.std.proofs.lemmas.Bool.{cases_eq, cases_order, cases_Bool, eq-eqb, ne_eqb, lt-ltb, le-ltb, ltb-true, and_parts, false≢true}
 use Rattle.std.proofs.lemmas.List.Sums.{sum_by-cons}
 use Rattle.md_base.specs.declared.measure.Measure.{Measure}
 use Rattle.md_base.specs.Counts.{count_of}
@@ -66,8 +66,8 @@ counted false true x apart = omega arith
 counted false false x apart = omega arith
 
 module _ (rows : List LinkRow) (line : LinkRow → List ℕ) (keys : List (Option ℕ)) (values : List Sums) (n : ℕ)
-  (values_are : (d : ℕ) (m : Measure) → d < n → sum_of (get_or values d zero_sums) m ≡ sum_where (λ r. list_any (λ e. eqb e d) (line r)) m rows)
-  (alone : (i : ℕ) (r : LinkRow) → slice_get rows i ≡ Some r → (q d e : ℕ) → same_option (Some q) (get_or keys d None) ≡ true → same_option (Some q) (get_or keys e None) ≡ true → list_any (λ x. eqb x d) (line r) ≡ true → list_any (λ x. eqb x e) (line r) ≡ true → d ≡ e) where
+    (values_are : (d : ℕ) (m : Measure) → d < n → sum_of (get_or values d zero_sums) m ≡ sum_where (λ r. list_any (λ e. eqb e d) (line r)) m rows)
+    (alone : (i : ℕ) (r : LinkRow) → slice_get rows i ≡ Some r → (q d e : ℕ) → same_option (Some q) (get_or keys d None) ≡ true → same_option (Some q) (get_or keys e None) ≡ true → list_any (λ x. eqb x d) (line r) ≡ true → list_any (λ x. eqb x e) (line r) ≡ true → d ≡ e) where
   abbrev has : ℕ → ℕ → Bool
   has q e = same_option (Some q) (get_or keys e None)
 
@@ -105,27 +105,27 @@ module _ (rows : List LinkRow) (line : LinkRow → List ℕ) (keys : List (Optio
         let before = upto i q m (omega arith) in
         let value = values_are i m (omega arith) in
         let both = sum_of_both
-          (λ r. cond (list_any (λ e. ltb e (suc i) && has q e) (line r)) (count_of r.own m) 0)
-          (λ r. cond (list_any (λ e. ltb e i && has q e) (line r)) (count_of r.own m) 0)
-          (λ r. cond (list_any (λ e. eqb e i) (line r)) (count_of r.own m) 0)
-          rows
-          (λ p r at.
-            let split = any_same (λ e. ltb e (suc i) && has q e) (λ e. (ltb e i && has q e) || eqb e i) (line r) (λ e. more_there q i e some) ∙ any_or (λ e. ltb e i && has q e) (λ e. eqb e i) (line r) in
-            ap (λ (b : Bool). cond b (count_of r.own m) 0) split
-            ∙ counted (list_any (λ e. ltb e i && has q e) (line r)) (list_any (λ e. eqb e i) (line r)) (count_of r.own m)
-              (λ on earlier.
-                let w = any_witness (λ e. ltb e i && has q e) (line r) earlier in
-                let parts = and_parts (ltb w.0 i) (has q w.0) w.1 in
-                let same = alone p r at q w.0 i parts.1 some w.2 on in
-                let lower = ltb-true w.0 i parts.0 in
-                absurd (omega arith))) in
+        (λ r. cond (list_any (λ e. ltb e (suc i) && has q e) (line r)) (count_of r.own m) 0)
+        (λ r. cond (list_any (λ e. ltb e i && has q e) (line r)) (count_of r.own m) 0)
+        (λ r. cond (list_any (λ e. eqb e i) (line r)) (count_of r.own m) 0)
+        rows
+        (λ p r at.
+        let split = any_same (λ e. ltb e (suc i) && has q e) (λ e. (ltb e i && has q e) || eqb e i) (line r) (λ e. more_there q i e some) ∙ any_or (λ e. ltb e i && has q e) (λ e. eqb e i) (line r) in
+        ap (λ (b : Bool). cond b (count_of r.own m) 0) split
+        ∙ counted (list_any (λ e. ltb e i && has q e) (line r)) (list_any (λ e. eqb e i) (line r)) (count_of r.own m)
+        (λ on earlier.
+        let w = any_witness (λ e. ltb e i && has q e) (line r) earlier in
+        let parts = and_parts (ltb w.0 i) (has q w.0) w.1 in
+        let same = alone p r at q w.0 i parts.1 some w.2 on in
+        let lower = ltb-true w.0 i parts.0 in
+        absurd (omega arith))) in
         rw some (omega arith))
     | inr none ↦ (
         let before = upto i q m (omega arith) in
         let same = sum_same
-          (λ r. cond (list_any (λ e. ltb e (suc i) && has q e) (line r)) (count_of r.own m) 0)
-          (λ r. cond (list_any (λ e. ltb e i && has q e) (line r)) (count_of r.own m) 0)
-          rows
-          (λ p r at. ap (λ (b : Bool). cond b (count_of r.own m) 0) (any_same (λ e. ltb e (suc i) && has q e) (λ e. ltb e i && has q e) (line r) (λ e. same_there q i e none))) in
+        (λ r. cond (list_any (λ e. ltb e (suc i) && has q e) (line r)) (count_of r.own m) 0)
+        (λ r. cond (list_any (λ e. ltb e i && has q e) (line r)) (count_of r.own m) 0)
+        rows
+        (λ p r at. ap (λ (b : Bool). cond b (count_of r.own m) 0) (any_same (λ e. ltb e (suc i) && has q e) (λ e. ltb e i && has q e) (line r) (λ e. same_there q i e none))) in
         rw none (omega arith))
   ]

@@ -1,6 +1,5 @@
 -- The sums of a kind of rows are those of every view of the profile.
-use Rattle.std.proofs.Common.{◌≡◌, ℕ, suc, ◌+◌, ◌<◌, ◌≤◌, Bool, true, false, eqb, cond, List, [], ◌∷◌, length, get_or, Option, Some, None, refl, sym, ap, ◌∙◌, inl, inr, subst, arith}
-use Rattle.std.specs.List.{list_any, slice_get}
+use Rattle.std.proofs.Common.{◌≡◌, ℕ, ◌<◌, cond, List, length, get_or, Option, Some, None, sym, ap, ◌∙◌, arith}
 use Rattle.md_base.specs.declared.measure.Measure.{Measure}
 use Rattle.md_base.specs.Counts.{count_of}
 use Rattle.md_trace.specs.Context.{same_option}
@@ -14,7 +13,7 @@ use Rattle.md_cost.specs.Totals.{sum_where, path_total}
 use Rattle.md_cost.specs.Climbing.{AreOwn, AreTotals}
 use Rattle.md_cost.specs.Keys.{AreKeys}
 use Rattle.md_cost.specs.Tree.{IsTree}
-use Rattle.md_cost.specs.View.{Row, View, OfContext, OfClique, OfSite}
+use Rattle.md_cost.specs.View.{Row, OfContext, OfClique, OfSite}
 use Rattle.md_cost.specs.FileView.{Gives, file_own, total_by}
 use Rattle.md_cost.proofs.SumSteps.{sum_same}
 use Rattle.md_cost.proofs.ValidSteps.{valid_sound}
@@ -36,7 +35,7 @@ module _ (f : ProfileRows) (valid : IsValid f) (cliques found : List ℕ) (tree 
           (λ (r : LinkRow). cond (same_option (Some q) (key r.callee)) (count_of r.own m) 0)
           f.links
           (λ i r at. let there = callee_there f (valid_sound f valid).links cliques found tree i r at in let size = tree.cliques_are.each in
-            ap (λ (o : Option ℕ). cond (same_option (Some q) o) (count_of r.own m) 0) (are.is r.callee (omega arith)))
+          ap (λ (o : Option ℕ). cond (same_option (Some q) o) (count_of r.own m) 0) (are.is r.callee (omega arith)))
 
   pub gives_totals : (row : ℕ → Row) (key : ℕ → Option ℕ) (count : ℕ) → ((q : ℕ) (m : Measure) → total_by (path_total cliques found f.links) f cliques found (row q) m ≡ Some (path_total cliques found f.links (λ d. same_option (Some q) (key d)) m))
       → (keys : List (Option ℕ)) (sums : List Sums) → AreKeys key (length f.nodes) keys → length sums ≡ count
@@ -45,7 +44,7 @@ module _ (f : ProfileRows) (valid : IsValid f) (cliques found : List ℕ) (tree 
   gives_totals row key count row_is keys sums are each totals = record {
     each = each;
     is = λ v q m is lt. view_total f (valid_sound f valid).links cliques found tree v is (row q) m ∙ row_is q m ∙ ap (λ (s : ℕ). Some s) (sym (totals q m lt
-      ∙ total_same f (valid_sound f valid).links cliques found tree (λ d. same_option (Some q) (get_or keys d None)) (λ d. same_option (Some q) (key d)) m
+        ∙ total_same f (valid_sound f valid).links cliques found tree (λ d. same_option (Some q) (get_or keys d None)) (λ d. same_option (Some q) (key d)) m
         (λ d there. let size = tree.cliques_are.each in ap (λ (o : Option ℕ). same_option (Some q) o) (are.is d (omega arith)))));
   }
 

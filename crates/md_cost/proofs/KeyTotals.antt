@@ -1,25 +1,24 @@
 -- Own counts and totals by key, from those of contexts.
-use Rattle.std.proofs.Common.{◌≡◌, ℕ, suc, ◌+◌, ◌*◌, ◌^◌, ◌<◌, ◌≤◌, Bool, true, false, ◌&&◌, ◌||◌, eqb, ltb, cond, List, [], ◌∷◌, length, get_or, All, Option, Some, None, refl, sym, ap, ◌∙◌, inl, inr, subst, arith}
+use Rattle.std.proofs.Common.{◌≡◌, ℕ, suc, ◌^◌, ◌<◌, Bool, true, ◌&&◌, eqb, ltb, cond, List, [], ◌∷◌, length, get_or, All, Option, Some, None, refl, sym, ap, ◌∙◌, subst, arith}
 use Rattle.std.specs.List.{list_any, slice_get}
-use Rattle.std.proofs.lemmas.Bool.{cases_Bool, eqb-true, lt-ltb, false≢true}
+use Rattle.std.proofs.lemmas.Bool.{eqb-true, lt-ltb}
 use Rattle.md_base.specs.declared.measure.Measure.{Measure}
 use Rattle.md_base.specs.Counts.{count_of}
 use Rattle.md_trace.specs.Context.{same_option}
 use Rattle.md_dynamic.specs.declared.link.LinkRow.{LinkRow}
-use Rattle.md_clique.specs.Cliques.{clique_count}
 use Rattle.md_cost.specs.declared.sums.Sums.{Sums}
 use Rattle.md_cost.specs.SumOf.{sum_of, zero_sums}
 use Rattle.md_cost.specs.Paths.{EntriesRise, path_of, start_of}
 use Rattle.md_cost.specs.Totals.{sum_where, path_total, context_own, context_total}
-use Rattle.md_cost.specs.Climbing.{AreOwn, AreTotals, AreSmall}
+use Rattle.md_cost.specs.Climbing.{AreSmall}
 use Rattle.md_cost.specs.Keys.{key_sum}
-use Rattle.md_cost.specs.Walking.{upward, AreMarks}
+use Rattle.md_cost.specs.Walking.{AreMarks}
 use Rattle.md_cost.proofs.PathSteps.{any_one}
 use Rattle.md_cost.proofs.SumSteps.{sum_same}
 use Rattle.md_cost.proofs.OwnSteps.{part_le}
 use Rattle.md_cost.proofs.ClimbSteps.{entries_rise, start_there, ends_at}
 use Rattle.md_cost.proofs.WalkSteps.{up_there}
-use Rattle.md_cost.proofs.Exchange.{upto, any_same}
+use Rattle.md_cost.proofs.Exchange.{upto}
 use Rattle.md_cost.proofs.MarkSteps.{AllMarked, marked_any, marked_alone, marked_up}
 
 module _ (cliques : List ℕ) (rows : List LinkRow) (ends : All (λ r. r.callee < length cliques) rows) where
@@ -33,11 +32,11 @@ module _ (cliques : List ℕ) (rows : List LinkRow) (ends : All (λ r. r.callee 
   own_by keys nodes own q m =
       upto rows (λ r. r.callee ∷ []) keys nodes (length cliques)
       (λ d m lt. own d m lt ∙ sum_same (λ (r : LinkRow). cond (eqb r.callee d) (count_of r.own m) 0) (λ r. cond (list_any (λ e. eqb e d) (r.callee ∷ [])) (count_of r.own m) 0) rows
-        (λ i r at. ap (λ (b : Bool). cond b (count_of r.own m) 0) (sym (any_one (λ e. eqb e d) r.callee))))
+      (λ i r at. ap (λ (b : Bool). cond b (count_of r.own m) 0) (sym (any_one (λ e. eqb e d) r.callee))))
       (λ i r at q d e hd he od oe. sym (own_line r.callee d od) ∙ own_line r.callee e oe)
       (length cliques) q m (omega arith)
       ∙ sum_same (λ r. cond (list_any (λ e. ltb e (length cliques) && same_option (Some q) (get_or keys e None)) (r.callee ∷ [])) (count_of r.own m) 0) (λ r. cond (same_option (Some q) (get_or keys r.callee None)) (count_of r.own m) 0) rows
-        (λ i r at. ap (λ (b : Bool). cond b (count_of r.own m) 0) (any_one (λ e. ltb e (length cliques) && same_option (Some q) (get_or keys e None)) r.callee ∙ (rw (lt-ltb r.callee (length cliques) (ends_at cliques rows ends i r at)) refl)))
+      (λ i r at. ap (λ (b : Bool). cond b (count_of r.own m) 0) (any_one (λ e. ltb e (length cliques) && same_option (Some q) (get_or keys e None)) r.callee ∙ (rw (lt-ltb r.callee (length cliques) (ends_at cliques rows ends i r at)) refl)))
 
   -- the totals of the outermost contexts of a key are those of the links whose path has one of the key
   pub total_by_key : (entries : List ℕ) → EntriesRise cliques entries rows → (keys marks : List (Option ℕ)) → AreMarks cliques (start_of rows entries) keys marks → (nodes : List Sums)
@@ -48,10 +47,11 @@ module _ (cliques : List ℕ) (rows : List LinkRow) (ends : All (λ r. r.callee 
       (λ i r at q d e hd he od oe. marked_alone (length cliques) keys marks q d e (path_of cliques entries rows r.callee) (on_path i r at) hd he od oe)
       (length cliques) q m (omega arith)
       ∙ sum_same (λ r. cond (list_any (λ e. ltb e (length cliques) && same_option (Some q) (get_or marks e None)) (path_of cliques entries rows r.callee)) (count_of r.own m) 0) (λ r. cond (list_any (λ e. same_option (Some q) (get_or keys e None)) (path_of cliques entries rows r.callee)) (count_of r.own m) 0) rows
-        (λ i r at. ap (λ (b : Bool). cond b (count_of r.own m) 0) (marked_any (length cliques) keys marks q (path_of cliques entries rows r.callee) (on_path i r at)))
+      (λ i r at. ap (λ (b : Bool). cond b (count_of r.own m) 0) (marked_any (length cliques) keys marks q (path_of cliques entries rows r.callee) (on_path i r at)))
     where
       starts : ℕ → ℕ
       starts k = start_of rows entries k
+
       on_path : (i : ℕ) (r : LinkRow) → slice_get rows i ≡ Some r → AllMarked (length cliques) keys marks (path_of cliques entries rows r.callee)
       on_path i r at =
           let lt = ends_at cliques rows ends i r at in

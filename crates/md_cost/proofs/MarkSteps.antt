@@ -1,7 +1,7 @@
 -- On each path one context at most has a key as its mark, and one has exactly where some context has the key.
-use Rattle.std.proofs.Common.{◌≡◌, ℕ, zero, suc, ◌<◌, ◌≤◌, Bool, true, false, ◌&&◌, ◌||◌, eqb, ltb, cond, List, [], ◌∷◌, length, get_or, Option, Some, None, refl, sym, ap, ◌∙◌, inl, inr, subst, arith}
+use Rattle.std.proofs.Common.{◌≡◌, ℕ, zero, suc, ◌<◌, Bool, true, false, ◌&&◌, ◌||◌, eqb, ltb, cond, List, [], ◌∷◌, length, get_or, Option, Some, None, refl, sym, ap, ◌∙◌, inl, inr, arith}
 use Rattle.std.specs.List.{list_any}
-use Rattle.std.proofs.lemmas.Bool.{cases_eq, cases_lt, cases_Bool, eq-eqb, ne_eqb, eqb-true, lt-ltb, and_parts, false≢true}
+use Rattle.std.proofs.lemmas.Bool.{cases_eq, cases_lt, cases_Bool, eq-eqb, ne_eqb, eqb-true, lt-ltb, false≢true}
 use Rattle.md_trace.specs.Context.{same_option}
 use Rattle.md_clique.specs.Cliques.{clique_count}
 use Rattle.md_cost.specs.Walking.{above, upward, mark_of, AreMarks}
@@ -88,7 +88,11 @@ pub marked_up : (cliques : List ℕ) (starts : ℕ → ℕ) (rises : (k : ℕ) �
     (keys marks : List (Option ℕ)) → AreMarks cliques starts keys marks → (k d : ℕ) → get_or cliques d 0 < k → d < length cliques → AllMarked (length cliques) keys marks (upward cliques starts d)
 marked_up cliques starts rises starts_there keys marks are zero d low lt = absurd (omega arith)
 marked_up cliques starts rises starts_there keys marks are (suc k) d low lt =
-    rw (up_goes cliques starts rises starts_there d lt) (lt, are.told d lt, elim (cases_lt (above cliques starts d) (length cliques)) [
-      | inl inside ↦ (let less = parent_lower cliques starts rises starts_there d lt inside in marked_up cliques starts rises starts_there keys marks are k (above cliques starts d) (omega arith) inside)
-      | inr outside ↦ (let le = parent_there cliques starts rises starts_there d lt in let top : above cliques starts d ≡ length cliques = omega arith in rw (top, up_ends cliques starts rises starts_there) tt)
-    ])
+    rw (up_goes cliques starts rises starts_there d lt) (
+      lt,
+      are.told d lt,
+      elim (cases_lt (above cliques starts d) (length cliques)) [
+        | inl inside ↦ (let less = parent_lower cliques starts rises starts_there d lt inside in marked_up cliques starts rises starts_there keys marks are k (above cliques starts d) (omega arith) inside)
+        | inr outside ↦ (let le = parent_there cliques starts rises starts_there d lt in let top : above cliques starts d ≡ length cliques = omega arith in rw (top, up_ends cliques starts rises starts_there) tt)
+      ],
+    )

@@ -1,20 +1,17 @@
 -- A valid profile keeps the rules on which totals rest.
-use Rattle.std.proofs.Common.{◌≡◌, ℕ, zero, suc, ◌<◌, ◌≤◌, Bool, true, false, ◌&&◌, eqb, ltb, List, [], ◌∷◌, length, drop, get_or, All, Option, Some, None, IfSome, IsSome, IsSomeAnd, refl, sym, ap, ◌∙◌, inl, inr, subst, arith}
-use Rattle.std.specs.List.{Any, slice_get}
-use Rattle.std.specs.Bool.{IsTrue}
+use Rattle.std.proofs.Common.{◌≡◌, ℕ, zero, suc, ◌<◌, true, eqb, List, [], ◌∷◌, length, drop, get_or, All, Option, Some, None, IfSome, IsSomeAnd, refl, sym, ap, ◌∙◌}
+use Rattle.std.specs.List.{slice_get}
 use Rattle.std.specs.Option.{option_map}
 use Rattle.std.specs.Prelude.{option_and_then}
 use Rattle.std.proofs.lemmas.Bool.{eqb-true, ltb-true, and_parts, false≢true}
 use Rattle.std.proofs.lemmas.Option.{slice_get_within, get_or_from_slice_get, slice_get-get_or}
 use Rattle.md_static.specs.declared.entry.Proc.{Proc}
 use Rattle.md_static.specs.declared.entry.Site.{Site}
-use Rattle.md_static.specs.Tables.{Static}
 use Rattle.md_dynamic.specs.declared.link.LinkRow.{LinkRow}
 use Rattle.md_dynamic.specs.Profile.{ProfileRows}
-use Rattle.md_dynamic.specs.Valid.{IsRoot, IsValid, Fits, Joins, MayCall, is_below, leads_down}
+use Rattle.md_dynamic.specs.Valid.{IsRoot, IsValid, Fits, Joins, MayCall, is_below}
 use Rattle.md_cost.specs.Loading.{IsSoundProfile}
 use Rattle.md_cost.specs.FileView.{module_at}
-use Rattle.md_cost.specs.Sound.{IsBetween, IsCalledFromLower}
 
 root_of : (o : Option LinkRow) → IsSomeAnd o IsRoot → (row : LinkRow) × (o ≡ Some row) × IsRoot row
 root_of None h = absurd h

@@ -1,25 +1,23 @@
 -- The view of a file in terms of the path that a context has in so many steps.
-use Rattle.std.proofs.Common.{◌≡◌, ℕ, zero, suc, ◌+◌, ◌-◌, ◌<◌, ◌≤◌, Bool, true, false, ◌&&◌, not, eqb, cond, List, [], ◌∷◌, length, get_or, map, Option, Some, None, refl, sym, ap, ◌∙◌, inl, inr, subst, arith}
+use Rattle.std.proofs.Common.{◌≡◌, ℕ, zero, suc, ◌-◌, ◌<◌, Bool, true, eqb, cond, List, [], ◌∷◌, length, get_or, Option, Some, None, refl, sym, ap, ◌∙◌, inl, inr, subst, arith}
 use Rattle.std.specs.List.{list_any, slice_get}
 use Rattle.std.specs.Prelude.{if◌then◌else◌}
-use Rattle.std.proofs.lemmas.Bool.{cases_eq, cases_lt, cases_Bool, eq-eqb, ne_eqb, false≢true}
+use Rattle.std.proofs.lemmas.Bool.{cases_eq, cases_lt, eq-eqb, ne_eqb}
 use Rattle.std.proofs.lemmas.List.{ext_get_or}
-use Rattle.std.proofs.lemmas.Option.{slice_get_within, get_or_from_slice_get, slice_get-get_or}
+use Rattle.std.proofs.lemmas.Option.{slice_get_within, get_or_from_slice_get}
 use Rattle.md_base.specs.declared.measure.Measure.{Measure}
 use Rattle.md_base.specs.Counts.{count_of}
-use Rattle.md_trace.specs.Context.{same_option}
-use Rattle.md_trace.specs.Cliques.{AreCliques, leaves}
+use Rattle.md_trace.specs.Cliques.{leaves}
 use Rattle.md_dynamic.specs.declared.link.LinkRow.{LinkRow}
 use Rattle.md_dynamic.specs.Profile.{ProfileRows}
 use Rattle.md_clique.specs.Cliques.{clique_count}
-use Rattle.md_clique.specs.Places.{places_from}
-use Rattle.md_clique.specs.Entries.{AreEntries, edges_of, enters, entries}
+use Rattle.md_clique.specs.Entries.{AreEntries, edges_of, enters}
 use Rattle.md_clique.specs.OneEntry.{BeginsWith, IsPathUp, StartsEntry}
 use Rattle.md_clique.proofs.OneNumbering.{one_numbering}
 use Rattle.md_clique.proofs.EnteredOnce.{its_place, only_place, enters_parts}
 use Rattle.md_clique.proofs.Naming.{lt_clique_count}
-use Rattle.md_cost.specs.Paths.{ends, EntriesRise, path_of, path_to, start_of, start_of_row}
-use Rattle.md_cost.specs.Totals.{sum_where, path_total}
+use Rattle.md_cost.specs.Paths.{ends, EntriesRise, path_of, path_to, start_of}
+use Rattle.md_cost.specs.Totals.{path_total}
 use Rattle.md_cost.specs.Sound.{AreSound}
 use Rattle.md_cost.specs.Tree.{IsTree}
 use Rattle.md_cost.specs.View.{Row, View, OfLink, OfContext, OfClique, OfProcedure, OfSite, OfModule}
@@ -27,7 +25,7 @@ use Rattle.md_cost.specs.FileView.{ArePaths, IsFileView, path_sum, file_own, tot
 use Rattle.md_cost.proofs.PathSteps.{path_stops, path_goes}
 use Rattle.md_cost.proofs.EntrySteps.{entry_there}
 use Rattle.md_cost.proofs.SumSteps.{sum_same}
-use Rattle.md_cost.proofs.ClimbSteps.{entries_rise, start_there, ends_at}
+use Rattle.md_cost.proofs.ClimbSteps.{entries_rise, start_there}
 use Rattle.md_cost.proofs.TreeSteps.{rises, ends_at as end_at, row_at, callees_there}
 use Rattle.md_cost.proofs.WalkSteps.{path_enough, up_there, up_goes, up_ends, parent_there, parent_lower}
 use Rattle.md_cost.specs.Walking.{above, upward}
@@ -67,10 +65,13 @@ module _ (f : ProfileRows) (sound : AreSound (length f.nodes) f.links) (cliques 
   pub all_below : (k d : ℕ) → get_or cliques d 0 < k → d < length cliques → AllBelow (length cliques) (upward cliques (start_of f.links found) d)
   all_below zero d low lt = absurd (omega arith)
   all_below (suc k) d low lt =
-      rw (up_goes cliques (start_of f.links found) lower started d lt) (lt, elim (cases_lt (above cliques (start_of f.links found) d) (length cliques)) [
-        | inl inside ↦ (let less = parent_lower cliques (start_of f.links found) lower started d lt inside in all_below k (above cliques (start_of f.links found) d) (omega arith) inside)
-        | inr outside ↦ (let le = parent_there cliques (start_of f.links found) lower started d lt in let top : above cliques (start_of f.links found) d ≡ length cliques = omega arith in rw (top, up_ends cliques (start_of f.links found) lower started) tt)
-      ])
+      rw (up_goes cliques (start_of f.links found) lower started d lt) (
+        lt,
+        elim (cases_lt (above cliques (start_of f.links found) d) (length cliques)) [
+          | inl inside ↦ (let less = parent_lower cliques (start_of f.links found) lower started d lt inside in all_below k (above cliques (start_of f.links found) d) (omega arith) inside)
+          | inr outside ↦ (let le = parent_there cliques (start_of f.links found) lower started d lt in let top : above cliques (start_of f.links found) d ≡ length cliques = omega arith in rw (top, up_ends cliques (start_of f.links found) lower started) tt)
+        ],
+      )
 
   pub path_below : (d : ℕ) → d < length cliques → AllBelow (length cliques) (path_of cliques found f.links d)
   path_below d lt = subst (λ (xs : List ℕ). AllBelow (length cliques) xs) (up_there cliques (start_of f.links found) lower started d lt) (all_below (suc (get_or cliques d 0)) d (omega arith) lt)
@@ -116,8 +117,7 @@ module _ (f : ProfileRows) (sound : AreSound (length f.nodes) f.links) (cliques 
   entry_start : (k d : ℕ) → k < clique_count cliques → StartsEntry cliques (ends f.links) k d → (start_of f.links found k ≡ d) × (0 < k)
   entry_start k d lt starts =
       let same : get_or found k 0 ≡ starts.place = (let both : get_or found k 0 ∷ [] ≡ starts.place ∷ [] = sym (tree.entries_are.one k lt) ∙ starts.only in cc) in
-      let row = row_at f.links starts.place (Some d) starts.to starts.link in
-      (
+      let row = row_at f.links starts.place (Some d) starts.to starts.link in (
         rw (same, row.1, row.2) refl,
         elim (cases_lt 0 k) [
           | inl some ↦ some
@@ -133,6 +133,7 @@ module _ (f : ProfileRows) (sound : AreSound (length f.nodes) f.links) (cliques 
       start_in : Option (Option ℕ × ℕ) → Option ℕ
       start_in None = None
       start_in (Some p) = p.0
+
       none_some : (x : ℕ) → None ≡ Some x → ⊥
       none_some x e = cc
 
@@ -221,11 +222,11 @@ module _ (f : ProfileRows) (sound : AreSound (length f.nodes) f.links) (cliques 
             rw same (rw (eq-eqb (get_or found (get_or cliques row.callee 0) 0) p entry, eq-eqb (get_or cliques row.callee 0) (get_or cliques row.callee 0) refl) refl))
         | inr other ↦ (
             let apart : get_or found (get_or cliques d 0) 0 ≡ p → ⊥ = λ e.
-              (let its = entry_there cliques (ends f.links) found tree.entries_are (get_or cliques d 0) (lt_clique_count cliques d lt) in
-              let link : Some its.link ≡ Some (Some from, row.callee) = sym (rw e at its.there) ∙ end in
-              let is : its.link ≡ (Some from, row.callee) = cc in
-              let parts = enters_parts cliques (get_or cliques d 0) (Some from) row.callee (ap (enters cliques (get_or cliques d 0)) (sym is) ∙ its.enters_it) in
-              other (sym parts.0)) in
+            (let its = entry_there cliques (ends f.links) found tree.entries_are (get_or cliques d 0) (lt_clique_count cliques d lt) in
+            let link : Some its.link ≡ Some (Some from, row.callee) = sym (rw e at its.there) ∙ end in
+            let is : its.link ≡ (Some from, row.callee) = cc in
+            let parts = enters_parts cliques (get_or cliques d 0) (Some from) row.callee (ap (enters cliques (get_or cliques d 0)) (sym is) ∙ its.enters_it) in
+            other (sym parts.0)) in
             rw (ne_eqb (get_or found (get_or cliques d 0) 0) p apart, ne_eqb (get_or cliques d 0) (get_or cliques row.callee 0) other) refl)
       ]
 

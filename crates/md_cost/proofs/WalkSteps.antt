@@ -1,7 +1,7 @@
 -- One step of the walk down the tree of contexts, and what it has told in the end.
-use Rattle.std.proofs.Common.{◌≡◌, ◌≢◌, ℕ, zero, suc, ◌+◌, ◌-◌, ◌*◌, ◌<◌, ◌≤◌, ◌⊎◌, Bool, true, false, ◌||◌, eqb, cond, List, [], ◌∷◌, length, get_or, set, Option, Some, None, IfSome, replicate, refl, sym, ap, ◌∙◌, inl, inr, subst, arith}
+use Rattle.std.proofs.Common.{◌≡◌, ℕ, zero, suc, ◌+◌, ◌-◌, ◌*◌, ◌<◌, ◌≤◌, ◌⊎◌, Bool, true, false, ◌||◌, eqb, cond, List, [], ◌∷◌, length, get_or, set, Option, Some, None, IfSome, replicate, refl, sym, ap, ◌∙◌, inl, inr, subst, arith}
 use Rattle.std.specs.List.{list_any, sum_by}
-use Rattle.std.proofs.lemmas.Bool.{cases_eq, cases_lt, cases_order, cases_Bool, eq-eqb, ne_eqb, eqb-true, lt-ltb, le-ltb, false≢true}
+use Rattle.std.proofs.lemmas.Bool.{cases_eq, cases_lt, cases_order, cases_Bool, eq-eqb, ne_eqb, lt-ltb, le-ltb, false≢true}
 use Rattle.std.proofs.lemmas.List.{get_or-set_same, get_or-set_other, length-set, get_or-replicate, length-replicate}
 use Rattle.std.proofs.lemmas.List.Sums.{sum_by-set}
 use Rattle.std.proofs.Math.Nat.{mul-le-mul_right}
@@ -117,6 +117,7 @@ module _ (cliques : List ℕ) (starts : ℕ → ℕ) (rises : (k : ℕ) → 0 < 
     where
       one_more_times : (a b : ℕ) → (a + 1) * b ≡ a * b + b
       one_more_times a b = omega arith
+
       mul_le : (a b c : ℕ) → a ≤ b → a * c ≤ b * c
       mul_le a b c le = mul-le-mul_right c le
 
@@ -338,8 +339,10 @@ module _ (cliques : List ℕ) (starts : ℕ → ℕ) (rises : (k : ℕ) → 0 < 
         where
           from_none : (d p : ℕ) → parent d ≡ p → get_or first p None ≡ None → IsEntered parent first d
           from_none d p same is_none e first_e = let q : None ≡ Some e = sym is_none ∙ ap (λ (x : ℕ). get_or first x None) (sym same) ∙ first_e in cc
+
           none_on : (d : ℕ) → list_any (λ e. eqb e d) (upward cliques starts at) ≡ true → ⊥
           none_on d on = let gone : upward cliques starts at ≡ [] = rw top up_ends in false≢true (rw gone at on)
+
           all : (k d : ℕ) → get_or cliques d 0 < k → d < length cliques → IsEntered parent first d
           all zero d low lt = absurd (omega arith)
           all (suc k) d low lt = elim (cases_lt (parent d) n) [
@@ -374,6 +377,7 @@ module _ (cliques : List ℕ) (starts : ℕ → ℕ) (rises : (k : ℕ) → 0 < 
         first_is : (p c : ℕ) (o : Option ℕ) → IsFirst n parent p 0 o → o ≡ Some c → (c < n) × (parent c ≡ p)
         first_is p c None is e = cc
         first_is p c (Some x) is e = let q : x ≡ c = some_is x c e in (rw q at is.1, rw q at is.2)
+
         none_entered : (d : ℕ) → d < n → (o : Option ℕ) → IsFirst n parent (parent d) 0 o → ((c : ℕ) → o ≡ Some c → d < c) → ⊥
         none_entered d lt None is before = is d (omega arith) lt refl
         none_entered d lt (Some c) is before = is.3 d (omega arith) (before c refl) refl

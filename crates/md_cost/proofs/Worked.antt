@@ -1,15 +1,70 @@
--- A worked profile keeps the rules, and has the totals that its paths say.
-use Rattle.std.proofs.Common.{◌≡◌, ℕ, zero, suc, ◌<◌, List, [], ◌∷◌, length, Some, None, refl, sym, subst, arith}
-use Rattle.std.specs.List.{slice_get}
-use Rattle.md_base.specs.declared.measure.Measure.TheVariants.{Calls}
+-- Worked runs and profiles, computed.
+use Rattle.std.proofs.Common.{◌≡◌, ℕ, true, List, [], ◌∷◌, Option, Some, None, map, refl}
 use Rattle.md_base.specs.declared.measure.Counts.{Counts}
+use Rattle.md_base.specs.declared.measure.Measure.{Measure}
+use Rattle.md_base.specs.declared.measure.Measure.TheVariants.{Calls, Exits, Allocs, Words}
+use Rattle.md_trace.specs.declared.event.Event.{Event}
+use Rattle.md_trace.specs.declared.event.Event.TheVariants.{Call, Exit, Alloc}
+use Rattle.md_trace.specs.Context.{chain, placed_of}
+use Rattle.md_trace.specs.Totals.{stations, own, in_procedure, procedure_total, site_total, clique_total, module_total}
 use Rattle.md_dynamic.specs.declared.link.LinkRow.{LinkRow}
 use Rattle.md_dynamic.specs.Profile.{ProfileRows}
-use Rattle.md_cost.specs.Loading.{IsSoundProfile}
-use Rattle.md_cost.specs.Sound.{AreSound, IsBetween, IsCalledFromLower}
 use Rattle.md_cost.specs.Paths.{path_of}
-use Rattle.md_cost.specs.Totals.{context_own, context_total, clique_total}
+use Rattle.md_cost.specs.View.{Row, OfLink, OfContext, OfClique, OfProcedure, OfSite}
+use Rattle.md_cost.specs.FileView.{file_own, file_view}
 
+-- The stations: a calls b, which calls a again from another site, whose contexts are three cliques. The last activation
+-- has them all as stations, the nearest first.
+abbrev mods : List Event
+mods = Call 3 (Some 2) (Some 2) 3 ∷ Call 2 (Some 1) (Some 1) 2 ∷ Call 1 (Some 0) (Some 0) 1 ∷ Call 0 None None 0 ∷ []
+
+abbrev station_contexts : List Event → List ℕ → ℕ → List ℕ
+station_contexts h cliques a = map (λ x. x.context) (stations cliques (chain (placed_of 0 h) (Some a)))
+
+mods_stations : station_contexts mods (0 ∷ 1 ∷ 2 ∷ 3 ∷ []) 3 ≡ 3 ∷ 2 ∷ 1 ∷ 0 ∷ []
+mods_stations = refl
+
+-- where two contexts are in one clique, the nearer one is its station
+one_clique_stations : station_contexts mods (0 ∷ 1 ∷ 1 ∷ 1 ∷ []) 3 ≡ 3 ∷ 0 ∷ []
+one_clique_stations = refl
+
+-- module 1 is twice among the stations, and the last call counts once in its total
+mods_module : module_total 0 mods (0 ∷ 1 ∷ 2 ∷ 3 ∷ []) (0 ∷ 1 ∷ 2 ∷ 1 ∷ []) 1 Calls ≡ 3
+mods_module = refl
+
+-- A run with closures: main makes two, and calls drive; drive calls the one (add), itself, the other (double), itself,
+-- the first, itself, and is done. Procedures main, drive, add, double; sites main's, drive's closure, drive's own.
+abbrev calls : List Event
+calls =
+    Call 7 (Some 5) (Some 2) 1 ∷ Exit 6 ∷ Call 6 (Some 5) (Some 1) 2 ∷ Call 5 (Some 3) (Some 2) 1 ∷ Exit 4 ∷ Call 4 (Some 3) (Some 1) 3
+    ∷ Call 3 (Some 1) (Some 2) 1 ∷ Exit 2 ∷ Call 2 (Some 1) (Some 1) 2 ∷ Call 1 (Some 0) (Some 0) 1 ∷ Alloc 0 3 ∷ Alloc 0 4 ∷ Call 0 None None 0 ∷ []
+
+abbrev ho : List Event
+ho = Exit 0 ∷ Exit 1 ∷ Exit 3 ∷ Exit 5 ∷ Exit 7 ∷ calls
+
+abbrev ho_cliques : List ℕ
+ho_cliques = 0 ∷ 1 ∷ 2 ∷ 3 ∷ []
+
+ho_totals :
+    (clique_total 0 ho ho_cliques 1 Calls ≡ 7) × (own 0 ho (in_procedure 1) Calls ≡ 4) × (procedure_total 0 ho ho_cliques 2 Exits ≡ 2) × (procedure_total 0 ho ho_cliques 3 Exits ≡ 1)
+    × (site_total 0 ho ho_cliques 1 Calls ≡ 3) × (site_total 0 ho ho_cliques 2 Calls ≡ 0) × (own 0 ho (in_procedure 0) Allocs ≡ 2) × (own 0 ho (in_procedure 0) Words ≡ 7)
+ho_totals = (refl, refl, refl, refl, refl, refl, refl, refl)
+
+-- A run in which a goal is cut at its first solution: main makes a list of three cells, and member's activation is pruned
+-- after its exit.
+abbrev some_begun : List Event
+some_begun = Exit 1 ∷ Call 1 (Some 0) (Some 0) 1 ∷ Alloc 0 2 ∷ Alloc 0 2 ∷ Alloc 0 2 ∷ Call 0 None None 0 ∷ []
+
+some_totals :
+    (procedure_total 0 (Exit 0 ∷ some_begun) (0 ∷ 1 ∷ []) 0 Exits ≡ 2) × (procedure_total 0 (Exit 0 ∷ some_begun) (0 ∷ 1 ∷ []) 0 Words ≡ 6)
+    × (procedure_total 0 (Exit 0 ∷ some_begun) (0 ∷ 1 ∷ []) 1 Exits ≡ 1) × (own 0 (Exit 0 ∷ some_begun) (in_procedure 0) Allocs ≡ 3)
+some_totals = (refl, refl, refl, refl)
+
+-- where the budget ends before main's exit, main has a call and no exit, and its total has member's exit alone
+unfinished : (own 0 some_begun (in_procedure 0) Calls ≡ 1) × (own 0 some_begun (in_procedure 0) Exits ≡ 0) × (procedure_total 0 some_begun (0 ∷ 1 ∷ []) 0 Calls ≡ 2) × (procedure_total 0 some_begun (0 ∷ 1 ∷ []) 0 Exits ≡ 1)
+unfinished = (refl, refl, refl, refl)
+
+-- The profile of the run with closures as a file, and its view.
 abbrev twice_counted : ℕ → Counts
 twice_counted n = record { calls = n; exits = n; fails = 0; redos = 0; allocs = 0; words = 0; excps = 0 }
 
@@ -19,50 +74,25 @@ from a s b n = record { caller = Some a; site = Some s; callee = b; own = twice_
 abbrev root : LinkRow
 root = record { caller = None; site = None; callee = 0; own = twice_counted 1 }
 
--- x calls n, which calls r, and then r itself, which calls x again
-abbrev pub order2 : List LinkRow
-order2 = root ∷ from 0 0 1 1 ∷ from 1 1 2 2 ∷ from 2 4 3 2 ∷ from 1 2 4 1 ∷ from 4 3 1 1 ∷ []
+abbrev ho_file : ProfileRows
+ho_file = record { statics = record { modules = []; procs = []; sites = [] }; nodes = 0 ∷ 1 ∷ 2 ∷ 3 ∷ []; links = root ∷ from 0 0 1 1 ∷ from 1 1 2 2 ∷ from 1 2 1 3 ∷ from 1 1 3 1 ∷ []; finished = true }
 
--- the paths up, the own calls and the totals of its contexts and of clique 1
-order2_paths : (path_of (0 ∷ 1 ∷ 2 ∷ 3 ∷ 1 ∷ []) (0 ∷ 1 ∷ 2 ∷ 3 ∷ []) order2 3 ≡ 3 ∷ 2 ∷ 1 ∷ 0 ∷ []) × (path_of (0 ∷ 1 ∷ 2 ∷ 3 ∷ 1 ∷ []) (0 ∷ 1 ∷ 2 ∷ 3 ∷ []) order2 4 ≡ 4 ∷ 0 ∷ [])
-order2_paths = (refl, refl)
+abbrev ho_total : Row → Measure → Option ℕ
+ho_total = (file_view ho_file ho_cliques (0 ∷ 1 ∷ 2 ∷ 4 ∷ []) ((0 ∷ []) ∷ (1 ∷ 0 ∷ []) ∷ (2 ∷ 1 ∷ 0 ∷ []) ∷ (3 ∷ 1 ∷ 0 ∷ []) ∷ [])).total
 
-order2_totals : (context_own order2 1 Calls ≡ 2) × (context_total (0 ∷ 1 ∷ 2 ∷ 3 ∷ 1 ∷ []) (0 ∷ 1 ∷ 2 ∷ 3 ∷ []) order2 1 Calls ≡ 6) × (context_total (0 ∷ 1 ∷ 2 ∷ 3 ∷ 1 ∷ []) (0 ∷ 1 ∷ 2 ∷ 3 ∷ []) order2 4 Calls ≡ 1) × (clique_total (0 ∷ 1 ∷ 2 ∷ 3 ∷ 1 ∷ []) (0 ∷ 1 ∷ 2 ∷ 3 ∷ []) order2 1 Calls ≡ 7)
-order2_totals = (refl, refl, refl, refl)
+ho_file_totals :
+    (ho_total (OfLink 0) Calls ≡ Some 8) × (ho_total (OfLink 1) Calls ≡ Some 7) × (ho_total (OfLink 2) Calls ≡ Some 2) × (ho_total (OfLink 3) Calls ≡ None) × (ho_total (OfLink 4) Calls ≡ Some 1)
+    × (ho_total (OfContext 1) Calls ≡ Some 7) × (ho_total (OfClique 0) Calls ≡ Some 8) × (ho_total (OfProcedure 2) Exits ≡ Some 2) × (ho_total (OfSite 1) Exits ≡ Some 3) × (ho_total (OfSite 2) Exits ≡ Some 0)
+    × (file_own ho_file (OfSite 2) Calls ≡ Some 3) × (file_own ho_file (OfClique 1) Calls ≡ None)
+ho_file_totals = (refl, refl, refl, refl, refl, refl, refl, refl, refl, refl, refl, refl)
 
-same_row : (x row : LinkRow) → Some x ≡ Some row → IsBetween 5 x → IsBetween 5 row
-same_row x row e h = let q : x ≡ row = cc in subst (λ (r : LinkRow). IsBetween 5 r) q h
+-- its paths in so many steps
+ho_paths : (path_of ho_cliques (0 ∷ 1 ∷ 2 ∷ 4 ∷ []) ho_file.links 3 ≡ 3 ∷ 1 ∷ 0 ∷ []) × (path_of ho_cliques (0 ∷ 1 ∷ 2 ∷ 4 ∷ []) ho_file.links 0 ≡ 0 ∷ [])
+ho_paths = (refl, refl)
 
-order2_others : (p : ℕ) (row : LinkRow) → slice_get order2 (suc p) ≡ Some row → IsBetween 5 row
-order2_others zero row at = same_row (from 0 0 1 1) row at (record { start = 0; caller = refl; start_there = omega arith; callee_there = omega arith })
-order2_others (suc zero) row at = same_row (from 1 1 2 2) row at (record { start = 1; caller = refl; start_there = omega arith; callee_there = omega arith })
-order2_others (suc (suc zero)) row at = same_row (from 2 4 3 2) row at (record { start = 2; caller = refl; start_there = omega arith; callee_there = omega arith })
-order2_others (suc (suc (suc zero))) row at = same_row (from 1 2 4 1) row at (record { start = 1; caller = refl; start_there = omega arith; callee_there = omega arith })
-order2_others (suc (suc (suc (suc zero)))) row at = same_row (from 4 3 1 1) row at (record { start = 4; caller = refl; start_there = omega arith; callee_there = omega arith })
-order2_others (suc (suc (suc (suc (suc p))))) row at = cc
+-- a link whose exits are full counts as many as it shows, and a total has more than one link can show
+abbrev full : ProfileRows
+full = record { statics = record { modules = []; procs = []; sites = [] }; nodes = 0 ∷ 1 ∷ []; links = root ∷ record (from 0 0 1 1) { own = record (twice_counted 1) { exits = 4294967295 } } ∷ []; finished = true }
 
-order2_called : (c : ℕ) → 0 < c → c < 5 → IsCalledFromLower order2 c
-order2_called zero some lt = absurd (omega arith)
-order2_called (suc zero) some lt = record { place = 1; row = from 0 0 1 1; start = 0; there = refl; caller = refl; callee = refl; lower = omega arith }
-order2_called (suc (suc zero)) some lt = record { place = 2; row = from 1 1 2 2; start = 1; there = refl; caller = refl; callee = refl; lower = omega arith }
-order2_called (suc (suc (suc zero))) some lt = record { place = 3; row = from 2 4 3 2; start = 2; there = refl; caller = refl; callee = refl; lower = omega arith }
-order2_called (suc (suc (suc (suc zero)))) some lt = record { place = 4; row = from 1 2 4 1; start = 1; there = refl; caller = refl; callee = refl; lower = omega arith }
-order2_called (suc (suc (suc (suc (suc c))))) some lt = absurd (omega arith)
-
-pub order2_sound : AreSound 5 order2
-order2_sound = record {
-  some_contexts = omega arith;
-  few_links = omega arith;
-  root_row = root;
-  root_there = refl;
-  root = record { caller = refl; callee = refl };
-  others = order2_others;
-  called = order2_called;
-}
-
--- so a profile of five contexts with these links keeps the rules
-pub order2_kept : (p : ProfileRows) → length p.nodes ≡ 5 → p.links ≡ order2 → IsSoundProfile p
-order2_kept p nodes_5 links_are = record {
-  few_nodes = omega (nodes_5, arith);
-  links = subst (λ (n : ℕ). AreSound n p.links) (sym nodes_5) (subst (λ (ls : List LinkRow). AreSound 5 ls) (sym links_are) order2_sound);
-}
+full_total : ((file_view full (0 ∷ 1 ∷ []) (0 ∷ 1 ∷ []) ((0 ∷ []) ∷ (1 ∷ 0 ∷ []) ∷ [])).total (OfClique 0) Exits ≡ Some 4294967296) × (file_own full (OfContext 1) Exits ≡ Some 4294967295)
+full_total = (refl, refl)

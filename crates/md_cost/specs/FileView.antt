@@ -4,7 +4,6 @@ use Rattle.std.specs.Prelude.{ℕ, ◌≡◌, ◌<◌, ◌==◌, Bool, List, [],
 use Rattle.std.specs.Option.{option_map}
 use Rattle.std.specs.List.{list_any}
 use Rattle.md_base.specs.declared.measure.Measure.{Measure}
-use Rattle.md_static.specs.Tables.{Static}
 use Rattle.md_trace.specs.Context.{same_option}
 use Rattle.md_trace.specs.Cliques.{leaves}
 use Rattle.md_dynamic.specs.Profile.{ProfileRows}

@@ -51,12 +51,7 @@ pub fn sum_costs(alloc: Global, profile: &Profile, tree: &Tree) -> Result<Costs,
 }
 
 /// The totals of contexts and cliques.
-fn total_sums(
-    alloc: Global,
-    profile: &Profile,
-    tree: &Tree,
-    nodes: u32,
-) -> Result<Own, NoMemory>
+fn total_sums(alloc: Global, profile: &Profile, tree: &Tree, nodes: u32) -> Result<Own, NoMemory>
     requires valid { IsValid profile.now }
     requires tree { IsTree (length profile.now.nodes) profile.now.links tree.now.cliques tree.now.entries.items }
     requires rise { EntriesRise tree.now.cliques tree.now.entries.items profile.now.links }

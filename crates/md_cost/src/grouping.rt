@@ -33,11 +33,7 @@ pub fn sums_by_key(
 }
 
 /// The own counts of the links at each call site below `count`.
-pub fn own_by_site(
-    alloc: Global,
-    links: &[LinkRow],
-    count: usize,
-) -> Result<Vec<Sums>, NoMemory>
+pub fn own_by_site(alloc: Global, links: &[LinkRow], count: usize) -> Result<Vec<Sums>, NoMemory>
     requires below { All (λ r. IfSome r.site (λ s. s < count)) links.now }
     requires few { length links.now < 2 ^ 32 }
     requires small { AreSmall links.now }

@@ -74,11 +74,7 @@ impl Walk {
         ensures less { work tree.now.cliques self.new.first.items self.new.at < work tree.now.cliques self.old.first.items self.old.at }
     {
         match self.first[self.at as usize] {
-            Some(child) => self.enter(
-                child,
-                children.next[child as usize],
-                keys[child as usize],
-            ),
+            Some(child) => self.enter(child, children.next[child as usize], keys[child as usize]),
             None => self.leave(above(tree, links, keys.len() as u32, self.at)),
         }
     }

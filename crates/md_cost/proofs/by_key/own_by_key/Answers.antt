@@ -1,9 +1,7 @@
-use Rattle.std.proofs.Common.{◌≡◌, ◌<◌, ◌^◌, ℕ, length, get_or, Some, None, sym, ap, ◌∙◌, subst}
+use Rattle.std.proofs.Common.{ℕ, get_or, Some, None, ap, ◌∙◌}
 use Rattle.std.proofs.lemmas.Result.{IfOk-weaker}
-use Rattle.md_base.specs.declared.measure.Measure.{Measure}
 use Rattle.md_trace.specs.Context.{same_option}
 use Rattle.md_cost.specs.Keys.{key_sum}
-use Rattle.md_cost.specs.Totals.{sum_where}
 use Rattle.md_cost.proofs.KeyTotals.{own_by, room_by_key}
 use Rattle.md_cost.proofs.by_key.own_by_key.Goals as goal
 

@@ -1,7 +1,6 @@
-use Rattle.std.proofs.Common.{◌≡◌, ◌<◌, ◌^◌, ℕ, List, Option, length, get_or, Some, None, sym, ap, ◌∙◌, subst}
+use Rattle.std.proofs.Common.{ℕ, List, Option, length, get_or, Some, None, ap, ◌∙◌}
 use Rattle.std.specs.List.{list_any}
 use Rattle.std.proofs.lemmas.Result.{IfOk-weaker}
-use Rattle.md_base.specs.declared.measure.Measure.{Measure}
 use Rattle.md_trace.specs.Context.{same_option}
 use Rattle.md_cost.specs.Keys.{key_sum}
 use Rattle.md_cost.specs.Paths.{path_of}

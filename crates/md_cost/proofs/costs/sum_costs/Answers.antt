@@ -1,4 +1,3 @@
-use Rattle.std.proofs.Common.{◌≡◌, List, length}
 use Rattle.md_cost.proofs.GiveSteps.{gives_own_contexts, gives_total_contexts, gives_total_cliques}
 use Rattle.md_cost.proofs.costs.sum_costs.Goals as goal
 

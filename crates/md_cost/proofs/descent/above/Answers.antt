@@ -1,9 +1,6 @@
-use Rattle.std.proofs.Common.{◌≡◌, ◌<◌, ◌≤◌, ℕ, length, Some, ap, subst, sym, ◌∙◌, arith, List}
-use Rattle.std.specs.List.{slice_get}
-use Rattle.md_dynamic.specs.declared.link.LinkRow.{LinkRow}
-use Rattle.md_clique.specs.Cliques.{clique_count}
+use Rattle.std.proofs.Common.{◌≡◌, ℕ, length, ap, ◌∙◌, arith, List}
 use Rattle.md_clique.proofs.Naming.{lt_clique_count}
-use Rattle.md_cost.specs.Paths.{DoRise, start_of}
+use Rattle.md_cost.specs.Paths.{start_of}
 use Rattle.md_cost.proofs.ClimbSteps.{start_there}
 use Rattle.md_cost.proofs.descent.above.Goals as goal
 

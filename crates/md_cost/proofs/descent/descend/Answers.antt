@@ -1,8 +1,8 @@
-use Rattle.std.proofs.Common.{◌≡◌, ◌<◌, ◌-◌, ◌+◌, ℕ, suc, length, get_or, Option, Some, None, sym, ap, ◌∙◌, subst, arith}
+use Rattle.std.proofs.Common.{◌≡◌, ◌-◌, ℕ, suc, get_or, None, ap, ◌∙◌, arith}
 use Rattle.std.proofs.lemmas.List.{get_or_read}
 use Rattle.md_cost.specs.Paths.{start_of}
 use Rattle.md_cost.specs.Walking.{above}
-use Rattle.md_cost.proofs.ThreadSteps.{Threaded, threaded_none, threaded_more, threaded_all}
+use Rattle.md_cost.proofs.ThreadSteps.{Threaded, threaded_more}
 use Rattle.md_cost.proofs.descent.descend.Goals as goal
 
 pub loop-node-preserved : goal.loop-node-preserved

@@ -1,4 +1,4 @@
-use Rattle.std.proofs.Common.{length, get_or, None, refl, arith}
+use Rattle.std.proofs.Common.{length, get_or, None, refl}
 use Rattle.md_cost.proofs.KeySteps.{grouped_room}
 use Rattle.md_cost.proofs.grouping.sums_by_key.Goals as goal
 

@@ -1,4 +1,3 @@
-use Rattle.std.proofs.Common.{◌≡◌}
 use Rattle.md_cost.proofs.kinds.of_keys.Goals as goal
 
 pub totals_by_key-requires-clause-totals : goal.totals_by_key-requires-clause-totals

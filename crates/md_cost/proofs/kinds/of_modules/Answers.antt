@@ -1,4 +1,4 @@
-use Rattle.std.proofs.Common.{◌≡◌, ◌<◌, ℕ, List, length, get_or, Option, Some, None, refl, sym, ap, ◌∙◌, subst, arith}
+use Rattle.std.proofs.Common.{◌≡◌, length, refl, ap, ◌∙◌}
 use Rattle.md_static.specs.Tables.{Static}
 use Rattle.md_cost.specs.View.{OfModule}
 use Rattle.md_cost.specs.FileView.{module_at}

@@ -1,6 +1,5 @@
-use Rattle.std.proofs.Common.{◌≡◌, ◌<◌, ℕ, List, length, get_or, Option, Some, None, All, IfSome, refl, sym, ap, ◌∙◌, subst, arith}
+use Rattle.std.proofs.Common.{◌≡◌, length, get_or, refl, sym, ap, ◌∙◌, arith}
 use Rattle.md_static.specs.Tables.{Static}
-use Rattle.md_dynamic.specs.declared.link.LinkRow.{LinkRow}
 use Rattle.md_cost.specs.View.{OfSite}
 use Rattle.md_cost.specs.FileView.{site_above}
 use Rattle.md_cost.proofs.GiveSteps.{gives_totals}
@@ -21,7 +20,7 @@ totals_by_key-requires-clause-below c =
     let f = c.args.profile.now in
     let size = c.requires.tree.cliques_are.each in
     λ d q lt e. rw (c.sites-count.ensures, c.statics.ensures) (site_below f c.requires.valid (get_or c.args.tree.now.entries.items (get_or c.args.tree.now.cliques d 0) 0) q
-      (sym (c.in_ok-keys.ensures.is d (omega arith)) ∙ (rw c.deref.ensures.value at e)))
+    (sym (c.in_ok-keys.ensures.is d (omega arith)) ∙ (rw c.deref.ensures.value at e)))
 
 pub totals_by_key-requires-clause-totals : goal.totals_by_key-requires-clause-totals
 totals_by_key-requires-clause-totals c = rw (c.deref-2.ensures.value, c.links-links.ensures) c.requires.totals_are.of_node

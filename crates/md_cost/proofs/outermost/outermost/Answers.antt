@@ -1,4 +1,4 @@
-use Rattle.std.proofs.Common.{◌≡◌, ◌<◌, ℕ, Bool, List, false, length, get_or, replicate, Option, Some, None, refl, sym, ap, ◌∙◌, subst, arith}
+use Rattle.std.proofs.Common.{◌≡◌, false, length, replicate, None, refl, ◌∙◌, arith}
 use Rattle.md_cost.specs.Paths.{start_of}
 use Rattle.md_cost.proofs.ClimbSteps.{entries_rise, start_there}
 use Rattle.md_cost.proofs.WalkSteps.{begun, finished}

@@ -1,15 +1,9 @@
-use Rattle.std.proofs.Common.{◌≡◌, ◌<◌, ℕ, List, length, get_or, Option, Some, None, refl, sym, ap, ◌∙◌, arith}
+use Rattle.std.proofs.Common.{◌≡◌, ◌<◌, length, Some, refl, ◌∙◌}
 use Rattle.std.specs.List.{slice_get}
-use Rattle.std.proofs.lemmas.List.{get_or_read}
 use Rattle.std.proofs.lemmas.Option.{slice_get_read}
-use Rattle.md_clique.specs.Cliques.{clique_count, members_of}
-use Rattle.md_clique.proofs.Naming.{lt_clique_count}
-use Rattle.md_dynamic.specs.declared.link.LinkRow.{LinkRow}
-use Rattle.md_cost.specs.View.{View, OfLink, OfClique}
-use Rattle.md_cost.specs.declared.sums.Sums.{Sums}
-use Rattle.md_cost.specs.SumOf.{sum_of}
-use Rattle.md_cost.proofs.ValidSteps.{valid_sound, HasAll, has_all, caller_there}
-use Rattle.md_cost.proofs.ViewSteps.{view_cliques, view_entries, view_own, view_total, callee_there, some_cliques, link_root, link_inside, link_leaving}
+use Rattle.md_cost.specs.View.{OfLink}
+use Rattle.md_cost.proofs.ValidSteps.{valid_sound}
+use Rattle.md_cost.proofs.ViewSteps.{view_own}
 use Rattle.md_cost.proofs.loaded.Loaded.link_own.Goals as goal
 
 pub returns : goal.returns

@@ -1,15 +1,10 @@
-use Rattle.std.proofs.Common.{◌≡◌, ◌<◌, ℕ, List, length, get_or, Option, Some, None, refl, sym, ap, ◌∙◌, arith}
+use Rattle.std.proofs.Common.{◌≡◌, ◌<◌, ℕ, length, get_or, Some, refl, sym, ap, ◌∙◌, arith}
 use Rattle.std.specs.List.{slice_get}
-use Rattle.std.proofs.lemmas.List.{get_or_read}
 use Rattle.std.proofs.lemmas.Option.{slice_get_read}
-use Rattle.md_clique.specs.Cliques.{clique_count, members_of}
 use Rattle.md_clique.proofs.Naming.{lt_clique_count}
-use Rattle.md_dynamic.specs.declared.link.LinkRow.{LinkRow}
-use Rattle.md_cost.specs.View.{View, OfLink, OfClique}
-use Rattle.md_cost.specs.declared.sums.Sums.{Sums}
-use Rattle.md_cost.specs.SumOf.{sum_of}
-use Rattle.md_cost.proofs.ValidSteps.{valid_sound, HasAll, has_all, caller_there}
-use Rattle.md_cost.proofs.ViewSteps.{view_cliques, view_entries, view_own, view_total, callee_there, some_cliques, link_root, link_inside, link_leaving}
+use Rattle.md_cost.specs.View.{OfClique}
+use Rattle.md_cost.proofs.ValidSteps.{valid_sound, caller_there}
+use Rattle.md_cost.proofs.ViewSteps.{callee_there, some_cliques, link_root, link_inside, link_leaving}
 use Rattle.md_cost.proofs.loaded.Loaded.link_total.Goals as goal
 
 pub clique_total-requires : goal.clique_total-requires
@@ -67,4 +62,4 @@ returns-else-clique_of-clique c =
     let from : c.clique_of.result ≡ get_or c.self.inside.tree.cliques c.in-Some.caller 0 = rw (← c.self.view_is) at c.clique_of.ensures.number in
     let test = c.if-clique_of-clique.false in
     λ v m is. link_leaving c.self.inside.profile (valid_sound c.self.inside.profile c.self.invariant.valid).links c.self.inside.tree.cliques c.self.inside.tree.entries.items c.self.invariant.tree v (rw (← c.self.view_is) at is) c.args.link c.in-Some.caller c.index-links-number.result m at c.in-Some.is (λ e. absurd (omega arith))
-      ∙ ap (λ (k : ℕ). v.total (OfClique k) m) (sym clique) ∙ c.clique_total-else-clique_of-clique.ensures v m is
+    ∙ ap (λ (k : ℕ). v.total (OfClique k) m) (sym clique) ∙ c.clique_total-else-clique_of-clique.ensures v m is

@@ -1,7 +1,6 @@
-use Rattle.std.proofs.Common.{◌≡◌, ◌<◌, ℕ, length, get_or, Option, Some, None, IfSome, sym, ap, ◌∙◌, subst, arith}
+use Rattle.std.proofs.Common.{◌≡◌, ◌<◌, length, get_or, Some, None, sym, ◌∙◌, arith}
 use Rattle.std.proofs.lemmas.List.{get_or_read}
 use Rattle.md_cost.specs.Paths.{start_of}
-use Rattle.md_cost.specs.Walking.{Stands, work}
 use Rattle.md_cost.proofs.ClimbSteps.{entries_rise, start_there}
 use Rattle.md_cost.proofs.WalkSteps.{below_top, entered, entered_less, left, left_less, key_below, mark_below}
 use Rattle.md_cost.proofs.outermost.Walk.step.Goals as goal
