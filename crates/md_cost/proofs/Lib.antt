@@ -1,5 +1,6 @@
 pub mod Measures
 pub mod PathSteps
+pub mod RunRows
 pub mod SumSteps
 pub mod OwnSteps
 pub mod ClimbSteps
@@ -13,6 +14,7 @@ pub mod MarkSteps
 pub mod KeyTotals
 pub mod ValidSteps
 pub mod ViewSteps
+pub mod ViewThere
 pub mod ThreadSteps
 pub mod WalkSteps
 pub mod Worked

@@ -8,6 +8,7 @@ mod descent;
 mod grouping;
 mod keys;
 mod kinds;
+mod laws;
 mod loaded;
 mod outermost;
 mod own;
@@ -16,6 +17,7 @@ mod sums;
 mod totals;
 mod tree;
 
+pub use laws::no_clique_of_a_run_is_entered_twice;
 pub use loaded::Loaded;
 pub use propagating::{CostFault, propagate};
 pub use sums::Sums;

@@ -52,11 +52,12 @@ impl Loaded {
         }
     }
 
-    /// The profile, which is valid. Takes no memory.
+    /// The profile, which is valid and has a view. Takes no memory.
     pub fn profile(&self) -> &Profile
         ensures profile { result.now ≡ self.now.profile }
         ensures valid { IsValid self.now.profile }
         ensures loaded { IsLoadedOf self.now.profile self.now }
+        ensures viewed { (v : View) × IsFileView self.now.profile v }
     {
         &self.profile
     }
