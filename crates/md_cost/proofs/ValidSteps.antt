@@ -106,6 +106,17 @@ caller_there f valid (suc p) from row at called =
     let same : all.start ≡ from = cc in
     rw same at all.start_there
 
+-- what no context calls is called at no site
+pub no_site : (f : ProfileRows) → IsValid f → (k : ℕ) (row : LinkRow) → slice_get f.links k ≡ Some row → row.caller ≡ None → row.site ≡ None
+no_site f valid zero row at none =
+    let root = root_of (slice_get f.links 0) valid.rows.root in
+    let same : root.0 ≡ row = (let e : Some root.0 ≡ Some row = sym root.1 ∙ at in cc) in
+    rw (← same) root.2.site
+no_site f valid (suc p) row at none =
+    let all = has_all f valid p row at in
+    let e : None ≡ Some all.start = sym none ∙ all.caller in
+    cc
+
 -- each site of a link is there; the root link has none
 sites_there : (f : ProfileRows) → IsValid f → (k : ℕ) (row : LinkRow) → slice_get f.links k ≡ Some row → IfSome row.site (λ s. s < length f.statics.sites)
 sites_there f valid zero row at =

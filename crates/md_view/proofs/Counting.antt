@@ -88,8 +88,8 @@ module _ (t : SiteTable) (h : List Event) (is : IsPortHistory t h) where
       (λ l. cond (T l) (count_of (row_of t.main h l).own m) 0)
       (links_of t.main h)
       (λ j l at.
-        whole test (passing (placed_of t.main h) (has_link l.link)) (T l) m h (λ a holds. (let k = known j a l at holds in same a k.0 k.1 ∙ ap T (sym k.2)))
-        ∙ ap (λ (n : ℕ). cond (T l) n 0) (sym (by_measure (λ n. capped (sum_where (passing (placed_of t.main h) (has_link l.link)) n h)) m)))
+      whole test (passing (placed_of t.main h) (has_link l.link)) (T l) m h (λ a holds. (let k = known j a l at holds in same a k.0 k.1 ∙ ap T (sym k.2)))
+      ∙ ap (λ (n : ℕ). cond (T l) n 0) (sym (by_measure (λ n. capped (sum_where (passing (placed_of t.main h) (has_link l.link)) n h)) m)))
     where
       same_sums : (f g : Leading → ℕ) (ls : List Leading) → ((j : ℕ) (l : Leading) → slice_get ls j ≡ Some l → f l ≡ g l) → sum_by f ls ≡ sum_by g ls
       same_sums f g [] each = refl
@@ -123,6 +123,7 @@ module _ (t : SiteTable) (h : List Event) (is : IsPortHistory t h) where
             let rest = none_of f x ls (λ j z at. apart (suc j) z at) in
             omega arith)
       ]
+
       one_of : (f : Leading → ℕ) (ls : List Leading) (p : ℕ) (x : Leading) → slice_get ls p ≡ Some x → ((j k : ℕ) (y z : Leading) → slice_get ls j ≡ Some y → slice_get ls k ≡ Some z → y.link ≡ z.link → j ≡ k) → sum_by (λ l. cond (same_link x.link l.link) (f l) 0) ls ≡ f x
       one_of f [] p x at distinct = cc
       one_of f (y ∷ ls) zero x at distinct =

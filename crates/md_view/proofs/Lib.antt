@@ -1,2 +1,5 @@
 pub mod Counting
 pub mod OwnCounts
+pub mod Members
+pub mod TotalCounts
+pub mod OneView

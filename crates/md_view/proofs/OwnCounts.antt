@@ -24,12 +24,12 @@ use Rattle.md_cost.specs.FileView.{file_own, module_at, procedure_at}
 use Rattle.md_view.specs.RunView.{modules_of, own_of_link, run_own}
 use Rattle.md_view.proofs.Counting.{right, count_rows, count_one}
 
-at_map : {X Y : Type 0} (f : X → Y) (xs : List X) (i : ℕ) → slice_get (map f xs) i ≡ option_map f (slice_get xs i)
+pub at_map : {X Y : Type 0} (f : X → Y) (xs : List X) (i : ℕ) → slice_get (map f xs) i ≡ option_map f (slice_get xs i)
 at_map f [] i = refl
 at_map f (x ∷ xs) zero = refl
 at_map f (x ∷ xs) (suc i) = at_map f xs i
 
-turned : (a b : ℕ) → eqb a b ≡ eqb b a
+pub turned : (a b : ℕ) → eqb a b ≡ eqb b a
 turned a b = elim (cases_eq a b) [
   | inl same ↦ rw same refl
   | inr other ↦ rw (ne_eqb a b other, ne_eqb b a (λ e. other (sym e))) refl
@@ -43,10 +43,10 @@ module _ (t : SiteTable) (s : Static) (h : List Event) (finished : Bool) (f : Pr
       ap (λ (rows : List LinkRow). rows_where T m rows) of.links_are
       ∙ sym (count_rows t h is (passing (placed_of t.main h) test) T m (λ a y there. ap (passes test) there ∙ same a y there))
 
-  at_node : (a : ℕ) (y : Placed) → numbered (placed_of t.main h) a ≡ Some y → slice_get f.nodes y.context ≡ Some y.link.procedure
+  pub at_node : (a : ℕ) (y : Placed) → numbered (placed_of t.main h) a ≡ Some y → slice_get f.nodes y.context ≡ Some y.link.procedure
   at_node a y there = ap (λ (ns : List ℕ). slice_get ns y.context) of.contexts_are ∙ (right t h is).in_contexts a y there
 
-  at_module : (a : ℕ) (y : Placed) → numbered (placed_of t.main h) a ≡ Some y → module_at f y.context ≡ slice_get (modules_of s) y.link.procedure
+  pub at_module : (a : ℕ) (y : Placed) → numbered (placed_of t.main h) a ≡ Some y → module_at f y.context ≡ slice_get (modules_of s) y.link.procedure
   at_module a y there =
       ap (λ (o : Option ℕ). option_and_then (λ q. option_map (λ (p : Proc). p.module) (slice_get f.statics.procs q)) o) (at_node a y there)
       ∙ ap (λ (x : Static). option_map (λ (p : Proc). p.module) (slice_get x.procs y.link.procedure)) of.tables

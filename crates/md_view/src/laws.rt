@@ -1,17 +1,17 @@
 // Laws over the definitions of views alone. Each is the contract of a function that does nothing.
-ghost use Rattle.std.specs.Prelude.{◌≡◌, Bool, List};
-ghost use Rattle.md_base.specs.declared.measure.Measure.{Measure};
+ghost use Rattle.std.specs.Prelude.{Bool, List};
 ghost use Rattle.md_trace.specs.declared.event.Event.{Event};
 ghost use Rattle.md_trace.specs.PortHistory.{SiteTable, IsPortHistory};
 ghost use Rattle.md_static.specs.Tables.{Static};
 ghost use Rattle.md_dynamic.specs.OfHistory.{IsProfileOf};
 ghost use Rattle.md_dynamic.specs.Profile.{ProfileRows};
-ghost use Rattle.md_cost.specs.FileView.{file_own};
-ghost use Rattle.md_cost.specs.View.{Row};
-ghost use Rattle.md_view.specs.RunView.{run_own};
+ghost use Rattle.md_dynamic.specs.Valid.{IsValid};
+ghost use Rattle.md_cost.specs.FileView.{IsFileView};
+ghost use Rattle.md_cost.specs.View.{View};
+ghost use Rattle.md_view.specs.RunView.{IsRunView};
 
-/// The own counts that a run's profile has as a file are those of the run: each is the count over the activations that the
-/// row asks for.
-pub fn own_counts_are_those_of_the_run()
-    ensures { (t : SiteTable) (s : Static) (h : List Event) (finished : Bool) (f : ProfileRows) (row : Row) (m : Measure) → IsPortHistory t h → IsProfileOf s t.main h finished f → file_own f row m ≡ run_own s t.main h row m }
+/// The view of a run's profile as a file is the view of the run, row kind by row kind: own counts ask the activations
+/// themselves, and totals their chains or stations. The profile of a run is valid, as the recorder ensures of its own.
+pub fn a_file_says_what_the_run_says()
+    ensures { (t : SiteTable) (s : Static) (h : List Event) (finished : Bool) (f : ProfileRows) (v : View) → IsPortHistory t h → IsProfileOf s t.main h finished f → IsValid f → IsFileView f v → IsRunView s t.main h finished v }
 {}

@@ -4,4 +4,4 @@
 
 mod laws;
 
-pub use laws::own_counts_are_those_of_the_run;
+pub use laws::a_file_says_what_the_run_says;
