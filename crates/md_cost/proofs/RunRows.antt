@@ -1,14 +1,13 @@
 -- The links of a run as rows of its profile.
 use Rattle.std.proofs.Common.{◌≡◌, ℕ, Bool, List, [], ◌∷◌, length, map, Option, refl, ap, ◌∙◌, subst}
 use Rattle.md_trace.specs.declared.event.Event.{Event}
-use Rattle.md_trace.specs.Context.{contexts, placed_of}
+use Rattle.md_trace.specs.Context.{placed_of}
 use Rattle.md_trace.specs.Links.{Leading, links}
 use Rattle.md_trace.specs.Cliques.{AreCliques, edges}
 use Rattle.md_clique.specs.Entries.{edges_of}
 use Rattle.md_clique.specs.OneEntry.{AreCliquesOf, ends_of, links_of}
 use Rattle.md_clique.proofs.EnteredOnce.{ends_edges}
 use Rattle.md_static.specs.Tables.{Static}
-use Rattle.md_dynamic.specs.declared.link.LinkRow.{LinkRow}
 use Rattle.md_dynamic.specs.OfHistory.{IsProfileOf, row_of}
 use Rattle.md_dynamic.specs.Profile.{ProfileRows}
 use Rattle.md_cost.specs.Paths.{ends}

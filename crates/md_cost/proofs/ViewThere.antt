@@ -1,10 +1,10 @@
 -- A profile with a tree has a view: the paths in so many steps are paths up.
-use Rattle.std.proofs.Common.{◌≡◌, ℕ, zero, suc, ◌+◌, ◌<◌, ◌≤◌, List, [], ◌∷◌, ◌++◌, length, get_or, Option, Some, None, refl, sym, ap, ◌∙◌, inl, inr, subst, arith}
+use Rattle.std.proofs.Common.{◌≡◌, ℕ, zero, suc, ◌<◌, ◌≤◌, List, [], ◌∷◌, ◌++◌, length, get_or, Option, Some, refl, sym, ap, ◌∙◌, inl, inr, subst, arith}
 use Rattle.std.specs.List.{slice_get}
-use Rattle.std.proofs.lemmas.Bool.{cases_eq, cases_lt, cases_Bool}
+use Rattle.std.proofs.lemmas.Bool.{cases_eq, cases_lt}
 use Rattle.std.proofs.lemmas.List.{get_or_append_left, get_or_push, length_push}
 use Rattle.md_clique.specs.Cliques.{clique_count}
-use Rattle.md_clique.specs.OneEntry.{BeginsWith, IsPathUp, StartsEntry}
+use Rattle.md_clique.specs.OneEntry.{IsPathUp, StartsEntry}
 use Rattle.md_clique.proofs.Naming.{lt_clique_count}
 use Rattle.md_dynamic.specs.Profile.{ProfileRows}
 use Rattle.md_cost.specs.Paths.{ends, path_of, path_to, start_of}

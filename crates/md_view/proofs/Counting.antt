@@ -1,5 +1,5 @@
 -- A count over the activations of whole links is a sum over the links' own counts.
-use Rattle.std.proofs.Common.{◌≡◌, ℕ, zero, suc, ◌+◌, ◌<◌, Bool, true, false, ◌&&◌, cond, min, List, [], ◌∷◌, map, Option, Some, None, refl, sym, ap, ◌∙◌, inl, inr, arith}
+use Rattle.std.proofs.Common.{◌≡◌, ℕ, zero, suc, Bool, true, false, ◌&&◌, cond, List, [], ◌∷◌, map, Option, Some, None, refl, sym, ap, ◌∙◌, inl, inr, arith}
 use Rattle.std.specs.List.{slice_get, sum_by}
 use Rattle.std.proofs.lemmas.Bool.{cases_Bool, false≢true}
 use Rattle.std.proofs.lemmas.List.Sums.{sum_by-cons}
@@ -9,14 +9,14 @@ use Rattle.md_trace.specs.declared.event.Event.{Event}
 use Rattle.md_trace.specs.Activation.{activations, numbered}
 use Rattle.md_trace.specs.PortHistory.{SiteTable, IsPortHistory}
 use Rattle.md_trace.specs.Context.{Placed, placed_of, has_link, same_link}
-use Rattle.md_trace.specs.Links.{Leading, links}
-use Rattle.md_trace.specs.Count.{activation_of, amount, capped, count_of, counts_by, count_over, passes, passing, set_counts, sum_where}
+use Rattle.md_trace.specs.Links.{Leading}
+use Rattle.md_trace.specs.Count.{activation_of, capped, count_of, counts_by, count_over, passes, passing, sum_where}
 use Rattle.md_trace.specs.Totals.{own}
 use Rattle.md_trace.proofs.LinkFacts.{AreRight, are-calls, are-right, leading, links-distinct}
 use Rattle.md_clique.specs.OneEntry.{links_of}
 use Rattle.md_clique.proofs.Growing.{same_link_eq, same_link_refl}
 use Rattle.md_dynamic.specs.declared.link.LinkRow.{LinkRow}
-use Rattle.md_cost.specs.Totals.{sum_where as rows_where, count_at}
+use Rattle.md_cost.specs.Totals.{sum_where as rows_where}
 use Rattle.md_dynamic.specs.OfHistory.{row_of}
 
 by_measure : (f : Measure → ℕ) (m : Measure) → count_of (counts_by f) m ≡ f m

@@ -16,7 +16,7 @@ use Rattle.md_cost.specs.FileView.{IsFileView, join_of}
 use Rattle.md_cost.proofs.RunRows.{cliques_of, ends_are}
 use Rattle.md_cost.proofs.ValidSteps.{valid_sound}
 use Rattle.md_cost.proofs.ViewSteps.{view_own, view_total}
-use Rattle.md_view.specs.RunView.{IsRunView, run_join, run_own, run_total, run_view}
+use Rattle.md_view.specs.RunView.{IsRunView, run_join, run_view}
 use Rattle.md_view.proofs.OwnCounts.{own_agrees}
 use Rattle.md_view.proofs.TotalCounts.{total_agrees}
 

@@ -1,14 +1,14 @@
 -- Own counts of a run and of its profile, row kind by row kind.
-use Rattle.std.proofs.Common.{◌≡◌, ℕ, zero, suc, Bool, true, false, eqb, List, [], ◌∷◌, map, Option, Some, None, refl, sym, ap, ◌∙◌, inl, inr}
+use Rattle.std.proofs.Common.{◌≡◌, ℕ, zero, suc, Bool, eqb, List, [], ◌∷◌, map, Option, Some, None, refl, sym, ap, ◌∙◌, inl, inr}
 use Rattle.std.specs.List.{slice_get}
 use Rattle.std.specs.Option.{option_map}
 use Rattle.std.specs.Prelude.{option_and_then}
-use Rattle.std.proofs.lemmas.Bool.{cases_eq, eq-eqb, ne_eqb}
+use Rattle.std.proofs.lemmas.Bool.{cases_eq, ne_eqb}
 use Rattle.md_base.specs.declared.measure.Measure.{Measure}
 use Rattle.md_trace.specs.declared.event.Event.{Event}
 use Rattle.md_trace.specs.Activation.{numbered}
 use Rattle.md_trace.specs.PortHistory.{SiteTable, IsPortHistory}
-use Rattle.md_trace.specs.Context.{Placed, contexts, placed_of, same_option}
+use Rattle.md_trace.specs.Context.{Placed, placed_of, same_option}
 use Rattle.md_trace.specs.Links.{Leading}
 use Rattle.md_trace.specs.Count.{passes, passing}
 use Rattle.md_trace.specs.Totals.{in_context, in_procedure, at_site, in_module, own}

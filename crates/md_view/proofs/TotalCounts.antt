@@ -1,31 +1,31 @@
 -- Totals of a run and of its profile, row kind by row kind.
-use Rattle.std.proofs.Common.{◌≡◌, ℕ, zero, suc, ◌<◌, Bool, true, false, ◌&&◌, not, eqb, cond, List, [], ◌∷◌, length, map, get_or, Option, Some, None, refl, sym, ap, ◌∙◌, inl, inr, subst, arith}
+use Rattle.std.proofs.Common.{◌≡◌, ℕ, ◌<◌, Bool, true, false, ◌&&◌, eqb, List, ◌∷◌, length, map, get_or, Option, Some, None, refl, sym, ap, ◌∙◌, inl, inr, subst}
 use Rattle.std.specs.List.{list_any, slice_get}
 use Rattle.std.specs.Option.{option_map}
-use Rattle.std.specs.Prelude.{option_and_then, if◌then◌else◌}
-use Rattle.std.proofs.lemmas.Bool.{cases_Bool, cases_eq, eq-eqb, ne_eqb, false≢true, and_parts, not-true}
+use Rattle.std.specs.Prelude.{option_and_then}
+use Rattle.std.proofs.lemmas.Bool.{cases_Bool, eq-eqb, ne_eqb, false≢true}
 use Rattle.md_base.specs.declared.measure.Measure.{Measure}
 use Rattle.md_trace.specs.declared.event.Event.{Event}
 use Rattle.md_trace.specs.Activation.{activations, numbered}
 use Rattle.md_trace.specs.PortHistory.{SiteTable, IsPortHistory}
-use Rattle.md_trace.specs.Context.{Placed, chain, contexts, placed_of, same_option, has_link, same_link}
+use Rattle.md_trace.specs.Context.{Placed, chain, placed_of, same_option, has_link, same_link}
 use Rattle.md_trace.specs.Links.{Leading}
 use Rattle.md_trace.specs.Cliques.{leaves}
 use Rattle.md_trace.specs.Count.{count_over}
-use Rattle.md_trace.specs.Totals.{stations, in_context, in_procedure, at_site, in_module, in_clique, is_entering, link_total}
+use Rattle.md_trace.specs.Totals.{stations, in_context, in_procedure, at_site, in_module, in_clique, is_entering}
 use Rattle.md_trace.proofs.LinkFacts.{are-calls, leading, links-distinct}
 use Rattle.md_static.specs.Tables.{Static}
 use Rattle.md_dynamic.specs.declared.link.LinkRow.{LinkRow}
 use Rattle.md_dynamic.specs.OfHistory.{IsProfileOf, row_of}
 use Rattle.md_dynamic.specs.Profile.{ProfileRows}
 use Rattle.md_dynamic.specs.Valid.{IsValid}
-use Rattle.md_clique.specs.Entries.{enters, is_outside}
+use Rattle.md_clique.specs.Entries.{is_outside}
 use Rattle.md_clique.specs.OneEntry.{IsPathUp, links_of}
 use Rattle.md_clique.proofs.Coming.{called, well}
 use Rattle.md_clique.proofs.Growing.{chain_head, same_link_eq, same_link_refl}
 use Rattle.md_clique.proofs.Naming.{lt_clique_count}
 use Rattle.md_clique.proofs.StationPaths.{path_up}
-use Rattle.md_cost.specs.Paths.{ends, path_of}
+use Rattle.md_cost.specs.Paths.{path_of}
 use Rattle.md_cost.specs.Totals.{sum_where as rows_where, path_total}
 use Rattle.md_cost.specs.Tree.{IsTree}
 use Rattle.md_cost.specs.View.{Row, OfLink, OfContext, OfClique, OfProcedure, OfSite, OfModule}
@@ -36,7 +36,7 @@ use Rattle.md_cost.proofs.ValidSteps.{valid_sound, no_site}
 use Rattle.md_cost.proofs.ViewSteps.{callee_there, entry_of, path_is}
 use Rattle.md_view.specs.RunView.{modules_of, run_total, total_of_link, total_from as run_total_from}
 use Rattle.md_view.proofs.Counting.{right, count_rows}
-use Rattle.md_view.proofs.Members.{AllOf, all_chain, all_stations, any_contexts, any_each, any_entered, any_stations, called_chain}
+use Rattle.md_view.proofs.Members.{all_chain, all_stations, any_contexts, any_each, any_entered, any_stations, called_chain}
 use Rattle.md_view.proofs.OwnCounts.{at_map, at_module, at_node, turned}
 
 module _ (t : SiteTable) (s : Static) (h : List Event) (finished : Bool) (f : ProfileRows) (is : IsPortHistory t h) (of : IsProfileOf s t.main h finished f) (valid : IsValid f) (cliques found : List ℕ) (tree : IsTree (length f.nodes) f.links cliques found) where
