@@ -1,5 +1,5 @@
 -- The view of a run's profile is the view of the run.
-use Rattle.std.proofs.Common.{◌≡◌, ℕ, Bool, List, [], ◌∷◌, map, Option, refl, sym, ap, ◌∙◌, subst}
+use Rattle.std.proofs.Common.{◌≡◌, ℕ, Bool, List, [], ◌∷◌, length, map, Option, refl, sym, ap, ◌∙◌, subst}
 use Rattle.md_base.specs.declared.measure.Measure.{Measure}
 use Rattle.md_trace.specs.declared.event.Event.{Event}
 use Rattle.md_trace.specs.PortHistory.{SiteTable, IsPortHistory}
@@ -9,13 +9,18 @@ use Rattle.md_dynamic.specs.declared.link.LinkRow.{LinkRow}
 use Rattle.md_dynamic.specs.OfHistory.{IsProfileOf, row_of}
 use Rattle.md_dynamic.specs.Profile.{ProfileRows}
 use Rattle.md_dynamic.specs.Valid.{IsValid}
-use Rattle.md_clique.specs.Entries.{AreEntries}
-use Rattle.md_clique.specs.OneEntry.{links_of}
+use Rattle.md_trace.specs.Cliques.{AreCliques, edges}
+use Rattle.md_clique.specs.Entries.{AreEntries, edges_of}
+use Rattle.md_clique.specs.OneEntry.{context_count, links_of}
+use Rattle.md_clique.proofs.EnteredOnce.{ends_edges}
+use Rattle.md_cost.specs.Paths.{ends}
+use Rattle.md_cost.specs.Tree.{IsTree}
 use Rattle.md_cost.specs.View.{Row, Join, View}
 use Rattle.md_cost.specs.FileView.{IsFileView, join_of}
 use Rattle.md_cost.proofs.RunRows.{cliques_of, ends_are}
 use Rattle.md_cost.proofs.ValidSteps.{valid_sound}
-use Rattle.md_cost.proofs.ViewSteps.{view_own, view_total}
+use Rattle.md_cost.proofs.ViewSteps.{view_cliques, view_entries, view_own, view_total}
+use Rattle.md_cost.proofs.ViewThere.{view_there}
 use Rattle.md_view.specs.RunView.{IsRunView, run_join, run_view}
 use Rattle.md_view.proofs.OwnCounts.{own_agrees}
 use Rattle.md_view.proofs.TotalCounts.{total_agrees}
@@ -54,3 +59,23 @@ run_view_of t s h finished f v is of valid viewed =
           (λ row m. view_own f sound v.cliques v.entries viewed.tree v viewed row m ∙ own_agrees t s h finished f is of row m)
           (λ row m. view_total f sound v.cliques v.entries viewed.tree v viewed row m ∙ sym (total_agrees t s h finished f is of valid v.cliques v.entries viewed.tree row m));
     }
+
+-- and the other way round, since the profile has a view
+pub file_view_of : (t : SiteTable) (s : Static) (h : List Event) (finished : Bool) (f : ProfileRows) (v : View) → IsPortHistory t h → IsProfileOf s t.main h finished f → IsValid f → IsRunView s t.main h finished v → IsFileView f v
+file_view_of t s h finished f v is of valid run =
+    let sound = (valid_sound f valid).links in
+    let ends_same = ends_are s t.main h finished f of in
+    let edges_same : edges_of (ends f.links) ≡ edges (links_of t.main h) = ap edges_of ends_same ∙ ends_edges (links_of t.main h) in
+    let tree : IsTree (length f.nodes) f.links v.cliques v.entries = record {
+      cliques_are = subst (λ (n : ℕ). AreCliques n (edges_of (ends f.links)) v.cliques) (sym (ap length of.contexts_are))
+          (subst (λ (es : List (ℕ × ℕ)). AreCliques (context_count t.main h) es v.cliques) (sym edges_same) run.cliques_are);
+      entries_are = subst (λ (es : List (Option ℕ × ℕ)). AreEntries v.cliques es v.entries) (sym ends_same) run.entries_are;
+    } in
+    let there = view_there f sound v.cliques v.entries tree in
+    let its = run_view_of t s h finished f there.0 is of valid there.1 in
+    let same : there.0 ≡ v =
+    its.is
+    ∙ ap (λ (ks : List ℕ). run_view s t.main h finished ks there.0.entries) (view_cliques f sound v.cliques v.entries tree there.0 there.1)
+    ∙ ap (λ (es : List ℕ). run_view s t.main h finished v.cliques es) (view_entries f sound v.cliques v.entries tree there.0 there.1)
+    ∙ sym run.is in
+    subst (λ (w : View). IsFileView f w) same there.1

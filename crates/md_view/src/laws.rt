@@ -10,8 +10,9 @@ ghost use Rattle.md_cost.specs.FileView.{IsFileView};
 ghost use Rattle.md_cost.specs.View.{View};
 ghost use Rattle.md_view.specs.RunView.{IsRunView};
 
-/// The view of a run's profile as a file is the view of the run, row kind by row kind: own counts ask the activations
+/// The views of a run's profile as a file are the views of the run, row kind by row kind: own counts ask the activations
 /// themselves, and totals their chains or stations. The profile of a run is valid, as the recorder ensures of its own.
 pub fn a_file_says_what_the_run_says()
-    ensures { (t : SiteTable) (s : Static) (h : List Event) (finished : Bool) (f : ProfileRows) (v : View) → IsPortHistory t h → IsProfileOf s t.main h finished f → IsValid f → IsFileView f v → IsRunView s t.main h finished v }
+    ensures forth { (t : SiteTable) (s : Static) (h : List Event) (finished : Bool) (f : ProfileRows) (v : View) → IsPortHistory t h → IsProfileOf s t.main h finished f → IsValid f → IsFileView f v → IsRunView s t.main h finished v }
+    ensures back { (t : SiteTable) (s : Static) (h : List Event) (finished : Bool) (f : ProfileRows) (v : View) → IsPortHistory t h → IsProfileOf s t.main h finished f → IsValid f → IsRunView s t.main h finished v → IsFileView f v }
 {}
