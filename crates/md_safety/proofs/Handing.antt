@@ -15,14 +15,10 @@ use Rattle.md_inst.specs.Instantiation.{Instantiation, free, has, InstMap, known
 use Rattle.md_inst.specs.Arguments.{is_spent, input_known, input, output_known, output, given_known, given, argument, arguments, inputs, givens}
 use Rattle.md_safety.specs.Values.{HasType, HaveTypes, Agrees, Fits}
 use Rattle.md_safety.specs.Arguments.{IsArgument, AreArguments, taken, IsResult, AreResults}
+use Rattle.md_safety.specs.Turns.{AreDistinct}
 use Rattle.md_safety.proofs.Environments.{fits_put, fits_known, fits_handed, fits_others, fits_fewer}
 use Rattle.md_safety.proofs.SameTypes.{same_sort_is}
 use Rattle.md_safety.proofs.Verdicts.{ok_then, ok_where, ok_unless, ok_is}
-
--- variables are pairwise different
-abbrev pub Distinct : List ℕ → Type 0
-Distinct [] = ⊤
-Distinct (x ∷ xs) = (times x xs ≡ 0) × Distinct xs
 
 -- these variables are among those
 abbrev pub In' : List ℕ → List ℕ → Type 0
@@ -121,7 +117,7 @@ fits_later s vars kn r e x none (inr k) h = subst (λ (q : InstMap). Fits s vars
 
 -- accepted arguments: each input has a value of its type, each output none
 pub handed : (s : Hlds) (strict : Bool) (l : ℕ) (args : List (HldsType × Mode)) (xs : List ℕ) (kn r : InstMap) (e : Env)
-    → Fits s xs kn e → Distinct xs → length xs ≡ length args → arguments strict l args xs kn ≡ Ok r → AreArguments s args (taken e xs)
+    → Fits s xs kn e → AreDistinct xs → length xs ≡ length args → arguments strict l args xs kn ≡ Ok r → AreArguments s args (taken e xs)
 handed s strict l [] [] kn r e h d size g = tt
 handed s strict l [] (x ∷ xs) kn r e h d size g = absurd (omega (arith, size))
 handed s strict l (a ∷ args) [] kn r e h d size g = absurd (omega (arith, size))

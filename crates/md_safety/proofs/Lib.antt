@@ -4,3 +4,4 @@ pub mod SameTypes
 pub mod Verdicts
 pub mod Handing
 pub mod Functors
+pub mod SimpleGoals
