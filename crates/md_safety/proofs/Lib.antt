@@ -5,3 +5,6 @@ pub mod Verdicts
 pub mod Handing
 pub mod Functors
 pub mod SimpleGoals
+pub mod Accepted
+pub mod Growing
+pub mod JoinLemmas
