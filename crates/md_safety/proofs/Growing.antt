@@ -266,14 +266,14 @@ mutual
   expr_later c l (NotGoal p) kn a ok = only_later kn a (not_ok c l p kn a ok).is
   expr_later c l (SomeGoal vs p) kn a ok = only_later kn a (some_ok c l vs p kn a ok).is
 
-  each_later : (c : Scope) (ps : HldsGoals) (kn : InstMap) (a : After) → each c ps kn ≡ Ok a → Later kn a.known
+  pub each_later : (c : Scope) (ps : HldsGoals) (kn : InstMap) (a : After) → each c ps kn ≡ Ok a → Later kn a.known
   each_later c nothing kn a ok = only_later kn a (ok_is (Ok (after kn true)) (after kn true) a refl ok)
   each_later c (also p ps) kn a ok =
       let o = each_ok c p ps kn a ok in
       later_is kn a.known o.rest.known (sym (ap (λ (b : After). b.known) o.is))
       (later_then kn o.first.known o.rest.known (goal_later c p kn o.first o.begins) (each_later c ps o.first.known o.rest o.goes_on))
 
-  arms_later : (c : Scope) (ps : HldsGoals) (kn : InstMap) (ends : List After) → arms c ps kn ≡ Ok ends → AllLater kn ends
+  pub arms_later : (c : Scope) (ps : HldsGoals) (kn : InstMap) (ends : List After) → arms c ps kn ≡ Ok ends → AllLater kn ends
   arms_later c nothing kn ends ok = subst (λ (es : List After). AllLater kn es) (ok_is (Ok []) [] ends refl ok) tt
   arms_later c (also p ps) kn ends ok =
       let o = arms_ok c p ps kn ends ok in

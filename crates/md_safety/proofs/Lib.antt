@@ -8,3 +8,5 @@ pub mod SimpleGoals
 pub mod Accepted
 pub mod Growing
 pub mod JoinLemmas
+pub mod Calls
+pub mod Safe
