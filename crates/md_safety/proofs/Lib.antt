@@ -10,3 +10,6 @@ pub mod Growing
 pub mod JoinLemmas
 pub mod Calls
 pub mod Safe
+pub mod Spelled
+pub mod OneMain
+pub mod Whole

@@ -1,3 +1,4 @@
 pub mod Values
 pub mod Arguments
 pub mod Turns
+pub mod Safe

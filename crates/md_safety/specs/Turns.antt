@@ -1,5 +1,6 @@
 -- What one goal's turn leads to in an environment that fits what is known before the goal.
 use Rattle.std.specs.Prelude.{⊤, ◌≡◌, ℕ, Bool, true, List, [], ◌∷◌}
+use Rattle.md_hlds.specs.declared.goal.Term.TheVariants.{Var, Int, Str, Name}
 use Rattle.md_hlds.specs.HldsGoal.{Simple, Succeeds, Fails, Unifies, Computes, Compares, WritesInt, WritesText, EndsLine, Raises, HldsGoal, At, GoalExpr, SimpleGoal, CallGoal, HoCallGoal, ConjGoal, DisjGoal, IfGoal, NotGoal, SomeGoal, HldsGoals, nothing, also}
 use Rattle.md_hlds.specs.Hlds.{Hlds}
 use Rattle.md_hlds.specs.Simple.{Outcome, Go, No, Throws, Stop}
@@ -19,13 +20,15 @@ abbrev pub AreDistinct : List ℕ → Type 0
 AreDistinct [] = ⊤
 AreDistinct (x ∷ xs) = (times x xs ≡ 0) × AreDistinct xs
 
--- The variables of arithmetic, a write and a call are pairwise different, as the grammar has them.
+-- The variables of arithmetic, of a comparison, of a write, of a call and of a term's arguments are pairwise different, as
+-- the grammar has them.
 abbrev pub IsTidySimple : Simple → Type 0
 IsTidySimple (Computes z a op b) = AreDistinct (z ∷ a ∷ b ∷ [])
 IsTidySimple (Compares a cmp b) = AreDistinct (a ∷ b ∷ [])
 IsTidySimple (WritesInt x before after) = AreDistinct (x ∷ before ∷ after ∷ [])
 IsTidySimple (WritesText x before after) = AreDistinct (x ∷ before ∷ after ∷ [])
 IsTidySimple (EndsLine before after) = AreDistinct (before ∷ after ∷ [])
+IsTidySimple (Unifies x (Name q ys)) = AreDistinct ys
 IsTidySimple g = ⊤
 
 abbrev mutual

@@ -3,4 +3,4 @@
 
 mod laws;
 
-pub use laws::typed_values;
+pub use laws::never_stuck;
