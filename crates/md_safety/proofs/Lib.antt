@@ -13,3 +13,6 @@ pub mod Safe
 pub mod Spelled
 pub mod OneMain
 pub mod Whole
+pub mod Counting
+pub mod TypesDiffer
+pub mod Sure

@@ -21,7 +21,7 @@ no_second : (l : Hlds) → duplicate l ≡ None → first_second [] (map declare
 unfolding duplicate second_procedure
 no_second l h = yet_none _ _ (yet_none _ _ h)
 
-seen_not : (b : Bool) (n : ℕ) (o : Option ℕ) → cond b (Some n) o ≡ None → (b ≡ false) × (o ≡ None)
+pub seen_not : (b : Bool) (n : ℕ) (o : Option ℕ) → cond b (Some n) o ≡ None → (b ≡ false) × (o ≡ None)
 seen_not true n o h = absurd (cc h)
 seen_not false n o h = (refl, h)
 
@@ -29,7 +29,7 @@ among_not : (a b : Bool) → cond a true b ≡ false → (a ≡ false) × (b ≡
 among_not true b h = absurd (true≢false h)
 among_not false b h = (refl, h)
 
-not_before : (d e : second.Declared) (es : List second.Declared) → is_among d (es ++ e ∷ []) ≡ false → (is_among d es ≡ false) × (same_declared d e ≡ false)
+pub not_before : (d e : second.Declared) (es : List second.Declared) → is_among d (es ++ e ∷ []) ≡ false → (is_among d es ≡ false) × (same_declared d e ≡ false)
 not_before d e [] h = (refl, (among_not (same_declared d e) false h).0)
 not_before d e (f ∷ es) h =
     let both = among_not (same_declared d f) (is_among d (es ++ e ∷ [])) h in
@@ -84,7 +84,7 @@ among_left d (e ∷ es) fs h = step (same_declared d e) (is_among d es) (is_amon
     step true b c h f = refl
     step false b c h f = f h
 
-among_end : (d e : second.Declared) (es : List second.Declared) → same_declared d e ≡ true → is_among d (es ++ e ∷ []) ≡ true
+pub among_end : (d e : second.Declared) (es : List second.Declared) → same_declared d e ≡ true → is_among d (es ++ e ∷ []) ≡ true
 among_end d e [] h = among_first (same_declared d e) false h
 among_end d e (f ∷ es) h = among_other (same_declared d f) (is_among d (es ++ e ∷ [])) (among_end d e es h)
 
