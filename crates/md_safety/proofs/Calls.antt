@@ -5,6 +5,7 @@ use Rattle.std.specs.Prelude.{⊤}
 use Rattle.md_hlds.specs.declared.types.Mode.{Mode}
 use Rattle.md_hlds.specs.declared.types.Mode.TheVariants.{In, Out, Di, Uo}
 use Rattle.md_hlds.specs.declared.types.Det.{Det}
+use Rattle.md_hlds.specs.declared.types.Det.TheVariants as det
 use Rattle.md_hlds.specs.Hlds.{HldsType, HldsTypes, number, text, world, named, closure, no_types, also_type, listed_types, gathered_types, Procedure, Hlds}
 use Rattle.md_hlds.specs.Value.{Value, Values, Number, Literal, Built, Closure, no_values, also_value, listed_values, Env, value_at, bound, blank}
 use Rattle.md_hlds.specs.Trace.{back_value, back, passed, given, pairs_of, without, entered}
@@ -51,7 +52,7 @@ passed_in : (s : Hlds) (vars : List ℕ) (t : HldsType) (x : ℕ) (o : Option Va
 passed_in s vars t x None kn d h fits = elim h [ ]
 passed_in s vars t x (Some v) kn d h fits = fits_put s vars kn d x v t false fits h
 
-passed_one : (s : Hlds) (vars : List ℕ) (m : Mode) (t : HldsType) (x : ℕ) (o : Option Value) (kn : InstMap) (d : Env) → IsArgument s m t o → Fits s vars kn d → Fits s vars (enter m t x kn) (back_value x None o d)
+pub passed_one : (s : Hlds) (vars : List ℕ) (m : Mode) (t : HldsType) (x : ℕ) (o : Option Value) (kn : InstMap) (d : Env) → IsArgument s m t o → Fits s vars kn d → Fits s vars (enter m t x kn) (back_value x None o d)
 passed_one s vars In t x o kn d h fits = passed_in s vars t x o kn d h fits
 passed_one s vars Di t x None kn d h fits = elim h [ ]
 passed_one s vars Di t x (Some v) kn d h fits = fits_put s vars kn d x v t false fits h
@@ -151,7 +152,11 @@ open_pairs : (args : List (HldsType × Mode)) → pairs (listed_types (gathered_
 open_pairs args = ap (λ (ts : List HldsType). pairs ts (modes_of args)) (listed_gathered (types_of args)) ∙ pairs_back args
 
 -- the closure of an accepted call
-pub record IsApplied (s : Hlds) (strict : Bool) (l : ℕ) (ys : List ℕ) (o : Option Value) (kn r : InstMap) : Type 0 where
+abbrev pub sort_det : HldsType → Det
+sort_det (closure ts ms d) = d
+sort_det t = det.Det
+
+pub record IsApplied (s : Hlds) (strict : Bool) (l : ℕ) (ys : List ℕ) (o : Option Value) (t : HldsType) (kn r : InstMap) : Type 0 where
   pub number : ℕ
   pub held : Values
   pub procedure : Procedure
@@ -161,9 +166,10 @@ pub record IsApplied (s : Hlds) (strict : Bool) (l : ℕ) (ys : List ℕ) (o : O
   pub captured : AreHeld s held procedure.args others
   pub size : length ys ≡ length others
   pub accepted : arguments strict l others ys kn ≡ Ok r
+  pub determinism : procedure.det ≡ sort_det t
 
 closure_applied : (s : Hlds) (strict : Bool) (l : ℕ) (ys : List ℕ) (q : ℕ) (held : Values) (ts : HldsTypes) (ms : List Mode) (d : Det) (kn r : InstMap) (o : Option Procedure) → slice_get s.procedures q ≡ o
-    → IsClosureOf o (closure ts ms d) (λ args others. AreHeld s held args others) → apply_pairs strict l ys (listed_types ts) ms kn ≡ Ok r → IsApplied s strict l ys (Some (Closure q held)) kn r
+    → IsClosureOf o (closure ts ms d) (λ args others. AreHeld s held args others) → apply_pairs strict l ys (listed_types ts) ms kn ≡ Ok r → IsApplied s strict l ys (Some (Closure q held)) (closure ts ms d) kn r
 closure_applied s strict l ys q held ts ms d kn r None at h ok = elim h [ ]
 closure_applied s strict l ys q held ts ms d kn r (Some p) at h ok =
     let a = ok_where (nat_eq (length ys) (length (listed_types ts))) (Arity l) (arguments strict l (pairs (listed_types ts) ms) ys kn) r ok in
@@ -177,9 +183,10 @@ closure_applied s strict l ys q held ts ms d kn r (Some p) at h ok =
       number = q; held = held; procedure = p; others = h.0; is = refl; at = at; captured = h.1;
       size = eqb-true (length ys) (length (listed_types ts)) a.0 ∙ long;
       accepted = subst (λ (b : List (HldsType × Mode)). arguments strict l b ys kn ≡ Ok r) args a.1;
+      determinism = cc (h.2);
     }
 
-sort_applied : (s : Hlds) (strict : Bool) (l : ℕ) (ys : List ℕ) (v : Value) (t : HldsType) (kn r : InstMap) → HasType s v t → apply_sort strict l ys t kn ≡ Ok r → IsApplied s strict l ys (Some v) kn r
+sort_applied : (s : Hlds) (strict : Bool) (l : ℕ) (ys : List ℕ) (v : Value) (t : HldsType) (kn r : InstMap) → HasType s v t → apply_sort strict l ys t kn ≡ Ok r → IsApplied s strict l ys (Some v) t kn r
 sort_applied s strict l ys (Closure q held) (closure ts ms d) kn r h ok = closure_applied s strict l ys q held ts ms d kn r (slice_get s.procedures q) refl h ok
 sort_applied s strict l ys (Number n) (closure ts ms d) kn r h ok = elim h [ ]
 sort_applied s strict l ys (Literal b) (closure ts ms d) kn r h ok = elim h [ ]
@@ -189,7 +196,12 @@ sort_applied s strict l ys v text kn r h ok = absurd (cc ok)
 sort_applied s strict l ys v world kn r h ok = absurd (cc ok)
 sort_applied s strict l ys v (named n) kn r h ok = absurd (cc ok)
 
-pub known_applied : (s : Hlds) (strict : Bool) (l : ℕ) (ys : List ℕ) (o : Option Value) (k : Instantiation) (kn r : InstMap) → Agrees s o k → apply_known strict l ys k kn ≡ Ok r → IsApplied s strict l ys o kn r
+-- the type that a variable is known to have
+abbrev pub type_of : Instantiation → HldsType
+type_of free = number
+type_of (has t used) = t
+
+pub known_applied : (s : Hlds) (strict : Bool) (l : ℕ) (ys : List ℕ) (o : Option Value) (k : Instantiation) (kn r : InstMap) → Agrees s o k → apply_known strict l ys k kn ≡ Ok r → IsApplied s strict l ys o (type_of k) kn r
 known_applied s strict l ys None free kn r a ok = absurd (cc ok)
 known_applied s strict l ys (Some v) (has t used) kn r a ok = sort_applied s strict l ys v t kn r a (ok_unless (is_spent strict t used) (IoUsed l) (apply_sort strict l ys t kn) r ok).1
 known_applied s strict l ys None (has t used) kn r a ok = elim a [ ]

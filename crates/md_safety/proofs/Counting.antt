@@ -210,11 +210,11 @@ pub meets_written : (p : Pair) (out : Option (List ℕ)) (xs : Items) → Meets 
 meets_written p None xs h = h
 meets_written p (Some bytes) xs h = record { within = h.within; there = h.there }
 
-or_left : (a b : Bool) → (a || b) ≡ false → a ≡ false
+pub or_left : (a b : Bool) → (a || b) ≡ false → a ≡ false
 or_left true b e = e
 or_left false b e = refl
 
-or_right : (a b : Bool) → (a || b) ≡ false → b ≡ false
+pub or_right : (a b : Bool) → (a || b) ≡ false → b ≡ false
 or_right true b e = absurd (true≢false e)
 or_right false b e = e
 
@@ -241,7 +241,7 @@ and_true false = refl
 pub meets_then : (p : Pair) (xs : Items) (k : ℕ) (rest : ℕ → Items) → Meets p xs → ((n : ℕ) → Meets (pair true Zero) (rest n)) → Meets p (joined xs k rest)
 meets_then p xs k rest h g = meets_as (alternatives p (pair true Zero)) p (joined xs k rest) (and_true p.may_fail) (sum_none p.bound) (meets_joined p (pair true Zero) xs k rest h g)
 
-greatest_left : (a b : Bound) → exceeds a (greatest a b) ≡ false
+pub greatest_left : (a b : Bound) → exceeds a (greatest a b) ≡ false
 greatest_left Zero Zero = refl
 greatest_left Zero One = refl
 greatest_left Zero Many = refl
@@ -250,7 +250,7 @@ greatest_left One One = refl
 greatest_left One Many = refl
 greatest_left Many b = refl
 
-greatest_right : (a b : Bound) → exceeds b (greatest a b) ≡ false
+pub greatest_right : (a b : Bound) → exceeds b (greatest a b) ≡ false
 greatest_right Zero Zero = refl
 greatest_right Zero One = refl
 greatest_right Zero Many = refl

@@ -16,3 +16,5 @@ pub mod Whole
 pub mod Counting
 pub mod TypesDiffer
 pub mod Sure
+pub mod SwitchLemmas
+pub mod Tally

@@ -41,7 +41,7 @@ use Rattle.md_safety.proofs.SimpleGoals.{simple_leads}
 use Rattle.md_safety.proofs.Accepted.{AcceptsIf, if_ok, AcceptsOnly, not_ok, some_ok, AcceptsEach, each_ok, AcceptsArms, arms_ok}
 use Rattle.md_safety.proofs.Growing.{later_then, goal_later, arms_later}
 use Rattle.md_safety.proofs.JoinLemmas.{Joins, EndsJoin, joined_join, fits_joined}
-use Rattle.md_safety.proofs.Calls.{call_fits, exits_return, others_return, without_size, IsApplied, known_applied}
+use Rattle.md_safety.proofs.Calls.{call_fits, exits_return, others_return, without_size, IsApplied, type_of, known_applied}
 
 -- ---- what is taken of a program
 
@@ -91,20 +91,20 @@ exits_fine s good (suc n) act d pairs caller js k h = fine_joined good (trace s 
 
 -- ---- variables
 
-in_left : (vs ws : List ℕ) → In' vs (vs ++ ws)
+pub in_left : (vs ws : List ℕ) → In' vs (vs ++ ws)
 in_left vs ws x there = let e = times-append x vs ws in omega (arith, there, e)
 
-in_right : (vs ws : List ℕ) → In' ws (vs ++ ws)
+pub in_right : (vs ws : List ℕ) → In' ws (vs ++ ws)
 in_right vs ws x there = let e = times-append x vs ws in omega (arith, there, e)
 
-fits_left : (s : Hlds) (vs ws : List ℕ) (kn : InstMap) (e : Env) → Fits s (vs ++ ws) kn e → Fits s vs kn e
+pub fits_left : (s : Hlds) (vs ws : List ℕ) (kn : InstMap) (e : Env) → Fits s (vs ++ ws) kn e → Fits s vs kn e
 fits_left s vs ws kn e h = fits_fewer s (vs ++ ws) vs kn e (in_left vs ws) h
 
-fits_right : (s : Hlds) (vs ws : List ℕ) (kn : InstMap) (e : Env) → Fits s (vs ++ ws) kn e → Fits s ws kn e
+pub fits_right : (s : Hlds) (vs ws : List ℕ) (kn : InstMap) (e : Env) → Fits s (vs ++ ws) kn e → Fits s ws kn e
 fits_right s vs ws kn e h = fits_fewer s (vs ++ ws) ws kn e (in_right vs ws) h
 
 -- a variable that is still to come occurs outside
-room_outside : (all vars rest : List ℕ) → HasRoom all vars rest → (x : ℕ) → 0 < times x rest → outside all vars x ≡ true
+pub room_outside : (all vars rest : List ℕ) → HasRoom all vars rest → (x : ℕ) → 0 < times x rest → outside all vars x ≡ true
 room_outside all vars rest room x there = lt-ltb (times x vars) (times x all) (let r = room x in omega (arith, there, r))
 
 -- ---- simple goals
@@ -130,13 +130,13 @@ pub record IsCall (s : Hlds) (strict : Bool) (l : ℕ) (q : ℕ × Procedure) (h
   pub accepted : arguments strict l others ys kn ≡ Ok r
 
 -- what the end of a clause gives
-end_results : (s : Hlds) (p : Procedure) (a : After) (d : Env) → end p a ≡ Ok tt → a.reach ≡ true → Fits s p.head a.known d → AreResults s p.args p.head d
+pub end_results : (s : Hlds) (p : Procedure) (a : After) (d : Env) → end p a ≡ Ok tt → a.reach ≡ true → Fits s p.head a.known d → AreResults s p.args p.head d
 end_results s p a d ok reach fits =
     let out : exits p.clause_line p.args p.head a.known ≡ Ok tt = sym (ap (λ (b : Bool). cond b (exits p.clause_line p.args p.head a.known) fine) reach) ∙ ok in
     exits_return s p.head p.clause_line p.args p.head a.known d fits (λ x there. there) out
 
 -- a body, with whatever comes after it
-body_fine : (s : Hlds) (proper : Proper s) (m : ℕ) → Below s m → (good : Env → Type 0) (strict : Bool) (l : ℕ) (q : ℕ × Procedure) (held : Values) (others : List (HldsType × Mode)) (ys : List ℕ) (kn r : InstMap) (e : Env)
+pub body_fine : (s : Hlds) (proper : Proper s) (m : ℕ) → Below s m → (good : Env → Type 0) (strict : Bool) (l : ℕ) (q : ℕ × Procedure) (held : Values) (others : List (HldsType × Mode)) (ys : List ℕ) (kn r : InstMap) (e : Env)
     (act : ℕ) (pairs : List (ℕ × ℕ)) (js : List Frame) (k : ℕ) → IsCall s strict l q held others ys kn r e
     → ((n : ℕ) → n < m → (d : Env) (i : ℕ) → AreResults s others (without (listed_values held) q.1.head) d → Fine good (trace s n (frame act d [] pairs) js i))
     → Fine good (trace s m (frame act (entered q.1 (listed_values held) ys e) (numbered_goal (body_number s q.0) q.1.body ∷ []) pairs) js k)
@@ -150,7 +150,7 @@ body_fine s proper m below good strict l q held others ys kn r e act pairs js k 
     (λ n lt d i reach fits. goes n lt d i (others_return s held p.args others p.head d c.captured (end_results s p ok.0 d ok.2 reach fits)))
 
 -- what comes back fits what is known after the call
-back_fits : (s : Hlds) (proper : Proper s) (strict : Bool) (l : ℕ) (q : ℕ × Procedure) (held : Values) (others : List (HldsType × Mode)) (ys rest : List ℕ) (kn r : InstMap) (e d : Env)
+pub back_fits : (s : Hlds) (proper : Proper s) (strict : Bool) (l : ℕ) (q : ℕ × Procedure) (held : Values) (others : List (HldsType × Mode)) (ys rest : List ℕ) (kn r : InstMap) (e d : Env)
     → IsCall s strict l q held others ys kn r e → Fits s (ys ++ rest) kn e → AreResults s others (without (listed_values held) q.1.head) d
     → Fits s rest r (back (pairs_of (without (listed_values held) q.1.head) ys) d e)
 back_fits s proper strict l q held others ys rest kn r e d c fits results =
@@ -221,11 +221,11 @@ name_fine s proper m below good strict l q (Some p) ys rest kn r e number act go
     fits goes)
 
 -- the call of a closure
-closure_fine : (s : Hlds) (proper : Proper s) (m : ℕ) → Below s m → (good : Env → Type 0) (strict : Bool) (l : ℕ) (o : Option Value) (ys rest : List ℕ) (kn r : InstMap) (e : Env)
-    (f : Frame) (number : ℕ) (goals : List Numbered) (js : List Frame) (k site : ℕ) → f.env ≡ e → IsApplied s strict l ys o kn r → AreDistinct ys → Fits s (ys ++ rest) kn e
+closure_fine : (s : Hlds) (proper : Proper s) (m : ℕ) → Below s m → (good : Env → Type 0) (strict : Bool) (l : ℕ) (o : Option Value) (ys rest : List ℕ) (t : HldsType) (kn r : InstMap) (e : Env)
+    (f : Frame) (number : ℕ) (goals : List Numbered) (js : List Frame) (k site : ℕ) → f.env ≡ e → IsApplied s strict l ys o t kn r → AreDistinct ys → Fits s (ys ++ rest) kn e
     → GoesOn s good (suc m) f.act goals f.pairs js rest (after r true)
     → Fine good (applied s (λ f js k. trace s m f js k) f number goals js k site ys o)
-closure_fine s proper m below good strict l o ys rest kn r e f number goals js k site env c distinct fits goes =
+closure_fine s proper m below good strict l o ys rest t kn r e f number goals js k site env c distinct fits goes =
     let there : nth_procedure s c.number ≡ Some (c.number, c.procedure) = ap (numbered c.number) c.at in
     subst (λ (v : Option Value). Fine good (applied s (λ f js k. trace s m f js k) f number goals js k site ys v)) (sym c.is)
     (subst (λ (q : Option (ℕ × Procedure)). Fine good (invoked s (λ f js k. trace s m f js k) f number goals js k site q (listed_values c.held) ys)) (sym there)
@@ -235,7 +235,7 @@ closure_fine s proper m below good strict l o ys rest kn r e f number goals js k
 
 -- ---- conjunctions
 
-both_reach : (a b : Bool) → a ≡ true → b ≡ true → (a && b) ≡ true
+pub both_reach : (a b : Bool) → a ≡ true → b ≡ true → (a && b) ≡ true
 both_reach a b h g = rw (h, g) refl
 
 each_fine : (s : Hlds) (m : ℕ) → Below s m → (all : List ℕ) (strict : Bool) (ps : HldsGoals) (n : ℕ) (kn : InstMap) (rest : List ℕ) (good : Env → Type 0) (a : After)
@@ -318,7 +318,7 @@ arms_fine s m below all strict (also p ps) kn inner rest good a ends number f go
      (λ x. let i = among x in let t = times-append x (variables p) (parts_variables ps) in omega (arith, i, t)) fits parts.1 goes)
 
 -- a condition by itself
-condition_fine : (s : Hlds) (m : ℕ) → Below s m → (all : List ℕ) (c : HldsGoal) (kn : InstMap) (rest : List ℕ) (a : After) (number act : ℕ) (e : Env) (k : ℕ)
+pub condition_fine : (s : Hlds) (m : ℕ) → Below s m → (all : List ℕ) (c : HldsGoal) (kn : InstMap) (rest : List ℕ) (a : After) (number act : ℕ) (e : Env) (k : ℕ)
     → IsTidy c → goal (scope s all true) c kn ≡ Ok a → HasRoom all (variables c) rest → Fits s (variables c ++ rest) kn e
     → Fine (λ d. Fits s rest a.known d) (trace s m (frame act e (numbered_goal number c ∷ []) []) [] k)
 condition_fine s m below all c kn rest a number act e k tidy ok room fits =
@@ -355,7 +355,7 @@ if_fine s m below all strict l c t e kn rest good a number f goals js k tidy ok 
     (are_excps js)
 
 -- after a negation or `some` is known what was known before it
-only_goes : (s : Hlds) (rest : List ℕ) (kn : InstMap) (a : After) (e : Env) → after kn true ≡ a → Fits s rest kn e → (a.reach ≡ true) × Fits s rest a.known e
+pub only_goes : (s : Hlds) (rest : List ℕ) (kn : InstMap) (a : After) (e : Env) → after kn true ≡ a → Fits s rest kn e → (a.reach ≡ true) × Fits s rest a.known e
 only_goes s rest kn a e is fits = (sym (ap (λ (b : After). b.reach) is), subst (λ (b : After). Fits s rest b.known e) is fits)
 
 not_fine : (s : Hlds) (m : ℕ) → Below s m → (all : List ℕ) (strict : Bool) (l : ℕ) (c : HldsGoal) (kn : InstMap) (rest : List ℕ) (good : Env → Type 0) (a : After) (number : ℕ) (f : Frame) (goals : List Numbered) (js : List Frame) (k : ℕ)
@@ -401,7 +401,7 @@ expr_fine s proper m below all strict l (CallGoal site q ys) kn rest good a numb
 expr_fine s proper m below all strict l (HoCallGoal site f ys) kn rest good a number act e goals pairs js k tidy ok room fits goes =
     let o = ok_reached true (atomic s strict l (HoCallGoal site f ys) kn) a ok in
     let fewer = fits_fewer s ((f ∷ ys) ++ rest) (ys ++ rest) kn e (λ x there. more_times x f (ys ++ rest) there) fits in
-    closure_fine s proper m below good strict l (value_at e f) ys rest kn a.known e (frame act e (numbered_goal number (At l (HoCallGoal site f ys)) ∷ goals) pairs) number goals js k site refl
+    closure_fine s proper m below good strict l (value_at e f) ys rest (type_of (known_at kn f)) kn a.known e (frame act e (numbered_goal number (At l (HoCallGoal site f ys)) ∷ goals) pairs) number goals js k site refl
     (known_applied s strict l ys (value_at e f) (known_at kn f) kn a.known (fits.each f (first_times f (ys ++ rest))) o.0)
     tidy fewer (λ n lt d i reach inner. goes n lt d i o.1 inner)
 expr_fine s proper m below all strict l (ConjGoal ps) kn rest good a number act e goals pairs js k tidy ok room fits goes =

@@ -196,7 +196,7 @@ only_named f g name arity fs is h =
 test_is : (f g : List ℕ) (m n : ℕ) → f ≡ g → m ≡ n → (bytes_eq f g && nat_eq m n) ≡ true
 test_is f g m n e h = and_from (bytes_eq f g) (nat_eq m n) ((bytes_eq-Decides f g).1 e) (eq-eqb m n h)
 
-built_there : (t : List ℕ) (P : List HldsType → Type 0) (o : Option (HldsTypeDef × HldsFunctor)) → IsBuiltOf o t P → (w : HldsTypeDef × HldsFunctor) × (o ≡ Some w) × (w.0.name ≡ t)
+pub built_there : (t : List ℕ) (P : List HldsType → Type 0) (o : Option (HldsTypeDef × HldsFunctor)) → IsBuiltOf o t P → (w : HldsTypeDef × HldsFunctor) × (o ≡ Some w) × (w.0.name ≡ t)
 built_there t P None h = elim h [ ]
 built_there t P (Some w) h = (w, refl, h.0)
 

@@ -2,3 +2,4 @@ pub mod Values
 pub mod Arguments
 pub mod Turns
 pub mod Safe
+pub mod Answers
