@@ -383,3 +383,171 @@ keyed_arms s c x v kn r go f goals js k whole (also p ps) (key ∷ later) number
     (λ found. h.0 k (keys.first, keys.arm, keyed_at s x v key keys.first f.env at first found))
     (λ more. keyed_arms s c x v kn r go f goals js k whole ps later (number + goal_size p) at (keys.others ∙ ap Some rest) h.1 more)
     any
+
+-- a disjunction that has the shape of a switch, by what is known of its variable and by its value
+shaped_counted : (s : Hlds) (judged : Judged s) (c : Scope) (x : ℕ) (keys : List Key) (kn : InstMap) (i : Instantiation) (o : Option Value) (r : Pair) (go : Does) (f : Frame) (goals : List Numbered) (js : List Frame) (k : ℕ) (ps : HldsGoals) (number : ℕ) (ends : List After)
+    → c.program ≡ s → switch_shape s ps ≡ Some (x, keys) → known_at kn x ≡ i → value_at f.env x ≡ o → Agrees s o i → arms c ps kn ≡ Ok ends
+    → ((at : Option ℕ) → ArmsCount s c at kn r go f goals js ps number)
+    → Meets (in_turn (disjunction_pair (switch_on_known s x keys i) (arm_pairs c (variable_of (switch_on_known s x keys i)) ps kn)) r) (switched go f goals js k (numbered_from number ps) keys o)
+shaped_counted s judged c x keys kn free None r go f goals js k ps number ends program shape known at agrees ok counts = all_counted s c kn r go f goals js ps number k (counts None)
+shaped_counted s judged c x keys kn (has t used) (Some v) r go f goals js k ps number ends program shape known at agrees ok counts =
+    keyed_arms s c x v kn r go f goals js k (is_whole s keys) ps keys number at (shape_keys s ps x keys shape) (counts (Some x))
+    (λ whole. whole_any s judged.differ c ps x keys v t used kn ends program shape known ok agrees whole)
+shaped_counted s judged c x keys kn free (Some v) r go f goals js k ps number ends program shape known at agrees ok counts = elim agrees [ ]
+shaped_counted s judged c x keys kn (has t used) None r go f goals js k ps number ends program shape known at agrees ok counts = elim agrees [ ]
+
+any_shape : (s : Hlds) (judged : Judged s) (c : Scope) (vars : List ℕ) (kn : InstMap) (w : Option (ℕ × List Key)) (r : Pair) (go : Does) (f : Frame) (goals : List Numbered) (js : List Frame) (k : ℕ) (ps : HldsGoals) (number : ℕ) (ends : List After)
+    → c.program ≡ s → switch_shape s ps ≡ w → Fits s vars kn f.env → In' (parts_variables ps) vars → arms c ps kn ≡ Ok ends
+    → ((at : Option ℕ) → ArmsCount s c at kn r go f goals js ps number)
+    → Meets (in_turn (disjunction_pair (switch_with s w kn) (arm_pairs c (variable_of (switch_with s w kn)) ps kn)) r) (disjunction go f goals js k (numbered_from number ps) w)
+any_shape s judged c vars kn None r go f goals js k ps number ends program shape fits among ok counts = all_counted s c kn r go f goals js ps number k (counts None)
+any_shape s judged c vars kn (Some w) r go f goals js k ps number ends program shape fits among ok counts =
+    shaped_counted s judged c w.0 w.1 kn (known_at kn w.0) (value_at f.env w.0) r go f goals js k ps number ends program shape refl refl
+    (fits.each w.0 (among w.0 (shape_occurs s ps w.0 w.1 shape))) ok counts
+
+-- ---- conditions
+
+-- a condition by itself
+condition_counted : (s : Hlds) (m : ℕ) → TallyBelow s m → (all : List ℕ) (c : HldsGoal) (kn : InstMap) (rest : List ℕ) (a : After) (number act : ℕ) (e : Env) (k : ℕ)
+    → IsTidy c → goal (scope s all true) c kn ≡ Ok a → HasRoom all (variables c) rest → Fits s (variables c ++ rest) kn e
+    → Meets (goal_pair (scope s all true) None c kn) (trace s m (frame act e (numbered_goal number c ∷ []) []) [] k)
+condition_counted s m below all c kn rest a number act e k tidy ok room fits =
+    meets_last (goal_pair (scope s all true) None c kn) (trace s m (frame act e (numbered_goal number c ∷ []) []) [] k)
+    (below m (omega arith) all true None c kn rest (pair false One) a number act e [] [] [] k tidy ok room fits tt (λ n lt d i reach inner. answered s n act d [] i))
+
+if_counted : (s : Hlds) (judged : Judged s) (m : ℕ) → TallyBelow s m → (all : List ℕ) (strict : Bool) (l : ℕ) (c t e : HldsGoal) (kn : InstMap) (rest : List ℕ) (r : Pair) (a : After) (number : ℕ) (f : Frame) (goals : List Numbered) (js : List Frame) (k : ℕ)
+    → IsTidyExpr (IfGoal c t e) → expr (scope s all strict) l (IfGoal c t e) kn ≡ Ok a → HasRoom all (expr_variables (IfGoal c t e)) rest → Fits s (expr_variables (IfGoal c t e) ++ rest) kn f.env
+    → CountsOn s r (suc m) f.act goals f.pairs js rest a
+    → Meets (in_turn (one_of_two (goal_pair (scope s all strict) None t (known_after kn (goal (scope s all true) c kn))) (goal_pair (scope s all strict) None e kn)) r)
+      (unfold_expr s (λ f js k. trace s m f js k) f number goals js k (IfGoal c t e))
+if_counted s judged m below all strict l c t e kn rest r a number f goals js k tidy ok room fits goes =
+    let o = if_ok (scope s all strict) l c t e kn a ok in
+    let inner = variables c ++ (variables t ++ variables e) in
+    let later = later_then kn o.condition.known o.then.known (goal_later (scope s all true) c kn o.condition o.begins) (goal_later (scope s all strict) t o.condition.known o.then o.wins) in
+    let joins = joined_join l (outside all inner) kn (o.then ∷ o.else ∷ []) a (later, (goal_later (scope s all strict) e kn o.else o.loses, tt)) o.joins in
+    let win = goal_pair (scope s all strict) None t (known_after kn (goal (scope s all true) c kn)) in
+    let lose = goal_pair (scope s all strict) None e kn in
+    let cond' = trace s m (frame f.act f.env (numbered_goal (suc number) c ∷ []) []) [] k in
+    let found = λ (d : Env) (n : ℕ). trace s m (frame f.act d (numbered_goal (suc number + goal_size c) t ∷ goals) f.pairs) js n in
+    let missed = λ (n : ℕ). trace s m (frame f.act f.env (numbered_goal (suc number + goal_size c + goal_size t) e ∷ goals) f.pairs) js n in
+    turned (in_turn (one_of_two win lose) r) f.act (Some number) 1 (first cond' k found missed (excps js))
+    (meets_one win lose r (first cond' k found missed (excps js))
+     (meets_first (one_of_two (in_turn win r) (in_turn lose r)) (λ d. Fits s (variables t ++ rest) o.condition.known d) cond' k found missed (excps js)
+      (condition_fine s m (all_below s judged.proper m) all c kn (variables t ++ rest) o.condition (suc number) f.act f.env k tidy.0 o.begins
+       (λ x. let q = room x in let i = times-append x (variables c) (variables t ++ variables e) in let j = times-append x (variables t) (variables e) in let h = times-append x (variables t) rest in omega (arith, q, i, j, h))
+       (fits_fewer s (inner ++ rest) (variables c ++ (variables t ++ rest)) kn f.env
+        (λ x there. let i = times-append x (variables c) (variables t ++ variables e) in let j = times-append x (variables t) (variables e) in let g = times-append x inner rest in
+          let h = times-append x (variables t) rest in let q = times-append x (variables c) (variables t ++ rest) in omega (arith, there, i, j, g, h, q)) fits))
+      (λ d n inside. meets_left (in_turn win r) (in_turn lose r) (found d n)
+       (subst (λ (q : InstMap). Meets (in_turn (goal_pair (scope s all strict) None t q) r) (found d n)) (sym (known_is (scope s all true) c kn o.condition o.begins))
+        (below m (omega arith) all strict None t o.condition.known rest r o.then (suc number + goal_size c) f.act d goals f.pairs js n tidy.1.0 o.wins
+         (λ x. let q = room x in let i = times-append x (variables c) (variables t ++ variables e) in let j = times-append x (variables t) (variables e) in omega (arith, q, i, j))
+         inside tt (arm_counts s r m f.act goals f.pairs js all inner rest a o.then room joins.0 goes))))
+      (λ n. meets_right (in_turn win r) (in_turn lose r) (missed n)
+       (below m (omega arith) all strict None e kn rest r o.else (suc number + goal_size c + goal_size t) f.act f.env goals f.pairs js n tidy.1.1 o.loses
+        (λ x. let q = room x in let i = times-append x (variables c) (variables t ++ variables e) in let j = times-append x (variables t) (variables e) in omega (arith, q, i, j))
+        (fits_fewer s (inner ++ rest) (variables e ++ rest) kn f.env
+         (λ x there. let i = times-append x (variables c) (variables t ++ variables e) in let j = times-append x (variables t) (variables e) in let g = times-append x inner rest in
+           let h = times-append x (variables e) rest in omega (arith, there, i, j, g, h)) fits)
+        tt (arm_counts s r m f.act goals f.pairs js all inner rest a o.else room joins.1.0 goes)))))
+
+not_counted : (s : Hlds) (judged : Judged s) (m : ℕ) → TallyBelow s m → (all : List ℕ) (strict : Bool) (l : ℕ) (c : HldsGoal) (kn : InstMap) (rest : List ℕ) (r : Pair) (a : After) (number : ℕ) (f : Frame) (goals : List Numbered) (js : List Frame) (k : ℕ)
+    → IsTidy c → expr (scope s all strict) l (NotGoal c) kn ≡ Ok a → HasRoom all (variables c) rest → Fits s (variables c ++ rest) kn f.env
+    → CountsOn s r (suc m) f.act goals f.pairs js rest a → Meets (in_turn unsure r) (unfold_expr s (λ f js k. trace s m f js k) f number goals js k (NotGoal c))
+not_counted s judged m below all strict l c kn rest r a number f goals js k tidy ok room fits goes =
+    let o = not_ok (scope s all strict) l c kn a ok in
+    let there = only_goes s rest kn a f.env o.is (fits_right s (variables c) rest kn f.env fits) in
+    let cond' = trace s m (frame f.act f.env (numbered_goal (suc number) c ∷ []) []) [] k in
+    let missed = λ (n : ℕ). trace s m (frame f.act f.env goals f.pairs) js n in
+    turned (in_turn unsure r) f.act (Some number) 1 (first cond' k (λ d n. []) missed (excps js))
+    (meets_first (in_turn unsure r) (λ d. Fits s rest o.inner.known d) cond' k (λ d n. []) missed (excps js)
+     (condition_fine s m (all_below s judged.proper m) all c kn rest o.inner (suc number) f.act f.env k tidy o.begins room fits)
+     (λ d n inside. meets_nothing (in_turn unsure r) refl)
+     (λ n. meets_sure unsure r (missed n) refl (goes m (omega arith) f.env n there.0 there.1)))
+
+some_counted : (s : Hlds) (judged : Judged s) (m : ℕ) → TallyBelow s m → (all : List ℕ) (strict : Bool) (l : ℕ) (vs : List ℕ) (c : HldsGoal) (kn : InstMap) (rest : List ℕ) (r : Pair) (a : After) (number : ℕ) (f : Frame) (goals : List Numbered) (js : List Frame) (k : ℕ)
+    → IsTidy c → expr (scope s all strict) l (SomeGoal vs c) kn ≡ Ok a → HasRoom all (vs ++ variables c) rest → Fits s ((vs ++ variables c) ++ rest) kn f.env
+    → CountsOn s r (suc m) f.act goals f.pairs js rest a
+    → Meets (in_turn (cut (goal_pair (scope s all true) None c kn)) r) (unfold_expr s (λ f js k. trace s m f js k) f number goals js k (SomeGoal vs c))
+some_counted s judged m below all strict l vs c kn rest r a number f goals js k tidy ok room fits goes =
+    let o = some_ok (scope s all strict) l vs c kn a ok in
+    let there = only_goes s rest kn a f.env o.is (fits_right s (vs ++ variables c) rest kn f.env fits) in
+    let p = goal_pair (scope s all true) None c kn in
+    let cond' = trace s m (frame f.act f.env (numbered_goal (suc number) c ∷ []) []) [] k in
+    let found = λ (d : Env) (n : ℕ). trace s m (frame f.act f.env goals f.pairs) js n in
+    let room' : HasRoom all (variables c) rest = λ x. let q = room x in let i = times-append x vs (variables c) in omega (arith, q, i) in
+    let fits' : Fits s (variables c ++ rest) kn f.env = fits_fewer s ((vs ++ variables c) ++ rest) (variables c ++ rest) kn f.env
+      (λ x there. let i = times-append x vs (variables c) in let g = times-append x (vs ++ variables c) rest in let h = times-append x (variables c) rest in omega (arith, there, i, g, h)) fits in
+    turned (in_turn (cut p) r) f.act (Some number) 1 (first cond' k found (λ n. []) (excps js))
+    (meets_cut p r (λ d. Fits s rest o.inner.known d) cond' k found (λ n. []) (excps js)
+     (condition_fine s m (all_below s judged.proper m) all c kn rest o.inner (suc number) f.act f.env k tidy o.begins room' fits')
+     (condition_counted s m below all c kn rest o.inner (suc number) f.act f.env k tidy o.begins room' fits')
+     (λ d n inside. goes m (omega arith) f.env n there.0 there.1) (λ n. tt))
+
+-- ---- any goal
+
+expr_counted : (s : Hlds) (judged : Judged s) (m : ℕ) → TallyBelow s m → (all : List ℕ) (strict : Bool) (at : Option ℕ) (l : ℕ) (t : GoalExpr) (kn : InstMap) (rest : List ℕ) (r : Pair) (a : After)
+    (number act : ℕ) (e : Env) (goals : List Numbered) (pairs : List (ℕ × ℕ)) (js : List Frame) (k : ℕ)
+    → IsTidyExpr t → expr (scope s all strict) l t kn ≡ Ok a → HasRoom all (expr_variables t) rest → Fits s (expr_variables t ++ rest) kn e → Begins s at (At l t) e → CountsOn s r (suc m) act goals pairs js rest a
+    → Meets (in_turn (expr_pair (scope s all strict) at t kn) r) (unfold_expr s (λ f js k. trace s m f js k) (frame act e (numbered_goal number (At l t) ∷ goals) pairs) number goals js k t)
+expr_counted s judged m below all strict at l (SimpleGoal g) kn rest r a number act e goals pairs js k tidy ok room fits begins goes =
+    let o = ok_reached (goes_on g) (rules.simple s strict l g kn) a ok in
+    let vars = simple_variables g ++ rest in
+    simple_counted s r m number (frame act e (numbered_goal number (At l (SimpleGoal g)) ∷ goals) pairs) goals js k rest vars a (simple_pair s at g kn) (run.simple s e g)
+    (subst (λ (b : Bool). LeadsTo s vars b a.known (run.simple s e g)) (sym o.1) (simple_leads s vars strict l g kn a.known e tidy fits (in_left (simple_variables g) rest) o.0))
+    (simple_sure s judged.differ vars at strict l g kn a.known e fits (in_left (simple_variables g) rest) tidy o.0 begins)
+    (in_right (simple_variables g) rest) goes
+expr_counted s judged m below all strict at l (CallGoal site q ys) kn rest r a number act e goals pairs js k tidy ok room fits begins goes =
+    let o = ok_reached true (atomic s strict l (CallGoal site q ys) kn) a ok in
+    name_counted s judged m below r strict l q (predicate_called s q) ys rest kn a.known e act (numbered_goal number (At l (CallGoal site q ys)) ∷ goals) number goals pairs js k site refl tidy o.0 fits
+    (λ n lt d i reach inner. goes n lt d i o.1 inner)
+expr_counted s judged m below all strict at l (HoCallGoal site f ys) kn rest r a number act e goals pairs js k tidy ok room fits begins goes =
+    let o = ok_reached true (atomic s strict l (HoCallGoal site f ys) kn) a ok in
+    let fewer = fits_fewer s ((f ∷ ys) ++ rest) (ys ++ rest) kn e (λ x there. more_times x f (ys ++ rest) there) fits in
+    let own = numbered_goal number (At l (HoCallGoal site f ys)) ∷ goals in
+    subst (λ (p : Pair). Meets (in_turn p r) (applied s (λ f js k. trace s m f js k) (frame act e own pairs) number goals js k site ys (value_at e f))) (sym (apply_pair_is strict l ys (known_at kn f) kn a.known o.0))
+    (closure_counted s judged m below r strict l (value_at e f) ys rest (type_of (known_at kn f)) kn a.known e act own number goals pairs js k site
+     (known_applied s strict l ys (value_at e f) (known_at kn f) kn a.known (fits.each f (first_times f (ys ++ rest))) o.0)
+     tidy fewer (λ n lt d i reach inner. goes n lt d i o.1 inner))
+expr_counted s judged m below all strict at l (ConjGoal ps) kn rest r a number act e goals pairs js k tidy ok room fits begins goes =
+    let p = each_pair (scope s all strict) at ps kn in
+    turned (in_turn p r) act (Some number) 1 (trace s m (frame act e (numbered_from (suc number) ps ++ goals) pairs) js k)
+    (each_counted s m below all strict at ps m kn rest r a (suc number) act e goals pairs js k (omega arith) tidy ok room fits (begins_first s at l ps e begins) goes)
+expr_counted s judged m below all strict at l (DisjGoal ps) kn rest r a number act e goals pairs js k tidy ok room fits begins goes =
+    let b = ok_then (arms (scope s all strict) ps kn) (λ ends. branch.joined l (outside all (parts_variables ps)) kn ends) a ok in
+    let f = frame act e (numbered_goal number (At l (DisjGoal ps)) ∷ goals) pairs in
+    let go = λ (f : Frame) (js : List Frame) (k : ℕ). trace s m f js k in
+    turned (in_turn (expr_pair (scope s all strict) at (DisjGoal ps) kn) r) act (Some number) 1 (disjunction go f goals js k (numbered_from (suc number) ps) (switch_shape s ps))
+    (any_shape s judged (scope s all strict) (parts_variables ps ++ rest) kn (switch_shape s ps) r go f goals js k ps (suc number) b.0 refl refl fits (in_left (parts_variables ps) rest) b.1
+     (λ at. arms_counted s m below all strict at ps kn (parts_variables ps) rest r a b.0 (suc number) f goals js tidy b.1 room (λ x. omega arith) fits
+      (joined_join l (outside all (parts_variables ps)) kn b.0 a (arms_later (scope s all strict) ps kn b.0 b.1) b.2) goes))
+expr_counted s judged m below all strict at l (IfGoal c t u) kn rest r a number act e goals pairs js k tidy ok room fits begins goes =
+    if_counted s judged m below all strict l c t u kn rest r a number (frame act e (numbered_goal number (At l (IfGoal c t u)) ∷ goals) pairs) goals js k tidy ok room fits goes
+expr_counted s judged m below all strict at l (NotGoal c) kn rest r a number act e goals pairs js k tidy ok room fits begins goes =
+    not_counted s judged m below all strict l c kn rest r a number (frame act e (numbered_goal number (At l (NotGoal c)) ∷ goals) pairs) goals js k tidy ok room fits goes
+expr_counted s judged m below all strict at l (SomeGoal vs c) kn rest r a number act e goals pairs js k tidy ok room fits begins goes =
+    some_counted s judged m below all strict l vs c kn rest r a number (frame act e (numbered_goal number (At l (SomeGoal vs c)) ∷ goals) pairs) goals js k tidy ok room fits goes
+
+deeper : (s : Hlds) (judged : Judged s) (m : ℕ) → TallyBelow s m → Tally s (suc m)
+deeper s judged m below all strict at (At l t) kn rest r a number act e goals pairs js k tidy ok room fits begins goes =
+    expr_counted s judged m below all strict at l t kn rest r a number act e goals pairs js k tidy ok room fits begins goes
+
+flat : (s : Hlds) → Tally s zero
+flat s all strict at p kn rest r a number act e goals pairs js k tidy ok room fits begins goes = record { within = tt; there = λ f. tt }
+
+below_more : (s : Hlds) (m : ℕ) → TallyBelow s m → Tally s (suc m) → TallyBelow s (suc m)
+below_more s m below next n le = elim (cases_lt n (suc m)) [
+  | inl lt ↦ below n (omega (arith, lt))
+  | inr ge ↦ let same : n ≡ suc m = omega (arith, le, ge) in subst (λ (i : ℕ). Tally s i) (sym same) next
+]
+
+below_none : (s : Hlds) → TallyBelow s zero
+below_none s n le = let same : n ≡ zero = omega (arith, le) in subst (λ (i : ℕ). Tally s i) (sym same) (flat s)
+
+tallies : (s : Hlds) → Judged s → (m : ℕ) → TallyBelow s m
+tallies s judged zero = below_none s
+tallies s judged (suc m) = let below = tallies s judged m in below_more s m below (deeper s judged m below)
+
+-- an accepted goal has as many answers as its pair says
+pub tally : (s : Hlds) → Judged s → (m : ℕ) → Tally s m
+tally s judged m = tallies s judged m m (omega arith)
