@@ -175,7 +175,7 @@ end_first inner (Answer d ∷ xs) k found missed thrown h f g = f d k h.0
 end_first inner (Stuck ∷ xs) k found missed thrown h f g = tt
 end_first inner (Deep ∷ xs) k found missed thrown h f g = tt
 
-end_found : (inner : Env → Type 0) (xs : Items) (k : ℕ) (found : Env → ℕ → Items) (missed : ℕ → Items) (thrown : Items) → Fine inner xs → HasEnd xs
+pub end_found : (inner : Env → Type 0) (xs : Items) (k : ℕ) (found : Env → ℕ → Items) (missed : ℕ → Items) (thrown : Items) → Fine inner xs → HasEnd xs
     → ((e : Env) (n : ℕ) → inner e → HasEnd (found e n)) → HasEnd (first xs k found missed thrown)
 end_found inner [] k found missed thrown h end f = elim end [ ]
 end_found inner (Turn a t w ∷ xs) k found missed thrown h end f = end_found inner xs k found missed thrown h end f

@@ -18,3 +18,4 @@ pub mod TypesDiffer
 pub mod Sure
 pub mod SwitchLemmas
 pub mod Tally
+pub mod Declared

@@ -130,3 +130,15 @@ found_main n seen (p ∷ ps) m once h found =
 
 pub one_main : (s : Hlds) (m : ℕ × Procedure) → duplicate s ≡ None → has_main s.procedures ≡ true → procedure_called s main_name ≡ Some m → is_main m.1 ≡ true
 one_main s m once h found = found_main 0 [] s.procedures m (no_second s once) h found
+
+find_step : (n : ℕ) (p : Procedure) (b : Bool) (o : Option (ℕ × Procedure)) → (b ≡ false → (m : ℕ × Procedure) × (o ≡ Some m)) → (m : ℕ × Procedure) × (cond b (Some (n, p)) o ≡ Some m)
+find_step n p true o h = ((n, p), refl)
+find_step n p false o h = h refl
+
+find_main : (n : ℕ) (ps : List Procedure) → has_main ps ≡ true → (m : ℕ × Procedure) × (find_procedure main_name n ps ≡ Some m)
+find_main n [] h = absurd (false≢true h)
+find_main n (p ∷ ps) h = find_step n p (is_called main_name p) (find_procedure main_name (suc n) ps) (λ other. find_main (suc n) ps (later_main p ps other h))
+
+-- a program with a main has a procedure of that name
+pub main_there : (s : Hlds) → has_main s.procedures ≡ true → (m : ℕ × Procedure) × (procedure_called s main_name ≡ Some m)
+main_there s h = find_main 0 s.procedures h

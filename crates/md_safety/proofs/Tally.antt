@@ -98,7 +98,7 @@ or_true a b e = rw e refl
 
 -- ---- jobs without goals
 
-answered : (s : Hlds) (n act : ℕ) (e : Env) (pairs : List (ℕ × ℕ)) (k : ℕ) → Meets (pair false One) (trace s n (frame act e [] pairs) [] k)
+pub answered : (s : Hlds) (n act : ℕ) (e : Env) (pairs : List (ℕ × ℕ)) (k : ℕ) → Meets (pair false One) (trace s n (frame act e [] pairs) [] k)
 answered s zero act e pairs k = record { within = tt; there = λ f. tt }
 answered s (suc n) act e pairs k = record { within = tt; there = λ f. tt }
 
@@ -126,7 +126,7 @@ simple_counted s q m number f goals js k rest vars a p Stop h allowed among goes
 
 -- ---- calls
 
-allows_less : (d b : Pair) → allows d b ≡ true → (exceeds b.bound d.bound ≡ false) × (d.may_fail ≡ false → b.may_fail ≡ false)
+pub allows_less : (d b : Pair) → allows d b ≡ true → (exceeds b.bound d.bound ≡ false) × (d.may_fail ≡ false → b.may_fail ≡ false)
 allows_less d b h =
     let both = and_parts (d.may_fail || not b.may_fail) (not (exceeds b.bound d.bound)) h in
     (not_true (exceeds b.bound d.bound) both.1, fails d.may_fail b.may_fail both.0)

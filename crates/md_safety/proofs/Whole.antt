@@ -50,7 +50,7 @@ excps_not_stuck (Answer e ∷ xs) h = elim h [ ]
 excps_not_stuck (Stuck ∷ xs) h = elim h [ ]
 excps_not_stuck (Deep ∷ xs) h = elim h [ ]
 
-not_stuck : (good : Env → Type 0) (xs : Items) → Fine good xs → HasNoStuck xs
+pub not_stuck : (good : Env → Type 0) (xs : Items) → Fine good xs → HasNoStuck xs
 not_stuck good [] h = tt
 not_stuck good (Turn a g w ∷ xs) h = not_stuck good xs h
 not_stuck good (Call a p s q ∷ xs) h = not_stuck good xs h
@@ -188,14 +188,16 @@ main_fine s proper depth m at is =
     (main_fits s _ p is (proper.heads m.0 p at))
     (λ n lt e k reach fits. answers s (λ e. ⊤) n 0 e [] k tt)
 
+-- the whole run, before the budget cuts it
+pub main_not_stuck : (s : Hlds) (proper : Proper s) (budget : ℕ) (m : ℕ × Procedure) → slice_get s.procedures m.0 ≡ Some m.1 → is_main m.1 ≡ true → HasNoStuck (main_items s budget m)
+main_not_stuck s proper budget m at is =
+    not_stuck (λ e. ⊤) (first (trace s budget (main_frame s m) [] 1) 1 (λ e k. Exit 0 ∷ Answer e ∷ []) (λ k. Fail 0 ∷ []) [])
+    (fine_first (λ e. ⊤) (λ e. ⊤) (trace s budget (main_frame s m) [] 1) 1 (λ e k. Exit 0 ∷ Answer e ∷ []) (λ k. Fail 0 ∷ []) []
+     (main_fine s proper budget m at is) (λ e n h. (tt, tt)) (λ n. tt) tt)
+
 run_safe : (s : Hlds) (proper : Proper s) (budget : ℕ) (o : Option (ℕ × Procedure)) → procedure_called s main_name ≡ o → ((m : ℕ × Procedure) → o ≡ Some m → is_main m.1 ≡ true) → HasNoStuck (run_main s budget o)
 run_safe s proper budget None called main = tt
-run_safe s proper budget (Some m) called main =
-    cut_not_stuck budget (main_items s budget m)
-    (not_stuck (λ e. ⊤) (first (trace s budget (main_frame s m) [] 1) 1 (λ e k. Exit 0 ∷ Answer e ∷ []) (λ k. Fail 0 ∷ []) [])
-     (fine_first (λ e. ⊤) (λ e. ⊤) (trace s budget (main_frame s m) [] 1) 1 (λ e k. Exit 0 ∷ Answer e ∷ []) (λ k. Fail 0 ∷ []) []
-      (main_fine s proper budget m (called_at s main_name m called) (main m refl))
-      (λ e n h. (tt, tt)) (λ n. tt) tt))
+run_safe s proper budget (Some m) called main = cut_not_stuck budget (main_items s budget m) (main_not_stuck s proper budget m (called_at s main_name m called) (main m refl))
 
 -- no run of an accepted program is stuck
 pub never_stuck : (text : List ℕ) (s : Hlds) → Spells text s → mode_fault s ≡ None → (budget : ℕ) → HasNoStuck (run s budget)

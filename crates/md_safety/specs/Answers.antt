@@ -1,10 +1,11 @@
 -- The number of answers of a procedure's body.
-use Rattle.std.specs.Prelude.{⊤, ◌≡◌, ℕ, suc, ◌≤◌, false, List, [], ◌∷◌, length, Option, None}
+use Rattle.std.specs.Prelude.{⊤, ◌≡◌, ℕ, suc, ◌-◌, ◌≤◌, Bool, true, false, ◌||◌, cond, nat_le, List, [], ◌∷◌, length, Option, Some, None}
 use Rattle.md_hlds.specs.declared.types.Det.{Det}
 use Rattle.md_hlds.specs.declared.types.Det.TheVariants as det
-use Rattle.md_hlds.specs.Hlds.{Procedure, Hlds}
+use Rattle.md_hlds.specs.Hlds.{Procedure, Hlds, procedure_called}
 use Rattle.md_hlds.specs.Value.{Value, Env, blank}
-use Rattle.md_hlds.specs.Trace.{Answer, Items, back_value, body_frame, trace}
+use Rattle.md_hlds.specs.Trace.{Turn, Answer, Items, back_value, body_frame, trace}
+use Rattle.md_hlds.specs.Run.{is_finished, is_thrown, main_name, main_items, run}
 
 -- the variables of a head get the values of their arguments, where these have one
 abbrev pub put_in : List ℕ → List (Option Value) → Env → Env
@@ -31,3 +32,17 @@ AnswersAs det.Semidet xs = answer_count xs ≤ 1
 AnswersAs det.Multi xs = 1 ≤ answer_count xs
 AnswersAs det.Nondet xs = ⊤
 AnswersAs det.Failure xs = answer_count xs ≡ 0
+
+-- ---- a whole run
+
+-- some turn of these is heavier than what is left of the budget
+abbrev pub is_over : ℕ → Items → Bool
+is_over left [] = false
+is_over left (Turn a g w ∷ xs) = cond (nat_le w left) (is_over (left - w) xs) true
+is_over left (x ∷ xs) = is_over left xs
+
+-- The run begins with a main, and it is finished or it has thrown, unless the budget cuts it.
+pub record ComesToItsEnd (s : Hlds) (budget : ℕ) : Type 0 where
+  pub main : ℕ × Procedure
+  pub called : procedure_called s main_name ≡ Some main
+  pub ends : is_over budget (main_items s budget main) ≡ false → (is_finished (run s budget) || is_thrown (run s budget)) ≡ true

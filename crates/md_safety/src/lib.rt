@@ -3,4 +3,4 @@
 
 mod laws;
 
-pub use laws::never_stuck;
+pub use laws::{answers_as_declared, comes_to_its_end, never_stuck};
