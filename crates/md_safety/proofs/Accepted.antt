@@ -1,12 +1,11 @@
 -- What the parts of an accepted goal are accepted with.
-use Rattle.std.proofs.Common.{◌≡◌, refl, sym, ap, ◌∙◌, ℕ, Bool, true, false, not, ◌&&◌, List, [], ◌∷◌, ◌++◌, Ok}
-use Rattle.md_hlds.specs.HldsGoal.{HldsGoal, At, GoalExpr, SimpleGoal, CallGoal, HoCallGoal, ConjGoal, DisjGoal, IfGoal, NotGoal, SomeGoal, HldsGoals, nothing, also}
-use Rattle.md_inst.specs.declared.fault.ModeFault.{ModeFault}
+use Rattle.std.proofs.Common.{◌≡◌, refl, ℕ, true, not, ◌&&◌, List, [], ◌∷◌, ◌++◌, Ok}
+use Rattle.md_hlds.specs.HldsGoal.{HldsGoal, IfGoal, NotGoal, SomeGoal, HldsGoals, also}
 use Rattle.md_inst.specs.declared.fault.ModeFault.TheVariants.{BranchBinds}
-use Rattle.md_inst.specs.Verdict.{Verdict, ◌>>=◌, ◌>>◌, fault_unless}
+use Rattle.md_inst.specs.Verdict.{fault_unless}
 use Rattle.md_inst.specs.Instantiation.{InstMap}
 use Rattle.md_modes.specs.Branches.{After, after, outside, some_of, joined}
-use Rattle.md_modes.specs.Goals.{Scope, within, binds_inside, variables, parts_variables, goal, expr, each, arms}
+use Rattle.md_modes.specs.Goals.{Scope, within, binds_inside, variables, goal, expr, each, arms}
 use Rattle.md_safety.proofs.Verdicts.{ok_then, ok_after, ok_is}
 
 pub record AcceptsIf (c : Scope) (l : ℕ) (p t e : HldsGoal) (kn : InstMap) (a : After) : Type 0 where

@@ -1,27 +1,24 @@
 -- Calls: the environment in which a body begins, and what it gives back.
-use Rattle.std.proofs.Common.{◌≡◌, refl, sym, ap, ap₂, ◌∙◌, subst, arith, ℕ, zero, suc, ◌+◌, ◌<◌, Bool, true, false, ◌&&◌, cond, nat_eq, List, [], ◌∷◌, ◌++◌, length, Option, Some, None, Ok, Err, slice_get}
-use Rattle.std.proofs.lemmas.Bool.{and_parts, eqb-true}
-use Rattle.std.specs.Prelude.{⊤}
+use Rattle.std.proofs.Common.{◌≡◌, refl, sym, ap, ap₂, ◌∙◌, subst, arith, ℕ, suc, ◌+◌, Bool, false, nat_eq, List, [], ◌∷◌, length, Option, Some, None, Ok, slice_get}
+use Rattle.std.proofs.lemmas.Bool.{eqb-true}
 use Rattle.md_hlds.specs.declared.types.Mode.{Mode}
 use Rattle.md_hlds.specs.declared.types.Mode.TheVariants.{In, Out, Di, Uo}
 use Rattle.md_hlds.specs.declared.types.Det.{Det}
 use Rattle.md_hlds.specs.declared.types.Det.TheVariants as det
-use Rattle.md_hlds.specs.Hlds.{HldsType, HldsTypes, number, text, world, named, closure, no_types, also_type, listed_types, gathered_types, Procedure, Hlds}
+use Rattle.md_hlds.specs.Hlds.{HldsType, HldsTypes, number, text, world, named, closure, listed_types, gathered_types, Procedure, Hlds}
 use Rattle.md_hlds.specs.Value.{Value, Values, Number, Literal, Built, Closure, no_values, also_value, listed_values, Env, value_at, bound, blank}
-use Rattle.md_hlds.specs.Trace.{back_value, back, passed, given, pairs_of, without, entered}
-use Rattle.md_inst.specs.declared.fault.ModeFault.{ModeFault}
-use Rattle.md_inst.specs.declared.fault.ModeFault.TheVariants.{TypeClash, Unbound, IoUsed, Arity}
-use Rattle.md_inst.specs.Verdict.{Verdict, ◌>>=◌, ◌>>◌, fine}
-use Rattle.md_inst.specs.HldsTypes.{same_sort, is_world}
-use Rattle.md_inst.specs.Instantiation.{Instantiation, free, has, InstMap, known_at, put, nothing_known, times}
+use Rattle.md_hlds.specs.Trace.{back_value, passed, given, pairs_of, without, entered}
+use Rattle.md_inst.specs.declared.fault.ModeFault.TheVariants.{TypeClash, IoUsed, Arity}
+use Rattle.md_inst.specs.HldsTypes.{same_sort}
+use Rattle.md_inst.specs.Instantiation.{Instantiation, free, has, InstMap, known_at, put, nothing_known}
 use Rattle.md_inst.specs.Arguments.{is_spent, arguments}
-use Rattle.md_inst.specs.Simple.{types_of, modes_of, left_open, pairs, apply_pairs, apply_sort, apply_known}
+use Rattle.md_inst.specs.Simple.{types_of, modes_of, pairs, apply_pairs, apply_sort, apply_known}
 use Rattle.md_modes.specs.Modes.{enter, entry_from, entry, exit_known, exit, exits}
 use Rattle.md_safety.specs.Values.{HasType, AreHeld, IsClosureOf, Agrees, Fits}
 use Rattle.md_safety.specs.Arguments.{IsArgument, AreArguments, taken, IsResult, AreResults}
 use Rattle.md_safety.proofs.Environments.{fits_put, blank_fits}
 use Rattle.md_safety.proofs.SameTypes.{same_sort_is}
-use Rattle.md_safety.proofs.Verdicts.{ok_then, ok_after, ok_where, ok_unless, ok_is}
+use Rattle.md_safety.proofs.Verdicts.{ok_after, ok_where, ok_unless}
 use Rattle.md_safety.proofs.Handing.{In', in_first, in_rest}
 
 -- ---- entry
@@ -176,11 +173,17 @@ closure_applied s strict l ys q held ts ms d kn r (Some p) at h ok =
     let types : gathered_types (types_of h.0) ≡ ts = cc (h.2) in
     let modes : modes_of h.0 ≡ ms = cc (h.2) in
     let args : pairs (listed_types ts) ms ≡ h.0 =
-      ap₂ (λ (us : HldsTypes) (ns : List Mode). pairs (listed_types us) ns) (sym types) (sym modes) ∙ open_pairs h.0 in
+    ap₂ (λ (us : HldsTypes) (ns : List Mode). pairs (listed_types us) ns) (sym types) (sym modes) ∙ open_pairs h.0 in
     let long : length (listed_types ts) ≡ length h.0 =
-      ap (λ (us : HldsTypes). length (listed_types us)) (sym types) ∙ ap (λ (us : List HldsType). length us) (listed_gathered (types_of h.0)) ∙ types_size h.0 in
+    ap (λ (us : HldsTypes). length (listed_types us)) (sym types) ∙ ap (λ (us : List HldsType). length us) (listed_gathered (types_of h.0)) ∙ types_size h.0 in
     record {
-      number = q; held = held; procedure = p; others = h.0; is = refl; at = at; captured = h.1;
+      number = q;
+      held = held;
+      procedure = p;
+      others = h.0;
+      is = refl;
+      at = at;
+      captured = h.1;
       size = eqb-true (length ys) (length (listed_types ts)) a.0 ∙ long;
       accepted = subst (λ (b : List (HldsType × Mode)). arguments strict l b ys kn ≡ Ok r) args a.1;
       determinism = cc (h.2);

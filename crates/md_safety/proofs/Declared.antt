@@ -1,5 +1,5 @@
 -- Each procedure of an accepted program has as many answers as its determinism says, and main has its answer.
-use Rattle.std.proofs.Common.{◌≡◌, refl, sym, ap, ◌∙◌, subst, arith, ℕ, zero, suc, ◌-◌, ◌≤◌, Bool, true, false, not, ◌&&◌, ◌||◌, cond, nat_le, List, [], ◌∷◌, ◌++◌, length, Option, Some, None, Ok, Err, slice_get, is_some}
+use Rattle.std.proofs.Common.{◌≡◌, refl, sym, ap, subst, arith, ℕ, zero, suc, ◌-◌, ◌≤◌, Bool, true, false, not, ◌&&◌, ◌||◌, cond, nat_le, List, [], ◌∷◌, ◌++◌, length, Option, Some, None, slice_get, is_some}
 use Rattle.std.proofs.lemmas.Bool.{and_parts, true≢false, false≢true}
 use Rattle.std.specs.Prelude.{⊤}
 use Rattle.md_hlds.specs.declared.types.Mode.{Mode}
@@ -7,24 +7,20 @@ use Rattle.md_hlds.specs.declared.types.Det.{Det}
 use Rattle.md_hlds.specs.declared.types.Det.TheVariants as det
 use Rattle.md_hlds.specs.HldsGoal.{numbered_goal}
 use Rattle.md_hlds.specs.Hlds.{HldsType, Procedure, Hlds, procedure_called, body_number}
-use Rattle.md_hlds.specs.Value.{Value, Env, value_at, blank}
-use Rattle.md_hlds.specs.Trace.{Turn, Call, Exit, Redo, Fail, Excp, Alloc, Out, Throw, Answer, Stuck, Deep, Items, back_value, first, trace}
-use Rattle.md_hlds.specs.Run.{cut, cut_turn, error, is_finished, is_thrown, HasNoDeep, main_name, main_env, main_frame, main_items, run_main, run}
+use Rattle.md_hlds.specs.Value.{Value, Env, blank}
+use Rattle.md_hlds.specs.Trace.{Turn, Call, Exit, Redo, Fail, Excp, Alloc, Out, Throw, Answer, Stuck, Deep, Items, back_value, trace}
+use Rattle.md_hlds.specs.Run.{cut, cut_turn, is_finished, is_thrown, HasNoDeep, main_name, main_env, main_frame, main_items, run_main, run}
 use Rattle.md_hlds.proofs.BudgetLemmas.{depths}
 use Rattle.md_reader.specs.Grammar.{Spells}
 use Rattle.md_inst.specs.HldsTypes.{same_det}
-use Rattle.md_inst.specs.Verdict.{Verdict, ◌>>=◌}
-use Rattle.md_inst.specs.Instantiation.{InstMap, nothing_known, times}
-use Rattle.md_modes.specs.Branches.{After}
+use Rattle.md_inst.specs.Instantiation.{InstMap, nothing_known}
 use Rattle.md_modes.specs.Goals.{clause_variables, variables, goal}
-use Rattle.md_modes.specs.Modes.{enter, entry_from, entry, end, scope_of, are_main_args, is_main, has_main, mode_fault}
+use Rattle.md_modes.specs.Modes.{enter, entry_from, entry, end, scope_of, are_main_args, is_main, mode_fault}
 use Rattle.md_modes.proofs.Counts.{times-append}
 use Rattle.md_det.specs.declared.fault.DetFault.{DetFault}
 use Rattle.md_det.specs.declared.fault.DetFault.TheVariants as fault
-use Rattle.md_det.specs.declared.pair.Bound.{Bound}
-use Rattle.md_det.specs.declared.pair.Bound.TheVariants.{Zero, One, Many}
-use Rattle.md_det.specs.declared.pair.Pair.{Pair}
-use Rattle.md_det.specs.Pairs.{pair, pair_of, det_of, allows, in_turn}
+use Rattle.md_det.specs.declared.pair.Bound.TheVariants.{Zero, One}
+use Rattle.md_det.specs.Pairs.{pair, pair_of, det_of, allows}
 use Rattle.md_det.specs.Faults.{fault_if, goal_faults, state_faults, declared_faults, body_pair, procedure_faults, faults_of, first_of, det_fault}
 use Rattle.md_safety.specs.Values.{Fits}
 use Rattle.md_safety.specs.Safe.{HasNoStuck}
@@ -36,7 +32,7 @@ use Rattle.md_safety.proofs.SameTypes.{same_det_is}
 use Rattle.md_safety.proofs.Verdicts.{ok_then}
 use Rattle.md_safety.proofs.Functors.{called_at}
 use Rattle.md_safety.proofs.Calls.{passed_one}
-use Rattle.md_safety.proofs.Safe.{Proper, frame, answers, claim}
+use Rattle.md_safety.proofs.Safe.{frame, answers, claim}
 use Rattle.md_safety.proofs.OneMain.{one_main, main_there}
 use Rattle.md_safety.proofs.Whole.{accepted, proper, main_fits, main_not_stuck}
 use Rattle.md_safety.proofs.TypesDiffer.{types_differ}
@@ -109,10 +105,10 @@ body_run s judged n p e depth act next at fits =
     let xs = trace s depth (frame act e (numbered_goal (body_number s n) p.body ∷ []) []) [] next in
     record {
       fine = claim s judged.proper depth (clause_variables p) false p.body (entry p) p.head (λ e. ⊤) ok.0 (body_number s n) act e [] [] [] next (judged.proper.tidy n p at) ok.1
-        (λ x. let e = times-append x p.head (variables p.body) in omega (arith, e)) fits (λ i lt d k reach inner. answers s (λ e. ⊤) i act d [] k tt);
+          (λ x. let e = times-append x p.head (variables p.body) in omega (arith, e)) fits (λ i lt d k reach inner. answers s (λ e. ⊤) i act d [] k tt);
       meets = meets_last (pair_of p.det) xs (meets_declared (body_pair s p) (pair_of p.det) (pair false One) xs less.0 less.1
-        (tally s judged depth (clause_variables p) false None p.body (entry p) p.head (pair false One) ok.0 (body_number s n) act e [] [] [] next (judged.proper.tidy n p at) ok.1
-         (λ x. let e = times-append x p.head (variables p.body) in omega (arith, e)) fits tt (λ i lt d k reach inner. answered s i act d [] k)));
+          (tally s judged depth (clause_variables p) false None p.body (entry p) p.head (pair false One) ok.0 (body_number s n) act e [] [] [] next (judged.proper.tidy n p at) ok.1
+          (λ x. let e = times-append x p.head (variables p.body) in omega (arith, e)) fits tt (λ i lt d k reach inner. answered s i act d [] k)));
     }
 
 -- ---- numbers of answers
@@ -177,7 +173,7 @@ pub answers_as_declared : (bytes : List ℕ) (s : Hlds) → Spells bytes s → m
     → AnswersAs p.det (body_trace s (n, p) os depth act next)
 answers_as_declared bytes s spells modes determinism n p at os args depth act next deep thrown =
     let r = body_run s (judged bytes s spells modes determinism) n p (begun p os) depth act next at
-      (begun_fits s (variables p.body ++ p.head) p.args p.head os (nothing_known (length p.vars)) (blank (length p.vars)) args (blank_fits s (variables p.body ++ p.head) (length p.vars))) in
+    (begun_fits s (variables p.body ++ p.head) p.args p.head os (nothing_known (length p.vars)) (blank (length p.vars)) args (blank_fits s (variables p.body ++ p.head) (length p.vars))) in
     counted (λ e. ⊤) p.det (body_trace s (n, p) os depth act next) r.fine r.meets deep thrown
 
 -- ---- main
@@ -244,5 +240,5 @@ comes_to_its_end bytes s spells modes determinism budget =
       main = m.0;
       called = m.1;
       ends = λ over. subst (λ (xs : Items). (is_finished xs || is_thrown xs) ≡ true) (sym same)
-        (ended budget (main_items s budget m.0) (main_ends s all budget m.0 m.1 is) (items_not_stuck s all budget m.0 m.1 is) (subst HasNoDeep same (depths s budget)) over);
+          (ended budget (main_items s budget m.0) (main_ends s all budget m.0 m.1 is) (items_not_stuck s all budget m.0 m.1 is) (subst HasNoDeep same (depths s budget)) over);
     }

@@ -1,7 +1,6 @@
 -- Environments that fit what is known: writes on both sides.
-use Rattle.std.proofs.Common.{◌≡◌, refl, sym, ap, ◌∙◌, subst, inl, inr, arith, ℕ, zero, suc, ◌+◌, ◌<◌, ◌≤◌, Bool, true, false, List, [], ◌∷◌, ◌++◌, length, Option, Some, None}
+use Rattle.std.proofs.Common.{◌≡◌, refl, sym, ap, ◌∙◌, subst, inl, inr, arith, ℕ, zero, suc, ◌<◌, ◌≤◌, Bool, List, [], ◌∷◌, length, Option, Some, None}
 use Rattle.std.proofs.lemmas.Bool.{cases_eq, cases_lt}
-use Rattle.std.specs.Prelude.{⊤}
 use Rattle.md_hlds.specs.Hlds.{HldsType, Hlds}
 use Rattle.md_hlds.specs.Value.{Value, Env, value_at, bound, blank}
 use Rattle.md_inst.specs.Instantiation.{Instantiation, free, has, InstMap, known_at, put, handed_on, hand_on, nothing_known, times}
@@ -94,7 +93,7 @@ pub fits_others : (s : Hlds) (vars : List ℕ) (kn : InstMap) (e : Env) (x : ℕ
 fits_others s vars kn e x k none h = record {
   size = h.size ∙ sym (length-put kn x k);
   each = λ y there. agrees_by s _ (value_at e y) _ (known_at kn y) refl
-    (known_at-put_other kn x y k (λ same. let zero_times : times y vars ≡ 0 = ap (λ (z : ℕ). times z vars) same ∙ none in omega (arith, there, zero_times))) (h.each y there);
+      (known_at-put_other kn x y k (λ same. let zero_times : times y vars ≡ 0 = ap (λ (z : ℕ). times z vars) same ∙ none in omega (arith, there, zero_times))) (h.each y there);
 }
 
 pub fits_fewer : (s : Hlds) (vars fewer : List ℕ) (kn : InstMap) (e : Env) → ((x : ℕ) → 0 < times x fewer → 0 < times x vars) → Fits s vars kn e → Fits s fewer kn e

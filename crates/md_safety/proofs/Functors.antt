@@ -1,8 +1,8 @@
 -- Functors and predicates by their names.
-use Rattle.std.proofs.Common.{◌≡◌, refl, sym, ap, ◌∙◌, subst, arith, ℕ, zero, suc, ◌+◌, Bool, true, false, ◌&&◌, cond, nat_eq, List, [], ◌∷◌, length, Option, Some, None, is_some, slice_get, bytes_eq}
-use Rattle.std.proofs.lemmas.Bool.{and_parts, eqb-true, true≢false}
+use Rattle.std.proofs.Common.{◌≡◌, refl, sym, ap, ◌∙◌, subst, arith, ℕ, suc, ◌+◌, Bool, true, false, ◌&&◌, cond, nat_eq, List, [], ◌∷◌, length, Option, Some, None, is_some, slice_get, bytes_eq}
+use Rattle.std.proofs.lemmas.Bool.{and_parts, eqb-true}
 use Rattle.md_hlds.specs.declared.goal.PredName.{PredName}
-use Rattle.md_hlds.specs.Hlds.{HldsFunctor, HldsTypeDef, Procedure, Hlds, find_procedure, procedure_called, is_called, is_functor, unqualified_functor, has_functor}
+use Rattle.md_hlds.specs.Hlds.{HldsFunctor, HldsTypeDef, Procedure, Hlds, find_procedure, procedure_called, is_called, is_functor, unqualified_functor}
 use Rattle.md_names.specs.Named.{construct_among, found_in, functor_found}
 use Rattle.md_inst.specs.Named.{Functor, functor_with, functor_of, if_unqualified, functor_called, without_number, predicate_called}
 use Rattle.md_det.proofs.Functors.{functor_there}

@@ -1,26 +1,23 @@
 -- What is bound before a goal stays bound with its type.
-use Rattle.std.proofs.Common.{◌≡◌, refl, sym, ap, ◌∙◌, subst, inl, inr, arith, ℕ, zero, suc, ◌+◌, ◌<◌, ◌≤◌, ◌⊎◌, Bool, true, false, ◌&&◌, ◌||◌, cond, nat_eq, nat_lt, List, [], ◌∷◌, length, take, drop, Option, Some, None, Ok, Err}
+use Rattle.std.proofs.Common.{◌≡◌, refl, sym, ap, ◌∙◌, subst, inl, inr, ℕ, ◌⊎◌, Bool, true, false, ◌||◌, cond, nat_eq, nat_lt, List, [], ◌∷◌, length, take, drop, Option, Some, None, Ok}
 use Rattle.std.proofs.lemmas.Bool.{cases_eq, cases_lt}
 use Rattle.std.specs.Prelude.{⊤}
 use Rattle.md_hlds.specs.declared.types.Mode.{Mode}
 use Rattle.md_hlds.specs.declared.types.Mode.TheVariants.{In, Out, Di, Uo}
-use Rattle.md_hlds.specs.declared.types.Det.{Det}
 use Rattle.md_hlds.specs.declared.goal.Term.{Term}
 use Rattle.md_hlds.specs.declared.goal.Term.TheVariants.{Var, Int, Str, Name}
 use Rattle.md_hlds.specs.declared.goal.PredName.{PredName}
 use Rattle.md_hlds.specs.HldsGoal.{Simple, Succeeds, Fails, Unifies, Computes, Compares, WritesInt, WritesText, EndsLine, Raises, HldsGoal, At, GoalExpr, SimpleGoal, CallGoal, HoCallGoal, ConjGoal, DisjGoal, IfGoal, NotGoal, SomeGoal, HldsGoals, nothing, also}
 use Rattle.md_hlds.specs.Hlds.{HldsType, number, text, world, named, closure, listed_types, Procedure, Hlds}
-use Rattle.md_inst.specs.declared.fault.ModeFault.{ModeFault}
 use Rattle.md_inst.specs.declared.fault.ModeFault.TheVariants.{TypeClash, Arity, IoUsed, BranchBinds}
-use Rattle.md_inst.specs.Verdict.{Verdict, ◌>>=◌, ◌>>◌, fault_unless}
 use Rattle.md_inst.specs.HldsTypes.{same_sort, is_world}
 use Rattle.md_inst.specs.Instantiation.{Instantiation, free, has, InstMap, known_at, put, handed_on, hand_on}
 use Rattle.md_inst.specs.Common.{common}
 use Rattle.md_inst.specs.Named.{Functor, functor_called, predicate_called}
-use Rattle.md_inst.specs.Arguments.{is_spent, input, output, given_known, given, argument, arguments, inputs, givens}
-use Rattle.md_inst.specs.Simple.{assign, test, unify_known, make, functor_known, types_of, left_open, can_close, capture, close_known, predicate_term, named_term, unify, call_checked, pairs, apply_sort, apply_known, builtin, arithmetic, comparison, line_end, raised, simple, atomic}
-use Rattle.md_modes.specs.Branches.{After, after, outside, some_of, in_common, all_have, some_differ, clash, reachable, joined_ends, joined}
-use Rattle.md_modes.specs.Goals.{Scope, within, reached, goes_on_after, binds_inside, variables, parts_variables, goal, expr, each, arms}
+use Rattle.md_inst.specs.Arguments.{is_spent, input, given, argument, arguments, inputs, givens}
+use Rattle.md_inst.specs.Simple.{assign, test, unify_known, functor_known, types_of, left_open, can_close, close_known, predicate_term, named_term, unify, call_checked, pairs, apply_sort, apply_known, builtin, arithmetic, comparison, line_end, raised, simple, atomic}
+use Rattle.md_modes.specs.Branches.{After, after, outside, in_common, all_have, some_differ, clash, reachable, joined_ends, joined}
+use Rattle.md_modes.specs.Goals.{Scope, within, goes_on_after, parts_variables, goal, expr, each, arms}
 use Rattle.md_modes.proofs.InstantiationLemmas.{length-put, known_at-put, known_at-put_other, known_at-outside, length-in_common, known_at-in_common}
 use Rattle.md_safety.proofs.Verdicts.{ok_then, ok_after, ok_where, ok_unless, ok_is, ok_reached}
 use Rattle.md_safety.proofs.Accepted.{if_ok, not_ok, some_ok, each_ok, arms_ok}
@@ -197,9 +194,9 @@ later_common : (kn r q : InstMap) → Later kn r → Later kn q → Later kn (in
 later_common kn r q h g = record {
   size = length-in_common r q ∙ h.size;
   bound = λ x t used is.
-    let a = h.bound x t used is in
-    let b = g.bound x t used is in
-    (a.0 || b.0, known_at-in_common r q x ∙ later_common_at (known_at r x) (known_at q x) t a.0 b.0 a.1 b.1);
+      let a = h.bound x t used is in
+      let b = g.bound x t used is in
+      (a.0 || b.0, known_at-in_common r q x ∙ later_common_at (known_at r x) (known_at q x) t a.0 b.0 a.1 b.1);
 }
 
 abbrev pub EachOf : (InstMap → Type 0) → List InstMap → Type 0
@@ -260,9 +257,10 @@ mutual
       joined_later l (outside c.all (parts_variables ps)) kn b.0 a (arms_later c ps kn b.0 b.1) b.2
   expr_later c l (IfGoal p t e) kn a ok =
       let o = if_ok c l p t e kn a ok in
-      joined_later l _ kn (o.then ∷ o.else ∷ []) a
-      (later_then kn o.condition.known o.then.known (goal_later (within c) p kn o.condition o.begins) (goal_later c t o.condition.known o.then o.wins),
-       (goal_later c e kn o.else o.loses, tt)) o.joins
+      joined_later l _ kn (o.then ∷ o.else ∷ []) a (
+        later_then kn o.condition.known o.then.known (goal_later (within c) p kn o.condition o.begins) (goal_later c t o.condition.known o.then o.wins),
+        (goal_later c e kn o.else o.loses, tt),
+      ) o.joins
   expr_later c l (NotGoal p) kn a ok = only_later kn a (not_ok c l p kn a ok).is
   expr_later c l (SomeGoal vs p) kn a ok = only_later kn a (some_ok c l vs p kn a ok).is
 

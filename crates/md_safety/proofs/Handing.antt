@@ -1,22 +1,19 @@
 -- Arguments that the mode rules accept: what the variables have before a call, and what they have after it.
-use Rattle.std.proofs.Common.{◌≡◌, refl, sym, ap, ◌∙◌, subst, inl, inr, arith, ℕ, zero, suc, ◌+◌, ◌<◌, ◌≤◌, ◌⊎◌, Bool, true, false, ◌&&◌, cond, nat_eq, List, [], ◌∷◌, ◌++◌, length, Option, Some, None, Ok, Err}
-use Rattle.std.proofs.lemmas.Bool.{cases_eq, eq-eqb, ne_eqb, cond-true, cond-false}
-use Rattle.std.specs.Prelude.{⊤}
+use Rattle.std.proofs.Common.{◌≡◌, refl, sym, ap, ◌∙◌, subst, inl, inr, arith, ℕ, suc, ◌<◌, ◌⊎◌, Bool, true, false, ◌&&◌, cond, nat_eq, List, [], ◌∷◌, length, Option, Some, None, Ok}
+use Rattle.std.proofs.lemmas.Bool.{eq-eqb, cond-true}
 use Rattle.md_hlds.specs.declared.types.Mode.{Mode}
 use Rattle.md_hlds.specs.declared.types.Mode.TheVariants.{In, Out, Di, Uo}
 use Rattle.md_hlds.specs.Hlds.{HldsType, Hlds}
-use Rattle.md_hlds.specs.Value.{Value, Values, no_values, also_value, gathered_values, value_count, Env, value_at, values_at, prepend_value, bound}
+use Rattle.md_hlds.specs.Value.{Value, gathered_values, value_count, Env, value_at, values_at, prepend_value, bound}
 use Rattle.md_hlds.specs.Trace.{back_value, back, pairs_of}
-use Rattle.md_inst.specs.declared.fault.ModeFault.{ModeFault}
-use Rattle.md_inst.specs.declared.fault.ModeFault.TheVariants.{TypeClash, Unbound, BoundTwice, IoUsed}
-use Rattle.md_inst.specs.Verdict.{Verdict, ◌>>=◌}
+use Rattle.md_inst.specs.declared.fault.ModeFault.TheVariants.{TypeClash, IoUsed}
 use Rattle.md_inst.specs.HldsTypes.{same_sort, is_world}
 use Rattle.md_inst.specs.Instantiation.{Instantiation, free, has, InstMap, known_at, put, handed_on, hand_on, times}
-use Rattle.md_inst.specs.Arguments.{is_spent, input_known, input, output_known, output, given_known, given, argument, arguments, inputs, givens}
+use Rattle.md_inst.specs.Arguments.{is_spent, input_known, input, output_known, output, given_known, given, argument, arguments, inputs}
 use Rattle.md_safety.specs.Values.{HasType, HaveTypes, Agrees, Fits}
 use Rattle.md_safety.specs.Arguments.{IsArgument, AreArguments, taken, IsResult, AreResults}
 use Rattle.md_safety.specs.Turns.{AreDistinct}
-use Rattle.md_safety.proofs.Environments.{fits_put, fits_known, fits_handed, fits_others, fits_fewer}
+use Rattle.md_safety.proofs.Environments.{fits_put, fits_handed, fits_others, fits_fewer}
 use Rattle.md_safety.proofs.SameTypes.{same_sort_is}
 use Rattle.md_safety.proofs.Verdicts.{ok_then, ok_where, ok_unless, ok_is}
 

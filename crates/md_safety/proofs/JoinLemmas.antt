@@ -1,19 +1,15 @@
 -- What is known at the end of an arm is known after the branch, of the variables that occur outside it.
-use Rattle.std.proofs.Common.{◌≡◌, refl, sym, ap, ◌∙◌, subst, inl, inr, arith, ℕ, zero, suc, ◌+◌, ◌<◌, ◌≤◌, Bool, true, false, not, ◌&&◌, ◌||◌, cond, List, [], ◌∷◌, length, Option, Some, None, Ok, Err}
+use Rattle.std.proofs.Common.{◌≡◌, refl, sym, ap, ◌∙◌, subst, inl, inr, arith, ℕ, zero, suc, ◌<◌, ◌≤◌, Bool, true, false, not, ◌&&◌, ◌||◌, cond, List, [], ◌∷◌, length, Option, Some, None, Ok}
 use Rattle.std.proofs.lemmas.Bool.{cases_eq, cases_lt, or_parts, false≢true}
 use Rattle.std.specs.Prelude.{⊤}
 use Rattle.md_hlds.specs.Hlds.{HldsType, Hlds}
 use Rattle.md_hlds.specs.Value.{Value, Env, value_at}
-use Rattle.md_inst.specs.declared.fault.ModeFault.{ModeFault}
-use Rattle.md_inst.specs.Verdict.{Verdict}
-use Rattle.md_inst.specs.HldsTypes.{same_sort}
 use Rattle.md_inst.specs.Instantiation.{Instantiation, free, has, InstMap, known_at, is_bound, is_newly_bound, some_below, times}
 use Rattle.md_inst.specs.Common.{disagree, common, is_alike}
 use Rattle.md_modes.specs.Branches.{After, after, in_common, all_have, differ, some_differ, some_unlike, clash, reachable, joined_ends, joined}
 use Rattle.md_modes.proofs.InstantiationLemmas.{known_at-outside, length-in_common, known_at-in_common}
 use Rattle.md_safety.specs.Values.{HasType, Agrees, Fits}
 use Rattle.md_safety.proofs.SameTypes.{same_sort_is}
-use Rattle.md_safety.proofs.Verdicts.{ok_is}
 use Rattle.md_safety.proofs.Growing.{Later, AllLater, EachOf, reachable_later, joined_ok}
 
 -- the same of a variable, but for whether an io state was used
@@ -29,7 +25,7 @@ alike_free : (k j : Instantiation) → k ≡ free → j ≡ free → Alike k j
 alike_free k j e f = rw (e, f) tt
 
 below_step : (x n : ℕ) (p : ℕ → Bool) → x < suc n → (x ≡ n → ⊥) → x < n
-below_step x n p lt other = elim (cases_lt x n) [ | inl less ↦ less | inr more ↦ absurd (other (omega (arith, lt, more))) ]
+below_step x n p lt other = elim (cases_lt x n) [ inl less ↦ less | inr more ↦ absurd (other (omega (arith, lt, more))) ]
 
 none_below : (n : ℕ) (p : ℕ → Bool) (x : ℕ) → some_below n p ≡ false → x < n → p x ≡ false
 none_below zero p x none lt = absurd (omega (arith, lt))
@@ -82,17 +78,19 @@ AgreesAt x all q = Alike (known_at q x) (known_at all x)
 bound_before : (x : ℕ) (t : HldsType) (used : Bool) (kn r : InstMap) (qs : List InstMap) → known_at kn x ≡ has t used → Later kn r → EachOf (Later kn) qs → EachOf (AgreesAt x (all_have r qs)) (r ∷ qs)
 bound_before x t used kn r qs is h g =
     let a = h.bound x t used is in
-    let all = all_have_has x t a.0 r qs a.1 (each_map (Later kn) (IsBoundAt x) qs (λ q later. let b = later.bound x t used is in (t, b.0, b.1)) g) in
-    (alike_has (known_at r x) (known_at (all_have r qs) x) t a.0 all.0 a.1 all.1,
-     each_map (Later kn) (AgreesAt x (all_have r qs)) qs (λ q later. let b = later.bound x t used is in alike_has (known_at q x) (known_at (all_have r qs) x) t b.0 all.0 b.1 all.1) g)
+    let all = all_have_has x t a.0 r qs a.1 (each_map (Later kn) (IsBoundAt x) qs (λ q later. let b = later.bound x t used is in (t, b.0, b.1)) g) in (
+      alike_has (known_at r x) (known_at (all_have r qs) x) t a.0 all.0 a.1 all.1,
+      each_map (Later kn) (AgreesAt x (all_have r qs)) qs (λ q later. let b = later.bound x t used is in alike_has (known_at q x) (known_at (all_have r qs) x) t b.0 all.0 b.1 all.1) g,
+    )
 
 -- one past the end
 past_end : (x : ℕ) (kn r : InstMap) (qs : List InstMap) → length kn ≤ x → Later kn r → EachOf (Later kn) qs → EachOf (AgreesAt x (all_have r qs)) (r ∷ qs)
 past_end x kn r qs le h g =
     let here = known_at-outside r x (let size = h.size in omega (arith, le, size)) in
-    let all = all_have_free x r qs here in
-    (alike_free (known_at r x) (known_at (all_have r qs) x) here all,
-     each_map (Later kn) (AgreesAt x (all_have r qs)) qs (λ q later. alike_free (known_at q x) (known_at (all_have r qs) x) (known_at-outside q x (let size = later.size in omega (arith, le, size))) all) g)
+    let all = all_have_free x r qs here in (
+      alike_free (known_at r x) (known_at (all_have r qs) x) here all,
+      each_map (Later kn) (AgreesAt x (all_have r qs)) qs (λ q later. alike_free (known_at q x) (known_at (all_have r qs) x) (known_at-outside q x (let size = later.size in omega (arith, le, size))) all) g,
+    )
 
 agree_false : (b : Bool) (k j i : Instantiation) → b ≡ true → k ≡ free → (b && (not (is_bound k) && disagree j i)) ≡ false → disagree j i ≡ false
 agree_false true free j i e f h = h
@@ -142,19 +140,21 @@ newly_false (has u a) j t used b e f h = absurd (cc e)
 free_before : (p : ℕ → Bool) (x : ℕ) (kn r : InstMap) (qs : List InstMap) (k : Instantiation) → known_at r x ≡ k → p x ≡ true → known_at kn x ≡ free → x < length kn → length r ≡ length kn
     → some_differ p kn r qs ≡ false → clash kn (all_have r qs) r qs ≡ false → EachOf (AgreesAt x (all_have r qs)) (r ∷ qs)
 free_before p x kn r qs free is px none lt size d c =
-    let all = all_have_free x r qs is in
-    (alike_free (known_at r x) (known_at (all_have r qs) x) is all,
-     each_map _ (AgreesAt x (all_have r qs)) qs (λ q h. alike_free (known_at q x) (known_at (all_have r qs) x) (both_free (known_at r x) (known_at q x) is h) all) (some_differ_each p x kn r qs px none lt d))
+    let all = all_have_free x r qs is in (
+      alike_free (known_at r x) (known_at (all_have r qs) x) is all,
+      each_map _ (AgreesAt x (all_have r qs)) qs (λ q h. alike_free (known_at q x) (known_at (all_have r qs) x) (both_free (known_at r x) (known_at q x) is h) all) (some_differ_each p x kn r qs px none lt d),
+    )
 free_before p x kn r qs (has t used) is px none lt size d c =
     let agree = some_differ_each p x kn r qs px none lt d in
     let all = all_have_has x t used r qs is (each_map _ (IsBoundAt x) qs (λ q h. both_bound (known_at r x) (known_at q x) t used is h) agree) in
     let long = all_have_size r qs in
     let unlike = newly_false (known_at kn x) (known_at (all_have r qs) x) t all.0 (some_unlike (known_at r x) x qs) none all.1
-      (none_below (length (all_have r qs)) _ x c (omega (arith, lt, long, size))) in
-    (alike_has (known_at r x) (known_at (all_have r qs) x) t used all.0 is all.1,
-     each_map _ (AgreesAt x (all_have r qs)) qs
-     (λ q h. let b = alike_types (known_at r x) (known_at q x) t used is h.0 h.1 in alike_has (known_at q x) (known_at (all_have r qs) x) t b.0 all.0 b.1 all.1)
-     (each_both (λ q. is_alike (known_at r x) (known_at q x) ≡ true) (λ q. disagree (known_at r x) (known_at q x) ≡ false) qs (unlike_each (known_at r x) x qs unlike) agree))
+    (none_below (length (all_have r qs)) _ x c (omega (arith, lt, long, size))) in (
+      alike_has (known_at r x) (known_at (all_have r qs) x) t used all.0 is all.1,
+      each_map _ (AgreesAt x (all_have r qs)) qs
+          (λ q h. let b = alike_types (known_at r x) (known_at q x) t used is h.0 h.1 in alike_has (known_at q x) (known_at (all_have r qs) x) t b.0 all.0 b.1 all.1)
+          (each_both (λ q. is_alike (known_at r x) (known_at q x) ≡ true) (λ q. disagree (known_at r x) (known_at q x) ≡ false) qs (unlike_each (known_at r x) x qs unlike) agree),
+    )
 
 at_variable : (p : ℕ → Bool) (x : ℕ) (kn r : InstMap) (qs : List InstMap) (k : Instantiation) → known_at kn x ≡ k → p x ≡ true → Later kn r → EachOf (Later kn) qs
     → some_differ p kn r qs ≡ false → clash kn (all_have r qs) r qs ≡ false → EachOf (AgreesAt x (all_have r qs)) (r ∷ qs)

@@ -1,6 +1,6 @@
 -- The predicate that is called `main` is the one that the mode rules ask for.
-use Rattle.std.proofs.Common.{◌≡◌, refl, sym, ap, ◌∙◌, subst, inl, inr, ℕ, zero, suc, ◌==◌, Bool, true, false, ◌&&◌, ◌||◌, cond, List, [], ◌∷◌, ◌++◌, map, Option, Some, None, codes, is_none}
-use Rattle.std.proofs.lemmas.Bool.{and_parts, and_from, false≢true, true≢false}
+use Rattle.std.proofs.Common.{◌≡◌, refl, sym, ap, ◌∙◌, subst, ℕ, suc, Bool, true, false, ◌&&◌, ◌||◌, cond, List, [], ◌∷◌, ◌++◌, map, Option, Some, None, codes, is_none}
+use Rattle.std.proofs.lemmas.Bool.{and_parts, false≢true, true≢false}
 use Rattle.std.proofs.lemmas.Slice.Eq.{bytes_eq-Decides}
 use Rattle.std.specs.Str.{bytes_eq}
 use Rattle.md_hlds.specs.Hlds.{Procedure, Hlds, same_qualifier, is_called, find_procedure, procedure_called}
@@ -114,6 +114,7 @@ later_main p ps not_called h = main_other (is_main p) (has_main ps) h (λ m. fal
     main_other : (b c : Bool) → (b || c) ≡ true → (b ≡ true → ⊥) → c ≡ true
     main_other true c h g = absurd (g refl)
     main_other false c h g = h
+
     called : (p : Procedure) → (p.qualifier ≡ None) × (p.name ≡ codes "main") → is_called main_name p ≡ true
     called p a = rw (a.0, same_when (codes "main") p.name (sym a.1)) refl
 
@@ -124,7 +125,7 @@ found_main n seen (p ∷ ps) m once h found =
     let o = seen_not (is_among (declared_procedure p) seen) p.line _ once in
     main_step n p m (is_called main_name p) (find_procedure main_name (suc n) ps)
     (λ called. main_or (is_main p) (has_main ps) h
-      (λ g. none_later (seen ++ declared_procedure p ∷ []) ps (λ r is. among_end (declared_procedure r) (declared_procedure p) seen (both_main r p is (called_main p called))) o.1 g))
+    (λ g. none_later (seen ++ declared_procedure p ∷ []) ps (λ r is. among_end (declared_procedure r) (declared_procedure p) seen (both_main r p is (called_main p called))) o.1 g))
     (λ other found. found_main (suc n) (seen ++ declared_procedure p ∷ []) ps m o.1 (later_main p ps other h) found)
     found
 

@@ -1,32 +1,31 @@
 -- No trace of a goal that the mode rules accept is stuck, in an environment that fits what is known before the goal. What
 -- the job does after the goal is a premise, for every smaller depth and every environment that fits what is known there.
-use Rattle.std.proofs.Common.{◌≡◌, refl, sym, ap, ◌∙◌, subst, inl, inr, arith, ℕ, zero, suc, ◌+◌, ◌<◌, ◌≤◌, Bool, true, false, ◌&&◌, cond, nat_eq, List, [], ◌∷◌, ◌++◌, length, Option, Some, None, Ok, Err, slice_get}
+use Rattle.std.proofs.Common.{◌≡◌, refl, sym, ap, ◌∙◌, subst, inl, inr, arith, ℕ, zero, suc, ◌+◌, ◌<◌, ◌≤◌, Bool, true, false, ◌&&◌, cond, nat_eq, List, [], ◌∷◌, ◌++◌, length, Option, Some, None, Ok, slice_get}
 use Rattle.std.proofs.lemmas.Bool.{cases_lt, lt-ltb, eq-eqb, eqb-true}
 use Rattle.std.specs.Prelude.{⊤}
 use Rattle.md_hlds.specs.declared.types.Mode.{Mode}
 use Rattle.md_hlds.specs.declared.types.Det.{Det}
 use Rattle.md_hlds.specs.declared.types.Det.TheVariants as det
 use Rattle.md_hlds.specs.declared.goal.PredName.{PredName}
-use Rattle.md_hlds.specs.HldsGoal.{Simple, HldsGoal, At, GoalExpr, SimpleGoal, CallGoal, HoCallGoal, ConjGoal, DisjGoal, IfGoal, NotGoal, SomeGoal, HldsGoals, nothing, also, goal_size, Numbered, numbered_goal, numbered_from}
+use Rattle.md_hlds.specs.HldsGoal.{HldsGoal, At, GoalExpr, SimpleGoal, CallGoal, HoCallGoal, ConjGoal, DisjGoal, IfGoal, NotGoal, SomeGoal, HldsGoals, nothing, also, goal_size, Numbered, numbered_goal, numbered_from}
 use Rattle.md_hlds.specs.Hlds.{HldsType, Procedure, Hlds, procedure_called, nth_procedure, numbered, body_number}
-use Rattle.md_hlds.specs.Value.{Value, Values, Closure, no_values, listed_values, Env, value_at}
+use Rattle.md_hlds.specs.Value.{Value, Values, no_values, listed_values, Env, value_at}
 use Rattle.md_hlds.specs.Simple as run
 use Rattle.md_hlds.specs.Simple.{Outcome, Go, No, Throws, Stop}
 use Rattle.md_hlds.specs.Switch.{Key, switch_shape, arm_for, has_the_key}
 use Rattle.md_hlds.specs.Trace.{Turn, Call, Exit, Redo, Fail, Answer, Deep, Items, Frame, Does, joined, first, excps, back, pairs_of, without, doing, knowing, alone, allocated, written, after_simple, one_arm, switched, disjunction, body_frame, cut_off, run_body, entered, called, call_if, invoked, applied, unfold_expr, returns, trace}
 use Rattle.md_hlds.specs.Trace as item
 use Rattle.md_hlds.proofs.DepthLemmas.{are_excps}
-use Rattle.md_inst.specs.declared.fault.ModeFault.{ModeFault}
 use Rattle.md_inst.specs.declared.fault.ModeFault.TheVariants.{Arity}
-use Rattle.md_inst.specs.Verdict.{Verdict, ◌>>=◌, ◌>>◌, fine}
-use Rattle.md_inst.specs.Instantiation.{Instantiation, InstMap, known_at, times}
+use Rattle.md_inst.specs.Verdict.{fine}
+use Rattle.md_inst.specs.Instantiation.{InstMap, known_at, times}
 use Rattle.md_inst.specs.Named.{predicate_called}
 use Rattle.md_inst.specs.Arguments.{arguments}
 use Rattle.md_inst.specs.Simple as rules
 use Rattle.md_inst.specs.Simple.{goes_on, call_checked, apply_known, atomic}
 use Rattle.md_modes.specs.Branches as branch
 use Rattle.md_modes.specs.Branches.{After, after, outside}
-use Rattle.md_modes.specs.Goals.{Scope, within, goes_on_after, variables, expr_variables, parts_variables, simple_variables, clause_variables, goal, expr, each, arms}
+use Rattle.md_modes.specs.Goals.{Scope, variables, expr_variables, parts_variables, simple_variables, clause_variables, goal, expr, each, arms}
 use Rattle.md_modes.specs.Modes.{entry, exits, end, scope_of, clause}
 use Rattle.md_modes.proofs.Counts.{times-append}
 use Rattle.md_safety.specs.Values.{AreHeld, Fits}
@@ -38,7 +37,7 @@ use Rattle.md_safety.proofs.Verdicts.{ok_then, ok_where, ok_is, ok_reached}
 use Rattle.md_safety.proofs.Handing.{In', more_times, first_times, handed, returned}
 use Rattle.md_safety.proofs.Functors.{predicate_number, called_at}
 use Rattle.md_safety.proofs.SimpleGoals.{simple_leads}
-use Rattle.md_safety.proofs.Accepted.{AcceptsIf, if_ok, AcceptsOnly, not_ok, some_ok, AcceptsEach, each_ok, AcceptsArms, arms_ok}
+use Rattle.md_safety.proofs.Accepted.{if_ok, not_ok, some_ok, each_ok, arms_ok}
 use Rattle.md_safety.proofs.Growing.{later_then, goal_later, arms_later}
 use Rattle.md_safety.proofs.JoinLemmas.{Joins, EndsJoin, joined_join, fits_joined}
 use Rattle.md_safety.proofs.Calls.{call_fits, exits_return, others_return, without_size, IsApplied, type_of, known_applied}
@@ -180,8 +179,8 @@ whole_fine s proper m below good strict l q held others ys rest kn r e act goals
     let between = pairs_of (without (listed_values held) q.1.head) ys in
     fine_joined good (trace s m (frame k (entered q.1 (listed_values held) ys e) (numbered_goal (body_number s q.0) q.1.body ∷ []) between) (frame act e goals pairs ∷ js) (suc k)) (suc k) (λ n. Fail k ∷ [])
     (body_fine s proper m below good strict l q held others ys kn r e k between (frame act e goals pairs ∷ js) (suc k) c
-     (λ n lt d i results. exits_fine s good n k d between (frame act e goals pairs) js i
-      (goes n (omega (arith, lt)) (back between d e) i refl (back_fits s proper strict l q held others ys rest kn r e d c fits results))))
+    (λ n lt d i results. exits_fine s good n k d between (frame act e goals pairs) js i
+    (goes n (omega (arith, lt)) (back between d e) i refl (back_fits s proper strict l q held others ys rest kn r e d c fits results))))
     (λ n. tt)
 
 run_fine : (s : Hlds) (proper : Proper s) (m : ℕ) → Below s m → (good : Env → Type 0) (strict : Bool) (l : ℕ) (q : ℕ × Procedure) (held : Values) (others : List (HldsType × Mode)) (ys rest : List ℕ) (kn r : InstMap) (e : Env)
@@ -250,13 +249,13 @@ each_fine s m below all strict (also p ps) n kn rest good a number act e goals p
     below n le all strict p kn (parts_variables ps ++ rest) good o.first number act e (numbered_from (number + goal_size p) ps ++ goals) pairs js k tidy.0 o.begins
     (λ x. let r = room x in let f = times-append x (variables p) (parts_variables ps) in let g = times-append x (parts_variables ps) rest in omega (arith, r, f, g))
     (fits_fewer s ((variables p ++ parts_variables ps) ++ rest) (variables p ++ (parts_variables ps ++ rest)) kn e
-     (λ x there. let f = times-append x (variables p ++ parts_variables ps) rest in let g = times-append x (variables p) (parts_variables ps) in
-       let h = times-append x (variables p) (parts_variables ps ++ rest) in let i = times-append x (parts_variables ps) rest in omega (arith, there, f, g, h, i)) fits)
+    (λ x there. let f = times-append x (variables p ++ parts_variables ps) rest in let g = times-append x (variables p) (parts_variables ps) in
+    let h = times-append x (variables p) (parts_variables ps ++ rest) in let i = times-append x (parts_variables ps) rest in omega (arith, there, f, g, h, i)) fits)
     (λ i lt d j reach inner. each_fine s m below all strict ps i o.first.known rest good o.rest (number + goal_size p) act d goals pairs js j (omega (arith, lt, le)) tidy.1 o.goes_on
-     (λ x. let r = room x in let f = times-append x (variables p) (parts_variables ps) in omega (arith, r, f)) inner
-     (λ i lt d j there last. goes i lt d j
-       (sym (ap (λ (b : After). b.reach) o.is) ∙ both_reach o.first.reach o.rest.reach reach there)
-       (subst (λ (b : After). Fits s rest b.known d) o.is last)))
+    (λ x. let r = room x in let f = times-append x (variables p) (parts_variables ps) in omega (arith, r, f)) inner
+    (λ i lt d j there last. goes i lt d j
+    (sym (ap (λ (b : After). b.reach) o.is) ∙ both_reach o.first.reach o.rest.reach reach there)
+    (subst (λ (b : After). Fits s rest b.known d) o.is last)))
 
 -- ---- branches
 
@@ -308,14 +307,15 @@ arms_fine : (s : Hlds) (m : ℕ) → Below s m → (all : List ℕ) (strict : Bo
 arms_fine s m below all strict nothing kn inner rest good a ends number f goals js tidy ok room among fits joins goes = tt
 arms_fine s m below all strict (also p ps) kn inner rest good a ends number f goals js tidy ok room among fits joins goes =
     let o = arms_ok (scope s all strict) p ps kn ends ok in
-    let parts : EndsJoin (outside all inner) a (o.first ∷ o.ends) = subst (λ (es : List After). EndsJoin (outside all inner) a es) (sym o.is) joins in
-    ((λ k. below m (omega arith) all strict p kn rest good o.first number f.act f.env goals f.pairs js k tidy.0 o.begins
-      (λ x. let r = room x in let i = among x in let t = times-append x (variables p) (parts_variables ps) in omega (arith, r, i, t))
-      (fits_fewer s (inner ++ rest) (variables p ++ rest) kn f.env
-       (λ x there. let i = among x in let t = times-append x (variables p) (parts_variables ps) in let g = times-append x (variables p) rest in let h = times-append x inner rest in omega (arith, there, i, t, g, h)) fits)
-      (arm_goes s good m f.act goals f.pairs js all inner rest a o.first room parts.0 goes)),
-     arms_fine s m below all strict ps kn inner rest good a o.ends (number + goal_size p) f goals js tidy.1 o.others room
-     (λ x. let i = among x in let t = times-append x (variables p) (parts_variables ps) in omega (arith, i, t)) fits parts.1 goes)
+    let parts : EndsJoin (outside all inner) a (o.first ∷ o.ends) = subst (λ (es : List After). EndsJoin (outside all inner) a es) (sym o.is) joins in (
+      (λ k. below m (omega arith) all strict p kn rest good o.first number f.act f.env goals f.pairs js k tidy.0 o.begins
+          (λ x. let r = room x in let i = among x in let t = times-append x (variables p) (parts_variables ps) in omega (arith, r, i, t))
+          (fits_fewer s (inner ++ rest) (variables p ++ rest) kn f.env
+          (λ x there. let i = among x in let t = times-append x (variables p) (parts_variables ps) in let g = times-append x (variables p) rest in let h = times-append x inner rest in omega (arith, there, i, t, g, h)) fits)
+          (arm_goes s good m f.act goals f.pairs js all inner rest a o.first room parts.0 goes)),
+      arms_fine s m below all strict ps kn inner rest good a o.ends (number + goal_size p) f goals js tidy.1 o.others room
+          (λ x. let i = among x in let t = times-append x (variables p) (parts_variables ps) in omega (arith, i, t)) fits parts.1 goes,
+    )
 
 -- a condition by itself
 pub condition_fine : (s : Hlds) (m : ℕ) → Below s m → (all : List ℕ) (c : HldsGoal) (kn : InstMap) (rest : List ℕ) (a : After) (number act : ℕ) (e : Env) (k : ℕ)
@@ -339,19 +339,19 @@ if_fine s m below all strict l c t e kn rest good a number f goals js k tidy ok 
     (λ n. trace s m (frame f.act f.env (numbered_goal (suc number + goal_size c + goal_size t) e ∷ goals) f.pairs) js n)
     (excps js)
     (condition_fine s m below all c kn (variables t ++ rest) o.condition (suc number) f.act f.env k tidy.0 o.begins
-     (λ x. let r = room x in let i = times-append x (variables c) (variables t ++ variables e) in let j = times-append x (variables t) (variables e) in let h = times-append x (variables t) rest in omega (arith, r, i, j, h))
-     (fits_fewer s (inner ++ rest) (variables c ++ (variables t ++ rest)) kn f.env
-      (λ x there. let i = times-append x (variables c) (variables t ++ variables e) in let j = times-append x (variables t) (variables e) in let g = times-append x inner rest in
-        let h = times-append x (variables t) rest in let q = times-append x (variables c) (variables t ++ rest) in omega (arith, there, i, j, g, h, q)) fits))
+    (λ x. let r = room x in let i = times-append x (variables c) (variables t ++ variables e) in let j = times-append x (variables t) (variables e) in let h = times-append x (variables t) rest in omega (arith, r, i, j, h))
+    (fits_fewer s (inner ++ rest) (variables c ++ (variables t ++ rest)) kn f.env
+    (λ x there. let i = times-append x (variables c) (variables t ++ variables e) in let j = times-append x (variables t) (variables e) in let g = times-append x inner rest in
+    let h = times-append x (variables t) rest in let q = times-append x (variables c) (variables t ++ rest) in omega (arith, there, i, j, g, h, q)) fits))
     (λ d n inside. below m (omega arith) all strict t o.condition.known rest good o.then (suc number + goal_size c) f.act d goals f.pairs js n tidy.1.0 o.wins
-     (λ x. let r = room x in let i = times-append x (variables c) (variables t ++ variables e) in let j = times-append x (variables t) (variables e) in omega (arith, r, i, j))
-     inside (arm_goes s good m f.act goals f.pairs js all inner rest a o.then room joins.0 goes))
+    (λ x. let r = room x in let i = times-append x (variables c) (variables t ++ variables e) in let j = times-append x (variables t) (variables e) in omega (arith, r, i, j))
+    inside (arm_goes s good m f.act goals f.pairs js all inner rest a o.then room joins.0 goes))
     (λ n. below m (omega arith) all strict e kn rest good o.else (suc number + goal_size c + goal_size t) f.act f.env goals f.pairs js n tidy.1.1 o.loses
-     (λ x. let r = room x in let i = times-append x (variables c) (variables t ++ variables e) in let j = times-append x (variables t) (variables e) in omega (arith, r, i, j))
-     (fits_fewer s (inner ++ rest) (variables e ++ rest) kn f.env
-      (λ x there. let i = times-append x (variables c) (variables t ++ variables e) in let j = times-append x (variables t) (variables e) in let g = times-append x inner rest in
-        let h = times-append x (variables e) rest in omega (arith, there, i, j, g, h)) fits)
-     (arm_goes s good m f.act goals f.pairs js all inner rest a o.else room joins.1.0 goes))
+    (λ x. let r = room x in let i = times-append x (variables c) (variables t ++ variables e) in let j = times-append x (variables t) (variables e) in omega (arith, r, i, j))
+    (fits_fewer s (inner ++ rest) (variables e ++ rest) kn f.env
+    (λ x there. let i = times-append x (variables c) (variables t ++ variables e) in let j = times-append x (variables t) (variables e) in let g = times-append x inner rest in
+    let h = times-append x (variables e) rest in omega (arith, there, i, j, g, h)) fits)
+    (arm_goes s good m f.act goals f.pairs js all inner rest a o.else room joins.1.0 goes))
     (are_excps js)
 
 -- after a negation or `some` is known what was known before it
@@ -378,9 +378,9 @@ some_fine s m below all strict l vs c kn rest good a number f goals js k tidy ok
     fine_first (λ d. Fits s rest o.inner.known d) good (trace s m (frame f.act f.env (numbered_goal (suc number) c ∷ []) []) [] k) k
     (λ d n. trace s m (frame f.act f.env goals f.pairs) js n) (λ n. []) (excps js)
     (condition_fine s m below all c kn rest o.inner (suc number) f.act f.env k tidy o.begins
-     (λ x. let r = room x in let i = times-append x vs (variables c) in omega (arith, r, i))
-     (fits_fewer s ((vs ++ variables c) ++ rest) (variables c ++ rest) kn f.env
-      (λ x there. let i = times-append x vs (variables c) in let g = times-append x (vs ++ variables c) rest in let h = times-append x (variables c) rest in omega (arith, there, i, g, h)) fits))
+    (λ x. let r = room x in let i = times-append x vs (variables c) in omega (arith, r, i))
+    (fits_fewer s ((vs ++ variables c) ++ rest) (variables c ++ rest) kn f.env
+    (λ x there. let i = times-append x vs (variables c) in let g = times-append x (vs ++ variables c) rest in let h = times-append x (variables c) rest in omega (arith, there, i, g, h)) fits))
     (λ d n inside. goes m (omega arith) f.env n there.0 there.1) (λ n. tt) (are_excps js)
 
 -- ---- any goal
@@ -393,7 +393,7 @@ expr_fine s proper m below all strict l (SimpleGoal g) kn rest good a number act
     let o = ok_reached (goes_on g) (rules.simple s strict l g kn) a ok in
     simple_fine s good m number (frame act e (numbered_goal number (At l (SimpleGoal g)) ∷ goals) pairs) goals js k rest (simple_variables g ++ rest) a (run.simple s e g)
     (subst (λ (b : Bool). LeadsTo s (simple_variables g ++ rest) b a.known (run.simple s e g)) (sym o.1)
-     (simple_leads s (simple_variables g ++ rest) strict l g kn a.known e tidy fits (in_left (simple_variables g) rest) o.0))
+    (simple_leads s (simple_variables g ++ rest) strict l g kn a.known e tidy fits (in_left (simple_variables g) rest) o.0))
     (in_right (simple_variables g) rest) goes
 expr_fine s proper m below all strict l (CallGoal site q ys) kn rest good a number act e goals pairs js k tidy ok room fits goes =
     let o = ok_reached true (atomic s strict l (CallGoal site q ys) kn) a ok in
@@ -411,7 +411,7 @@ expr_fine s proper m below all strict l (DisjGoal ps) kn rest good a number act 
     let f = frame act e (numbered_goal number (At l (DisjGoal ps)) ∷ goals) pairs in
     any_disjunction good (λ f js k. trace s m f js k) f goals js k (numbered_from (suc number) ps) (switch_shape s ps)
     (arms_fine s m below all strict ps kn (parts_variables ps) rest good a b.0 (suc number) f goals js tidy b.1 room (λ x. omega arith) fits
-     (joined_join l (outside all (parts_variables ps)) kn b.0 a (arms_later (scope s all strict) ps kn b.0 b.1) b.2) goes)
+    (joined_join l (outside all (parts_variables ps)) kn b.0 a (arms_later (scope s all strict) ps kn b.0 b.1) b.2) goes)
 expr_fine s proper m below all strict l (IfGoal c t u) kn rest good a number act e goals pairs js k tidy ok room fits goes =
     if_fine s m below all strict l c t u kn rest good a number (frame act e (numbered_goal number (At l (IfGoal c t u)) ∷ goals) pairs) goals js k tidy ok room fits goes
 expr_fine s proper m below all strict l (NotGoal c) kn rest good a number act e goals pairs js k tidy ok room fits goes =

@@ -1,5 +1,5 @@
 -- Types that a test calls the same are one type.
-use Rattle.std.proofs.Common.{◌≡◌, refl, sym, ap, ap₂, ◌∙◌, Bool, true, false, ◌&&◌, List, [], ◌∷◌, ℕ, bytes_eq}
+use Rattle.std.proofs.Common.{◌≡◌, refl, ap, ap₂, true, false, ◌&&◌, List, [], ◌∷◌, ℕ, bytes_eq}
 use Rattle.std.proofs.lemmas.Bool.{and_parts, false≢true}
 use Rattle.std.proofs.lemmas.Slice.Eq.{bytes_eq-Decides}
 use Rattle.md_hlds.specs.declared.types.Mode.{Mode}

@@ -1,38 +1,34 @@
 -- Simple goals that the mode rules accept, in environments that fit.
-use Rattle.std.proofs.Common.{◌≡◌, refl, sym, ap, ◌∙◌, subst, inl, inr, arith, ℕ, zero, suc, ◌+◌, ◌<◌, ◌⊎◌, ℤ, pos, Bool, true, false, ◌&&◌, cond, not, nat_eq, nat_lt, List, [], ◌∷◌, length, take, drop, Option, Some, None, Ok, Err, is_some, slice_get, bytes_eq}
+use Rattle.std.proofs.Common.{◌≡◌, refl, sym, ap, ◌∙◌, subst, inl, inr, arith, ℕ, zero, suc, ◌+◌, ◌<◌, ◌⊎◌, ℤ, pos, Bool, true, false, ◌&&◌, cond, nat_eq, nat_lt, List, [], ◌∷◌, length, take, drop, Option, Some, None, Ok, is_some, slice_get, bytes_eq}
 use Rattle.std.proofs.lemmas.Bool.{and_parts, eqb-true, ltb-true, false≢true}
-use Rattle.std.specs.Prelude.{⊤}
 use Rattle.md_hlds.specs.declared.types.Mode.{Mode}
 use Rattle.md_hlds.specs.declared.types.Mode.TheVariants.{In, Out, Di, Uo}
-use Rattle.md_hlds.specs.declared.types.Det.{Det}
 use Rattle.md_hlds.specs.declared.goal.Term.{Term}
 use Rattle.md_hlds.specs.declared.goal.Term.TheVariants.{Var, Int, Str, Name}
 use Rattle.md_hlds.specs.declared.goal.Op.{Op}
 use Rattle.md_hlds.specs.declared.goal.Cmp.{Cmp}
 use Rattle.md_hlds.specs.declared.goal.PredName.{PredName}
 use Rattle.md_hlds.specs.HldsGoal.{Simple, Succeeds, Fails, Unifies, Computes, Compares, WritesInt, WritesText, EndsLine, Raises}
-use Rattle.md_hlds.specs.Hlds.{HldsType, number, text, world, named, closure, HldsFunctor, HldsTypeDef, Procedure, Hlds, procedure_called, is_functor}
-use Rattle.md_hlds.specs.Value.{Value, Values, Number, Literal, Built, Closure, no_values, also_value, listed_values, gathered_values, value_count, Compared, compared, Env, value_at, values_at, bound}
+use Rattle.md_hlds.specs.Hlds.{HldsType, number, text, world, named, HldsFunctor, HldsTypeDef, Procedure, Hlds, procedure_called, is_functor}
+use Rattle.md_hlds.specs.Value.{Value, Values, Number, Literal, Built, Closure, no_values, also_value, listed_values, gathered_values, value_count, compared, Env, value_at, values_at, bound}
 use Rattle.md_hlds.specs.Simple as run
 use Rattle.md_hlds.specs.Simple.{Outcome, Go, No, Throws, Stop, goes, answer, compare_values, take_part, take_compared, same_functor, unify_constant, unify_values, result_of, holds, raise}
 use Rattle.md_names.specs.Named.{functor_found}
-use Rattle.md_inst.specs.declared.fault.ModeFault.{ModeFault}
 use Rattle.md_inst.specs.declared.fault.ModeFault.TheVariants.{TypeClash, Arity, IoUsed}
-use Rattle.md_inst.specs.Verdict.{Verdict, ◌>>=◌, ◌>>◌}
 use Rattle.md_inst.specs.HldsTypes.{same_sort}
 use Rattle.md_inst.specs.Instantiation.{Instantiation, free, has, InstMap, known_at, put, hand_on, times}
-use Rattle.md_inst.specs.Named.{Functor, functor_with, functor_called, predicate_called}
+use Rattle.md_inst.specs.Named.{Functor, functor_called, predicate_called}
 use Rattle.md_inst.specs.Arguments.{is_spent, input, output, given_known, given, argument, arguments, inputs, givens}
 use Rattle.md_inst.specs.Simple as rules
 use Rattle.md_inst.specs.Simple.{assign, test, unify_known, make, functor_known, types_of, is_in, are_in, left_open, can_close, capture, close_known, close, predicate_term, named_term, builtin, arithmetic, comparison, line_end, raised, goes_on}
 use Rattle.md_modes.specs.Goals.{simple_variables}
 use Rattle.md_safety.specs.Values.{HasType, HaveTypes, AreHeld, IsBuiltOf, Agrees, Fits}
-use Rattle.md_safety.specs.Arguments.{IsArgument, AreArguments, taken}
-use Rattle.md_safety.specs.Turns.{LeadsTo, AreDistinct, IsTidySimple}
+use Rattle.md_safety.specs.Arguments.{IsArgument}
+use Rattle.md_safety.specs.Turns.{LeadsTo, IsTidySimple}
 use Rattle.md_safety.proofs.Environments.{fits_put, fits_handed, fits_fewer}
 use Rattle.md_safety.proofs.SameTypes.{same_sort_is, same_bytes_are}
 use Rattle.md_safety.proofs.Verdicts.{ok_then, ok_after, ok_where, ok_unless, ok_is}
-use Rattle.md_safety.proofs.Handing.{In', in_first, in_rest, input_ok, output_ok, given_ok, bound_value, free_value, handed, AreInputs, inputs_are}
+use Rattle.md_safety.proofs.Handing.{In', in_first, in_rest, input_ok, output_ok, given_ok, bound_value, free_value, handed, inputs_are}
 use Rattle.md_safety.proofs.Functors.{functor_is, IsFunctor, functor_found_by, found_arity, predicate_number, called_at}
 
 fits_is : (s : Hlds) (vars : List ℕ) (r q : InstMap) (e : Env) → r ≡ q → Fits s vars q e → Fits s vars r e
@@ -107,10 +103,10 @@ build_leads s vars strict l x q f ys kn r e h among found g =
     let size : length ys ≡ length f.args = sym (ap (λ (ts : List HldsType). length ts) same_args ∙ found_arity q.name (length ys) s.types w found.found) in
     let are = inputs_are s vars strict l f.args ys kn b.0 e h among size b.1 in
     let is : r ≡ put kn x (has (named w.0.name) false) =
-      ok_is (Ok (put b.0 x (has f.makes false))) r _ b.2 refl ∙ ap (λ (k : InstMap). put k x (has f.makes false)) are.same ∙ ap (λ (t : HldsType). put kn x (has t false)) same_makes in
+    ok_is (Ok (put b.0 x (has f.makes false))) r _ b.2 refl ∙ ap (λ (k : InstMap). put k x (has f.makes false)) are.same ∙ ap (λ (t : HldsType). put kn x (has t false)) same_makes in
     let there : functor_found q.name (value_count (gathered_values are.values)) s.types ≡ Some w = ap (λ (n : ℕ). functor_found q.name n s.types) are.size ∙ found.found in
     let typed : HasType s (Built q.name (gathered_values are.values)) (named w.0.name) =
-      built w.0.name w _ (λ ts. HaveTypes s (gathered_values are.values) ts) there refl (subst (λ (ts : List HldsType). HaveTypes s (gathered_values are.values) ts) same_args are.typed) in
+    built w.0.name w _ (λ ts. HaveTypes s (gathered_values are.values) ts) there refl (subst (λ (ts : List HldsType). HaveTypes s (gathered_values are.values) ts) same_args are.typed) in
     build_done s vars x (length ys) q.name r e (values_at e ys) are.values are.are (fits_is s vars r _ _ is (fits_put s vars kn e x (Built q.name (gathered_values are.values)) (named w.0.name) false h typed))
 
 take_none : (s : Hlds) (vars : List ℕ) (r : InstMap) (rest : Env → ℕ → Outcome) (e : Env) (extra y : ℕ) (v : Value) (o : Option Value) → o ≡ None
@@ -160,7 +156,7 @@ same_leads s vars l q g ys parts t w kn r e true is found typed h among ok =
     let name = same_bytes_are q g both.0 in
     let arity = eqb-true (length ys) (value_count parts) both.1 in
     let there : functor_found g (value_count parts) s.types ≡ Some w =
-      ap (λ (n : ℕ). functor_found g n s.types) (sym arity) ∙ ap (λ (f : List ℕ). functor_found f (length ys) s.types) (sym name) ∙ found in
+    ap (λ (n : ℕ). functor_found g n s.types) (sym arity) ∙ ap (λ (f : List ℕ). functor_found f (length ys) s.types) (sym name) ∙ found in
     apart_leads s vars l w.1.args ys parts kn r e 0 h among (built_of t w (functor_found g (value_count parts) s.types) (λ ts. HaveTypes s parts ts) there typed) ok
 
 value_leads : (s : Hlds) (vars : List ℕ) (l x : ℕ) (q : List ℕ) (ys : List ℕ) (v : Value) (w : HldsTypeDef × HldsFunctor) (kn r : InstMap) (e : Env)
@@ -226,7 +222,7 @@ capture_leads s vars l x n p ys kn r e h among lt at g =
     let modes = and_parts (are_in held) _ a.0 in
     let are = inputs_are s vars true l (types_of held) ys kn b.0 e h among (take_size (length ys) p.args lt) b.1 in
     let is : r ≡ put kn x (has (left_open others p.det) false) =
-      ok_is (Ok (put b.0 x (has (left_open others p.det) false))) r _ b.2 refl ∙ ap (λ (k : InstMap). put k x (has (left_open others p.det) false)) are.same in
+    ok_is (Ok (put b.0 x (has (left_open others p.det) false))) r _ b.2 refl ∙ ap (λ (k : InstMap). put k x (has (left_open others p.det) false)) are.same in
     let typed = closure_typed s n p (gathered_values are.values) others at (held_are s (gathered_values are.values) (length ys) p.args are.size are.typed modes.0) in
     close_done s vars x (length ys) n r e (values_at e ys) are.values are.are
     (fits_is s vars r _ _ is (fits_put s vars kn e x (Closure n (gathered_values are.values)) (left_open others p.det) false h typed))

@@ -1,15 +1,12 @@
 -- What the grammar gives of a program: the variables of a goal without parts differ, a head has a variable for each
 -- argument, and no name is declared twice.
-use Rattle.std.proofs.Common.{◌≡◌, refl, sym, ap, ◌∙◌, subst, inl, inr, arith, ℕ, zero, suc, ◌+◌, ◌<◌, ◌==◌, Bool, true, false, not, ◌&&◌, ◌||◌, cond, nat_eq, nat_lt, List, [], ◌∷◌, ◌++◌, length, map, Option, Some, None, Ok, Err, Result, slice_get, codes}
-use Rattle.std.proofs.lemmas.Bool.{cases_eq, and_parts, and_from, or_parts, ne_eqb, eq-eqb, eqb-true, cond-true, cond-false, false≢true}
+use Rattle.std.proofs.Common.{◌≡◌, refl, sym, ap, ◌∙◌, subst, arith, ℕ, zero, suc, ◌<◌, ◌==◌, Bool, true, false, not, cond, nat_eq, nat_lt, List, [], ◌∷◌, ◌++◌, length, Option, Some, None, Ok, Err, Result, slice_get, codes}
+use Rattle.std.proofs.lemmas.Bool.{or_parts, ne_eqb, eq-eqb, cond-false, false≢true}
 use Rattle.std.specs.List.{list_any}
-use Rattle.std.specs.Str.{bytes_eq}
 use Rattle.std.specs.Prelude.{⊤}
-use Rattle.md_hlds.specs.declared.types.Mode.{Mode}
 use Rattle.md_hlds.specs.declared.goal.PredName.{PredName}
-use Rattle.md_hlds.specs.declared.goal.Term.TheVariants as term
-use Rattle.md_hlds.specs.HldsGoal.{HldsGoal, At, GoalExpr, SimpleGoal, CallGoal, HoCallGoal, ConjGoal, DisjGoal, IfGoal, NotGoal, SomeGoal, HldsGoals, nothing, also, gathered, Succeeds, Fails, Unifies, Computes, Compares, WritesInt, WritesText, EndsLine, Raises}
-use Rattle.md_hlds.specs.Hlds.{HldsType, Procedure, Hlds}
+use Rattle.md_hlds.specs.HldsGoal.{HldsGoal, GoalExpr, SimpleGoal, gathered, WritesInt, WritesText, EndsLine, Raises}
+use Rattle.md_hlds.specs.Hlds.{Procedure, Hlds}
 use Rattle.md_token.specs.declared.kind.Kind.{Kind}
 use Rattle.md_token.specs.declared.kind.Kind.TheVariants as kind
 use Rattle.md_reader.specs.Input.{Input, variable, sees, token, place_of}
@@ -18,7 +15,7 @@ use Rattle.md_reader.specs.Grammar as grammar
 use Rattle.md_reader.specs.Grammar.{Is, AreNew, Variables, variables, Arguments, none, some, Term, same, arithmetic, positive, negative, literal, application, Relation, unification, comparison, Call, builtin, call, ClosureCall, closure_call, Goal, relation, parentheses, disjunction, choice, negation, quantification, Units, last, Conjunction, conjunction, Arms, last_arm, also_arm, Head, PredClause, pred_clause, Declared, type, predicate, Declarations, Program, program, Spells}
 use Rattle.md_inst.specs.Instantiation.{times}
 use Rattle.md_modes.proofs.Counts.{times-append}
-use Rattle.md_safety.specs.Turns.{AreDistinct, IsTidySimple, IsTidy, IsTidyExpr, AreTidy}
+use Rattle.md_safety.specs.Turns.{AreDistinct, IsTidy, IsTidyExpr, AreTidy}
 use Rattle.md_safety.proofs.Handing.{first_times}
 
 -- ---- variables that differ
@@ -39,10 +36,11 @@ pub new_distinct : (before xs : List ℕ) → AreNew before xs → AreDistinct x
 new_distinct before [] h = (tt, λ y there. refl)
 new_distinct before (x ∷ xs) h =
     let rest = new_distinct (before ++ x ∷ []) xs h.1 in
-    let here : times x before ≡ 0 = new_times x before h.0 in
-    ((rest.1 x (let a = times-append x before (x ∷ []) in let b = first_times x [] in omega (arith, a, b)), rest.0),
-     λ y there. other_first y x xs (λ e. let gone : times y before ≡ 0 = ap (λ (z : ℕ). times z before) e ∙ here in omega (arith, gone, there))
-       ∙ rest.1 y (let a = times-append y before (x ∷ []) in omega (arith, a, there)))
+    let here : times x before ≡ 0 = new_times x before h.0 in (
+      (rest.1 x (let a = times-append x before (x ∷ []) in let b = first_times x [] in omega (arith, a, b)), rest.0),
+      λ y there. other_first y x xs (λ e. let gone : times y before ≡ 0 = ap (λ (z : ℕ). times z before) e ∙ here in omega (arith, gone, there))
+          ∙ rest.1 y (let a = times-append y before (x ∷ []) in omega (arith, a, there)),
+    )
 
 distinct : (xs : List ℕ) → AreNew [] xs → AreDistinct xs
 distinct xs h = (new_distinct [] xs h).0

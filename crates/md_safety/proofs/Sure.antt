@@ -1,23 +1,20 @@
 -- A simple goal whose pair says that it can't fail doesn't fail.
-use Rattle.std.proofs.Common.{◌≡◌, refl, sym, ap, ◌∙◌, subst, inl, inr, arith, ℕ, zero, suc, ◌+◌, ◌<◌, ◌⊎◌, ℤ, Bool, true, false, ◌&&◌, ◌||◌, cond, nat_eq, List, [], ◌∷◌, length, Option, Some, None, Ok, Err, is_some}
+use Rattle.std.proofs.Common.{◌≡◌, refl, sym, ap, ◌∙◌, subst, arith, ℕ, suc, ℤ, Bool, true, false, ◌&&◌, ◌||◌, cond, nat_eq, List, [], ◌∷◌, length, Option, Some, None, Ok, is_some}
 use Rattle.std.proofs.lemmas.Bool.{and_parts, and_from, eqb-true, eq-eqb, true≢false, false≢true}
 use Rattle.std.proofs.lemmas.Slice.Eq.{bytes_eq-Decides}
-use Rattle.std.specs.Ordering.{int_eq}
 use Rattle.std.specs.Str.{bytes_eq}
 use Rattle.std.specs.Prelude.{⊤}
 use Rattle.md_hlds.specs.declared.goal.Term.{Term}
 use Rattle.md_hlds.specs.declared.goal.Term.TheVariants.{Var, Int, Str, Name}
 use Rattle.md_hlds.specs.declared.goal.Op.{Op}
-use Rattle.md_hlds.specs.declared.goal.Cmp.{Cmp}
 use Rattle.md_hlds.specs.declared.goal.PredName.{PredName}
 use Rattle.md_hlds.specs.HldsGoal.{Simple, Succeeds, Fails, Unifies, Computes, Compares, WritesInt, WritesText, EndsLine, Raises, HldsGoal, At, SimpleGoal}
-use Rattle.md_hlds.specs.Hlds.{HldsType, number, text, world, named, closure, HldsFunctor, HldsTypeDef, Procedure, Hlds, procedure_called, is_functor}
-use Rattle.md_hlds.specs.Value.{Value, Values, Number, Literal, Built, Closure, listed_values, value_count, Compared, compared, Env, value_at, values_at, bound}
+use Rattle.md_hlds.specs.Hlds.{HldsType, named, HldsFunctor, HldsTypeDef, Procedure, Hlds, procedure_called, is_functor}
+use Rattle.md_hlds.specs.Value.{Value, Values, Number, Literal, Built, Closure, listed_values, value_count, compared, Env, value_at, values_at, bound}
 use Rattle.md_hlds.specs.Simple as run
 use Rattle.md_hlds.specs.Simple.{Outcome, Go, No, Throws, Stop, goes, answer, take_part, same_functor, unify_constant, unify_values, raise}
-use Rattle.md_hlds.specs.Switch.{Key, IntKey, TextKey, FunctorKey, term_key, variable_key, goal_key, arm_key, has_the_key}
+use Rattle.md_hlds.specs.Switch.{Key, IntKey, TextKey, FunctorKey, term_key, variable_key, arm_key, has_the_key}
 use Rattle.md_names.specs.Named.{construct_among, functor_found}
-use Rattle.md_inst.specs.declared.fault.ModeFault.{ModeFault}
 use Rattle.md_inst.specs.declared.fault.ModeFault.TheVariants.{TypeClash}
 use Rattle.md_inst.specs.HldsTypes.{same_sort}
 use Rattle.md_inst.specs.Instantiation.{Instantiation, free, has, InstMap, known_at, is_bound, times}
@@ -26,13 +23,12 @@ use Rattle.md_inst.specs.Arguments.{givens}
 use Rattle.md_inst.specs.Simple as rules
 use Rattle.md_inst.specs.Simple.{named_term, functor_known}
 use Rattle.md_modes.specs.Goals.{simple_variables}
-use Rattle.md_modes.specs.Notes.{Role, constructs, closes, takes_apart, assigns, tests, applies, bound_places, role_of_variables, role_of_term, role_of_name, role_of_unification}
+use Rattle.md_modes.specs.Notes.{bound_places, role_of_variables, role_of_term, role_of_name, role_of_unification}
 use Rattle.md_modes.proofs.InstantiationLemmas.{not_first, not_in_rest}
-use Rattle.md_det.specs.declared.pair.Bound.TheVariants.{Zero, One, Many}
+use Rattle.md_det.specs.declared.pair.Bound.TheVariants.{One}
 use Rattle.md_det.specs.declared.pair.Pair.{Pair}
-use Rattle.md_det.specs.Pairs.{pair}
 use Rattle.md_det.specs.Switches.{family_with, is_alone, is_only_functor}
-use Rattle.md_det.specs.Determinism.{sure, unsure, one_functor, is_at, is_none_bound, apart_pair, unification_pair, simple_pair}
+use Rattle.md_det.specs.Determinism.{sure, unsure, is_at, is_none_bound, apart_pair, unification_pair, simple_pair}
 use Rattle.md_det.proofs.Functors.{family_there, family_found}
 use Rattle.md_safety.specs.Values.{HasType, HaveTypes, IsBuiltOf, Agrees, Fits}
 use Rattle.md_safety.specs.Turns.{AreDistinct, IsTidySimple}
@@ -170,9 +166,10 @@ not_bound (has t used) h = absurd (true≢false h)
 none_bound : (s : Hlds) (vars : List ℕ) (kn : InstMap) (e : Env) (n : ℕ) (ys : List ℕ) → Fits s vars kn e → In' ys vars → is_none_bound (bound_places n ys kn) ≡ true → AreFree e ys
 none_bound s vars kn e n [] fits among h = tt
 none_bound s vars kn e n (y ∷ ys) fits among h =
-    let a = none_bound_step (is_bound (known_at kn y)) n (bound_places (suc n) ys kn) h in
-    (free_value s (value_at e y) (known_at kn y) (fits.each y (in_first y ys vars among)) (not_bound (known_at kn y) a.0),
-     none_bound s vars kn e (suc n) ys fits (in_rest y ys vars among) a.1)
+    let a = none_bound_step (is_bound (known_at kn y)) n (bound_places (suc n) ys kn) h in (
+      free_value s (value_at e y) (known_at kn y) (fits.each y (in_first y ys vars among)) (not_bound (known_at kn y) a.0),
+      none_bound s vars kn e (suc n) ys fits (in_rest y ys vars among) a.1,
+    )
 
 same_sure : (e : Env) (ys : List ℕ) (vs : List Value) (b : Bool) → b ≡ true → AreFree e ys → AreDistinct ys → IsAllowed sure (same_functor e ys vs b)
 same_sure e ys vs b is h d = rw is (free_apart ys vs e 0 h d)
@@ -237,13 +234,13 @@ value_sure : (s : Hlds) → TypesDiffer s → (vars : List ℕ) (at : Option ℕ
 value_sure s differ vars at l x q ys kn e (Built g parts) w fits among d is typed found begins =
     tested_sure (is_none_bound (bound_places 0 ys kn) && (is_at at x || is_only_functor s q (length ys))) _
     (λ b.
-      let both = and_parts (is_none_bound (bound_places 0 ys kn)) (is_at at x || is_only_functor s q (length ys)) b in
-      same_sure e ys (listed_values parts) (bytes_eq q.name g && nat_eq (length ys) (value_count parts))
-      (either _ (is_at at x) (is_only_functor s q (length ys)) both.1
-       (λ here. let k = key_here s at l x (Name q ys) e begins here in
-         key_test s q (length ys) g parts k.0 k.1 (keyed_value k.0 k.0 (value_at e x) (Built g parts) refl is k.2))
-       (λ alone. alone_test s differ q.name g (length ys) (value_count parts) w (λ ts. HaveTypes s parts ts) found typed alone))
-      (none_bound s vars kn e 0 ys fits among both.0) d)
+    let both = and_parts (is_none_bound (bound_places 0 ys kn)) (is_at at x || is_only_functor s q (length ys)) b in
+    same_sure e ys (listed_values parts) (bytes_eq q.name g && nat_eq (length ys) (value_count parts))
+    (either _ (is_at at x) (is_only_functor s q (length ys)) both.1
+    (λ here. let k = key_here s at l x (Name q ys) e begins here in
+    key_test s q (length ys) g parts k.0 k.1 (keyed_value k.0 k.0 (value_at e x) (Built g parts) refl is k.2))
+    (λ alone. alone_test s differ q.name g (length ys) (value_count parts) w (λ ts. HaveTypes s parts ts) found typed alone))
+    (none_bound s vars kn e 0 ys fits among both.0) d)
 value_sure s differ vars at l x q ys kn e (Number n) w fits among d is typed found begins = elim typed [ ]
 value_sure s differ vars at l x q ys kn e (Literal b) w fits among d is typed found begins = elim typed [ ]
 value_sure s differ vars at l x q ys kn e (Closure p vs) w fits among d is typed found begins = elim typed [ ]

@@ -1,19 +1,18 @@
 -- A switch that is whole has an arm for each value of the type of its variable.
-use Rattle.std.proofs.Common.{◌≡◌, refl, sym, ap, ◌∙◌, subst, inl, inr, arith, ℕ, zero, suc, ◌+◌, ◌<◌, Bool, true, false, ◌&&◌, ◌||◌, cond, nat_eq, nat_lt, List, [], ◌∷◌, length, Option, Some, None, Ok, Err, is_some}
-use Rattle.std.proofs.lemmas.Bool.{and_parts, and_from, eqb-true, true≢false, false≢true}
+use Rattle.std.proofs.Common.{◌≡◌, refl, sym, ap, ◌∙◌, subst, arith, ℕ, ◌<◌, Bool, true, false, ◌&&◌, ◌||◌, cond, nat_eq, List, [], ◌∷◌, length, Option, Some, None, Ok, is_some}
+use Rattle.std.proofs.lemmas.Bool.{and_parts, eqb-true, false≢true}
 use Rattle.std.specs.Str.{bytes_eq}
 use Rattle.md_hlds.specs.declared.goal.Term.{Term}
 use Rattle.md_hlds.specs.declared.goal.Term.TheVariants.{Var, Int, Str, Name}
 use Rattle.md_hlds.specs.declared.goal.PredName.{PredName}
-use Rattle.md_hlds.specs.HldsGoal.{Simple, Succeeds, Fails, Unifies, Computes, Compares, WritesInt, WritesText, EndsLine, Raises, HldsGoal, At, GoalExpr, SimpleGoal, CallGoal, HoCallGoal, ConjGoal, DisjGoal, IfGoal, NotGoal, SomeGoal, HldsGoals, nothing, also}
-use Rattle.md_hlds.specs.Hlds.{HldsType, number, text, world, named, closure, HldsFunctor, HldsTypeDef, Hlds, is_functor}
-use Rattle.md_hlds.specs.Value.{Value, Values, Number, Literal, Built, Closure, value_count, Env, value_at}
-use Rattle.md_hlds.specs.Switch.{Key, IntKey, TextKey, FunctorKey, same_key, term_key, variable_key, goal_key, arm_key, prepend_key, keys_of, has_key, all_different, if_different, switch_on, switch_shape, has_the_key}
+use Rattle.md_hlds.specs.HldsGoal.{Succeeds, Fails, Unifies, Computes, Compares, WritesInt, WritesText, EndsLine, Raises, HldsGoal, At, SimpleGoal, CallGoal, HoCallGoal, ConjGoal, DisjGoal, IfGoal, NotGoal, SomeGoal, HldsGoals, nothing, also}
+use Rattle.md_hlds.specs.Hlds.{HldsType, named, HldsFunctor, HldsTypeDef, Hlds, is_functor}
+use Rattle.md_hlds.specs.Value.{Value, Values, Number, Literal, Built, Closure, value_count}
+use Rattle.md_hlds.specs.Switch.{Key, IntKey, TextKey, FunctorKey, term_key, variable_key, goal_key, arm_key, prepend_key, keys_of, has_key, all_different, if_different, switch_on, switch_shape, has_the_key}
 use Rattle.md_names.specs.Named.{construct_among, functor_found}
-use Rattle.md_inst.specs.declared.fault.ModeFault.{ModeFault}
 use Rattle.md_inst.specs.declared.fault.ModeFault.TheVariants.{TypeClash}
 use Rattle.md_inst.specs.HldsTypes.{same_sort}
-use Rattle.md_inst.specs.Instantiation.{Instantiation, free, has, InstMap, known_at, times}
+use Rattle.md_inst.specs.Instantiation.{Instantiation, has, InstMap, known_at, times}
 use Rattle.md_inst.specs.Named.{Functor, functor_called}
 use Rattle.md_inst.specs.Arguments.{givens}
 use Rattle.md_inst.specs.Simple.{atomic, named_term, functor_known}
@@ -22,7 +21,7 @@ use Rattle.md_modes.specs.Goals.{Scope, variables, parts_variables, goal, arms}
 use Rattle.md_modes.proofs.Counts.{times-append}
 use Rattle.md_det.specs.Switches.{family_with, key_of, all_have_keys, no_functor_missing, is_whole}
 use Rattle.md_det.proofs.Functors.{family_there, family_found}
-use Rattle.md_safety.specs.Values.{HasType, HaveTypes, IsBuiltOf}
+use Rattle.md_safety.specs.Values.{HasType, HaveTypes}
 use Rattle.md_safety.proofs.SameTypes.{same_sort_is, same_bytes_are}
 use Rattle.md_safety.proofs.Verdicts.{ok_where, ok_reached}
 use Rattle.md_safety.proofs.Handing.{first_times}
@@ -186,7 +185,7 @@ term_type s c l x (Name q ys) name arity t used kn a program key known ok =
     let o = (ok_reached true (atomic c.program c.strict l (SimpleGoal (Unifies x (Name q ys))) kn) a ok).0 in
     let there : is_some (functor_called s q (length ys)) ≡ true = sym (functor_is s q (length ys)) ∙ k.0 in
     let w = name_type s c l x q ys t used kn a.known (functor_called s q (length ys)) refl known there
-      (subst (λ (p : Hlds). named_term p c.strict l x q ys (functor_called p q (length ys)) kn ≡ Ok a.known) program o) in
+    (subst (λ (p : Hlds). named_term p c.strict l x q ys (functor_called p q (length ys)) kn ≡ Ok a.known) program o) in
     (w.0, ap (λ (f : List ℕ). functor_found f arity s.types) (sym k.1) ∙ ap (λ (n : ℕ). functor_found q.name n s.types) (sym k.2) ∙ w.1, w.2)
 term_type s c l x (Var y) name arity t used kn a program key known ok = absurd (cc key)
 term_type s c l x (Int n) name arity t used kn a program key known ok = absurd (cc key)

@@ -1,24 +1,22 @@
 -- A goal that the checks accept has as many answers as its pair says. The same induction as that no trace is stuck, with
 -- a pair in place of what the answers are: what the job does after the goal meets a pair.
-use Rattle.std.proofs.Common.{◌≡◌, refl, sym, ap, ◌∙◌, subst, inl, inr, arith, ℕ, zero, suc, ◌+◌, ◌<◌, ◌≤◌, Bool, true, false, not, ◌&&◌, ◌||◌, cond, nat_eq, List, [], ◌∷◌, ◌++◌, length, Option, Some, None, Ok, Err, slice_get}
+use Rattle.std.proofs.Common.{◌≡◌, refl, sym, ap, ◌∙◌, subst, inl, inr, arith, ℕ, zero, suc, ◌+◌, ◌<◌, ◌≤◌, Bool, true, false, not, ◌||◌, cond, nat_eq, List, [], ◌∷◌, ◌++◌, length, Option, Some, None, Ok, slice_get}
 use Rattle.std.proofs.lemmas.Bool.{cases_lt, eq-eqb, eqb-true, and_parts, true≢false, false≢true}
 use Rattle.std.specs.Prelude.{⊤}
 use Rattle.md_hlds.specs.declared.types.Mode.{Mode}
 use Rattle.md_hlds.specs.declared.types.Det.{Det}
 use Rattle.md_hlds.specs.declared.types.Det.TheVariants as det
 use Rattle.md_hlds.specs.declared.goal.PredName.{PredName}
-use Rattle.md_hlds.specs.HldsGoal.{Simple, HldsGoal, At, GoalExpr, SimpleGoal, CallGoal, HoCallGoal, ConjGoal, DisjGoal, IfGoal, NotGoal, SomeGoal, HldsGoals, nothing, also, goal_size, Numbered, numbered_goal, numbered_from}
+use Rattle.md_hlds.specs.HldsGoal.{HldsGoal, At, GoalExpr, SimpleGoal, CallGoal, HoCallGoal, ConjGoal, DisjGoal, IfGoal, NotGoal, SomeGoal, HldsGoals, nothing, also, goal_size, Numbered, numbered_goal, numbered_from}
 use Rattle.md_hlds.specs.Hlds.{HldsType, Procedure, Hlds, procedure_called, nth_procedure, numbered, body_number}
 use Rattle.md_hlds.specs.Hlds as hlds
-use Rattle.md_hlds.specs.Value.{Value, Values, Closure, no_values, listed_values, Env, value_at}
+use Rattle.md_hlds.specs.Value.{Value, Values, no_values, listed_values, Env, value_at}
 use Rattle.md_hlds.specs.Simple as run
 use Rattle.md_hlds.specs.Simple.{Outcome, Go, No, Throws, Stop}
-use Rattle.md_hlds.specs.Switch.{Key, goal_key, arm_key, keys_of, switch_shape, arm_for, has_the_key}
+use Rattle.md_hlds.specs.Switch.{Key, keys_of, switch_shape, arm_for, has_the_key}
 use Rattle.md_hlds.specs.Trace.{Turn, Call, Exit, Redo, Fail, Answer, Items, Frame, Does, joined, first, excps, back, pairs_of, without, doing, knowing, allocated, written, after_simple, one_arm, switched, disjunction, body_frame, run_body, entered, invoked, applied, unfold_expr, trace}
 use Rattle.md_hlds.specs.Trace as item
-use Rattle.md_inst.specs.declared.fault.ModeFault.{ModeFault}
 use Rattle.md_inst.specs.declared.fault.ModeFault.TheVariants.{Arity, IoUsed}
-use Rattle.md_inst.specs.Verdict.{Verdict, ◌>>=◌}
 use Rattle.md_inst.specs.Instantiation.{Instantiation, free, has, InstMap, known_at, times}
 use Rattle.md_inst.specs.Named.{predicate_called}
 use Rattle.md_inst.specs.Arguments.{arguments}
@@ -27,36 +25,34 @@ use Rattle.md_inst.specs.Simple.{goes_on, call_checked, apply_sort, apply_known,
 use Rattle.md_inst.specs.Arguments.{is_spent}
 use Rattle.md_modes.specs.Branches as branch
 use Rattle.md_modes.specs.Branches.{After, after, outside}
-use Rattle.md_modes.specs.Goals.{Scope, within, variables, expr_variables, parts_variables, simple_variables, clause_variables, goal, expr, each, arms}
-use Rattle.md_modes.specs.Modes.{entry, end, scope_of, clause}
+use Rattle.md_modes.specs.Goals.{Scope, variables, expr_variables, parts_variables, simple_variables, clause_variables, goal, expr, each, arms}
+use Rattle.md_modes.specs.Modes.{entry, end, scope_of}
 use Rattle.md_modes.specs.Notes.{known_after}
 use Rattle.md_modes.proofs.Counts.{times-append}
-use Rattle.md_det.specs.declared.pair.Bound.TheVariants.{Zero, One, Many}
+use Rattle.md_det.specs.declared.pair.Bound.TheVariants.{Zero, One}
 use Rattle.md_det.specs.declared.pair.Pair.{Pair}
-use Rattle.md_det.specs.declared.finding.Switch.{Switch}
-use Rattle.md_det.specs.Bounds.{product, exceeds, greatest}
+use Rattle.md_det.specs.Bounds.{product, exceeds}
 use Rattle.md_det.specs.Pairs.{pair, pair_of, in_turn, one_of_two, cut, all_alternatives, one_of_all, with_missing, allows}
-use Rattle.md_det.specs.Switches.{is_whole, switch_on_known, switch_with, switch_of, variable_of}
+use Rattle.md_det.specs.Switches.{is_whole, switch_on_known, switch_with, variable_of}
 use Rattle.md_det.specs.Determinism.{unsure, simple_pair, call_pair, sort_pair, apply_pair, disjunction_pair, goal_pair, expr_pair, each_pair, arm_pairs}
 use Rattle.md_det.specs.Faults.{body_pair}
-use Rattle.md_safety.specs.Values.{HasType, AreHeld, Agrees, Fits}
+use Rattle.md_safety.specs.Values.{Agrees, Fits}
 use Rattle.md_safety.specs.Arguments.{AreResults}
 use Rattle.md_safety.specs.Turns.{LeadsTo, AreDistinct, IsTidy, IsTidyExpr, AreTidy}
-use Rattle.md_safety.proofs.Items.{Fine}
 use Rattle.md_safety.proofs.Environments.{fits_fewer}
 use Rattle.md_safety.proofs.Verdicts.{ok_then, ok_where, ok_unless, ok_is, ok_reached}
-use Rattle.md_safety.proofs.Handing.{In', more_times, first_times, bound_value, free_value, handed}
+use Rattle.md_safety.proofs.Handing.{In', more_times, first_times, handed}
 use Rattle.md_safety.proofs.Functors.{predicate_number, called_at}
 use Rattle.md_safety.proofs.SimpleGoals.{simple_leads}
 use Rattle.md_safety.proofs.Accepted.{if_ok, not_ok, some_ok, each_ok, arms_ok}
 use Rattle.md_safety.proofs.Growing.{later_then, goal_later, arms_later}
 use Rattle.md_safety.proofs.JoinLemmas.{Joins, EndsJoin, joined_join, fits_joined}
 use Rattle.md_safety.proofs.Calls.{call_fits, others_return, without_size, sort_det, IsApplied, type_of, known_applied}
-use Rattle.md_safety.proofs.Safe.{Proper, scope, frame, HasRoom, Below, all_below, IsCall, answers, in_left, in_right, fits_left, fits_right, room_outside, end_results, body_fine, back_fits, both_reach, condition_fine, only_goes}
+use Rattle.md_safety.proofs.Safe.{Proper, scope, frame, HasRoom, all_below, IsCall, answers, in_left, in_right, fits_left, fits_right, room_outside, end_results, body_fine, back_fits, both_reach, condition_fine, only_goes}
 use Rattle.md_safety.proofs.TypesDiffer.{TypesDiffer}
 use Rattle.md_safety.proofs.Sure.{IsAllowed, IsKeyed, Begins, simple_sure}
-use Rattle.md_safety.proofs.SwitchLemmas.{first_key, AreKeys, first_keys, shape_keys, shape_occurs, has_some_key, whole_any}
-use Rattle.md_safety.proofs.Counting.{Meets, meets_more, meets_nothing, meets_allocated, meets_written, meets_joined, meets_then, meets_left, meets_right, meets_first, meets_cut, meets_assoc, meets_last, meets_sum, meets_one, meets_declared, IsWithin, or_left, or_right, greatest_left, greatest_right}
+use Rattle.md_safety.proofs.SwitchLemmas.{first_key, first_keys, shape_keys, shape_occurs, has_some_key, whole_any}
+use Rattle.md_safety.proofs.Counting.{Meets, meets_nothing, meets_allocated, meets_written, meets_joined, meets_then, meets_left, meets_right, meets_first, meets_cut, meets_assoc, meets_last, meets_sum, meets_one, meets_declared, IsWithin, or_left, or_right, greatest_left, greatest_right}
 
 -- each clause is accepted, types are told by their names, and each body does no more than its declaration says
 pub record Judged (s : Hlds) : Type 0 where
@@ -118,7 +114,7 @@ simple_counted s q m number f goals js k rest vars a p (Go d extra words out) h 
     let later = trace s m (frame f.act d goals f.pairs) js k in
     turned (in_turn p q) f.act (Some number) (suc extra) (allocated f.act words ++ (written out ++ later))
     (meets_allocated (in_turn p q) f.act words (written out ++ later) (meets_written (in_turn p q) out later
-     (meets_sure p q later allowed (goes m (omega arith) d k h.1 (fits_fewer s vars rest a.known d among h.0)))))
+    (meets_sure p q later allowed (goes m (omega arith) d k h.1 (fits_fewer s vars rest a.known d among h.0)))))
 simple_counted s q m number f goals js k rest vars a p (No extra) h allowed among goes =
     turned (in_turn p q) f.act (Some number) (suc extra) [] (meets_nothing (in_turn p q) (or_true p.may_fail q.may_fail allowed))
 simple_counted s q m number f goals js k rest vars a p (Throws bytes) h allowed among goes = record { within = tt; there = λ f. tt }
@@ -134,6 +130,7 @@ allows_less d b h =
     not_true : (b : Bool) → not b ≡ true → b ≡ false
     not_true true h = absurd (false≢true h)
     not_true false h = refl
+
     fails : (a b : Bool) → (a || not b) ≡ true → a ≡ false → b ≡ false
     fails true b h e = absurd (true≢false e)
     fails false true h e = absurd (false≢true h)
@@ -150,10 +147,10 @@ body_counted s judged m below r strict l q held others ys kn kr e act pairs js k
     let less = allows_less (pair_of p.det) (body_pair s p) (judged.declared q.0 p c.at) in
     meets_declared (body_pair s p) (pair_of p.det) r _ less.0 less.1
     (below m (omega arith) (clause_variables p) false None p.body (entry p) p.head r ok.0 (body_number s q.0) act (entered p (listed_values held) ys e) [] pairs js k
-     (judged.proper.tidy q.0 p c.at) ok.1
-     (λ x. let e = times-append x p.head (variables p.body) in omega (arith, e))
-     (call_fits s (variables p.body ++ p.head) p held others ys e c.captured c.args) tt
-     (λ n lt d i reach fits. goes n lt d i (others_return s held p.args others p.head d c.captured (end_results s p ok.0 d ok.2 reach fits))))
+    (judged.proper.tidy q.0 p c.at) ok.1
+    (λ x. let e = times-append x p.head (variables p.body) in omega (arith, e))
+    (call_fits s (variables p.body ++ p.head) p held others ys e c.captured c.args) tt
+    (λ n lt d i reach fits. goes n lt d i (others_return s held p.args others p.head d c.captured (end_results s p ok.0 d ok.2 reach fits))))
 
 cut_counted : (s : Hlds) (judged : Judged s) (m : ℕ) → TallyBelow s m → (r : Pair) (strict : Bool) (l : ℕ) (q : ℕ × Procedure) (held : Values) (others : List (HldsType × Mode)) (ys rest : List ℕ) (kn : InstMap) (kr : InstMap) (e : Env)
     (act : ℕ) (goals : List Numbered) (pairs : List (ℕ × ℕ)) (js : List Frame) (k : ℕ) → IsCall s strict l q held others ys kn kr e → Fits s (ys ++ rest) kn e
@@ -165,7 +162,7 @@ cut_counted s judged m below r strict l q held others ys rest kn kr e act goals 
     meets_cut (pair_of q.1.det) r (λ d. AreResults s others (without (listed_values held) q.1.head) d) body (suc k)
     (λ d n. Exit k ∷ trace s m (frame act (back between d e) goals pairs) js n) (λ n. Fail k ∷ []) (excps (frame act e goals pairs ∷ js))
     (body_fine s judged.proper m (all_below s judged.proper m) (λ d. AreResults s others (without (listed_values held) q.1.head) d) strict l q held others ys kn kr e k [] [] (suc k) c
-     (λ n lt d i results. answers s (λ d. AreResults s others (without (listed_values held) q.1.head) d) n k d [] i results))
+    (λ n lt d i results. answers s (λ d. AreResults s others (without (listed_values held) q.1.head) d) n k d [] i results))
     (meets_last (pair_of q.1.det) body (body_counted s judged m below (pair false One) strict l q held others ys kn kr e k [] [] (suc k) c (λ n lt d i results. answered s n k d [] i)))
     (λ d n results. exited r k (trace s m (frame act (back between d e) goals pairs) js n) (goes m (omega arith) (back between d e) n refl (back_fits s judged.proper strict l q held others ys rest kn kr e d c fits results)))
     (λ n. tt)
@@ -178,8 +175,8 @@ whole_counted s judged m below r strict l q held others ys rest kn kr e act goal
     let between = pairs_of (without (listed_values held) q.1.head) ys in
     meets_then (in_turn (pair_of q.1.det) r) (trace s m (frame k (entered q.1 (listed_values held) ys e) (numbered_goal (body_number s q.0) q.1.body ∷ []) between) (frame act e goals pairs ∷ js) (suc k)) (suc k) (λ n. Fail k ∷ [])
     (body_counted s judged m below r strict l q held others ys kn kr e k between (frame act e goals pairs ∷ js) (suc k) c
-     (λ n lt d i results. exits_counted s r n k d between (frame act e goals pairs) js i
-      (goes n (omega (arith, lt)) (back between d e) i refl (back_fits s judged.proper strict l q held others ys rest kn kr e d c fits results))))
+    (λ n lt d i results. exits_counted s r n k d between (frame act e goals pairs) js i
+    (goes n (omega (arith, lt)) (back between d e) i refl (back_fits s judged.proper strict l q held others ys rest kn kr e d c fits results))))
     (λ n. record { within = tt; there = λ f. absurd (true≢false f) })
 
 run_counted : (s : Hlds) (judged : Judged s) (m : ℕ) → TallyBelow s m → (r : Pair) (strict : Bool) (l : ℕ) (q : ℕ × Procedure) (held : Values) (others : List (HldsType × Mode)) (ys rest : List ℕ) (kn : InstMap) (kr : InstMap) (e : Env)
@@ -211,7 +208,7 @@ called_counted s judged m below r strict l q held others ys rest kn kr e act own
     let long : length (listed_values held) + length ys ≡ length q.1.head = let a = size.1 in let b = c.size in omega (arith, a, b) in
     rw (eq-eqb (length (listed_values held) + length ys) (length q.1.head) long)
     (turned (in_turn (pair_of q.1.det) r) act (Some number) _ _ (called' (in_turn (pair_of q.1.det) r) k (Some act) (Some site) q.0 _
-     (run_counted s judged m below r strict l q held others ys rest kn kr e act goals pairs js k q.1.det refl c fits goes)))
+    (run_counted s judged m below r strict l q held others ys rest kn kr e act goals pairs js k q.1.det refl c fits goes)))
 
 name_counted : (s : Hlds) (judged : Judged s) (m : ℕ) → TallyBelow s m → (r : Pair) (strict : Bool) (l : ℕ) (q : PredName) (o : Option Procedure) (ys rest : List ℕ) (kn : InstMap) (kr : InstMap) (e : Env)
     (act : ℕ) (own : List Numbered) (number : ℕ) (goals : List Numbered) (pairs : List (ℕ × ℕ)) (js : List Frame) (k site : ℕ) → predicate_called s q ≡ o → AreDistinct ys → call_checked strict l ys o kn ≡ Ok kr → Fits s (ys ++ rest) kn e
@@ -224,8 +221,8 @@ name_counted s judged m below r strict l q (Some p) ys rest kn kr e act own numb
     let size = eqb-true (length ys) (length p.args) a.0 in
     subst (λ (c : Option (ℕ × Procedure)). Meets (in_turn (call_pair c) r) (invoked s (λ f js k. trace s m f js k) (frame act e own pairs) number goals js k site c [] ys)) (sym n.1)
     (called_counted s judged m below r strict l (n.0, p) no_values p.args ys rest kn kr e act own number goals pairs js k site
-     (record { at = called_at s q (n.0, p) n.1; captured = refl; args = handed s strict l p.args ys kn kr e (fits_left s ys rest kn e fits) distinct size a.1; size = size; accepted = a.1 })
-     fits goes)
+    (record { at = called_at s q (n.0, p) n.1; captured = refl; args = handed s strict l p.args ys kn kr e (fits_left s ys rest kn e fits) distinct size a.1; size = size; accepted = a.1 })
+    fits goes)
 
 -- a closure's type has the determinism of its procedure
 sort_pair_is : (strict : Bool) (l : ℕ) (ys : List ℕ) (t : HldsType) (kn kr : InstMap) → apply_sort strict l ys t kn ≡ Ok kr → sort_pair t ≡ pair_of (sort_det t)
@@ -249,8 +246,8 @@ closure_counted s judged m below r strict l o ys rest t kn kr e act own number g
     (subst (λ (q : Option (ℕ × Procedure)). Meets (in_turn (pair_of (sort_det t)) r) (invoked s (λ f js k. trace s m f js k) (frame act e own pairs) number goals js k site q (listed_values c.held) ys)) (sym there)
     (subst (λ (d : Det). Meets (in_turn (pair_of d) r) (invoked s (λ f js k. trace s m f js k) (frame act e own pairs) number goals js k site (Some (c.number, c.procedure)) (listed_values c.held) ys)) c.determinism
     (called_counted s judged m below r strict l (c.number, c.procedure) c.held c.others ys rest kn kr e act own number goals pairs js k site
-     (record { at = c.at; captured = c.captured; args = handed s strict l c.others ys kn kr e (fits_left s ys rest kn e fits) distinct c.size c.accepted; size = c.size; accepted = c.accepted })
-     fits goes)))
+    (record { at = c.at; captured = c.captured; args = handed s strict l c.others ys kn kr e (fits_left s ys rest kn e fits) distinct c.size c.accepted; size = c.size; accepted = c.accepted })
+    fits goes)))
 
 -- ---- conjunctions
 
@@ -285,18 +282,18 @@ each_counted s m below all strict at (also p ps) n kn rest r a number act e goal
     let later = each_pair c None ps (known_after kn (goal c p kn)) in
     meets_assoc (goal_pair c at p kn) later r (trace s n (frame act e (numbered_from number (also p ps) ++ goals) pairs) js k)
     (below n le all strict at p kn (parts_variables ps ++ rest) (in_turn later r) o.first number act e (numbered_from (number + goal_size p) ps ++ goals) pairs js k tidy.0 o.begins
-     (λ x. let q = room x in let f = times-append x (variables p) (parts_variables ps) in let g = times-append x (parts_variables ps) rest in omega (arith, q, f, g))
-     (fits_fewer s ((variables p ++ parts_variables ps) ++ rest) (variables p ++ (parts_variables ps ++ rest)) kn e
-      (λ x there. let f = times-append x (variables p ++ parts_variables ps) rest in let g = times-append x (variables p) (parts_variables ps) in
-        let h = times-append x (variables p) (parts_variables ps ++ rest) in let i = times-append x (parts_variables ps) rest in omega (arith, there, f, g, h, i)) fits)
-     begins
-     (λ i lt d j reach inner.
-       subst (λ (q : InstMap). Meets (in_turn (each_pair c None ps q) r) (trace s i (frame act d (numbered_from (number + goal_size p) ps ++ goals) pairs) js j)) (sym (known_is c p kn o.first o.begins))
-       (each_counted s m below all strict None ps i o.first.known rest r o.rest (number + goal_size p) act d goals pairs js j (omega (arith, lt, le)) tidy.1 o.goes_on
-        (λ x. let q = room x in let f = times-append x (variables p) (parts_variables ps) in omega (arith, q, f)) inner (begins_none s ps d)
-        (λ i lt d j there last. goes i lt d j
-          (sym (ap (λ (b : After). b.reach) o.is) ∙ both_reach o.first.reach o.rest.reach reach there)
-          (subst (λ (b : After). Fits s rest b.known d) o.is last)))))
+    (λ x. let q = room x in let f = times-append x (variables p) (parts_variables ps) in let g = times-append x (parts_variables ps) rest in omega (arith, q, f, g))
+    (fits_fewer s ((variables p ++ parts_variables ps) ++ rest) (variables p ++ (parts_variables ps ++ rest)) kn e
+    (λ x there. let f = times-append x (variables p ++ parts_variables ps) rest in let g = times-append x (variables p) (parts_variables ps) in
+    let h = times-append x (variables p) (parts_variables ps ++ rest) in let i = times-append x (parts_variables ps) rest in omega (arith, there, f, g, h, i)) fits)
+    begins
+    (λ i lt d j reach inner.
+    subst (λ (q : InstMap). Meets (in_turn (each_pair c None ps q) r) (trace s i (frame act d (numbered_from (number + goal_size p) ps ++ goals) pairs) js j)) (sym (known_is c p kn o.first o.begins))
+    (each_counted s m below all strict None ps i o.first.known rest r o.rest (number + goal_size p) act d goals pairs js j (omega (arith, lt, le)) tidy.1 o.goes_on
+    (λ x. let q = room x in let f = times-append x (variables p) (parts_variables ps) in omega (arith, q, f)) inner (begins_none s ps d)
+    (λ i lt d j there last. goes i lt d j
+    (sym (ap (λ (b : After). b.reach) o.is) ∙ both_reach o.first.reach o.rest.reach reach there)
+    (subst (λ (b : After). Fits s rest b.known d) o.is last)))))
 
 -- ---- branches
 
@@ -320,14 +317,15 @@ arms_counted : (s : Hlds) (m : ℕ) → TallyBelow s m → (all : List ℕ) (str
 arms_counted s m below all strict at nothing kn inner rest r a ends number f goals js tidy ok room among fits joins goes = tt
 arms_counted s m below all strict at (also p ps) kn inner rest r a ends number f goals js tidy ok room among fits joins goes =
     let o = arms_ok (scope s all strict) p ps kn ends ok in
-    let parts : EndsJoin (outside all inner) a (o.first ∷ o.ends) = subst (λ (es : List After). EndsJoin (outside all inner) a es) (sym o.is) joins in
-    ((λ k begins. below m (omega arith) all strict at p kn rest r o.first number f.act f.env goals f.pairs js k tidy.0 o.begins
-      (λ x. let q = room x in let i = among x in let t = times-append x (variables p) (parts_variables ps) in omega (arith, q, i, t))
-      (fits_fewer s (inner ++ rest) (variables p ++ rest) kn f.env
-       (λ x there. let i = among x in let t = times-append x (variables p) (parts_variables ps) in let g = times-append x (variables p) rest in let h = times-append x inner rest in omega (arith, there, i, t, g, h)) fits)
-      begins (arm_counts s r m f.act goals f.pairs js all inner rest a o.first room parts.0 goes)),
-     arms_counted s m below all strict at ps kn inner rest r a o.ends (number + goal_size p) f goals js tidy.1 o.others room
-     (λ x. let i = among x in let t = times-append x (variables p) (parts_variables ps) in omega (arith, i, t)) fits parts.1 goes)
+    let parts : EndsJoin (outside all inner) a (o.first ∷ o.ends) = subst (λ (es : List After). EndsJoin (outside all inner) a es) (sym o.is) joins in (
+      (λ k begins. below m (omega arith) all strict at p kn rest r o.first number f.act f.env goals f.pairs js k tidy.0 o.begins
+          (λ x. let q = room x in let i = among x in let t = times-append x (variables p) (parts_variables ps) in omega (arith, q, i, t))
+          (fits_fewer s (inner ++ rest) (variables p ++ rest) kn f.env
+          (λ x there. let i = among x in let t = times-append x (variables p) (parts_variables ps) in let g = times-append x (variables p) rest in let h = times-append x inner rest in omega (arith, there, i, t, g, h)) fits)
+          begins (arm_counts s r m f.act goals f.pairs js all inner rest a o.first room parts.0 goes)),
+      arms_counted s m below all strict at ps kn inner rest r a o.ends (number + goal_size p) f goals js tidy.1 o.others room
+          (λ x. let i = among x in let t = times-append x (variables p) (parts_variables ps) in omega (arith, i, t)) fits parts.1 goes,
+    )
 
 -- alternatives
 all_counted : (s : Hlds) (c : Scope) (kn : InstMap) (r : Pair) (go : Does) (f : Frame) (goals : List Numbered) (js : List Frame) (ps : HldsGoals) (number k : ℕ) → ArmsCount s c None kn r go f goals js ps number
@@ -336,7 +334,7 @@ all_counted s c kn r go f goals js nothing number k h = meets_nothing (in_turn (
 all_counted s c kn r go f goals js (also p ps) number k h =
     meets_sum (goal_pair c None p kn) (all_alternatives (arm_pairs c None ps kn)) r (item.arms go f goals js k (numbered_from number (also p ps)))
     (meets_joined (in_turn (goal_pair c None p kn) r) (in_turn (all_alternatives (arm_pairs c None ps kn)) r) (go (doing f (numbered_goal number p ∷ goals)) js k) k (λ n. item.arms go f goals js n (numbered_from (number + goal_size p) ps))
-     (h.0 k tt) (λ n. all_counted s c kn r go f goals js ps (number + goal_size p) n h.1))
+    (h.0 k tt) (λ n. all_counted s c kn r go f goals js ps (number + goal_size p) n h.1))
 
 missing_first : (p rest : Pair) (w : Bool) → ((p.may_fail || rest.may_fail) || not w) ≡ false → p.may_fail ≡ false
 missing_first p rest w e = or_left p.may_fail rest.may_fail (or_left (p.may_fail || rest.may_fail) (not w) e)
@@ -419,7 +417,7 @@ if_counted : (s : Hlds) (judged : Judged s) (m : ℕ) → TallyBelow s m → (al
     → IsTidyExpr (IfGoal c t e) → expr (scope s all strict) l (IfGoal c t e) kn ≡ Ok a → HasRoom all (expr_variables (IfGoal c t e)) rest → Fits s (expr_variables (IfGoal c t e) ++ rest) kn f.env
     → CountsOn s r (suc m) f.act goals f.pairs js rest a
     → Meets (in_turn (one_of_two (goal_pair (scope s all strict) None t (known_after kn (goal (scope s all true) c kn))) (goal_pair (scope s all strict) None e kn)) r)
-      (unfold_expr s (λ f js k. trace s m f js k) f number goals js k (IfGoal c t e))
+    (unfold_expr s (λ f js k. trace s m f js k) f number goals js k (IfGoal c t e))
 if_counted s judged m below all strict l c t e kn rest r a number f goals js k tidy ok room fits goes =
     let o = if_ok (scope s all strict) l c t e kn a ok in
     let inner = variables c ++ (variables t ++ variables e) in
@@ -432,24 +430,24 @@ if_counted s judged m below all strict l c t e kn rest r a number f goals js k t
     let missed = λ (n : ℕ). trace s m (frame f.act f.env (numbered_goal (suc number + goal_size c + goal_size t) e ∷ goals) f.pairs) js n in
     turned (in_turn (one_of_two win lose) r) f.act (Some number) 1 (first cond' k found missed (excps js))
     (meets_one win lose r (first cond' k found missed (excps js))
-     (meets_first (one_of_two (in_turn win r) (in_turn lose r)) (λ d. Fits s (variables t ++ rest) o.condition.known d) cond' k found missed (excps js)
-      (condition_fine s m (all_below s judged.proper m) all c kn (variables t ++ rest) o.condition (suc number) f.act f.env k tidy.0 o.begins
-       (λ x. let q = room x in let i = times-append x (variables c) (variables t ++ variables e) in let j = times-append x (variables t) (variables e) in let h = times-append x (variables t) rest in omega (arith, q, i, j, h))
-       (fits_fewer s (inner ++ rest) (variables c ++ (variables t ++ rest)) kn f.env
-        (λ x there. let i = times-append x (variables c) (variables t ++ variables e) in let j = times-append x (variables t) (variables e) in let g = times-append x inner rest in
-          let h = times-append x (variables t) rest in let q = times-append x (variables c) (variables t ++ rest) in omega (arith, there, i, j, g, h, q)) fits))
-      (λ d n inside. meets_left (in_turn win r) (in_turn lose r) (found d n)
-       (subst (λ (q : InstMap). Meets (in_turn (goal_pair (scope s all strict) None t q) r) (found d n)) (sym (known_is (scope s all true) c kn o.condition o.begins))
-        (below m (omega arith) all strict None t o.condition.known rest r o.then (suc number + goal_size c) f.act d goals f.pairs js n tidy.1.0 o.wins
-         (λ x. let q = room x in let i = times-append x (variables c) (variables t ++ variables e) in let j = times-append x (variables t) (variables e) in omega (arith, q, i, j))
-         inside tt (arm_counts s r m f.act goals f.pairs js all inner rest a o.then room joins.0 goes))))
-      (λ n. meets_right (in_turn win r) (in_turn lose r) (missed n)
-       (below m (omega arith) all strict None e kn rest r o.else (suc number + goal_size c + goal_size t) f.act f.env goals f.pairs js n tidy.1.1 o.loses
-        (λ x. let q = room x in let i = times-append x (variables c) (variables t ++ variables e) in let j = times-append x (variables t) (variables e) in omega (arith, q, i, j))
-        (fits_fewer s (inner ++ rest) (variables e ++ rest) kn f.env
-         (λ x there. let i = times-append x (variables c) (variables t ++ variables e) in let j = times-append x (variables t) (variables e) in let g = times-append x inner rest in
-           let h = times-append x (variables e) rest in omega (arith, there, i, j, g, h)) fits)
-        tt (arm_counts s r m f.act goals f.pairs js all inner rest a o.else room joins.1.0 goes)))))
+    (meets_first (one_of_two (in_turn win r) (in_turn lose r)) (λ d. Fits s (variables t ++ rest) o.condition.known d) cond' k found missed (excps js)
+    (condition_fine s m (all_below s judged.proper m) all c kn (variables t ++ rest) o.condition (suc number) f.act f.env k tidy.0 o.begins
+    (λ x. let q = room x in let i = times-append x (variables c) (variables t ++ variables e) in let j = times-append x (variables t) (variables e) in let h = times-append x (variables t) rest in omega (arith, q, i, j, h))
+    (fits_fewer s (inner ++ rest) (variables c ++ (variables t ++ rest)) kn f.env
+    (λ x there. let i = times-append x (variables c) (variables t ++ variables e) in let j = times-append x (variables t) (variables e) in let g = times-append x inner rest in
+    let h = times-append x (variables t) rest in let q = times-append x (variables c) (variables t ++ rest) in omega (arith, there, i, j, g, h, q)) fits))
+    (λ d n inside. meets_left (in_turn win r) (in_turn lose r) (found d n)
+    (subst (λ (q : InstMap). Meets (in_turn (goal_pair (scope s all strict) None t q) r) (found d n)) (sym (known_is (scope s all true) c kn o.condition o.begins))
+    (below m (omega arith) all strict None t o.condition.known rest r o.then (suc number + goal_size c) f.act d goals f.pairs js n tidy.1.0 o.wins
+    (λ x. let q = room x in let i = times-append x (variables c) (variables t ++ variables e) in let j = times-append x (variables t) (variables e) in omega (arith, q, i, j))
+    inside tt (arm_counts s r m f.act goals f.pairs js all inner rest a o.then room joins.0 goes))))
+    (λ n. meets_right (in_turn win r) (in_turn lose r) (missed n)
+    (below m (omega arith) all strict None e kn rest r o.else (suc number + goal_size c + goal_size t) f.act f.env goals f.pairs js n tidy.1.1 o.loses
+    (λ x. let q = room x in let i = times-append x (variables c) (variables t ++ variables e) in let j = times-append x (variables t) (variables e) in omega (arith, q, i, j))
+    (fits_fewer s (inner ++ rest) (variables e ++ rest) kn f.env
+    (λ x there. let i = times-append x (variables c) (variables t ++ variables e) in let j = times-append x (variables t) (variables e) in let g = times-append x inner rest in
+    let h = times-append x (variables e) rest in omega (arith, there, i, j, g, h)) fits)
+    tt (arm_counts s r m f.act goals f.pairs js all inner rest a o.else room joins.1.0 goes)))))
 
 not_counted : (s : Hlds) (judged : Judged s) (m : ℕ) → TallyBelow s m → (all : List ℕ) (strict : Bool) (l : ℕ) (c : HldsGoal) (kn : InstMap) (rest : List ℕ) (r : Pair) (a : After) (number : ℕ) (f : Frame) (goals : List Numbered) (js : List Frame) (k : ℕ)
     → IsTidy c → expr (scope s all strict) l (NotGoal c) kn ≡ Ok a → HasRoom all (variables c) rest → Fits s (variables c ++ rest) kn f.env
@@ -461,9 +459,9 @@ not_counted s judged m below all strict l c kn rest r a number f goals js k tidy
     let missed = λ (n : ℕ). trace s m (frame f.act f.env goals f.pairs) js n in
     turned (in_turn unsure r) f.act (Some number) 1 (first cond' k (λ d n. []) missed (excps js))
     (meets_first (in_turn unsure r) (λ d. Fits s rest o.inner.known d) cond' k (λ d n. []) missed (excps js)
-     (condition_fine s m (all_below s judged.proper m) all c kn rest o.inner (suc number) f.act f.env k tidy o.begins room fits)
-     (λ d n inside. meets_nothing (in_turn unsure r) refl)
-     (λ n. meets_sure unsure r (missed n) refl (goes m (omega arith) f.env n there.0 there.1)))
+    (condition_fine s m (all_below s judged.proper m) all c kn rest o.inner (suc number) f.act f.env k tidy o.begins room fits)
+    (λ d n inside. meets_nothing (in_turn unsure r) refl)
+    (λ n. meets_sure unsure r (missed n) refl (goes m (omega arith) f.env n there.0 there.1)))
 
 some_counted : (s : Hlds) (judged : Judged s) (m : ℕ) → TallyBelow s m → (all : List ℕ) (strict : Bool) (l : ℕ) (vs : List ℕ) (c : HldsGoal) (kn : InstMap) (rest : List ℕ) (r : Pair) (a : After) (number : ℕ) (f : Frame) (goals : List Numbered) (js : List Frame) (k : ℕ)
     → IsTidy c → expr (scope s all strict) l (SomeGoal vs c) kn ≡ Ok a → HasRoom all (vs ++ variables c) rest → Fits s ((vs ++ variables c) ++ rest) kn f.env
@@ -477,12 +475,12 @@ some_counted s judged m below all strict l vs c kn rest r a number f goals js k 
     let found = λ (d : Env) (n : ℕ). trace s m (frame f.act f.env goals f.pairs) js n in
     let room' : HasRoom all (variables c) rest = λ x. let q = room x in let i = times-append x vs (variables c) in omega (arith, q, i) in
     let fits' : Fits s (variables c ++ rest) kn f.env = fits_fewer s ((vs ++ variables c) ++ rest) (variables c ++ rest) kn f.env
-      (λ x there. let i = times-append x vs (variables c) in let g = times-append x (vs ++ variables c) rest in let h = times-append x (variables c) rest in omega (arith, there, i, g, h)) fits in
+    (λ x there. let i = times-append x vs (variables c) in let g = times-append x (vs ++ variables c) rest in let h = times-append x (variables c) rest in omega (arith, there, i, g, h)) fits in
     turned (in_turn (cut p) r) f.act (Some number) 1 (first cond' k found (λ n. []) (excps js))
     (meets_cut p r (λ d. Fits s rest o.inner.known d) cond' k found (λ n. []) (excps js)
-     (condition_fine s m (all_below s judged.proper m) all c kn rest o.inner (suc number) f.act f.env k tidy o.begins room' fits')
-     (condition_counted s m below all c kn rest o.inner (suc number) f.act f.env k tidy o.begins room' fits')
-     (λ d n inside. goes m (omega arith) f.env n there.0 there.1) (λ n. tt))
+    (condition_fine s m (all_below s judged.proper m) all c kn rest o.inner (suc number) f.act f.env k tidy o.begins room' fits')
+    (condition_counted s m below all c kn rest o.inner (suc number) f.act f.env k tidy o.begins room' fits')
+    (λ d n inside. goes m (omega arith) f.env n there.0 there.1) (λ n. tt))
 
 -- ---- any goal
 
@@ -507,8 +505,8 @@ expr_counted s judged m below all strict at l (HoCallGoal site f ys) kn rest r a
     let own = numbered_goal number (At l (HoCallGoal site f ys)) ∷ goals in
     subst (λ (p : Pair). Meets (in_turn p r) (applied s (λ f js k. trace s m f js k) (frame act e own pairs) number goals js k site ys (value_at e f))) (sym (apply_pair_is strict l ys (known_at kn f) kn a.known o.0))
     (closure_counted s judged m below r strict l (value_at e f) ys rest (type_of (known_at kn f)) kn a.known e act own number goals pairs js k site
-     (known_applied s strict l ys (value_at e f) (known_at kn f) kn a.known (fits.each f (first_times f (ys ++ rest))) o.0)
-     tidy fewer (λ n lt d i reach inner. goes n lt d i o.1 inner))
+    (known_applied s strict l ys (value_at e f) (known_at kn f) kn a.known (fits.each f (first_times f (ys ++ rest))) o.0)
+    tidy fewer (λ n lt d i reach inner. goes n lt d i o.1 inner))
 expr_counted s judged m below all strict at l (ConjGoal ps) kn rest r a number act e goals pairs js k tidy ok room fits begins goes =
     let p = each_pair (scope s all strict) at ps kn in
     turned (in_turn p r) act (Some number) 1 (trace s m (frame act e (numbered_from (suc number) ps ++ goals) pairs) js k)
@@ -519,8 +517,8 @@ expr_counted s judged m below all strict at l (DisjGoal ps) kn rest r a number a
     let go = λ (f : Frame) (js : List Frame) (k : ℕ). trace s m f js k in
     turned (in_turn (expr_pair (scope s all strict) at (DisjGoal ps) kn) r) act (Some number) 1 (disjunction go f goals js k (numbered_from (suc number) ps) (switch_shape s ps))
     (any_shape s judged (scope s all strict) (parts_variables ps ++ rest) kn (switch_shape s ps) r go f goals js k ps (suc number) b.0 refl refl fits (in_left (parts_variables ps) rest) b.1
-     (λ at. arms_counted s m below all strict at ps kn (parts_variables ps) rest r a b.0 (suc number) f goals js tidy b.1 room (λ x. omega arith) fits
-      (joined_join l (outside all (parts_variables ps)) kn b.0 a (arms_later (scope s all strict) ps kn b.0 b.1) b.2) goes))
+    (λ at. arms_counted s m below all strict at ps kn (parts_variables ps) rest r a b.0 (suc number) f goals js tidy b.1 room (λ x. omega arith) fits
+    (joined_join l (outside all (parts_variables ps)) kn b.0 a (arms_later (scope s all strict) ps kn b.0 b.1) b.2) goes))
 expr_counted s judged m below all strict at l (IfGoal c t u) kn rest r a number act e goals pairs js k tidy ok room fits begins goes =
     if_counted s judged m below all strict l c t u kn rest r a number (frame act e (numbered_goal number (At l (IfGoal c t u)) ∷ goals) pairs) goals js k tidy ok room fits goes
 expr_counted s judged m below all strict at l (NotGoal c) kn rest r a number act e goals pairs js k tidy ok room fits begins goes =

@@ -1,7 +1,7 @@
 -- What the parts of an accepted check are.
-use Rattle.std.proofs.Common.{◌≡◌, refl, sym, ap, Bool, true, false, not, cond, Ok, Err, Option, Some, None}
+use Rattle.std.proofs.Common.{◌≡◌, refl, sym, ap, Bool, true, false, cond, Ok, Err}
 use Rattle.md_inst.specs.declared.fault.ModeFault.{ModeFault}
-use Rattle.md_inst.specs.Verdict.{Verdict, ◌>>=◌, ◌>>◌, fine, fault_unless}
+use Rattle.md_inst.specs.Verdict.{Verdict, ◌>>=◌, ◌>>◌, fault_unless}
 use Rattle.md_inst.specs.Instantiation.{InstMap}
 use Rattle.md_modes.specs.Branches.{After, after}
 use Rattle.md_modes.specs.Goals.{reached}

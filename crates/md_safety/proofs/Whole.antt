@@ -1,25 +1,21 @@
 -- No run of an accepted program is stuck.
-use Rattle.std.proofs.Common.{◌≡◌, refl, sym, ap, ◌∙◌, subst, arith, ℕ, zero, suc, ◌-◌, pos, Bool, true, false, ◌&&◌, cond, nat_le, List, [], ◌∷◌, length, Option, Some, None, Ok, Err, slice_get}
+use Rattle.std.proofs.Common.{◌≡◌, refl, ap, subst, arith, ℕ, zero, suc, ◌-◌, pos, Bool, true, false, ◌&&◌, nat_le, List, [], ◌∷◌, length, Option, Some, None, Ok, Err, slice_get}
 use Rattle.std.proofs.lemmas.Bool.{and_parts, false≢true}
 use Rattle.std.specs.Prelude.{⊤}
 use Rattle.md_hlds.specs.declared.types.Mode.{Mode}
 use Rattle.md_hlds.specs.declared.types.Mode.TheVariants.{In, Out, Di, Uo}
 use Rattle.md_hlds.specs.declared.types.Det.TheVariants as det
-use Rattle.md_hlds.specs.HldsGoal.{numbered_goal}
 use Rattle.md_hlds.specs.Hlds.{HldsType, number, text, world, named, closure, Procedure, Hlds, procedure_called, body_number}
-use Rattle.md_hlds.specs.Value.{Number, Env, bound, blank}
+use Rattle.md_hlds.specs.Value.{Number, Env, blank}
 use Rattle.md_hlds.specs.Trace.{Turn, Call, Exit, Redo, Fail, Excp, Alloc, Out, Throw, Answer, Stuck, Deep, Items, first, trace}
-use Rattle.md_hlds.specs.Trace as item
 use Rattle.md_hlds.specs.Run.{cut, cut_turn, main_name, main_env, main_frame, main_items, run_main, run}
 use Rattle.md_hlds.proofs.DepthLemmas.{AreExcps}
 use Rattle.md_reader.specs.Grammar.{Spells}
-use Rattle.md_inst.specs.declared.fault.ModeFault.{ModeFault}
 use Rattle.md_inst.specs.declared.fault.ModeFault.TheVariants.{NoMain}
-use Rattle.md_inst.specs.Verdict.{Verdict, ◌>>◌, ◌>>=◌, fine, fault_unless}
+use Rattle.md_inst.specs.Verdict.{Verdict, ◌>>◌, fault_unless}
 use Rattle.md_inst.specs.HldsTypes.{is_world, same_det}
-use Rattle.md_inst.specs.Instantiation.{InstMap, has, put, nothing_known, times}
+use Rattle.md_inst.specs.Instantiation.{nothing_known}
 use Rattle.md_modes.specs.Declarations as declarations
-use Rattle.md_modes.specs.Branches.{After}
 use Rattle.md_modes.specs.Goals.{clause_variables, variables, goal}
 use Rattle.md_modes.specs.Modes.{entry_from, entry, end, scope_of, clause, clauses, is_uo, is_di, are_main_args, is_main, has_main, checked, fault_of, mode_fault}
 use Rattle.md_modes.proofs.Counts.{times-append}
@@ -193,7 +189,7 @@ pub main_not_stuck : (s : Hlds) (proper : Proper s) (budget : ℕ) (m : ℕ × P
 main_not_stuck s proper budget m at is =
     not_stuck (λ e. ⊤) (first (trace s budget (main_frame s m) [] 1) 1 (λ e k. Exit 0 ∷ Answer e ∷ []) (λ k. Fail 0 ∷ []) [])
     (fine_first (λ e. ⊤) (λ e. ⊤) (trace s budget (main_frame s m) [] 1) 1 (λ e k. Exit 0 ∷ Answer e ∷ []) (λ k. Fail 0 ∷ []) []
-     (main_fine s proper budget m at is) (λ e n h. (tt, tt)) (λ n. tt) tt)
+    (main_fine s proper budget m at is) (λ e n h. (tt, tt)) (λ n. tt) tt)
 
 run_safe : (s : Hlds) (proper : Proper s) (budget : ℕ) (o : Option (ℕ × Procedure)) → procedure_called s main_name ≡ o → ((m : ℕ × Procedure) → o ≡ Some m → is_main m.1 ≡ true) → HasNoStuck (run_main s budget o)
 run_safe s proper budget None called main = tt

@@ -1,5 +1,5 @@
 -- Arguments of a call.
-use Rattle.std.specs.Prelude.{⊤, ◌≡◌, ℕ, List, [], ◌∷◌, Option, Some, None}
+use Rattle.std.specs.Prelude.{⊤, ℕ, List, [], ◌∷◌, Option, Some, None}
 use Rattle.md_hlds.specs.declared.types.Mode.{Mode}
 use Rattle.md_hlds.specs.declared.types.Mode.TheVariants.{In, Out, Di, Uo}
 use Rattle.md_hlds.specs.Hlds.{HldsType, Hlds}

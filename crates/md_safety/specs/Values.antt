@@ -1,7 +1,7 @@
 -- Values of a type in a program, and environments that fit what is known of a clause's variables.
 use Rattle.std.specs.Prelude.{⊤, ◌≡◌, ℕ, ◌<◌, pos, List, [], ◌∷◌, length, Option, Some, None, slice_get}
 use Rattle.md_hlds.specs.declared.types.Mode.{Mode}
-use Rattle.md_hlds.specs.declared.types.Mode.TheVariants.{In, Out, Di, Uo}
+use Rattle.md_hlds.specs.declared.types.Mode.TheVariants.{In}
 use Rattle.md_hlds.specs.Hlds.{HldsType, number, text, world, named, closure, HldsFunctor, HldsTypeDef, Procedure, Hlds}
 use Rattle.md_hlds.specs.Value.{Value, Values, Number, Literal, Built, Closure, no_values, also_value, value_count, Env, value_at}
 use Rattle.md_names.specs.Named.{functor_found}
