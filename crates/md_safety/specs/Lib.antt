@@ -1,0 +1,5 @@
+pub mod Values
+pub mod Arguments
+pub mod Turns
+pub mod Safe
+pub mod Answers
