@@ -1,2 +1,4 @@
+pub mod Callers
 pub mod Goes
 pub mod Later
+pub mod TraceLaw

@@ -1,0 +1,143 @@
+-- The trace of a job leads lawfully on: by induction on the depth, and there on the callers.
+use Rattle.std.specs.Prelude.{⊤}
+use Rattle.std.proofs.Common.{◌≡◌, ◌≢◌, refl, sym, ap, ◌∙◌, subst, ℕ, zero, suc, ◌+◌, ◌-◌, ◌<◌, ◌≤◌, Bool, true, false, List, [], ◌∷◌, ◌++◌, length, Option, Some, None, IsSomeAnd, MatchOption, slice_get, arith}
+use Rattle.std.proofs.lemmas.Bool.{eq-eqb}
+use Rattle.md_hlds.specs.declared.types.Det.{Det}
+use Rattle.md_hlds.specs.declared.types.Det.TheVariants.{Semidet, Multi, Nondet, Failure}
+use Rattle.md_hlds.specs.declared.types.Det.TheVariants.{Det as One}
+use Rattle.md_hlds.specs.HldsGoal.{HldsGoal, At, GoalExpr, SimpleGoal, CallGoal, HoCallGoal, ConjGoal, DisjGoal, IfGoal, NotGoal, SomeGoal, goal_size, Numbered, numbered_goal, numbered_from, site_count}
+use Rattle.md_hlds.specs.Hlds.{Hlds, Procedure, procedure_called, nth_procedure}
+use Rattle.md_hlds.specs.Value.{Value, Number, Literal, Built, Closure, listed_values, Env, value_at}
+use Rattle.md_hlds.specs.Simple.{Outcome, Go, No, Throws, Stop, simple}
+use Rattle.md_hlds.specs.Switch.{Key, switch_shape, arm_for}
+use Rattle.md_hlds.specs.Trace.{Turn, Call, Exit, Redo, Fail, Excp, Alloc, Out, Throw, Answer, Stuck, Deep, Items, Does, Frame, joined, first, excps, doing, knowing, alone, allocated, written, after_simple, arms, one_arm, switched, disjunction, body_frame, cut_off, run_body, back, call_if, invoked, applied, entered, called, call_weight, unfold_expr, unfold_goal, returns, trace, pairs_of, without}
+use Rattle.md_trace.specs.declared.event.Event.{Event}
+use Rattle.md_trace.specs.declared.event.Event.TheVariants.{Call as CallOf, Exit as ExitOf, Redo as RedoOf, Fail as FailOf, Excp as ExcpOf, Alloc as AllocOf}
+use Rattle.md_trace.specs.Activation.{Activation, activations, numbered, parent_of, procedure_of}
+use Rattle.md_trace.specs.PortHistory.{CallSite, SiteTable, MayCallAt, MayFollow, current, has_exited}
+use Rattle.md_trace.proofs.Numbered.{numbered-new}
+use Rattle.md_events.specs.Table.{number_of, goal_sites, goals_sites, expr_sites}
+use Rattle.md_events.proofs.Goes.{count, Then, AtAnswer, Leaves, Goes, goes_joined, goes_first}
+use Rattle.md_events.proofs.Later.{Outside, Later, Inside, same_parent, same_procedure, later_now, later_then, later_among, later_as, later_exit, later_redo, later_fail, later_excp, later_alloc, later_call}
+use Rattle.md_events.proofs.Callers.{ArePlaced, placed_first, placed_second, AreSited, sited_before, sited_alone, acts, root, AreCallers, callers_later, outside_callers, Ends, Job, job_below, job_later, leaves_excps}
+
+-- the procedures of the program stand in the table with their sites
+pub record IsTableOf (s : Hlds) (t : SiteTable) : Type 0 where
+  pub clauses : (n : ℕ) (p : Procedure) → slice_get s.procedures n ≡ Some p → ArePlaced t (goal_sites s n p.body)
+  pub below : (n : ℕ) (p : Procedure) → slice_get s.procedures n ≡ Some p → n < t.procedures
+  pub found : (name : _) (q : ℕ × Procedure) → procedure_called s name ≡ Some q → slice_get s.procedures q.0 ≡ Some q.1
+  pub nth : (n : ℕ) (q : ℕ × Procedure) → nth_procedure s n ≡ Some q → slice_get s.procedures q.0 ≡ Some q.1
+
+-- whatever follows it, a job's trace leads lawfully on
+abbrev pub Claim : Hlds → SiteTable → Does → Type 1
+Claim s t go =
+    (q : ℕ) (f : Frame) (js : List Frame) (outer : Option ℕ) (good : AtAnswer) (over out : Then) (left : ℕ) (h : List Event)
+    → Job s t q f.act f.goals js outer good over out left h → Goes t good over out left h (go f js (count h))
+
+-- a turn is paid for
+paid : {s : Hlds} {t : SiteTable} {q a : ℕ} {goals : List Numbered} {js : List Frame} {outer : Option ℕ} {good : AtAnswer} {over out : Then} {left : ℕ} {h : List Event} (w : ℕ)
+    → Job s t q a goals js outer good over out left h → Job s t q a goals js outer good over out (left - w) h
+paid {goals = goals} {left = left} {h = h} w j = job_later j goals (left - w) h j.sited (later_now _ _ left (left - w) h j.now (omega arith))
+
+-- other goals of the same procedure
+with : {s : Hlds} {t : SiteTable} {q a : ℕ} {goals : List Numbered} {js : List Frame} {outer : Option ℕ} {good : AtAnswer} {over out : Then} {left : ℕ} {h : List Event} (others : List Numbered)
+    → Job s t q a goals js outer good over out left h → AreSited s t q others → Job s t q a others js outer good over out left h
+with {left = left} {h = h} others j sited = job_later j others left h sited (later_now _ _ left left h j.now (omega arith))
+
+module _ (s : Hlds) (t : SiteTable) (table : IsTableOf s t) (go : Does) (claim : Claim s t go) where
+  -- ---- simple goals
+
+  goes_written : (good : AtAnswer) (over out : Then) (left : ℕ) (h : List Event) (bytes : Option (List ℕ)) (xs : Items)
+      → Goes t good over out left h xs → Goes t good over out left h (written bytes ++ xs)
+  goes_written good over out left h None xs g = g
+  goes_written good over out left h (Some bytes) xs g = g
+
+  goes_allocated : (q a : ℕ) (goals : List Numbered) (js : List Frame) (outer : Option ℕ) (good : AtAnswer) (over out : Then) (left : ℕ) (h : List Event) (words : ℕ) (xs : Items)
+      → Job s t q a goals js outer good over out left h
+      → ((i : List Event) → count i ≡ count h → Job s t q a goals js outer good over out left i → Goes t good over out left i xs)
+      → Goes t good over out left h (allocated a words ++ xs)
+  goes_allocated q a goals js outer good over out left h zero xs j g = g h refl j
+  goes_allocated q a goals js outer good over out left h (suc w) xs j g =
+      (j.now, g (AllocOf a (suc w) ∷ h) refl (job_later j goals left (AllocOf a (suc w) ∷ h) j.sited (later_alloc a (suc w) (later_now _ _ left left h j.now (omega arith)))))
+
+  goes_simple : (q : ℕ) (f : Frame) (n : ℕ) (goals : List Numbered) (js : List Frame) (outer : Option ℕ) (good : AtAnswer) (over out : Then) (left : ℕ) (h : List Event) (o : Outcome)
+      → Job s t q f.act goals js outer good over out left h → Goes t good over out left h (after_simple go f n goals js (count h) o)
+  goes_simple q f n goals js outer good over out left h (Go e extra words bytes) j = λ fits.
+      goes_allocated q f.act goals js outer good over out (left - suc extra) h words (written bytes ++ go (knowing f e goals) js (count h)) (paid (suc extra) j)
+      (λ i same k. goes_written good over out (left - suc extra) i bytes (go (knowing f e goals) js (count h))
+      (subst (λ m. Goes t good over out (left - suc extra) i (go (knowing f e goals) js m)) same (claim q (knowing f e goals) js outer good over out (left - suc extra) i k)))
+  goes_simple q f n goals js outer good over out left h (No extra) j = λ fits. j.ends.ends (left - suc extra) h (later_now _ _ left (left - suc extra) h j.now (omega arith))
+  goes_simple q f n goals js outer good over out left h (Throws bytes) j = λ fits.
+      let now = later_now (f.act ∷ acts js) (Some f.act) left (left - 1) h j.now (omega arith) in
+      (j.now,
+      leaves_excps s t outer out (f.act ∷ acts js) js f.act left h (left - 1) (ExcpOf f.act ∷ h) j.callers (job_below j)
+      (later_excp f.act now (λ b below outside. outside.0)) (λ b outside. outside.1) j.ends.outs)
+  goes_simple q f n goals js outer good over out left h Stop j = λ fits. tt
+
+  -- ---- goals that are run by themselves, up to their first answer
+
+  goes_alone : (q : ℕ) (f : Frame) (c : Numbered) (goals : List Numbered) (js : List Frame) (outer : Option ℕ) (good : AtAnswer) (over out : Then) (left : ℕ) (h : List Event)
+      (found : Env → ℕ → Items) (missed : ℕ → Items)
+      → Job s t q f.act goals js outer good over out left h → ArePlaced t (goal_sites s q c.goal)
+      → ((e : Env) (l : ℕ) (i : List Event) → Job s t q f.act goals js outer good over out l i → Goes t good over out l i (found e (count i)))
+      → ((l : ℕ) (i : List Event) → Job s t q f.act goals js outer good over out l i → Goes t good over out l i (missed (count i)))
+      → Goes t good over out left h (first (go (alone f c) [] (count h)) (count h) found missed (excps js))
+  goes_alone q f c goals js outer good over out left h found missed j placed then' otherwise =
+      let cover : (b : ℕ) → b < count h → Outside b (f.act ∷ acts js) → Outside b (f.act ∷ []) = λ b below outside. (outside.0, tt) in
+      goes_first t good over out found missed (excps js) (go (alone f c) [] (count h)) (count h) left h refl
+      (claim q (alone f c) [] (parent_of (activations h) f.act) _ _ _ left h
+      (record {
+        now = j.now;
+        its = j.its;
+        sited = (placed, tt);
+        callers = refl;
+        room = j.room;
+        ends = record {
+          answers = λ e l i later. then' e l i (job_later j goals l i j.sited (later_among later cover));
+          ends = λ l i later. otherwise l i (job_later j goals l i j.sited (later_among later cover));
+          outs = λ l i later. leaves_excps s t outer out (f.act ∷ acts js) js f.act left h l i j.callers (job_below j) (later_among later cover) (λ b outside. outside.1) j.ends.outs;
+        };
+      }))
+
+  -- ---- disjunctions
+
+  goes_arms : (q : ℕ) (f : Frame) (goals : List Numbered) (js : List Frame) (outer : Option ℕ) (good : AtAnswer) (over out : Then) (ps : List Numbered) (left : ℕ) (h : List Event)
+      → Job s t q f.act goals js outer good over out left h → AreSited s t q ps → Goes t good over out left h (arms go f goals js (count h) ps)
+  goes_arms q f goals js outer good over out [] left h j sited = j.ends.ends left h (later_now _ _ left left h j.now (omega arith))
+  goes_arms q f goals js outer good over out (p ∷ ps) left h j sited =
+      goes_joined t good over out (λ n. arms go f goals js n ps) (go (doing f (p ∷ goals)) js (count h)) (count h) left h refl
+      (claim q (doing f (p ∷ goals)) js outer good _ out left h
+      (record {
+        now = j.now;
+        its = j.its;
+        sited = (sited.0, j.sited);
+        callers = j.callers;
+        room = j.room;
+        ends = record {
+          answers = j.ends.answers;
+          ends = λ l i later. goes_arms q f goals js outer good over out ps l i (job_later j goals l i j.sited later) sited.1;
+          outs = j.ends.outs;
+        };
+      }))
+
+  -- the arm that is found is one of the arms
+  sited_arm : (q : ℕ) (v : Value) (keys : List Key) (ps : List Numbered) (p : Numbered) → AreSited s t q ps → arm_for v keys ps ≡ Some p → ArePlaced t (goal_sites s q p.goal)
+  sited_arm q v keys ps p sited is = ?
+
+  goes_one_arm : (q : ℕ) (f : Frame) (goals : List Numbered) (js : List Frame) (outer : Option ℕ) (good : AtAnswer) (over out : Then) (o : Option Numbered) (left : ℕ) (h : List Event)
+      → Job s t q f.act goals js outer good over out left h → ((p : Numbered) → o ≡ Some p → ArePlaced t (goal_sites s q p.goal))
+      → Goes t good over out left h (one_arm go f goals js (count h) o)
+  goes_one_arm q f goals js outer good over out None left h j sited = j.ends.ends left h (later_now _ _ left left h j.now (omega arith))
+  goes_one_arm q f goals js outer good over out (Some p) left h j sited =
+      claim q (doing f (p ∷ goals)) js outer good over out left h (with (p ∷ goals) j (sited p refl, j.sited))
+
+  goes_switched : (q : ℕ) (f : Frame) (goals : List Numbered) (js : List Frame) (outer : Option ℕ) (good : AtAnswer) (over out : Then) (ps : List Numbered) (keys : List Key) (v : Option Value) (left : ℕ) (h : List Event)
+      → Job s t q f.act goals js outer good over out left h → AreSited s t q ps → Goes t good over out left h (switched go f goals js (count h) ps keys v)
+  goes_switched q f goals js outer good over out ps keys None left h j sited = goes_arms q f goals js outer good over out ps left h j sited
+  goes_switched q f goals js outer good over out ps keys (Some v) left h j sited =
+      goes_one_arm q f goals js outer good over out (arm_for v keys ps) left h j (λ p is. sited_arm q v keys ps p sited is)
+
+  goes_disjunction : (q : ℕ) (f : Frame) (goals : List Numbered) (js : List Frame) (outer : Option ℕ) (good : AtAnswer) (over out : Then) (ps : List Numbered) (shape : Option (ℕ × List Key)) (left : ℕ) (h : List Event)
+      → Job s t q f.act goals js outer good over out left h → AreSited s t q ps → Goes t good over out left h (disjunction go f goals js (count h) ps shape)
+  goes_disjunction q f goals js outer good over out ps None left h j sited = goes_arms q f goals js outer good over out ps left h j sited
+  goes_disjunction q f goals js outer good over out ps (Some shape) left h j sited = goes_switched q f goals js outer good over out ps shape.1 (value_at f.env shape.0) left h j sited
