@@ -1,6 +1,6 @@
 -- The trace of a job leads lawfully on: by induction on the depth, and there on the callers.
 use Rattle.std.specs.Prelude.{⊤}
-use Rattle.std.proofs.Common.{◌≡◌, ◌≢◌, refl, sym, ap, ◌∙◌, subst, ℕ, zero, suc, ◌+◌, ◌-◌, ◌<◌, ◌≤◌, Bool, true, false, List, [], ◌∷◌, ◌++◌, length, Option, Some, None, IsSomeAnd, MatchOption, slice_get, arith}
+use Rattle.std.proofs.Common.{◌≡◌, ◌≢◌, refl, sym, ap, ◌∙◌, subst, ℕ, zero, suc, ◌+◌, ◌-◌, ◌<◌, ◌≤◌, Bool, true, false, cond, List, [], ◌∷◌, ◌++◌, length, Option, Some, None, IsSomeAnd, MatchOption, slice_get, nat_eq, arith}
 use Rattle.std.proofs.lemmas.Bool.{eq-eqb}
 use Rattle.md_hlds.specs.declared.types.Det.{Det}
 use Rattle.md_hlds.specs.declared.types.Det.TheVariants.{Semidet, Multi, Nondet, Failure}
@@ -9,7 +9,7 @@ use Rattle.md_hlds.specs.HldsGoal.{HldsGoal, At, GoalExpr, SimpleGoal, CallGoal,
 use Rattle.md_hlds.specs.Hlds.{Hlds, Procedure, procedure_called, nth_procedure}
 use Rattle.md_hlds.specs.Value.{Value, Number, Literal, Built, Closure, listed_values, Env, value_at}
 use Rattle.md_hlds.specs.Simple.{Outcome, Go, No, Throws, Stop, simple}
-use Rattle.md_hlds.specs.Switch.{Key, switch_shape, arm_for}
+use Rattle.md_hlds.specs.Switch.{Key, switch_shape, has_the_key, arm_for}
 use Rattle.md_hlds.specs.Trace.{Turn, Call, Exit, Redo, Fail, Excp, Alloc, Out, Throw, Answer, Stuck, Deep, Items, Does, Frame, joined, first, excps, doing, knowing, alone, allocated, written, after_simple, arms, one_arm, switched, disjunction, body_frame, cut_off, run_body, back, call_if, invoked, applied, entered, called, call_weight, unfold_expr, unfold_goal, returns, trace, pairs_of, without}
 use Rattle.md_trace.specs.declared.event.Event.{Event}
 use Rattle.md_trace.specs.declared.event.Event.TheVariants.{Call as CallOf, Exit as ExitOf, Redo as RedoOf, Fail as FailOf, Excp as ExcpOf, Alloc as AllocOf}
@@ -121,8 +121,15 @@ module _ (s : Hlds) (t : SiteTable) (table : IsTableOf s t) (go : Does) (claim :
       }))
 
   -- the arm that is found is one of the arms
+  chosen_arm : (q : ℕ) (here : Bool) (x p : Numbered) (later : Option Numbered) → ArePlaced t (goal_sites s q x.goal) → (later ≡ Some p → ArePlaced t (goal_sites s q p.goal))
+      → cond here (Some x) later ≡ Some p → ArePlaced t (goal_sites s q p.goal)
+  chosen_arm q true x p later placed rest is = let same : x ≡ p = cc in subst (λ (y : Numbered). ArePlaced t (goal_sites s q y.goal)) same placed
+  chosen_arm q false x p later placed rest is = rest is
+
   sited_arm : (q : ℕ) (v : Value) (keys : List Key) (ps : List Numbered) (p : Numbered) → AreSited s t q ps → arm_for v keys ps ≡ Some p → ArePlaced t (goal_sites s q p.goal)
-  sited_arm q v keys ps p sited is = ?
+  sited_arm q v [] ps p sited is = absurd (cc)
+  sited_arm q v (k ∷ ks) [] p sited is = absurd (cc)
+  sited_arm q v (k ∷ ks) (x ∷ ps) p sited is = chosen_arm q (has_the_key v k) x p (arm_for v ks ps) sited.0 (λ later. sited_arm q v ks ps p sited.1 later) is
 
   goes_one_arm : (q : ℕ) (f : Frame) (goals : List Numbered) (js : List Frame) (outer : Option ℕ) (good : AtAnswer) (over out : Then) (o : Option Numbered) (left : ℕ) (h : List Event)
       → Job s t q f.act goals js outer good over out left h → ((p : Numbered) → o ≡ Some p → ArePlaced t (goal_sites s q p.goal))
@@ -141,3 +148,134 @@ module _ (s : Hlds) (t : SiteTable) (table : IsTableOf s t) (go : Does) (claim :
       → Job s t q f.act goals js outer good over out left h → AreSited s t q ps → Goes t good over out left h (disjunction go f goals js (count h) ps shape)
   goes_disjunction q f goals js outer good over out ps None left h j sited = goes_arms q f goals js outer good over out ps left h j sited
   goes_disjunction q f goals js outer good over out ps (Some shape) left h j sited = goes_switched q f goals js outer good over out ps shape.1 (value_at f.env shape.0) left h j sited
+
+  -- ---- calls
+
+  -- the history after a call of procedure r is later
+  later_called : (q : ℕ) (f : Frame) (goals : List Numbered) (js : List Frame) (outer : Option ℕ) (good : AtAnswer) (over out : Then) (left w : ℕ) (h : List Event) (site r : ℕ)
+      → Job s t q f.act goals js outer good over out left h → suc w ≤ left
+      → Later (f.act ∷ acts js) (Some (count h)) left h (left - suc w) (CallOf (count h) (Some f.act) (Some site) r ∷ h)
+  later_called q f goals js outer good over out left w h site r j fits =
+      later_call (Some f.act) (Some site) r w (later_now (f.act ∷ acts js) (Some f.act) left left h j.now (omega arith)) fits
+
+  -- a new activation has its procedure and its caller
+  new_procedure : (h : List Event) (p site : Option ℕ) (r : ℕ) → procedure_of (activations (CallOf (count h) p site r ∷ h)) (count h) ≡ Some r
+  new_procedure h p site r = rw (eq-eqb (count h) (count h) refl) refl
+
+  new_parent : (h : List Event) (p site : Option ℕ) (r : ℕ) → parent_of (activations (CallOf (count h) p site r ∷ h)) (count h) ≡ p
+  new_parent h p site r = rw (eq-eqb (count h) (count h) refl) refl
+
+  -- the new activation is none of those before
+  cover_new : (b k : ℕ) (those : List ℕ) → b < k → Outside b those → Outside b (k ∷ those)
+  cover_new b k those below outside = ((λ e. absurd (omega (arith, e, below))), outside)
+
+  module _ (q : ℕ) (caller : Frame) (js : List Frame) (outer : Option ℕ) (good : AtAnswer) (over out : Then) (left w : ℕ) (h : List Event) (site r : ℕ) (e : Env) (body : List Numbered) (pairs : List (ℕ × ℕ))
+      (j : Job s t q caller.act caller.goals js outer good over out left h) (fits : suc w ≤ left) (sited : AreSited s t r body) where
+    -- the history after the call, and the frame of the new activation
+    abbrev after : List Event
+    after = CallOf (count h) (Some caller.act) (Some site) r ∷ h
+
+    abbrev callee : Frame
+    callee = record { act = count h; env = e; goals = body; pairs = pairs }
+
+    since : Later (caller.act ∷ acts js) (Some (count h)) left h (left - suc w) after
+    since = later_called q caller caller.goals js outer good over out left w h site r j fits
+
+    callers_after : AreCallers s t (activations after) outer (count h) (caller ∷ js)
+    callers_after =
+        (new_parent h (Some caller.act) (Some site) r, job_below j, (q, same_procedure caller.act since (job_below j) ∙ j.its, j.sited),
+        callers_later s t outer js caller.act since (job_below j) j.callers)
+
+    -- the new activation leaves, and its caller runs again
+    inside_new : Inside (count h) (caller.act ∷ acts js) h
+    inside_new = λ b below outside is. absurd (omega (arith, is, below))
+
+    cover_all : (b : ℕ) → b < count h → Outside b (caller.act ∷ acts js) → Outside b (count h ∷ caller.act ∷ acts js)
+    cover_all b below outside = cover_new b (count h) (caller.act ∷ acts js) below outside
+
+    leaves_new : (those : List ℕ) (l : ℕ) (i : List Event) → Later those (Some (count h)) (left - suc w) after l i → parent_of (activations i) (count h) ≡ Some caller.act
+    leaves_new those l i later = same_parent (count h) later (omega arith) ∙ new_parent h (Some caller.act) (Some site) r
+
+    goes_cut : Goes t good over out (left - suc w) after (run_body go One callee caller js (count h))
+    goes_cut =
+        let alone_cover : (b : ℕ) → b < count h → Outside b (caller.act ∷ acts js) → Outside b (count h ∷ []) = λ b below outside. ((λ is. absurd (omega (arith, is, below))), tt) in
+        goes_first t good over out (λ a n. Exit (count h) ∷ go (knowing caller (back pairs a caller.env) caller.goals) js n) (λ n. Fail (count h) ∷ []) (excps (caller ∷ js))
+        (go (cut_off callee) [] (suc (count h))) (suc (count h)) (left - suc w) after refl
+        (claim r (cut_off callee) [] (Some caller.act) _ _ _ (left - suc w) after
+        (record {
+          now = refl;
+          its = new_procedure h (Some caller.act) (Some site) r;
+          sited = sited;
+          callers = new_parent h (Some caller.act) (Some site) r;
+          room = omega (arith, j.room, fits);
+          ends = record {
+            answers = λ a l i later.
+                (later.runs,
+                claim q (knowing caller (back pairs a caller.env) caller.goals) js outer good over out l (ExitOf (count h) ∷ i)
+                (job_later j caller.goals l (ExitOf (count h) ∷ i) j.sited
+                (later_as (later_exit (count h) (later_then since alone_cover later) inside_new) (leaves_new _ l i later))));
+            ends = λ l i later.
+                (later.runs, j.ends.ends l (FailOf (count h) ∷ i) (later_as (later_fail (count h) (later_then since alone_cover later) inside_new) (leaves_new _ l i later)));
+            outs = λ l i later.
+                leaves_excps s t outer out (count h ∷ caller.act ∷ acts js) (caller ∷ js) (count h) (left - suc w) after l i callers_after (omega arith)
+                (later_as (later_among later (λ b below outside. (outside.0, tt))) (sym (new_parent h (Some caller.act) (Some site) r)))
+                (λ b outside. outside.1) (λ m x last. j.ends.outs m x (later_then since cover_all last));
+          };
+        }))
+
+    goes_all : Goes t good over out (left - suc w) after (run_body go Multi callee caller js (count h))
+    goes_all =
+        goes_joined t good over out (λ n. Fail (count h) ∷ []) (go callee (caller ∷ js) (suc (count h))) (suc (count h)) (left - suc w) after refl
+        (claim r callee (caller ∷ js) outer good _ out (left - suc w) after
+        (record {
+          now = refl;
+          its = new_procedure h (Some caller.act) (Some site) r;
+          sited = sited;
+          callers = callers_after;
+          room = omega (arith, j.room, fits);
+          ends = record {
+            answers = λ a l i later. j.ends.answers a l i (later_then since cover_all later);
+            ends = λ l i later.
+                (later.runs, j.ends.ends l (FailOf (count h) ∷ i) (later_as (later_fail (count h) (later_then since cover_all later) inside_new) (leaves_new _ l i later)));
+            outs = λ l i later. j.ends.outs l i (later_then since cover_all later);
+          };
+        }))
+
+    goes_body : (d : Det) → Goes t good over out (left - suc w) after (run_body go d callee caller js (count h))
+    goes_body One = goes_cut
+    goes_body Semidet = goes_cut
+    goes_body Failure = goes_cut
+    goes_body Multi = goes_all
+    goes_body Nondet = goes_all
+
+  -- a call of procedure r that may be made at a site of procedure q
+  record MayBeCalled (q site : ℕ) (r : ℕ × Procedure) : Type 0 where
+    here : IsSomeAnd (slice_get t.sites site) (MayCallAt t (Some q) r.0)
+    found : slice_get s.procedures r.0 ≡ Some r.1
+
+  goes_call : (q : ℕ) (f : Frame) (n : ℕ) (goals : List Numbered) (js : List Frame) (outer : Option ℕ) (good : AtAnswer) (over out : Then) (left : ℕ) (h : List Event) (site : ℕ) (r : ℕ × Procedure) (vs : List Value) (ys : List ℕ) (right : Bool)
+      → Job s t q f.act goals js outer good over out left h → MayBeCalled q site r
+      → Goes t good over out left h (call_if s go f n goals js (count h) site r vs ys right)
+  goes_call q f n goals js outer good over out left h site r vs ys false j may = λ fits. tt
+  goes_call q f n goals js outer good over out left h site r vs ys true j may = λ fits.
+      ((refl, omega (arith, j.room, fits), sym j.now, subst (λ o. IsSomeAnd (slice_get t.sites site) (MayCallAt t o r.0)) (sym j.its) may.here),
+      goes_body q (doing f goals) js outer good over out left (length r.1.vars + site_count r.1.body) h site r.0 (entered r.1 vs ys f.env) _ (pairs_of (without vs r.1.head) ys) j fits
+      (table.clauses r.0 r.1 may.found, tt) r.1.det)
+
+  goes_invoked : (q : ℕ) (f : Frame) (n : ℕ) (goals : List Numbered) (js : List Frame) (outer : Option ℕ) (good : AtAnswer) (over out : Then) (left : ℕ) (h : List Event) (site : ℕ) (o : Option (ℕ × Procedure)) (vs : List Value) (ys : List ℕ)
+      → Job s t q f.act goals js outer good over out left h → ((r : ℕ × Procedure) → o ≡ Some r → MayBeCalled q site r)
+      → Goes t good over out left h (invoked s go f n goals js (count h) site o vs ys)
+  goes_invoked q f n goals js outer good over out left h site None vs ys j may = λ fits. tt
+  goes_invoked q f n goals js outer good over out left h site (Some r) vs ys j may =
+      goes_call q f n goals js outer good over out left h site r vs ys (nat_eq (length vs + length ys) (length r.1.head)) j (may r refl)
+
+  goes_applied : (q : ℕ) (f : Frame) (n : ℕ) (goals : List Numbered) (js : List Frame) (outer : Option ℕ) (good : AtAnswer) (over out : Then) (left : ℕ) (h : List Event) (site : ℕ) (ys : List ℕ) (v : Option Value)
+      → Job s t q f.act goals js outer good over out left h → slice_get t.sites site ≡ Some (record { owner = q; callee = None })
+      → Goes t good over out left h (applied s go f n goals js (count h) site ys v)
+  goes_applied q f n goals js outer good over out left h site ys (Some (Closure p held)) j here =
+      goes_invoked q f n goals js outer good over out left h site (nth_procedure s p) (listed_values held) ys j
+      (λ r is. record { here = rw here (record { owned = refl; callee = table.below r.0 r.1 (table.nth p r is) }); found = table.nth p r is })
+  goes_applied q f n goals js outer good over out left h site ys (Some (Number i)) j here = λ fits. tt
+  goes_applied q f n goals js outer good over out left h site ys (Some (Literal bytes)) j here = λ fits. tt
+  goes_applied q f n goals js outer good over out left h site ys (Some (Built name parts)) j here = λ fits. tt
+  goes_applied q f n goals js outer good over out left h site ys None j here = λ fits. tt
