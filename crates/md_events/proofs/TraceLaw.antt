@@ -279,3 +279,88 @@ module _ (s : Hlds) (t : SiteTable) (table : IsTableOf s t) (go : Does) (claim :
   goes_applied q f n goals js outer good over out left h site ys (Some (Literal bytes)) j here = λ fits. tt
   goes_applied q f n goals js outer good over out left h site ys (Some (Built name parts)) j here = λ fits. tt
   goes_applied q f n goals js outer good over out left h site ys None j here = λ fits. tt
+
+  -- ---- one goal
+
+  goes_expr : (q : ℕ) (f : Frame) (n : ℕ) (goals : List Numbered) (js : List Frame) (outer : Option ℕ) (good : AtAnswer) (over out : Then) (left : ℕ) (h : List Event) (x : GoalExpr)
+      → Job s t q f.act goals js outer good over out left h → ArePlaced t (expr_sites s q x)
+      → Goes t good over out left h (unfold_expr s go f n goals js (count h) x)
+  goes_expr q f n goals js outer good over out left h (SimpleGoal g) j placed = goes_simple q f n goals js outer good over out left h (simple s f.env g) j
+  goes_expr q f n goals js outer good over out left h (CallGoal site name ys) j placed =
+      goes_invoked q f n goals js outer good over out left h site (procedure_called s name) [] ys j
+      (λ r is. record { here = rw placed.0 (record { owned = refl; callee = rw is refl }); found = table.found name r is })
+  goes_expr q f n goals js outer good over out left h (HoCallGoal site p ys) j placed = goes_applied q f n goals js outer good over out left h site ys (value_at f.env p) j placed.0
+  goes_expr q f n goals js outer good over out left h (ConjGoal ps) j placed = λ fits.
+      claim q (doing f (numbered_from (suc n) ps ++ goals)) js outer good over out (left - 1) h
+      (with (numbered_from (suc n) ps ++ goals) (paid 1 j) (sited_before s t q (suc n) ps goals placed j.sited))
+  goes_expr q f n goals js outer good over out left h (DisjGoal ps) j placed = λ fits.
+      goes_disjunction q f goals js outer good over out (numbered_from (suc n) ps) (switch_shape s ps) (left - 1) h (paid 1 j) (sited_alone s t q (suc n) ps placed)
+  goes_expr q f n goals js outer good over out left h (IfGoal c x y) j placed = λ fits.
+      let behind = placed_second t (goal_sites s q c) (goal_sites s q x ++ goal_sites s q y) placed in
+      goes_alone q f (numbered_goal (suc n) c) goals js outer good over out (left - 1) h _ _ (paid 1 j) (placed_first t (goal_sites s q c) (goal_sites s q x ++ goal_sites s q y) placed)
+      (λ e l i k. claim q (knowing f e (numbered_goal (suc n + goal_size c) x ∷ goals)) js outer good over out l i
+      (with (numbered_goal (suc n + goal_size c) x ∷ goals) k (placed_first t (goal_sites s q x) (goal_sites s q y) behind, j.sited)))
+      (λ l i k. claim q (doing f (numbered_goal (suc n + goal_size c + goal_size x) y ∷ goals)) js outer good over out l i
+      (with (numbered_goal (suc n + goal_size c + goal_size x) y ∷ goals) k (placed_second t (goal_sites s q x) (goal_sites s q y) behind, j.sited)))
+  goes_expr q f n goals js outer good over out left h (NotGoal c) j placed = λ fits.
+      goes_alone q f (numbered_goal (suc n) c) goals js outer good over out (left - 1) h _ _ (paid 1 j) placed
+      (λ e l i k. k.ends.ends l i (later_now _ _ l l i k.now (omega arith)))
+      (λ l i k. claim q (doing f goals) js outer good over out l i k)
+  goes_expr q f n goals js outer good over out left h (SomeGoal vs c) j placed = λ fits.
+      goes_alone q f (numbered_goal (suc n) c) goals js outer good over out (left - 1) h _ _ (paid 1 j) placed
+      (λ e l i k. claim q (doing f goals) js outer good over out l i k)
+      (λ l i k. k.ends.ends l i (later_now _ _ l l i k.now (omega arith)))
+
+  goes_goal : (q : ℕ) (f : Frame) (n : ℕ) (goals : List Numbered) (js : List Frame) (outer : Option ℕ) (good : AtAnswer) (over out : Then) (left : ℕ) (h : List Event) (g : HldsGoal)
+      → Job s t q f.act goals js outer good over out left h → ArePlaced t (goal_sites s q g)
+      → Goes t good over out left h (unfold_goal s go f n goals js (count h) g)
+  goes_goal q f n goals js outer good over out left h (At line x) j placed = goes_expr q f n goals js outer good over out left h x j placed
+
+-- ---- a job
+
+abbrev Next : Type 0
+Next = Frame → Numbered → List Numbered → List Frame → ℕ → Items
+
+-- what is asked of `next`: a first frame that has a goal to do
+abbrev NextClaim : Hlds → SiteTable → Next → Type 1
+NextClaim s t next =
+    (q : ℕ) (f : Frame) (g : Numbered) (goals : List Numbered) (js : List Frame) (outer : Option ℕ) (good : AtAnswer) (over out : Then) (left : ℕ) (h : List Event)
+    → Job s t q f.act (g ∷ goals) js outer good over out left h → Goes t good over out left h (next f g goals js (count h))
+
+goes_returns : (s : Hlds) (t : SiteTable) (next : Next) → NextClaim s t next → (js : List Frame) (f : Frame) (goals : List Numbered) (q : ℕ) (outer : Option ℕ) (good : AtAnswer) (over out : Then) (left : ℕ) (h : List Event)
+    → Job s t q f.act goals js outer good over out left h → Goes t good over out left h (returns next js f goals (count h))
+goes_returns s t next claim js f (g ∷ goals) q outer good over out left h j = claim q f g goals js outer good over out left h j
+goes_returns s t next claim [] f [] q outer good over out left h j = j.ends.answers f.env left h (later_now _ _ left left h j.now (omega arith))
+goes_returns s t next claim (c ∷ js) f [] q outer good over out left h j =
+    let those : List ℕ = f.act ∷ c.act ∷ acts js in
+    let since : Later those (Some c.act) left h left (ExitOf f.act ∷ h) =
+        later_as (later_exit f.act (later_now those (Some f.act) left left h j.now (omega arith)) (λ b below outside. outside.0)) j.callers.0 in
+    let caller : Frame = knowing c (back f.pairs f.env c.env) c.goals in
+    (j.now,
+    goes_joined t good over out (λ n. Redo f.act ∷ []) (returns next js caller c.goals (count h)) (count h) left (ExitOf f.act ∷ h) refl
+    (goes_returns s t next claim js caller c.goals j.callers.2.0 outer good _ out left (ExitOf f.act ∷ h)
+    (record {
+      now = j.callers.0;
+      its = j.callers.2.1;
+      sited = j.callers.2.2;
+      callers = j.callers.3;
+      room = j.room;
+      ends = record {
+        answers = λ e l i later. j.ends.answers e l i (later_then since (λ b below outside. outside.1) later);
+        ends = λ l i later.
+            ((later.still f.act (job_below j) (outside_callers s t (activations h) outer f.act f.act (c ∷ js) (omega arith) j.callers) ∙ rw (eq-eqb f.act f.act refl) refl,
+            same_parent f.act later (job_below j) ∙ j.callers.0 ∙ sym later.runs),
+            j.ends.ends l (RedoOf f.act ∷ i) (later_redo f.act (later_then since (λ b below outside. outside.1) later) (λ b below outside. outside.0)));
+        outs = λ l i later. j.ends.outs l i (later_then since (λ b below outside. outside.1) later);
+      };
+    })))
+
+-- the trace of a job to any depth
+pub goes_trace : (s : Hlds) (t : SiteTable) → IsTableOf s t → (depth : ℕ) → Claim s t (λ f js k. trace s depth f js k)
+goes_trace s t table zero q f js outer good over out left h j =
+    goes_returns s t (λ f g goals js k. Deep ∷ []) (λ q f g goals js outer good over out left h j. tt) js f f.goals q outer good over out left h j
+goes_trace s t table (suc m) q f js outer good over out left h j =
+    goes_returns s t _
+    (λ q f g goals js outer good over out left h j.
+    goes_goal s t table (λ f js k. trace s m f js k) (goes_trace s t table m) q f g.number goals js outer good over out left h g.goal (with goals j j.sited.1) j.sited.0)
+    js f f.goals q outer good over out left h j
