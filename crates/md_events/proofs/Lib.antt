@@ -1,0 +1,6 @@
+pub mod Callers
+pub mod Goes
+pub mod Later
+pub mod RunLaw
+pub mod SiteLemmas
+pub mod TraceLaw
