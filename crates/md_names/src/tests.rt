@@ -1,4 +1,6 @@
 // The names of a program built by hand.
+ghost use Rattle.std.specs.Prelude.{◌≡◌, length, IfOk};
+
 use crate::Names;
 use md_base::Name;
 use md_hlds::{Det, Functor, Goal, GoalKind, Pred, PredName, Program, Ty, TypeDef, Variables};
@@ -44,37 +46,64 @@ fn functor(alloc: Global, bytes: &[u8], arity: usize) -> Result<Functor, Fail> {
     for _ in 0..arity {
         args.push(Ty::Int)?;
     }
-    Ok(Functor {
-        name: name(alloc, bytes)?,
-        args,
+    let name = name(alloc, bytes)?;
+    Ok(Functor { name, args })
+}
+
+/// A type with functors of these names and arities.
+fn type_def(
+    alloc: Global,
+    bytes: &[u8],
+    line: u32,
+    named: &[(&[u8], usize)],
+) -> Result<TypeDef, Fail> {
+    let mut functors = Vec::new(alloc);
+    for (bytes, arity) in named {
+        functors.push(functor(alloc, bytes, *arity)?)?;
+    }
+    let name = name(alloc, bytes)?;
+    Ok(TypeDef {
+        name,
+        line,
+        functors,
     })
 }
 
-/// `:- type pair ---> none ; pair(int, int).`, `:- type box ---> box(int) ; pair(int).`, and the predicates `p`, `a.p`, `q`.
-fn program(alloc: Global) -> Result<Program, Fail> {
-    let mut first = Vec::new(alloc);
-    first.push(functor(alloc, b"none", 0)?)?;
-    first.push(functor(alloc, b"pair", 2)?)?;
-    let mut second = Vec::new(alloc);
-    second.push(functor(alloc, b"box", 1)?)?;
-    second.push(functor(alloc, b"pair", 1)?)?;
+/// `:- type pair ---> none ; pair(int, int).`, `:- type box ---> box(int) ; pair(int).`
+fn types(alloc: Global) -> Result<Vec<TypeDef>, Fail> {
     let mut types = Vec::new(alloc);
-    types.push(TypeDef {
-        name: name(alloc, b"pair")?,
-        line: 2,
-        functors: first,
-    })?;
-    types.push(TypeDef {
-        name: name(alloc, b"box")?,
-        line: 3,
-        functors: second,
-    })?;
+    types.push(type_def(
+        alloc,
+        b"pair",
+        2,
+        &[(b"none".as_slice(), 0), (b"pair", 2)],
+    )?)?;
+    types.push(type_def(
+        alloc,
+        b"box",
+        3,
+        &[(b"box".as_slice(), 1), (b"pair", 1)],
+    )?)?;
+    Ok(types)
+}
+
+/// The predicates `p`, `a.p`, `q`.
+fn preds(alloc: Global) -> Result<Vec<Pred>, Fail>
+    ensures { IfOk result (λ preds. length preds.items ≡ 3) }
+{
     let mut preds = Vec::new(alloc);
     preds.push(pred(alloc, None, b"p", 4)?)?;
     preds.push(pred(alloc, Some(b"a"), b"p", 6)?)?;
     preds.push(pred(alloc, None, b"q", 8)?)?;
+    Ok(preds)
+}
+
+fn program(alloc: Global) -> Result<Program, Fail> {
+    let types = types(alloc)?;
+    let preds = preds(alloc)?;
+    let module = name(alloc, b"t")?;
     Ok(Program {
-        module: name(alloc, b"t")?,
+        module,
         module_line: 1,
         types,
         preds,
@@ -82,57 +111,62 @@ fn program(alloc: Global) -> Result<Program, Fail> {
 }
 
 /// The number and the line of the predicate that a name stands for.
-fn place_of_predicate(names: &Names, name: &PredName) -> Option<(u32, u32)> {
-    match names.predicate(name) {
+fn predicate_at(
+    alloc: Global,
+    names: &Names,
+    module: Option<&[u8]>,
+    bytes: &[u8],
+) -> Result<Option<(u32, u32)>, Fail> {
+    let name = called(alloc, module, bytes)?;
+    Ok(match names.predicate(&name) {
         Some((number, pred)) => Some((number.number(), pred.line)),
         None => None,
-    }
+    })
 }
 
-/// The line of the type that has a functor of this name and arity, and the arity of that functor.
-fn place_of_functor(names: &Names, name: &Name, arity: usize) -> Option<(u32, usize)> {
-    let (family, functor) = names.functor(name, arity)?;
-    Some((family.line, functor.args.len()))
+/// The line of the type that has a functor of this name and arity.
+fn functor_at(
+    alloc: Global,
+    names: &Names,
+    bytes: &[u8],
+    arity: usize,
+) -> Result<Option<u32>, Fail> {
+    let name = name(alloc, bytes)?;
+    Ok(match names.functor(&name, arity) {
+        Some((of, _)) => Some(of.line),
+        None => None,
+    })
 }
 
-#[test]
-fn predicates_are_found_by_name_and_module(rt: HostRuntime) -> Result<(), Fail> {
-    let alloc = rt.alloc();
-    let program = program(alloc)?;
-    let names = Names::new(alloc, &program)?;
-    let qualified = called(alloc, Some(b"a"), b"p")?;
-    assert_eq!(rt; place_of_predicate(&names, &qualified), Some((1, 6)));
-    let plain = called(alloc, None, b"q")?;
-    assert_eq!(rt; place_of_predicate(&names, &plain), Some((2, 8)));
-    let of_another_module = called(alloc, Some(b"b"), b"p")?;
-    assert_eq!(rt; place_of_predicate(&names, &of_another_module), None);
-    let undeclared = called(alloc, None, b"r")?;
-    assert_eq!(rt; place_of_predicate(&names, &undeclared), None);
-    Ok(())
-}
-
-#[test]
-fn functors_are_found_by_name_and_arity(rt: HostRuntime) -> Result<(), Fail> {
-    let alloc = rt.alloc();
-    let program = program(alloc)?;
-    let names = Names::new(alloc, &program)?;
-    let pair = name(alloc, b"pair")?;
-    assert_eq!(rt; place_of_functor(&names, &pair, 1), Some((3, 1)));
-    assert_eq!(rt; place_of_functor(&names, &pair, 2), Some((2, 2)));
-    assert_eq!(rt; place_of_functor(&names, &pair, 3), None);
-    Ok(())
+/// Whether a name is a type's, and whether it is a functor's.
+fn kinds_of(alloc: Global, names: &Names, bytes: &[u8]) -> Result<(bool, bool), Fail> {
+    let name = name(alloc, bytes)?;
+    Ok((names.has_type(&name), names.has_functor_name(&name)))
 }
 
 #[test]
-fn types_and_functors_have_names_apart(rt: HostRuntime) -> Result<(), Fail> {
+fn names_stand_for_what_is_declared(rt: HostRuntime) -> Result<(), Fail> {
     let alloc = rt.alloc();
     let program = program(alloc)?;
     let names = Names::new(alloc, &program)?;
     assert_eq!(rt; names.program().preds.len(), 3);
-    let none = name(alloc, b"none")?;
-    assert!(rt; !names.has_type(&none));
-    assert!(rt; names.has_functor_name(&none));
-    let family = name(alloc, b"box")?;
-    assert!(rt; names.has_type(&family));
+    for (module, bytes, place) in [
+        (Some(b"a".as_slice()), b"p".as_slice(), Some((1, 6))),
+        (None, b"q", Some((2, 8))),
+        (Some(b"b"), b"p", None),
+        (None, b"r", None),
+    ] {
+        assert_eq!(rt; predicate_at(alloc, &names, module, bytes)?, place);
+    }
+    for (arity, line) in [(1, Some(3)), (2, Some(2)), (3, None)] {
+        assert_eq!(rt; functor_at(alloc, &names, b"pair", arity)?, line);
+    }
+    for (bytes, kinds) in [
+        (b"none".as_slice(), (false, true)),
+        (b"box", (true, true)),
+        (b"t", (false, false)),
+    ] {
+        assert_eq!(rt; kinds_of(alloc, &names, bytes)?, kinds);
+    }
     Ok(())
 }
