@@ -12,24 +12,35 @@ fn name(alloc: Global, bytes: &[u8]) -> Result<Name, Fail> {
     Ok(Name::from_bytes(alloc, bytes)?.ok_or("a name")?)
 }
 
-/// A module with the type `:- type list ---> cons(int, list).` and no predicate.
-fn program(alloc: Global) -> Result<Program, Fail> {
+/// `cons(int, list)`.
+fn cons(alloc: Global) -> Result<Functor, Fail> {
+    let list = name(alloc, b"list")?;
     let mut args = Vec::new(alloc);
     args.push(Ty::Int)?;
-    args.push(Ty::User(name(alloc, b"list")?))?;
+    args.push(Ty::User(list))?;
+    let name = name(alloc, b"cons")?;
+    Ok(Functor { name, args })
+}
+
+/// `:- type list ---> cons(int, list).`
+fn lists(alloc: Global) -> Result<TypeDef, Fail> {
     let mut functors = Vec::new(alloc);
-    functors.push(Functor {
-        name: name(alloc, b"cons")?,
-        args,
-    })?;
-    let mut types = Vec::new(alloc);
-    types.push(TypeDef {
-        name: name(alloc, b"list")?,
+    functors.push(cons(alloc)?)?;
+    let name = name(alloc, b"list")?;
+    Ok(TypeDef {
+        name,
         line: 2,
         functors,
-    })?;
+    })
+}
+
+/// A module with this type and no predicate.
+fn program(alloc: Global) -> Result<Program, Fail> {
+    let mut types = Vec::new(alloc);
+    types.push(lists(alloc)?)?;
+    let module = name(alloc, b"m")?;
     Ok(Program {
-        module: name(alloc, b"m")?,
+        module,
         module_line: 1,
         types,
         preds: Vec::new(alloc),
