@@ -19,3 +19,4 @@ pub mod Sure
 pub mod SwitchLemmas
 pub mod Tally
 pub mod Declared
+pub mod RoleLemmas
