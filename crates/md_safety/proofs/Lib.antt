@@ -20,3 +20,4 @@ pub mod SwitchLemmas
 pub mod Tally
 pub mod Declared
 pub mod RoleLemmas
+pub mod Worked

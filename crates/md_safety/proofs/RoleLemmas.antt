@@ -1,26 +1,23 @@
 -- What each class of unification meets, and each call of a closure.
-use Rattle.std.proofs.Common.{◌≡◌, refl, sym, ap, ◌∙◌, subst, inl, inr, arith, ℕ, suc, ◌<◌, ℤ, Bool, true, false, cond, List, [], ◌∷◌, length, take, drop, Option, Some, None, Ok, Err, is_some, nat_lt, slice_get}
+use Rattle.std.proofs.Common.{◌≡◌, refl, sym, ap, ◌∙◌, subst, inl, inr, ℕ, suc, ◌<◌, ℤ, Bool, true, false, List, [], ◌∷◌, length, take, drop, Option, Some, None, Ok, is_some, nat_lt}
 use Rattle.std.proofs.lemmas.Bool.{ltb-true}
-use Rattle.std.specs.Prelude.{⊤}
 use Rattle.md_hlds.specs.declared.goal.Term.{Term}
 use Rattle.md_hlds.specs.declared.goal.Term.TheVariants.{Var, Int, Str, Name}
 use Rattle.md_hlds.specs.declared.goal.PredName.{PredName}
 use Rattle.md_hlds.specs.HldsGoal.{Unifies}
 use Rattle.md_hlds.specs.Hlds.{HldsType, number, text, world, named, closure, HldsFunctor, HldsTypeDef, Procedure, Hlds}
-use Rattle.md_hlds.specs.Value.{Value, Number, Literal, Built, Closure, Env, value_at, values_at, value_count}
+use Rattle.md_hlds.specs.Value.{Value, Number, Literal, Built, Closure, Env, value_at, value_count}
 use Rattle.md_names.specs.Named.{functor_found}
-use Rattle.md_inst.specs.declared.fault.ModeFault.{ModeFault}
 use Rattle.md_inst.specs.declared.fault.ModeFault.TheVariants.{TypeClash, Arity, IoUsed}
-use Rattle.md_inst.specs.Verdict.{Verdict, ◌>>=◌}
 use Rattle.md_inst.specs.HldsTypes.{same_sort}
 use Rattle.md_inst.specs.Instantiation.{Instantiation, free, has, InstMap, known_at, put, is_bound}
 use Rattle.md_inst.specs.Named.{Functor, functor_called, predicate_called}
-use Rattle.md_inst.specs.Arguments.{is_spent, given_known, given, inputs, givens}
-use Rattle.md_inst.specs.Simple.{unify_known, functor_known, types_of, left_open, can_close, capture, close_known, predicate_term, named_term, unify, apply_sort, apply_known, apply}
+use Rattle.md_inst.specs.Arguments.{is_spent, given_known, inputs, givens}
+use Rattle.md_inst.specs.Simple.{unify_known, functor_known, types_of, left_open, can_close, close_known, predicate_term, named_term, unify, apply_sort, apply_known, apply}
 use Rattle.md_modes.specs.Goals.{simple_variables}
-use Rattle.md_modes.specs.Notes.{Role, constructs, closes, takes_apart, assigns, tests, applies, bound_places, role_of_variables, role_of_term, role_of_name, role_of_unification, role_of_sort, role_of_closure}
+use Rattle.md_modes.specs.Notes.{closes, applies, bound_places, role_of_variables, role_of_term, role_of_name, role_of_unification, role_of_sort}
 use Rattle.md_safety.specs.Values.{HasType, HaveTypes, IsBuiltOf, Agrees, Fits}
-use Rattle.md_safety.specs.Roles.{HasValue, HaveValues, valued_places, AreOfOneType, IsComparable, IsAssigned, IsMet, IsClosureCalled}
+use Rattle.md_safety.specs.Roles.{HasValue, valued_places, AreOfOneType, IsComparable, IsMet, IsClosureCalled}
 use Rattle.md_safety.proofs.SameTypes.{same_sort_is}
 use Rattle.md_safety.proofs.Verdicts.{ok_then, ok_where, ok_unless}
 use Rattle.md_safety.proofs.Handing.{In', in_first, in_rest, free_value, inputs_are}

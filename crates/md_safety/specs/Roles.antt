@@ -3,7 +3,7 @@ use Rattle.std.specs.Prelude.{⊤, ◌≡◌, ◌<◌, ◌⊎◌, ℕ, suc, cond
 use Rattle.md_hlds.specs.declared.goal.Term.{Term}
 use Rattle.md_hlds.specs.declared.goal.Term.TheVariants.{Var, Int, Str, Name}
 use Rattle.md_hlds.specs.Hlds.{HldsType, HldsFunctor, HldsTypeDef, Hlds}
-use Rattle.md_hlds.specs.Value.{Value, Number, Literal, Built, Closure, Env, value_count, value_at, values_at}
+use Rattle.md_hlds.specs.Value.{Value, Number, Literal, Built, Env, value_count, value_at, values_at}
 use Rattle.md_names.specs.Named.{functor_found}
 use Rattle.md_inst.specs.Instantiation.{Instantiation, times}
 use Rattle.md_modes.specs.Notes.{Role, constructs, closes, takes_apart, assigns, tests, applies, role_of_closure}
