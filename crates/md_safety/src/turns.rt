@@ -1,6 +1,6 @@
 // Laws of one goal's turn, for a machine that is compiled: in an environment that fits what is known before the goal.
 // Each is the contract of a function that does nothing.
-ghost use Rattle.std.specs.Prelude.{◌≡◌, ℕ, Bool, List, [], ◌∷◌, length, Ok};
+ghost use Rattle.std.specs.Prelude.{◌≡◌, ℕ, Bool, List, [], ◌∷◌, length, Some, Ok, slice_get};
 ghost use Rattle.md_hlds.specs.declared.types.Mode.{Mode};
 ghost use Rattle.md_hlds.specs.declared.goal.Term.{Term};
 ghost use Rattle.md_hlds.specs.HldsGoal.{Simple, Unifies};
@@ -14,9 +14,10 @@ ghost use Rattle.md_inst.specs.Simple as rules;
 ghost use Rattle.md_modes.specs.Goals.{simple_variables};
 ghost use Rattle.md_modes.specs.Modes.{entry};
 ghost use Rattle.md_modes.specs.Notes.{role_of_unification};
+ghost use Rattle.md_reader.specs.Grammar.{Spells};
 ghost use Rattle.md_safety.specs.Values.{AreHeld, Fits};
 ghost use Rattle.md_safety.specs.Arguments.{AreArguments, taken, AreResults};
-ghost use Rattle.md_safety.specs.Turns.{LeadsTo, AreDistinct, IsTidySimple};
+ghost use Rattle.md_safety.specs.Turns.{LeadsTo, AreDistinct, IsTidySimple, IsTidy};
 ghost use Rattle.md_safety.specs.Roles.{AreVariablesOf, IsMet, IsClosureCalled};
 
 /// A simple goal that the mode rules accept isn't stuck. Where it succeeds, the place after it is reachable, and the
@@ -43,4 +44,10 @@ pub fn calls_fit()
     ensures handed { (program : Hlds) (strict : Bool) (line : ℕ) (args : List (HldsType × Mode)) (ys : List ℕ) (before after : InstMap) (e : Env) → Fits program ys before e → AreDistinct ys → length ys ≡ length args → arguments strict line args ys before ≡ Ok after → AreArguments program args (taken e ys) }
     ensures begins { (program : Hlds) (vars : List ℕ) (p : Procedure) (held : Values) (others : List (HldsType × Mode)) (ys : List ℕ) (e : Env) → AreHeld program held p.args others → AreArguments program others (taken e ys) → Fits program vars (entry p) (entered p (listed_values held) ys e) }
     ensures returned { (program : Hlds) (vars : List ℕ) (strict : Bool) (line : ℕ) (args : List (HldsType × Mode)) (heads ys : List ℕ) (before after : InstMap) (callee caller : Env) → Fits program vars before caller → AreVariablesOf ys vars → length heads ≡ length args → length ys ≡ length args → arguments strict line args ys before ≡ Ok after → AreResults program args heads callee → Fits program vars after (back (pairs_of heads ys) callee caller) }
+{}
+
+/// In a program that a text spells the variables of each goal without parts differ as these laws ask, and each head has a
+/// variable for each argument.
+pub fn spelled_programs_are_tidy()
+    ensures { (bytes : List ℕ) (program : Hlds) → Spells bytes program → (n : ℕ) (p : Procedure) → slice_get program.procedures n ≡ Some p → IsTidy p.body × (length p.head ≡ length p.args) }
 {}
