@@ -122,8 +122,10 @@ mutual
       let none = branch_stops l _ s (reachable (second.0 ∷ third.0 ∷ [])) a third.2 stops in
       let one = first_unreached second.0 (third.0 ∷ []) none in
       let two = first_unreached third.0 [] one.1 in
-      rw (goal_stops c None t (known_after s (goal (within c) p s)) second.0 (after_goal c (within c) p t s first.0 second.0 first.1 second.1) one.0,
-      goal_stops c None e s third.0 third.1 two.0) refl
+      rw (
+        goal_stops c None t (known_after s (goal (within c) p s)) second.0 (after_goal c (within c) p t s first.0 second.0 first.1 second.1) one.0,
+        goal_stops c None e s third.0 third.1 two.0,
+      ) refl
   goal_stops c at (At l (NotGoal p)) s a h stops =
       let first = bind_ok (goal (within c) p s) _ a h in
       let tested = bind_ok (binds_inside l (outside c.all (variables p)) s first.0) _ a first.2 in
@@ -140,8 +142,8 @@ mutual
       let first = bind_ok (goal c p s) _ a h in
       let rest = bind_ok (each c ps first.0.known) _ a first.2 in
       elim (and_cases first.0.reach rest.0.reach (sym (last_reach rest.0 a (first.0.reach && rest.0.reach) rest.2) ∙ stops)) [
-      | inl w ↦ product_left _ _ (goal_stops c at p s first.0 first.1 w)
-      | inr w ↦ product_right (goal_pair c at p s).bound _ (each_stops c None ps (known_after s (goal c p s)) rest.0 (after_each c p ps s first.0 rest.0 first.1 rest.1) w)
+        | inl w ↦ product_left _ _ (goal_stops c at p s first.0 first.1 w)
+        | inr w ↦ product_right (goal_pair c at p s).bound _ (each_stops c None ps (known_after s (goal c p s)) rest.0 (after_each c p ps s first.0 rest.0 first.1 rest.1) w)
       ]
 
   arms_stop : (c : Scope) (at : Option ℕ) (ps : HldsGoals) (s : InstMap) (ends : List After) → arms c ps s ≡ Ok ends → reachable ends ≡ [] → AllZero (arm_pairs c at ps s)

@@ -5,9 +5,9 @@ ghost use Rattle.md_det.specs.Switches.{variable_of};
 ghost use Rattle.md_det.specs.Judge as spec;
 ghost use Rattle.md_det.specs.Told.{reading_in};
 
+use crate::atomic::is_apart;
 use crate::context::Context;
 use crate::finding::Switch;
-use crate::atomic::is_apart;
 use crate::pair::{Bound, Pair};
 use crate::switch::switch_among;
 use md_base::NoMemory;

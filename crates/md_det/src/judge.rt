@@ -4,12 +4,12 @@ ghost use Rattle.md_hlds.specs.HldsGoal.{ConjGoal, DisjGoal, IfGoal, goal_of, go
 ghost use Rattle.md_det.specs.Judge.{judge_part, judge_expr, judge_each, judge_arms, onto};
 ghost use Rattle.md_det.specs.Told.{reading_in, judged_told, found_told, found_onto};
 
+use crate::atomic::{atomic_pair, io_fault};
 use crate::condition::condition_fault;
 use crate::context::Context;
 use crate::disjunction::{beside, find_switch, if_missing, no_arm, variable_of};
 use crate::fault::DetFault;
 use crate::finding::{Finding, Switch};
-use crate::atomic::{io_fault, atomic_pair};
 use crate::pair::Pair;
 use md_base::NoMemory;
 use md_hlds::{Goal, GoalKind};

@@ -6,8 +6,8 @@ ghost use Rattle.md_det.specs.Faults.{has_world};
 ghost use Rattle.md_det.specs.Main.{main_of};
 
 use md_base::ProcId;
-use md_inst::Kind;
 use md_hlds::{Mode, Program, Ty};
+use md_inst::Kind;
 use md_modes::is_main;
 
 /// The number of the first `main(io::di, io::uo) is det`, which an accepted program has.

@@ -6,8 +6,8 @@ ghost use Rattle.md_inst.specs.Arguments as spec;
 ghost use Rattle.md_inst.specs.Kinds.{kind_sort, inst_map_of, Leads};
 
 use crate::ModeFault;
-use crate::kind::Kind;
 use crate::inst::{Inst, hand_on, inst_at, set_inst};
+use crate::kind::Kind;
 use md_hlds::{Mode, Ty};
 
 /// Where a goal stands: its line, and whether it is within a condition, a negation or `some`.

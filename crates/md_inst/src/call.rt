@@ -9,8 +9,8 @@ use crate::ModeFault;
 use crate::argument::{
     Spot, argument, arguments, arity, input, output, paired_arguments, type_count,
 };
-use crate::kind::Kind;
 use crate::inst::{Inst, inst_at};
+use crate::kind::Kind;
 use crate::names::predicate_called;
 use md_hlds::{Mode, PredName, Ty};
 use md_names::Names;

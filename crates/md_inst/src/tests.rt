@@ -1,6 +1,6 @@
 // A goal at a time: what it asks of its variables, and what it makes of them.
 use crate::{
-    Kind, Inst, ModeFault, Spot, functor_called, atomic, inst_at, inst_in, same_det, set_inst,
+    Inst, Kind, ModeFault, Spot, atomic, functor_called, inst_at, inst_in, same_det, set_inst,
 };
 use md_base::{Name, Text};
 use md_hlds::{Det, Functor, GoalKind, PredName, Program, Term, Ty, TypeDef};

@@ -7,8 +7,8 @@ ghost use Rattle.md_inst.specs.Kinds.{kind_sort, inst_map_of, Leads, Finds};
 
 use crate::ModeFault;
 use crate::argument::{Spot, arity, captures, give, give_all, inputs};
-use crate::kind::Kind;
 use crate::inst::{Inst, hand_on, inst_at, set_inst};
+use crate::kind::Kind;
 use crate::names::{Found, functor_called, is_name_of_functor, predicate_called};
 use md_hlds::{Det, Mode, Pred, PredName, Term, Ty};
 use md_names::Names;

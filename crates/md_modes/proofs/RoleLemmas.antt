@@ -121,7 +121,7 @@ program_roles : (s : Hlds) → mode_fault s ≡ None → map noted (program_note
 unfolding mode_fault program_notes
 program_roles s h =
     let main = bind_ok (declarations.families s.types s.types >> declarations.procedures s.types s.procedures >> clauses s s.procedures)
-        (λ _. fault_unless (has_main s.procedures) (NoMain s.module_line)) tt (no_fault (checked s) h) in
+    (λ _. fault_unless (has_main s.procedures) (NoMain s.module_line)) tt (no_fault (checked s) h) in
     let all = bind_ok (declarations.families s.types s.types >> declarations.procedures s.types s.procedures) (λ _. clauses s s.procedures) main.0 main.1 in
     clause_roles s s.procedures main.0 all.2
 

@@ -15,8 +15,8 @@ use crate::ends::{check_exits, entry};
 use crate::main_predicate::has_main;
 use crate::moded::Moded;
 use crate::tally::counts_of_clause;
-use md_inst::ModeFault;
 use md_hlds::{Pred, Program};
+use md_inst::ModeFault;
 use md_names::Names;
 use std::alloc::Global;
 

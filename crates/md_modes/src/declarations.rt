@@ -5,8 +5,8 @@ ghost use Rattle.md_inst.specs.Simple.{types_of, modes_of};
 ghost use Rattle.md_modes.specs.Declarations as spec;
 ghost use Rattle.md_inst.specs.Kinds.{kind_sort, Finds};
 
-use md_inst::{Kind, ModeFault};
 use md_hlds::{Functor, Mode, Pred, Ty, TypeDef};
+use md_inst::{Kind, ModeFault};
 use md_names::Names;
 
 /// Checks the declarations of these types of a program.

@@ -6,8 +6,8 @@ ghost use Rattle.md_modes.specs.Modes as spec;
 ghost use Rattle.md_inst.specs.Kinds.{kind_sort, instantiation_of, inst_map_of, Finds};
 
 use md_base::NoMemory;
-use md_inst::{Kind, Inst, ModeFault, inst_at, set_inst};
 use md_hlds::{Mode, Pred, Ty};
+use md_inst::{Inst, Kind, ModeFault, inst_at, set_inst};
 use std::alloc::Global;
 
 /// What is known before the body of a clause.

@@ -11,8 +11,8 @@ ghost use Rattle.md_modes.specs.Classes.{role_told, class_told, note_told};
 use crate::class::{Class, Note};
 use crate::copies::{copy_closure, open_closure};
 use md_base::NoMemory;
-use md_inst::{Kind, Inst, functor_called, inst_at, inst_in};
 use md_hlds::{GoalKind, PredName, Term};
+use md_inst::{Inst, Kind, functor_called, inst_at, inst_in};
 use md_names::Names;
 use std::alloc::Global;
 

@@ -17,8 +17,8 @@ use crate::finding::{Change, class_of};
 use crate::local::Local;
 use crate::nonlocals::{Nonlocals, View, binds_some};
 use crate::view::{put_all, seen};
-use md_inst::{Inst, ModeFault, Spot, atomic};
 use md_hlds::{Goal, GoalKind};
+use md_inst::{Inst, ModeFault, Spot, atomic};
 use std::alloc::Global;
 
 impl<'a, 'b> Clause<'a, 'b> {

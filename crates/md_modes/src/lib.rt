@@ -16,8 +16,8 @@ mod joined;
 mod local;
 mod main_predicate;
 mod moded;
-mod occurrences;
 mod nonlocals;
+mod occurrences;
 mod tally;
 #[cfg(test)]
 mod tests;

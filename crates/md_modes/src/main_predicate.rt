@@ -4,8 +4,8 @@ ghost use Rattle.md_hlds.specs.Hlds.{procedures_of, procedure_of, args_of, hlds_
 ghost use Rattle.md_inst.specs.HldsTypes.{is_world};
 ghost use Rattle.md_modes.specs.Modes as spec;
 
-use md_inst::{Kind, same_det};
 use md_hlds::{Det, Mode, Pred, Ty};
+use md_inst::{Kind, same_det};
 
 /// Whether a predicate `main(io::di, io::uo) is det` is declared.
 pub fn has_main(preds: &[Pred]) -> bool

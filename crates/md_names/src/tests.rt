@@ -72,18 +72,8 @@ fn type_def(
 /// `:- type pair ---> none ; pair(int, int).`, `:- type box ---> box(int) ; pair(int).`
 fn types(alloc: Global) -> Result<Vec<TypeDef>, Fail> {
     let mut types = Vec::new(alloc);
-    types.push(type_def(
-        alloc,
-        b"pair",
-        2,
-        &[(b"none".as_slice(), 0), (b"pair", 2)],
-    )?)?;
-    types.push(type_def(
-        alloc,
-        b"box",
-        3,
-        &[(b"box".as_slice(), 1), (b"pair", 1)],
-    )?)?;
+    types.push(type_def(alloc, b"pair", 2, &[(b"none".as_slice(), 0), (b"pair", 2)])?)?;
+    types.push(type_def(alloc, b"box", 3, &[(b"box".as_slice(), 1), (b"pair", 1)])?)?;
     Ok(types)
 }
 

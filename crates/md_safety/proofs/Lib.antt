@@ -19,3 +19,5 @@ pub mod Sure
 pub mod SwitchLemmas
 pub mod Tally
 pub mod Declared
+pub mod RoleLemmas
+pub mod Worked

@@ -202,7 +202,7 @@ close_done : (s : Hlds) (vars : List ℕ) (x arity n : ℕ) (r : InstMap) (e : E
     → Fits s vars r (bound e x (Closure n (gathered_values vs))) → LeadsTo s vars true r (run.close e x arity n o)
 close_done s vars x arity n r e o vs is h = rw is (h, refl)
 
-take_size : (n : ℕ) (args : List (HldsType × Mode)) → n < length args → n ≡ length (types_of (take n args))
+pub take_size : (n : ℕ) (args : List (HldsType × Mode)) → n < length args → n ≡ length (types_of (take n args))
 take_size zero args lt = refl
 take_size (suc n) [] lt = absurd (omega (arith, lt))
 take_size (suc n) (a ∷ args) lt = ap suc (take_size n args (omega (arith, lt)))

@@ -1,11 +1,12 @@
 -- The number of answers of a procedure's body.
-use Rattle.std.specs.Prelude.{⊤, ◌≡◌, ℕ, suc, ◌-◌, ◌≤◌, Bool, true, false, ◌||◌, cond, nat_le, List, [], ◌∷◌, length, Option, Some, None}
+use Rattle.std.specs.Prelude.{⊤, ◌≡◌, ℕ, suc, ◌-◌, ◌≤◌, Bool, true, false, ◌||◌, cond, nat_le, slice_get, List, [], ◌∷◌, length, Option, Some, None}
 use Rattle.md_hlds.specs.declared.types.Det.{Det}
 use Rattle.md_hlds.specs.declared.types.Det.TheVariants as det
 use Rattle.md_hlds.specs.Hlds.{Procedure, Hlds, procedure_called}
 use Rattle.md_hlds.specs.Value.{Value, Env, blank}
 use Rattle.md_hlds.specs.Trace.{Turn, Answer, Items, back_value, body_frame, trace}
-use Rattle.md_hlds.specs.Run.{is_finished, is_thrown, main_name, main_items, run}
+use Rattle.md_hlds.specs.Run.{HasNoDeep, is_finished, is_thrown, main_name, main_items, run}
+use Rattle.md_safety.specs.Arguments.{AreArguments}
 
 -- the variables of a head get the values of their arguments, where these have one
 abbrev pub put_in : List ℕ → List (Option Value) → Env → Env
@@ -32,6 +33,19 @@ AnswersAs det.Semidet xs = answer_count xs ≤ 1
 AnswersAs det.Multi xs = 1 ≤ answer_count xs
 AnswersAs det.Nondet xs = ⊤
 AnswersAs det.Failure xs = answer_count xs ≡ 0
+
+-- Each trace of the body of each procedure, on inputs of its declared types, has as many answers as its determinism says,
+-- where it is deep enough and isn't thrown.
+abbrev pub AnswersAsDeclared : Hlds → Type 0
+AnswersAsDeclared s =
+    (n : ℕ) (p : Procedure)
+    → slice_get s.procedures n ≡ Some p
+    → (args : List (Option Value))
+    → AreArguments s p.args args
+    → (depth act next : ℕ)
+    → HasNoDeep (body_trace s (n, p) args depth act next)
+    → is_thrown (body_trace s (n, p) args depth act next) ≡ false
+    → AnswersAs p.det (body_trace s (n, p) args depth act next)
 
 -- ---- a whole run
 

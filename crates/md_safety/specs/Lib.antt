@@ -3,3 +3,4 @@ pub mod Arguments
 pub mod Turns
 pub mod Safe
 pub mod Answers
+pub mod Roles

@@ -1,15 +1,13 @@
 // Laws over the definitions of programs, of their checks and of their runs. Each is the contract of a function that does
 // nothing.
-ghost use Rattle.std.specs.Prelude.{◌≡◌, ℕ, false, List, Option, None, Some, slice_get};
-ghost use Rattle.md_hlds.specs.Hlds.{Hlds, Procedure};
-ghost use Rattle.md_hlds.specs.Value.{Value};
-ghost use Rattle.md_hlds.specs.Run.{run, is_thrown, HasNoDeep};
+ghost use Rattle.std.specs.Prelude.{◌≡◌, ℕ, List, None};
+ghost use Rattle.md_hlds.specs.Hlds.{Hlds};
+ghost use Rattle.md_hlds.specs.Run.{run};
 ghost use Rattle.md_modes.specs.Modes.{mode_fault};
 ghost use Rattle.md_det.specs.Faults.{det_fault};
 ghost use Rattle.md_reader.specs.Grammar.{Spells};
 ghost use Rattle.md_safety.specs.Safe.{HasNoStuck};
-ghost use Rattle.md_safety.specs.Arguments.{AreArguments};
-ghost use Rattle.md_safety.specs.Answers.{body_trace, AnswersAs, ComesToItsEnd};
+ghost use Rattle.md_safety.specs.Answers.{AnswersAsDeclared, ComesToItsEnd};
 
 /// A program that a text spells and that has no fault of modes never gets stuck: at each goal that a run of it unfolds,
 /// within whatever budget, a rule applies.
@@ -21,7 +19,7 @@ pub fn never_stuck()
 /// `det` exactly one, `semidet` at most one, `multi` at least one, `failure` none. That is said of each trace of its body
 /// that is deep enough and not thrown.
 pub fn answers_as_declared()
-    ensures { (bytes : List ℕ) (program : Hlds) → Spells bytes program → mode_fault program ≡ None → det_fault program ≡ None → (n : ℕ) (p : Procedure) → slice_get program.procedures n ≡ Some p → (args : List (Option Value)) → AreArguments program p.args args → (depth act next : ℕ) → HasNoDeep (body_trace program (n, p) args depth act next) → is_thrown (body_trace program (n, p) args depth act next) ≡ false → AnswersAs p.det (body_trace program (n, p) args depth act next) }
+    ensures { (bytes : List ℕ) (program : Hlds) → Spells bytes program → mode_fault program ≡ None → det_fault program ≡ None → AnswersAsDeclared program }
 {}
 
 /// A run of an accepted program begins with main, and it is finished or it has thrown, unless the budget cuts it.

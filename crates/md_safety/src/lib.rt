@@ -1,6 +1,11 @@
-//! Laws of accepted programs: none gets stuck, and each determinism has its number of answers.
+//! Laws of accepted programs: values have types, no run is stuck, and each procedure has as many answers as its
+//! determinism says.
 #![tactic(auto)]
 
 mod laws;
+mod turns;
 
 pub use laws::{answers_as_declared, comes_to_its_end, never_stuck};
+pub use turns::{
+    calls_fit, closures_meet_their_type, simple_goals_fit, unifications_meet_their_class,
+};
