@@ -4,3 +4,4 @@ pub mod Later
 pub mod RunLaw
 pub mod SiteLemmas
 pub mod TraceLaw
+mod Worked

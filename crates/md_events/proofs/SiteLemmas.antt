@@ -2,13 +2,13 @@
 use Rattle.std.specs.Prelude.{⊤}
 use Rattle.std.proofs.Common.{All, IfSome, ◌≡◌, refl, sym, ap, ◌∙◌, subst, ℕ, zero, suc, ◌+◌, ◌<◌, ◌≤◌, Bool, true, false, cond, List, [], ◌∷◌, ◌++◌, length, map, Option, Some, None, slice_get, arith}
 use Rattle.md_hlds.specs.declared.goal.PredName.{PredName}
-use Rattle.md_hlds.specs.HldsGoal.{HldsGoal, At, GoalExpr, SimpleGoal, CallGoal, HoCallGoal, ConjGoal, DisjGoal, IfGoal, NotGoal, SomeGoal, HldsGoals, nothing, also}
-use Rattle.md_hlds.specs.Hlds.{Hlds, Procedure, is_called, find_procedure, procedure_called, numbered, nth_procedure}
+use Rattle.md_hlds.specs.HldsGoal.{HldsGoal, At, GoalExpr, SimpleGoal, CallGoal, HoCallGoal, ConjGoal, DisjGoal, IfGoal, NotGoal, SomeGoal, HldsGoals, nothing, also, site_lines, expr_lines, goals_lines}
+use Rattle.md_hlds.specs.Hlds.{Hlds, Procedure, is_called, find_procedure, procedure_called, numbered, nth_procedure, owned_by, sites_from}
 use Rattle.md_hlds.specs.Run.{main_name}
 use Rattle.md_trace.specs.PortHistory.{CallSite, SiteTable, IsSiteTable}
 use Rattle.md_trace.proofs.Lists.{get-within}
 use Rattle.md_events.specs.Table.{number_of, goal_sites, expr_sites, goals_sites, clause_sites, program_sites, number_or_zero, site_alone, site_table, AreNumberedFrom, HasSites, HasMain}
-use Rattle.md_events.specs.Laws.{ProgramsHaveTables}
+use Rattle.md_events.specs.Laws.{ProgramsHaveTables, OwnersAgree, owner_of_site, owner_of_pair}
 use Rattle.md_events.proofs.Callers.{ArePlaced, placed_first, placed_second}
 use Rattle.md_events.proofs.TraceLaw.{IsTableOf}
 
@@ -117,6 +117,66 @@ callees_below : (n : ℕ) (xs : List (ℕ × CallSite)) → AreBelow n xs → Al
 callees_below n [] below k d lt = absurd (omega (arith, lt))
 callees_below n (x ∷ xs) below zero d lt = below.1
 callees_below n (x ∷ xs) below (suc k) d lt = callees_below n xs below.2 k d (omega (arith, lt))
+
+-- ---- owners
+
+-- so many of these
+abbrev copies : ℕ → List ℕ → List ℕ
+copies owner [] = []
+copies owner (line ∷ lines) = owner ∷ copies owner lines
+
+copies_append : (owner : ℕ) (xs ys : List ℕ) → copies owner (xs ++ ys) ≡ copies owner xs ++ copies owner ys
+copies_append owner [] ys = refl
+copies_append owner (x ∷ xs) ys = ap (λ zs. owner ∷ zs) (copies_append owner xs ys)
+
+copies_owned : (owner : ℕ) (lines : List ℕ) → map owner_of_pair (map (owned_by owner) lines) ≡ copies owner lines
+copies_owned owner [] = refl
+copies_owned owner (line ∷ lines) = ap (λ zs. owner ∷ zs) (copies_owned owner lines)
+
+-- the owners of sites that are named
+abbrev owners : List (ℕ × CallSite) → List ℕ
+owners xs = map owner_of_site (map site_alone xs)
+
+owners_append : (xs ys : List (ℕ × CallSite)) → owners (xs ++ ys) ≡ owners xs ++ owners ys
+owners_append [] ys = refl
+owners_append (x ∷ xs) ys = ap (λ zs. x.1.owner ∷ zs) (owners_append xs ys)
+
+both_owned : (owner : ℕ) (xs ys : List (ℕ × CallSite)) (us vs : List ℕ) → owners xs ≡ copies owner us → owners ys ≡ copies owner vs → owners (xs ++ ys) ≡ copies owner (us ++ vs)
+both_owned owner xs ys us vs p q = owners_append xs ys ∙ rw (p, q) (sym (copies_append owner us vs))
+
+mutual
+  owned_goal : (s : Hlds) (owner : ℕ) (g : HldsGoal) → owners (goal_sites s owner g) ≡ copies owner (site_lines g)
+  owned_goal s owner (At line x) = owned_expr s owner line x
+
+  owned_expr : (s : Hlds) (owner line : ℕ) (x : GoalExpr) → owners (expr_sites s owner x) ≡ copies owner (expr_lines line x)
+  owned_expr s owner line (SimpleGoal g) = refl
+  owned_expr s owner line (CallGoal site q ys) = refl
+  owned_expr s owner line (HoCallGoal site f ys) = refl
+  owned_expr s owner line (ConjGoal ps) = owned_goals s owner ps
+  owned_expr s owner line (DisjGoal ps) = owned_goals s owner ps
+  owned_expr s owner line (IfGoal c t e) =
+      both_owned owner (goal_sites s owner c) (goal_sites s owner t ++ goal_sites s owner e) (site_lines c) (site_lines t ++ site_lines e) (owned_goal s owner c)
+      (both_owned owner (goal_sites s owner t) (goal_sites s owner e) (site_lines t) (site_lines e) (owned_goal s owner t) (owned_goal s owner e))
+  owned_expr s owner line (NotGoal c) = owned_goal s owner c
+  owned_expr s owner line (SomeGoal vs c) = owned_goal s owner c
+
+  owned_goals : (s : Hlds) (owner : ℕ) (ps : HldsGoals) → owners (goals_sites s owner ps) ≡ copies owner (goals_lines ps)
+  owned_goals s owner nothing = refl
+  owned_goals s owner (also p ps) = both_owned owner (goal_sites s owner p) (goals_sites s owner ps) (site_lines p) (goals_lines ps) (owned_goal s owner p) (owned_goals s owner ps)
+
+pairs_append : (xs ys : List (ℕ × ℕ)) → map owner_of_pair (xs ++ ys) ≡ map owner_of_pair xs ++ map owner_of_pair ys
+pairs_append [] ys = refl
+pairs_append (x ∷ xs) ys = ap (λ zs. x.0 ∷ zs) (pairs_append xs ys)
+
+owned_clauses : (s : Hlds) (n : ℕ) (ps : List Procedure) → owners (clause_sites s n ps) ≡ map owner_of_pair (sites_from n ps)
+owned_clauses s n [] = refl
+owned_clauses s n (p ∷ ps) =
+    owners_append (goal_sites s n p.body) (clause_sites s (suc n) ps)
+    ∙ rw (owned_goal s n p.body, owned_clauses s (suc n) ps)
+    (rw (pairs_append (map (owned_by n) (site_lines p.body)) (sites_from (suc n) ps), copies_owned n (site_lines p.body)) refl)
+
+pub owners_agree : OwnersAgree
+owners_agree s = owned_clauses s 0 s.procedures
 
 -- main's number in the table
 pub main_in_table : (s : Hlds) (main : HasMain s) → (site_table s).main ≡ main.number

@@ -1,9 +1,9 @@
 -- What holds of the events of every run.
-use Rattle.std.specs.Prelude.{◌≡◌, ℕ, ◌<◌, ◌^◌, Bool, true, List, [], ◌∷◌, ◌++◌, map, None}
-use Rattle.md_hlds.specs.Hlds.{Hlds}
+use Rattle.std.specs.Prelude.{◌≡◌, ℕ, ◌<◌, ◌^◌, true, List, ◌++◌, map, None}
+use Rattle.md_hlds.specs.Hlds.{Hlds, sites_of}
 use Rattle.md_hlds.specs.Trace.{Items}
 use Rattle.md_hlds.specs.Run.{run, events, is_finished, is_thrown}
-use Rattle.md_trace.specs.PortHistory.{SiteTable, IsSiteTable, IsPortHistory, current}
+use Rattle.md_trace.specs.PortHistory.{CallSite, IsSiteTable, IsPortHistory, current}
 use Rattle.md_events.specs.History.{history, call_count}
 use Rattle.md_events.specs.Table.{site_table, HasSites, HasMain}
 
@@ -16,6 +16,17 @@ pub record IsWithinBounds (s : Hlds) (budget : ℕ) : Type 0 where
 -- the site table of a program with a main is a site table
 abbrev pub ProgramsHaveTables : Type 0
 ProgramsHaveTables = (s : Hlds) → HasMain s → IsSiteTable (site_table s)
+
+-- the owners of a table's sites, and of a program's, which has the line of each beside it
+abbrev pub owner_of_site : CallSite → ℕ
+owner_of_site x = x.owner
+
+abbrev pub owner_of_pair : ℕ × ℕ → ℕ
+owner_of_pair x = x.0
+
+-- the sites of the table have the owners that the program's call sites have, in text order
+abbrev pub OwnersAgree : Type 0
+OwnersAgree = (s : Hlds) → map owner_of_site (site_table s).sites ≡ map owner_of_pair (sites_of s)
 
 -- the events of a run are a port history over its program's site table
 abbrev pub RunsAreHistories : Type 0

@@ -1,0 +1,39 @@
+// The laws of a run's events. Each is the contract of a function that does nothing.
+ghost use Rattle.md_events.specs.Laws.{ProgramsHaveTables, OwnersAgree, RunsAreHistories, FrontsAreHistories, EndedRunsAreLeft, CallsAreFew, EventsAreTold};
+
+/// The site table of a program that declares a main is a site table: each procedure that it names is one of the
+/// program's.
+pub fn programs_have_tables()
+    ensures { ProgramsHaveTables }
+{}
+
+/// The sites of the table have the owners that the call sites of the program have.
+pub fn owners_agree()
+    ensures { OwnersAgree }
+{}
+
+/// Of a program whose goals name its call sites in text order, run within a budget below 2 ^ 32, the events are a port
+/// history over its site table.
+pub fn runs_are_histories()
+    ensures { RunsAreHistories }
+{}
+
+/// So are the events of each front of such a run.
+pub fn fronts_are_histories()
+    ensures { FrontsAreHistories }
+{}
+
+/// After such a run, where it is finished or thrown, nothing runs.
+pub fn ended_runs_are_left()
+    ensures { EndedRunsAreLeft }
+{}
+
+/// Such a run has fewer than 4,294,967,295 calls.
+pub fn calls_are_few()
+    ensures { CallsAreFew }
+{}
+
+/// What is unfolded and written doesn't count: the history of items is that of their events.
+pub fn events_are_told()
+    ensures { EventsAreTold }
+{}
