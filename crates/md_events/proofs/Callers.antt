@@ -123,8 +123,9 @@ pub leaves_excps : (s : Hlds) (t : SiteTable) (outer : Option ℕ) (out : Then) 
     → Leaves t out l i (excps js)
 leaves_excps s t outer out those [] a left h l i c below later cover outs = outs l i (later_as later c)
 leaves_excps s t outer out those (f ∷ js) a left h l i c below later cover outs =
-    let older : f.act < count h = omega (arith, below, c.1) in
-    (later.runs ∙ c.0,
-    leaves_excps s t outer out those js f.act left h l (ExcpOf f.act ∷ i) c.3 older
-    (later_as (later_excp f.act later (λ b old out. (cover b out).0)) (same_parent f.act later older))
-    (λ b out. (cover b out).1) outs)
+    let older : f.act < count h = omega (arith, below, c.1) in (
+      later.runs ∙ c.0,
+      leaves_excps s t outer out those js f.act left h l (ExcpOf f.act ∷ i) c.3 older
+          (later_as (later_excp f.act later (λ b old out. (cover b out).0)) (same_parent f.act later older))
+          (λ b out. (cover b out).1) outs,
+    )

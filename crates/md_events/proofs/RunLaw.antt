@@ -119,22 +119,23 @@ begun m = CallOf 0 None None m ∷ []
 
 legal_main : (s : Hlds) (t : SiteTable) (b m : ℕ) (p : Procedure) → IsTableOf s t → t.main ≡ m → slice_get s.procedures m ≡ Some p → 0 < length p.vars → b < 2 ^ 32
     → Legal t b [] (main_items s b (m, p))
-legal_main s t b m p table main is variable small = λ fits.
-    ((refl, omega arith, refl, (refl, sym main)),
-    legal_first t won lost (trace s b (main_frame s (m, p)) [] 1) 1 (b - call_weight p) (begun m) refl
-    (goes_trace s t table b m (main_frame s (m, p)) [] None _ _ _ (b - call_weight p) (begun m)
-    (record {
-      now = refl;
-      its = refl;
-      sited = (table.clauses m p is, tt);
-      callers = refl;
-      room = omega (arith, small, variable);
-      ends = record {
-        answers = λ e l i later. (later.runs, same_parent 0 later (omega arith));
-        ends = λ l i later. (later.runs, tt);
-        outs = λ l i later. later.runs;
-      };
-    })))
+legal_main s t b m p table main is variable small = λ fits. (
+  (refl, omega arith, refl, (refl, sym main)),
+  legal_first t won lost (trace s b (main_frame s (m, p)) [] 1) 1 (b - call_weight p) (begun m) refl
+      (goes_trace s t table b m (main_frame s (m, p)) [] None _ _ _ (b - call_weight p) (begun m)
+      (record {
+        now = refl;
+        its = refl;
+        sited = (table.clauses m p is, tt);
+        callers = refl;
+        room = omega (arith, small, variable);
+        ends = record {
+          answers = λ e l i later. (later.runs, same_parent 0 later (omega arith));
+          ends = λ l i later. (later.runs, tt);
+          outs = λ l i later. later.runs;
+        };
+      })),
+)
 
 stand_main : (s : Hlds) (b : ℕ) (main : HasMain s) (o : Option (ℕ × Procedure)) → o ≡ Some (main.number, main.procedure) → HasSites s → b < 2 ^ 32
     → Stand (site_table s) [] (run_main s b o)

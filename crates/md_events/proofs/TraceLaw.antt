@@ -68,10 +68,11 @@ module _ (s : Hlds) (t : SiteTable) (table : IsTableOf s t) (go : Does) (claim :
       (subst (λ m. Goes t good over out (left - suc extra) i (go (knowing f e goals) js m)) same (claim q (knowing f e goals) js outer good over out (left - suc extra) i k)))
   goes_simple q f n goals js outer good over out left h (No extra) j = λ fits. j.ends.ends (left - suc extra) h (later_now _ _ left (left - suc extra) h j.now (omega arith))
   goes_simple q f n goals js outer good over out left h (Throws bytes) j = λ fits.
-      let now = later_now (f.act ∷ acts js) (Some f.act) left (left - 1) h j.now (omega arith) in
-      (j.now,
-      leaves_excps s t outer out (f.act ∷ acts js) js f.act left h (left - 1) (ExcpOf f.act ∷ h) j.callers (job_below j)
-      (later_excp f.act now (λ b below outside. outside.0)) (λ b outside. outside.1) j.ends.outs)
+      let now = later_now (f.act ∷ acts js) (Some f.act) left (left - 1) h j.now (omega arith) in (
+        j.now,
+        leaves_excps s t outer out (f.act ∷ acts js) js f.act left h (left - 1) (ExcpOf f.act ∷ h) j.callers (job_below j)
+            (later_excp f.act now (λ b below outside. outside.0)) (λ b outside. outside.1) j.ends.outs,
+      )
   goes_simple q f n goals js outer good over out left h Stop j = λ fits. tt
 
   -- ---- goals that are run by themselves, up to their first answer
@@ -182,9 +183,12 @@ module _ (s : Hlds) (t : SiteTable) (table : IsTableOf s t) (go : Does) (claim :
     since = later_called q caller caller.goals js outer good over out left w h site r j fits
 
     callers_after : AreCallers s t (activations after) outer (count h) (caller ∷ js)
-    callers_after =
-        (new_parent h (Some caller.act) (Some site) r, job_below j, (q, same_procedure caller.act since (job_below j) ∙ j.its, j.sited),
-        callers_later s t outer js caller.act since (job_below j) j.callers)
+    callers_after = (
+      new_parent h (Some caller.act) (Some site) r,
+      job_below j,
+      (q, same_procedure caller.act since (job_below j) ∙ j.its, j.sited),
+      callers_later s t outer js caller.act since (job_below j) j.callers,
+    )
 
     -- the new activation leaves, and its caller runs again
     inside_new : Inside (count h) (caller.act ∷ acts js) h
@@ -209,11 +213,12 @@ module _ (s : Hlds) (t : SiteTable) (table : IsTableOf s t) (go : Does) (claim :
           callers = new_parent h (Some caller.act) (Some site) r;
           room = omega (arith, j.room, fits);
           ends = record {
-            answers = λ a l i later.
-                (later.runs,
-                claim q (knowing caller (back pairs a caller.env) caller.goals) js outer good over out l (ExitOf (count h) ∷ i)
-                (job_later j caller.goals l (ExitOf (count h) ∷ i) j.sited
-                (later_as (later_exit (count h) (later_then since alone_cover later) inside_new) (leaves_new _ l i later))));
+            answers = λ a l i later. (
+              later.runs,
+              claim q (knowing caller (back pairs a caller.env) caller.goals) js outer good over out l (ExitOf (count h) ∷ i)
+                  (job_later j caller.goals l (ExitOf (count h) ∷ i) j.sited
+                  (later_as (later_exit (count h) (later_then since alone_cover later) inside_new) (leaves_new _ l i later))),
+            );
             ends = λ l i later.
                 (later.runs, j.ends.ends l (FailOf (count h) ∷ i) (later_as (later_fail (count h) (later_then since alone_cover later) inside_new) (leaves_new _ l i later)));
             outs = λ l i later.
@@ -257,10 +262,11 @@ module _ (s : Hlds) (t : SiteTable) (table : IsTableOf s t) (go : Does) (claim :
       → Job s t q f.act goals js outer good over out left h → MayBeCalled q site r
       → Goes t good over out left h (call_if s go f n goals js (count h) site r vs ys right)
   goes_call q f n goals js outer good over out left h site r vs ys false j may = λ fits. tt
-  goes_call q f n goals js outer good over out left h site r vs ys true j may = λ fits.
-      ((refl, omega (arith, j.room, fits), sym j.now, subst (λ o. IsSomeAnd (slice_get t.sites site) (MayCallAt t o r.0)) (sym j.its) may.here),
-      goes_body q (doing f goals) js outer good over out left (length r.1.vars + site_count r.1.body) h site r.0 (entered r.1 vs ys f.env) _ (pairs_of (without vs r.1.head) ys) j fits
-      (table.clauses r.0 r.1 may.found, tt) r.1.det)
+  goes_call q f n goals js outer good over out left h site r vs ys true j may = λ fits. (
+    (refl, omega (arith, j.room, fits), sym j.now, subst (λ o. IsSomeAnd (slice_get t.sites site) (MayCallAt t o r.0)) (sym j.its) may.here),
+    goes_body q (doing f goals) js outer good over out left (length r.1.vars + site_count r.1.body) h site r.0 (entered r.1 vs ys f.env) _ (pairs_of (without vs r.1.head) ys) j fits
+        (table.clauses r.0 r.1 may.found, tt) r.1.det,
+  )
 
   goes_invoked : (q : ℕ) (f : Frame) (n : ℕ) (goals : List Numbered) (js : List Frame) (outer : Option ℕ) (good : AtAnswer) (over out : Then) (left : ℕ) (h : List Event) (site : ℕ) (o : Option (ℕ × Procedure)) (vs : List Value) (ys : List ℕ)
       → Job s t q f.act goals js outer good over out left h → ((r : ℕ × Procedure) → o ≡ Some r → MayBeCalled q site r)
@@ -334,26 +340,30 @@ goes_returns s t next claim [] f [] q outer good over out left h j = j.ends.answ
 goes_returns s t next claim (c ∷ js) f [] q outer good over out left h j =
     let those : List ℕ = f.act ∷ c.act ∷ acts js in
     let since : Later those (Some c.act) left h left (ExitOf f.act ∷ h) =
-        later_as (later_exit f.act (later_now those (Some f.act) left left h j.now (omega arith)) (λ b below outside. outside.0)) j.callers.0 in
-    let caller : Frame = knowing c (back f.pairs f.env c.env) c.goals in
-    (j.now,
-    goes_joined t good over out (λ n. Redo f.act ∷ []) (returns next js caller c.goals (count h)) (count h) left (ExitOf f.act ∷ h) refl
-    (goes_returns s t next claim js caller c.goals j.callers.2.0 outer good _ out left (ExitOf f.act ∷ h)
-    (record {
-      now = j.callers.0;
-      its = j.callers.2.1;
-      sited = j.callers.2.2;
-      callers = j.callers.3;
-      room = j.room;
-      ends = record {
-        answers = λ e l i later. j.ends.answers e l i (later_then since (λ b below outside. outside.1) later);
-        ends = λ l i later.
-            ((later.still f.act (job_below j) (outside_callers s t (activations h) outer f.act f.act (c ∷ js) (omega arith) j.callers) ∙ rw (eq-eqb f.act f.act refl) refl,
-            same_parent f.act later (job_below j) ∙ j.callers.0 ∙ sym later.runs),
-            j.ends.ends l (RedoOf f.act ∷ i) (later_redo f.act (later_then since (λ b below outside. outside.1) later) (λ b below outside. outside.0)));
-        outs = λ l i later. j.ends.outs l i (later_then since (λ b below outside. outside.1) later);
-      };
-    })))
+    later_as (later_exit f.act (later_now those (Some f.act) left left h j.now (omega arith)) (λ b below outside. outside.0)) j.callers.0 in
+    let caller : Frame = knowing c (back f.pairs f.env c.env) c.goals in (
+      j.now,
+      goes_joined t good over out (λ n. Redo f.act ∷ []) (returns next js caller c.goals (count h)) (count h) left (ExitOf f.act ∷ h) refl
+          (goes_returns s t next claim js caller c.goals j.callers.2.0 outer good _ out left (ExitOf f.act ∷ h)
+          (record {
+            now = j.callers.0;
+            its = j.callers.2.1;
+            sited = j.callers.2.2;
+            callers = j.callers.3;
+            room = j.room;
+            ends = record {
+              answers = λ e l i later. j.ends.answers e l i (later_then since (λ b below outside. outside.1) later);
+              ends = λ l i later. (
+                (
+                  later.still f.act (job_below j) (outside_callers s t (activations h) outer f.act f.act (c ∷ js) (omega arith) j.callers) ∙ rw (eq-eqb f.act f.act refl) refl,
+                  same_parent f.act later (job_below j) ∙ j.callers.0 ∙ sym later.runs,
+                ),
+                j.ends.ends l (RedoOf f.act ∷ i) (later_redo f.act (later_then since (λ b below outside. outside.1) later) (λ b below outside. outside.0)),
+              );
+              outs = λ l i later. j.ends.outs l i (later_then since (λ b below outside. outside.1) later);
+            };
+          })),
+    )
 
 -- the trace of a job to any depth
 pub goes_trace : (s : Hlds) (t : SiteTable) → IsTableOf s t → (depth : ℕ) → Claim s t (λ f js k. trace s depth f js k)

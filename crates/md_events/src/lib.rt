@@ -4,4 +4,7 @@
 
 mod laws;
 
-pub use laws::{calls_are_few, ended_runs_are_left, events_are_told, fronts_are_histories, owners_agree, programs_have_tables, runs_are_histories};
+pub use laws::{
+    calls_are_few, ended_runs_are_left, events_are_told, fronts_are_histories, owners_agree,
+    programs_have_tables, runs_are_histories,
+};
