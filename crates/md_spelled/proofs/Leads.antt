@@ -115,9 +115,10 @@ taken_name text x i j is =
     elim (chosen (nat_lt i.limits.items (length text)) (limit i) (Ok (text, next i)) (Ok (x, j)) is) [
       | inl l ↦ absurd (let e = l.1 in cc)
       | inr r ↦
-          let same : text ≡ x = ok_value text x (next i) j r.1 in
-          (subst (λ (m : Input). Steady i m) (ok_input text x (next i) j r.1) (to_next i),
-          subst (λ (y : List ℕ). length y ≤ i.limits.items) same (ltb-false i.limits.items (length text) r.0))
+          let same : text ≡ x = ok_value text x (next i) j r.1 in (
+            subst (λ (m : Input). Steady i m) (ok_input text x (next i) j r.1) (to_next i),
+            subst (λ (y : List ℕ). length y ≤ i.limits.items) same (ltb-false i.limits.items (length text) r.0),
+          )
     ]
 
 pub name_is : (x : List ℕ) (i j : Input) → Is name x i j → Steady i j × (length x ≤ i.limits.items)
@@ -160,10 +161,11 @@ taken_written (Some w) q i j is =
     elim (chosen (rule.is_long i.limits.items w) (limit i) (Ok (rule.meant i.home w, next i)) (Ok (q, j)) is) [
       | inl l ↦ absurd (let e = l.1 in cc)
       | inr r ↦
-          let parts = short_parts i.limits.items w r.0 in
-          (subst (λ (m : Input). Steady i m) (ok_input (rule.meant i.home w) q (next i) j r.1) (to_next i),
-          subst (λ (n : PredName). ShortName i n) (ok_value (rule.meant i.home w) q (next i) j r.1)
-          (parts.0, short_away i.limits.items i.home w.qualifier parts.1))
+          let parts = short_parts i.limits.items w r.0 in (
+            subst (λ (m : Input). Steady i m) (ok_input (rule.meant i.home w) q (next i) j r.1) (to_next i),
+            subst (λ (n : PredName). ShortName i n) (ok_value (rule.meant i.home w) q (next i) j r.1)
+                (parts.0, short_away i.limits.items i.home w.qualifier parts.1),
+          )
     ]
 
 pub pred_name_is : (q : PredName) (i j : Input) → Is rule.pred_name q i j → Steady i j × ShortName i q
