@@ -74,7 +74,7 @@ before {i = i} {k = k} {xs = xs} {gs = gs} a b =
 
 -- ---- one token
 
-lines_behind : (ts : List Lexeme) → HaveLines ts → HaveLines (drop 1 ts)
+pub lines_behind : (ts : List Lexeme) → HaveLines ts → HaveLines (drop 1 ts)
 lines_behind [] l = tt
 lines_behind (t ∷ ts) l = l.1
 
@@ -109,7 +109,7 @@ line_at k i is not_stop l = line_by i.rest (ap (λ (x : Kind). same_kind x kind.
 
 -- ---- names
 
-taken_name : (text : List ℕ) (x : List ℕ) (i j : Input) → take_name text i ≡ Ok (x, j) → Steady i j × (length x ≤ i.limits.items)
+pub taken_name : (text : List ℕ) (x : List ℕ) (i j : Input) → take_name text i ≡ Ok (x, j) → Steady i j × (length x ≤ i.limits.items)
 unfolding take_name
 taken_name text x i j is =
     elim (chosen (nat_lt i.limits.items (length text)) (limit i) (Ok (text, next i)) (Ok (x, j)) is) [
