@@ -24,7 +24,7 @@ around line x has l = record { limits = l.limits; numbers = l.numbers; sites = l
 pub line_expected : (k : Kind) (line : ℕ) (i j : Input) → Is (expect k) line i j → same_kind k kind.Stop ≡ false → HaveLines i.rest → 1 ≤ line
 line_expected k line i j is not_stop h = subst (λ (n : ℕ). 1 ≤ n) (expected_line k line i j is) (line_at k i (expected k line i j is).is not_stop h)
 
-named_line : (i : Input) → (kind_at i ≡ kind.Name) ⊎ (kind_at i ≡ kind.Qualified) → HaveLines i.rest → 1 ≤ (token i).line
+pub named_line : (i : Input) → (kind_at i ≡ kind.Name) ⊎ (kind_at i ≡ kind.Qualified) → HaveLines i.rest → 1 ≤ (token i).line
 unfolding same_kind
 named_line i (inl is) h = line_at kind.Name i is refl h
 named_line i (inr is) h = line_at kind.Qualified i is refl h

@@ -1,3 +1,4 @@
 pub mod Leads
 pub mod LeadsGoals
+pub mod LeadsPrograms
 pub mod LeadsTerms
