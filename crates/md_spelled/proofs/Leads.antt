@@ -1,7 +1,7 @@
 -- What the steps of the grammar do to the place: the limits stay, call sites get the next numbers, and every token has a
 -- line.
 use Rattle.std.specs.Prelude.{⊤}
-use Rattle.std.proofs.Common.{◌≡◌, refl, sym, ap, ◌∙◌, subst, ℕ, zero, suc, ◌+◌, ◌<◌, ◌≤◌, Bool, true, false, cond, not, ◌&&◌, ◌||◌, nat_lt, ◌==◌, List, [], ◌∷◌, ◌++◌, length, drop, Option, Some, None, IfSome, Ok, Err, ◌⊎◌, inl, inr, arith, append-nil, append_assoc, length-append}
+use Rattle.std.proofs.Common.{◌≡◌, refl, sym, ap, ◌∙◌, subst, ℕ, suc, ◌+◌, ◌<◌, ◌≤◌, Bool, true, false, cond, not, ◌||◌, nat_lt, ◌==◌, List, [], ◌∷◌, ◌++◌, length, drop, Option, Some, None, IfSome, Ok, ◌⊎◌, inl, inr, arith, append-nil, length-append}
 use Rattle.std.proofs.lemmas.Bool.{ltb-false}
 use Rattle.std.specs.List.{list_any}
 use Rattle.std.specs.Prelude.{unwrap_or}
@@ -10,14 +10,13 @@ use Rattle.md_hlds.specs.declared.types.Mode.{Mode}
 use Rattle.md_hlds.specs.declared.types.Det.{Det}
 use Rattle.md_hlds.specs.declared.goal.PredName.{PredName}
 use Rattle.md_hlds.specs.HldsGoal.{HldsGoal, At}
-use Rattle.md_hlds.specs.Hlds.{Hlds, HldsType}
 use Rattle.md_token.specs.declared.kind.Kind.{Kind}
 use Rattle.md_token.specs.declared.kind.Kind.TheVariants as kind
 use Rattle.md_token.specs.Kinds.{same_kind}
 use Rattle.md_token.specs.Token.{Lexeme}
-use Rattle.md_reader.specs.Input.{Input, Parser, Outcome, pure, refuse, limit, first, token, kind_at, sees, next, place, expect, take_name, name, word, variable, place_of, with_variable, site}
+use Rattle.md_reader.specs.Input.{Input, refuse, limit, first, token, kind_at, sees, next, expect, take_name, name, word, variable, place_of, with_variable, site}
 use Rattle.md_reader.specs.Rules as rule
-use Rattle.md_reader.specs.Grammar.{Is, Sign, Listed, last, also, Enclosed, enclosed}
+use Rattle.md_reader.specs.Grammar.{Is, Sign}
 use Rattle.md_reader.proofs.Steps.{chosen, ok_input, ok_value, past_three}
 use Rattle.md_reader.proofs.Taking.{Taken, signed, expected, word_behind}
 use Rattle.md_trace.specs.PortHistory.{CallSite}
@@ -115,9 +114,10 @@ taken_name text x i j is =
     elim (chosen (nat_lt i.limits.items (length text)) (limit i) (Ok (text, next i)) (Ok (x, j)) is) [
       | inl l ↦ absurd (let e = l.1 in cc)
       | inr r ↦
-          let same : text ≡ x = ok_value text x (next i) j r.1 in
-          (subst (λ (m : Input). Steady i m) (ok_input text x (next i) j r.1) (to_next i),
-          subst (λ (y : List ℕ). length y ≤ i.limits.items) same (ltb-false i.limits.items (length text) r.0))
+          let same : text ≡ x = ok_value text x (next i) j r.1 in (
+            subst (λ (m : Input). Steady i m) (ok_input text x (next i) j r.1) (to_next i),
+            subst (λ (y : List ℕ). length y ≤ i.limits.items) same (ltb-false i.limits.items (length text) r.0),
+          )
     ]
 
 pub name_is : (x : List ℕ) (i j : Input) → Is name x i j → Steady i j × (length x ≤ i.limits.items)
@@ -160,10 +160,11 @@ taken_written (Some w) q i j is =
     elim (chosen (rule.is_long i.limits.items w) (limit i) (Ok (rule.meant i.home w, next i)) (Ok (q, j)) is) [
       | inl l ↦ absurd (let e = l.1 in cc)
       | inr r ↦
-          let parts = short_parts i.limits.items w r.0 in
-          (subst (λ (m : Input). Steady i m) (ok_input (rule.meant i.home w) q (next i) j r.1) (to_next i),
-          subst (λ (n : PredName). ShortName i n) (ok_value (rule.meant i.home w) q (next i) j r.1)
-          (parts.0, short_away i.limits.items i.home w.qualifier parts.1))
+          let parts = short_parts i.limits.items w r.0 in (
+            subst (λ (m : Input). Steady i m) (ok_input (rule.meant i.home w) q (next i) j r.1) (to_next i),
+            subst (λ (n : PredName). ShortName i n) (ok_value (rule.meant i.home w) q (next i) j r.1)
+                (parts.0, short_away i.limits.items i.home w.qualifier parts.1),
+          )
     ]
 
 pub pred_name_is : (q : PredName) (i j : Input) → Is rule.pred_name q i j → Steady i j × ShortName i q

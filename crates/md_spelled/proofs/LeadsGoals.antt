@@ -1,7 +1,6 @@
 -- Goals and conjunctions: the call sites of a goal get the next numbers, in text order, and each goal within it has a line.
-use Rattle.std.specs.Prelude.{⊤}
-use Rattle.std.proofs.Common.{◌≡◌, refl, sym, ap, ◌∙◌, subst, ℕ, zero, suc, ◌+◌, ◌<◌, ◌≤◌, Bool, true, false, List, [], ◌∷◌, ◌++◌, length, ◌⊎◌, inl, inr, arith, append-nil}
-use Rattle.md_hlds.specs.HldsGoal.{HldsGoal, At, GoalExpr, SimpleGoal, ConjGoal, DisjGoal, IfGoal, NotGoal, SomeGoal, gathered, goals_within, goals_below, goals_among}
+use Rattle.std.proofs.Common.{◌≡◌, refl, sym, subst, ℕ, ◌<◌, ◌≤◌, false, List, [], ◌∷◌, ◌++◌, length, ◌⊎◌, inl, inr, arith, append-nil}
+use Rattle.md_hlds.specs.HldsGoal.{HldsGoal, At, GoalExpr, ConjGoal, gathered, goals_within, goals_among}
 use Rattle.md_hlds.specs.Hlds.{Hlds}
 use Rattle.md_token.specs.declared.kind.Kind.{Kind}
 use Rattle.md_token.specs.declared.kind.Kind.TheVariants as kind
@@ -12,8 +11,8 @@ use Rattle.md_reader.specs.Grammar as g
 use Rattle.md_reader.specs.Grammar.{Is, Sign, Goal, Units, Conjunction, Arms}
 use Rattle.md_reader.proofs.Taking.{expected, expected_line}
 use Rattle.md_trace.specs.PortHistory.{CallSite}
-use Rattle.md_events.specs.Table.{goal_sites, expr_sites, goals_sites}
-use Rattle.md_spelled.proofs.Leads.{HaveLines, AreLined, Leads, Steady, leads_then, after, before, sign_steady, expect_steady, line_at}
+use Rattle.md_events.specs.Table.{goal_sites, goals_sites}
+use Rattle.md_spelled.proofs.Leads.{HaveLines, AreLined, Leads, leads_then, after, before, sign_steady, expect_steady, line_at}
 use Rattle.md_spelled.proofs.LeadsTerms.{quantified_steady, relation_is, plain_leads, call_leads, closure_call_leads, call_kind, closure_call_kind}
 
 -- a goal around goals
@@ -65,6 +64,7 @@ module _ (s : Hlds) (owner : ℕ) where
 
   mutual
     unfolding same_kind
+
     pub goal_leads : (room : ℕ) (p : HldsGoal) (i j : Input) → Goal room p i j → GoalLeads p i j
     goal_leads _ _ _ _ (g.Goal.true room line i j is) = around line _ (line_expected kind.True line i j is refl) (expect_steady kind.True line i j is)
     goal_leads _ _ _ _ (g.Goal.fail room line i j is) = around line _ (line_expected kind.Fail line i j is refl) (expect_steady kind.Fail line i j is)

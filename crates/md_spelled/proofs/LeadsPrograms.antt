@@ -1,23 +1,22 @@
 -- Declarations, clauses and programs: their call sites have the numbers from 0 on, their lines count from 1, and their names
 -- and lists of arguments are within the limits.
 use Rattle.std.specs.Prelude.{⊤}
-use Rattle.std.proofs.Common.{All, IfSome, ◌≡◌, refl, sym, ap, ◌∙◌, subst, ℕ, zero, suc, ◌+◌, ◌<◌, ◌≤◌, Bool, true, false, List, [], ◌∷◌, ◌++◌, length, Option, Some, None, Ok, ◌⊎◌, inl, inr, arith, append-nil, append_assoc, length-append}
+use Rattle.std.proofs.Common.{All, IfSome, ◌≡◌, refl, sym, ap, ◌∙◌, subst, ℕ, zero, suc, ◌+◌, ◌<◌, ◌≤◌, List, [], ◌∷◌, ◌++◌, length, arith, append-nil, append_assoc, length-append}
 use Rattle.md_hlds.specs.declared.types.Mode.{Mode}
 use Rattle.md_hlds.specs.declared.types.Det.{Det}
-use Rattle.md_hlds.specs.HldsGoal.{HldsGoal, At, goals_within}
+use Rattle.md_hlds.specs.HldsGoal.{goals_within}
 use Rattle.md_hlds.specs.Hlds.{Hlds, HldsType, HldsFunctor, HldsTypeDef, Procedure, clause_goals}
 use Rattle.md_token.specs.declared.kind.Kind.{Kind}
 use Rattle.md_token.specs.declared.kind.Kind.TheVariants as kind
 use Rattle.md_token.specs.Kinds.{same_kind}
-use Rattle.md_reader.specs.Input.{Input, Limits, standard, token, kind_at, expect, variable, end_clause}
+use Rattle.md_reader.specs.Input.{Input, Limits, standard, variable, end_clause}
 use Rattle.md_reader.specs.Rules as rule
 use Rattle.md_reader.specs.Grammar as g
 use Rattle.md_reader.specs.Grammar.{Is, Sign, Listed, last, also, Enclosed, FunctorArguments, Functor, functor, TypeDeclaration, type_declaration, Inst, inst, Argument, DeclaredArguments, PredDeclaration, pred_declaration, Head, PredClause, pred_clause, Declared, Declarations, Program, program}
 use Rattle.md_reader.proofs.Steps.{ok_input, ok_value}
-use Rattle.md_trace.specs.PortHistory.{CallSite}
 use Rattle.md_events.specs.Table.{AreNumberedFrom, goal_sites, clause_sites}
 use Rattle.md_spelled.specs.Bounds.{IsShortFunctor, IsShortType, IsShort}
-use Rattle.md_spelled.proofs.Leads.{HaveLines, AreLined, lined_append, numbered_append, Leads, Steady, after, before, to_same, sign_steady, expect_steady, word_steady, line_at, name_is, ShortName, declared_name_is, this_name_is, variable_is, variable_steady, mode_steady, ho_mode_steady, determinism_steady}
+use Rattle.md_spelled.proofs.Leads.{HaveLines, AreLined, lined_append, numbered_append, Leads, Steady, after, before, to_same, sign_steady, expect_steady, word_steady, name_is, declared_name_is, this_name_is, variable_is, variable_steady, mode_steady, ho_mode_steady, determinism_steady}
 use Rattle.md_spelled.proofs.LeadsTerms.{simple_type_steady, type_name_is, module_name_is, listed_steady, enclosed_steady}
 use Rattle.md_spelled.proofs.LeadsGoals.{line_expected, named_line, conjunction_is}
 
@@ -75,13 +74,14 @@ type_is line _ _ _ limits (type_declaration t fs at i j k m n o word' is yields 
     let c = sign_steady kind.Yields k m yields in
     let d = listed_steady Functor kind.Semicolon (λ x i j is. (functor_is x i j is).0) fs m n listed in
     let at_name : j.limits ≡ standard = a.limits ∙ limits in
-    let at_functors : m.limits ≡ standard = c.limits ∙ b.0.limits ∙ at_name in
-    (after a (after b.0 (after c (after d (sign_steady kind.End n o end)))),
-    refl,
-    record {
-      name = subst (λ (l : Limits). length t ≤ l.items) at_name b.1;
-      functors = all_of IsShortFunctor fs (short_functors fs (subst (λ (l : Limits). Every (ShortFunctor l) fs) at_functors (listed_every Functor kind.Semicolon ShortFunctor functor_is fs m n listed)));
-    })
+    let at_functors : m.limits ≡ standard = c.limits ∙ b.0.limits ∙ at_name in (
+      after a (after b.0 (after c (after d (sign_steady kind.End n o end)))),
+      refl,
+      record {
+        name = subst (λ (l : Limits). length t ≤ l.items) at_name b.1;
+        functors = all_of IsShortFunctor fs (short_functors fs (subst (λ (l : Limits). Every (ShortFunctor l) fs) at_functors (listed_every Functor kind.Semicolon ShortFunctor functor_is fs m n listed)));
+      },
+    )
 
 -- ---- predicates
 
@@ -119,13 +119,14 @@ declaration_is _ _ _ limits (pred_declaration q args d i j k l m n o pred is dec
     let b = declared_name_is q j k is in
     let c = declared_arguments_are args k l declared in
     let at_name : j.limits ≡ standard = a.limits ∙ limits in
-    let at_args : k.limits ≡ standard = b.0.limits ∙ at_name in
-    (after a (after b.0 (after c.0 (after (sign_steady kind.Is l m is') (after (determinism_steady d m n det) (sign_steady kind.End n o end))))),
-    record {
-      name = subst (λ (x : Limits). length q.name ≤ x.items) at_name b.1.0;
-      qualifier = subst (λ (x : Limits). IfSome q.qualifier (λ m. length m ≤ x.items)) at_name b.1.1;
-      args = subst (λ (x : Limits). length args ≤ x.items) at_args c.1;
-    })
+    let at_args : k.limits ≡ standard = b.0.limits ∙ at_name in (
+      after a (after b.0 (after c.0 (after (sign_steady kind.Is l m is') (after (determinism_steady d m n det) (sign_steady kind.End n o end))))),
+      record {
+        name = subst (λ (x : Limits). length q.name ≤ x.items) at_name b.1.0;
+        qualifier = subst (λ (x : Limits). IfSome q.qualifier (λ m. length m ≤ x.items)) at_name b.1.1;
+        args = subst (λ (x : Limits). length args ≤ x.items) at_args c.1;
+      },
+    )
 
 -- ---- clauses
 
@@ -137,10 +138,11 @@ some_listed _ _ _ (also x xs i j k m is mark rest) = some_listed xs k m rest
 head_is : (arity : ℕ) (xs : List ℕ) (i j : Input) → Head arity xs i j → Steady i j × (length xs ≡ arity) × (0 < arity → 0 < length j.vars)
 head_is _ _ _ _ (g.Head.none i) = (to_same i i refl, refl, λ some. absurd (omega (arith, some)))
 head_is _ _ _ _ (g.Head.some xs i j k l opening is new closing) =
-    let c = sign_steady kind.Close k l closing in
-    (after (sign_steady kind.Open i j opening) (after (listed_steady (Is (variable [])) kind.Comma (variable_steady []) xs j k is) c),
-    refl,
-    λ some. c.vars (some_listed xs j k is))
+    let c = sign_steady kind.Close k l closing in (
+      after (sign_steady kind.Open i j opening) (after (listed_steady (Is (variable [])) kind.Comma (variable_steady []) xs j k is) c),
+      refl,
+      λ some. c.vars (some_listed xs j k is),
+    )
 
 -- a clause: its goals up to a place, behind which the next clause begins without variables
 record ReadsClause (s : Hlds) (owner arity : ℕ) (c : rule.Clause) (i j : Input) : Type 0 where
@@ -238,13 +240,15 @@ declared_is s before' _ _ _ (g.Declared.predicate d c line i j k l is declaratio
       sites = rw (e.behind, pushed) (omega (arith, e.leads.sites, at_clause, h.sites, length-append xs ys));
       goals = rw (clause_goals_push before'.procedures p) (lined_append (clause_goals before'.procedures) (goals_within c.body) h.goals (e.leads.goals lines_clause));
       types = h.types;
-      procedures = every_append IsGoodProcedure before'.procedures (p ∷ []) h.procedures
-          (record {
-            line = line_expected kind.Declare line i j is refl h.lines;
-            clause_line = e.line lines_clause;
-            short = record { qualifier = b.1.qualifier; name = b.1.name; args = b.1.args; head = e.head };
-            vars = e.vars;
-          }, tt);
+      procedures = every_append IsGoodProcedure before'.procedures (p ∷ []) h.procedures (
+        record {
+          line = line_expected kind.Declare line i j is refl h.lines;
+          clause_line = e.line lines_clause;
+          short = record { qualifier = b.1.qualifier; name = b.1.name; args = b.1.args; head = e.head };
+          vars = e.vars;
+        },
+        tt,
+      );
       module_line = h.module_line;
       module_name = h.module_name;
     }

@@ -1,24 +1,22 @@
 -- Names of modules and types, variables, terms and goals without parts: no call site stands in a term, and a call has the
 -- next one.
-use Rattle.std.specs.Prelude.{⊤}
-use Rattle.std.proofs.Common.{◌≡◌, refl, sym, ap, ◌∙◌, subst, ℕ, zero, suc, ◌+◌, ◌<◌, ◌≤◌, Bool, true, false, cond, nat_lt, List, [], ◌∷◌, ◌++◌, length, Option, Some, None, Ok, ◌⊎◌, inl, inr, arith}
+use Rattle.std.proofs.Common.{◌≡◌, refl, sym, subst, ℕ, suc, ◌≤◌, Bool, true, false, cond, nat_lt, List, [], ◌∷◌, length, Option, Some, None, Ok, ◌⊎◌, inl, inr, arith}
 use Rattle.std.specs.Str.{bytes_eq}
 use Rattle.std.specs.Prelude.{codes, ◌&&◌, not}
 use Rattle.md_hlds.specs.declared.goal.PredName.{PredName}
-use Rattle.md_hlds.specs.HldsGoal.{Simple, HldsGoal, At, GoalExpr, SimpleGoal, CallGoal, HoCallGoal, goals_within, goals_below}
+use Rattle.md_hlds.specs.HldsGoal.{Simple, GoalExpr, SimpleGoal, goals_below}
 use Rattle.md_hlds.specs.Hlds.{Hlds, HldsType, named, procedure_called}
 use Rattle.md_token.specs.declared.kind.Kind.{Kind}
 use Rattle.md_token.specs.declared.kind.Kind.TheVariants as kind
 use Rattle.md_token.specs.Literal.{number_of as value_of, string_value}
-use Rattle.md_reader.specs.Input.{Input, Parser, ◌>>=◌, ◌>>◌, and_then, pure, refuse, limit, advance, token, kind_at, sees, next, take_name, name, variable, site, expect}
+use Rattle.md_reader.specs.Input.{Input, Parser, ◌>>=◌, ◌>>◌, pure, refuse, limit, advance, token, kind_at, sees, next, take_name, name, variable}
 use Rattle.md_reader.specs.Rules as rule
 use Rattle.md_reader.specs.Grammar as g
 use Rattle.md_reader.specs.Grammar.{Is, Sign, Listed, last, also, Enclosed, enclosed, Variables, variables, Arguments, Quantified, Operator, operator, Comparison, Term, Relation, Call, ClosureCall}
 use Rattle.md_reader.proofs.Steps.{bind_ok, chosen, ok_input, ok_value}
 use Rattle.md_reader.proofs.Taking.{variable_kind, pred_kinds, signed}
-use Rattle.md_trace.specs.PortHistory.{CallSite}
 use Rattle.md_events.specs.Table.{number_of, expr_sites}
-use Rattle.md_spelled.proofs.Leads.{Leads, Steady, after, before, to_next, to_same, sign_steady, taken_name, name_is, ShortName, pred_name_is, variable_is, variable_steady, site_is, HaveLines, AreLined, line_at}
+use Rattle.md_spelled.proofs.Leads.{Leads, Steady, after, to_next, to_same, sign_steady, taken_name, name_is, pred_name_is, variable_steady, site_is}
 
 -- a choice between two rules
 applied_choice : {A : Type 0} (b : Bool) (p q : Parser A) (i : Input) (y : A × Input) → cond b p q i ≡ Ok y → (p i ≡ Ok y) ⊎ (q i ≡ Ok y)
@@ -74,9 +72,10 @@ module_name_is x i j is =
     elim (chosen (rule.is_name (token i).kind && not (rule.is_library text)) _ (refuse i) (Ok (x, j)) is) [
       | inl l ↦
           let b = bind_ok (take_name text i) (λ m. rule.set_home text >> pure m) (x, j) l.1 in
-          let t = taken_name text b.0.0 i b.0.1 b.1 in
-          (after t.0 (after (to_home b.0.1 text) (to_same (record b.0.1 { home = text }) j (ok_input b.0.0 x (record b.0.1 { home = text }) j b.2))),
-          subst (λ (y : List ℕ). length y ≤ i.limits.items) (ok_value b.0.0 x (record b.0.1 { home = text }) j b.2) t.1)
+          let t = taken_name text b.0.0 i b.0.1 b.1 in (
+            after t.0 (after (to_home b.0.1 text) (to_same (record b.0.1 { home = text }) j (ok_input b.0.0 x (record b.0.1 { home = text }) j b.2))),
+            subst (λ (y : List ℕ). length y ≤ i.limits.items) (ok_value b.0.0 x (record b.0.1 { home = text }) j b.2) t.1,
+          )
       | inr r ↦ absurd (let e = r.1 in cc)
     ]
 

@@ -1,6 +1,5 @@
 -- From the tokens of a text to its program.
-use Rattle.std.proofs.Common.{All, ◌≡◌, refl, sym, ap, ◌∙◌, subst, ℕ, zero, suc, ◌+◌, ◌<◌, ◌≤◌, ◌^◌, Bool, true, false, cond, ◌==◌, List, [], ◌∷◌, ◌++◌, length, map, Option, Some, None, slice_get, arith}
-use Rattle.std.specs.Prelude.{⊤}
+use Rattle.std.proofs.Common.{◌≡◌, refl, subst, ℕ, zero, suc, ◌+◌, ◌≤◌, Bool, true, false, cond, ◌==◌, List, [], ◌∷◌, ◌++◌, map, Some, slice_get, arith}
 use Rattle.md_hlds.specs.HldsGoal.{HldsGoal, At, GoalExpr, SimpleGoal, CallGoal, HoCallGoal, ConjGoal, DisjGoal, IfGoal, NotGoal, SomeGoal, HldsGoals, nothing, also, goals_within, goals_below, goals_among, site_lines, expr_lines, goals_lines}
 use Rattle.md_hlds.specs.Hlds.{Hlds, Procedure, HldsTypeDef, clause_goals, owned_by, sites_from, sites_of}
 use Rattle.md_hlds.specs.Run.{main_name}
@@ -9,11 +8,9 @@ use Rattle.md_token.specs.Spelling.{Cut, line_behind}
 use Rattle.md_token.proofs.Cuts.{tokens_cut}
 use Rattle.md_reader.specs.Rules as rule
 use Rattle.md_reader.specs.Grammar.{Spells}
-use Rattle.md_events.specs.Table.{HasSites, HasMain}
-use Rattle.md_events.specs.Laws.{IsWithinBounds}
 use Rattle.md_events.proofs.RunLaw.{runs_are_histories}
 use Rattle.md_events.proofs.SiteLemmas.{found_by_name}
-use Rattle.md_spelled.specs.Bounds.{line_of, HasLines, IsShortType, IsShort, HasShortNames}
+use Rattle.md_spelled.specs.Bounds.{line_of, IsShortType, IsShort}
 use Rattle.md_spelled.specs.Laws.{TextsHaveSites, TextsHaveLines, TextsHaveShortNames, AcceptedTextsHaveMains, AcceptedTextsAreWithinBounds, AcceptedRunsAreHistories}
 use Rattle.md_spelled.proofs.Leads.{HaveLines, AreLined}
 use Rattle.md_spelled.proofs.LeadsPrograms.{Every, all_of, every_append, IsGoodType, IsGoodProcedure, Stands, program_is}
