@@ -17,7 +17,7 @@ use Rattle.md_spelled.proofs.LeadsTerms.{quantified_steady, relation_is, plain_l
 
 -- a goal around goals
 pub around : (line : ℕ) (x : GoalExpr) {i j : Input} {xs : List (ℕ × CallSite)} {gs : List HldsGoal} → (HaveLines i.rest → 1 ≤ line) → Leads i j xs gs → Leads i j xs (At line x ∷ gs)
-around line x has l = record { limits = l.limits; numbers = l.numbers; sites = l.sites; lines = l.lines; goals = λ h. (has h, l.goals h); vars = l.vars }
+around line x has l = record { limits = l.limits; numbers = l.numbers; sites = l.sites; lines = l.lines; goals = λ h. (has h, l.goals h); vars = l.vars; fewer = l.fewer }
 
 -- the line of a token of a kind that was taken
 pub line_expected : (k : Kind) (line : ℕ) (i j : Input) → Is (expect k) line i j → same_kind k kind.Stop ≡ false → HaveLines i.rest → 1 ≤ line

@@ -1,7 +1,7 @@
 -- Declarations, clauses and programs: their call sites have the numbers from 0 on, their lines count from 1, and their names
 -- and lists of arguments are within the limits.
 use Rattle.std.specs.Prelude.{⊤}
-use Rattle.std.proofs.Common.{All, IfSome, ◌≡◌, refl, sym, ap, ◌∙◌, subst, ℕ, zero, suc, ◌+◌, ◌<◌, ◌≤◌, List, [], ◌∷◌, ◌++◌, length, arith, append-nil, append_assoc, length-append}
+use Rattle.std.proofs.Common.{false, All, IfSome, ◌≡◌, refl, sym, ap, ◌∙◌, subst, ℕ, zero, suc, ◌+◌, ◌<◌, ◌≤◌, List, [], ◌∷◌, ◌++◌, length, arith, append-nil, append_assoc, length-append}
 use Rattle.md_hlds.specs.declared.types.Mode.{Mode}
 use Rattle.md_hlds.specs.declared.types.Det.{Det}
 use Rattle.md_hlds.specs.HldsGoal.{goals_within}
@@ -9,14 +9,15 @@ use Rattle.md_hlds.specs.Hlds.{Hlds, HldsType, HldsFunctor, HldsTypeDef, Procedu
 use Rattle.md_token.specs.declared.kind.Kind.{Kind}
 use Rattle.md_token.specs.declared.kind.Kind.TheVariants as kind
 use Rattle.md_token.specs.Kinds.{same_kind}
-use Rattle.md_reader.specs.Input.{Input, Limits, standard, variable, end_clause}
+use Rattle.md_reader.specs.Input.{expect, Input, Limits, standard, variable, end_clause}
 use Rattle.md_reader.specs.Rules as rule
 use Rattle.md_reader.specs.Grammar as g
 use Rattle.md_reader.specs.Grammar.{Is, Sign, Listed, last, also, Enclosed, FunctorArguments, Functor, functor, TypeDeclaration, type_declaration, Inst, inst, Argument, DeclaredArguments, PredDeclaration, pred_declaration, Head, PredClause, pred_clause, Declared, Declarations, Program, program}
 use Rattle.md_reader.proofs.Steps.{ok_input, ok_value}
+use Rattle.md_reader.proofs.Taking.{expected}
 use Rattle.md_events.specs.Table.{AreNumberedFrom, goal_sites, clause_sites}
 use Rattle.md_spelled.specs.Bounds.{IsShortFunctor, IsShortType, IsShort}
-use Rattle.md_spelled.proofs.Leads.{HaveLines, AreLined, lined_append, numbered_append, Leads, Steady, after, before, to_same, sign_steady, expect_steady, word_steady, name_is, declared_name_is, this_name_is, variable_is, variable_steady, mode_steady, ho_mode_steady, determinism_steady}
+use Rattle.md_spelled.proofs.Leads.{next_fewer, HaveLines, AreLined, lined_append, numbered_append, Leads, Steady, after, before, to_same, sign_steady, expect_steady, word_steady, name_is, declared_name_is, this_name_is, variable_is, variable_steady, mode_steady, ho_mode_steady, determinism_steady}
 use Rattle.md_spelled.proofs.LeadsTerms.{simple_type_steady, type_name_is, module_name_is, listed_steady, enclosed_steady}
 use Rattle.md_spelled.proofs.LeadsGoals.{line_expected, named_line, conjunction_is}
 
@@ -172,6 +173,9 @@ clause_is s owner q arity _ _ _ (pred_clause xs p vs i j k l m n o is head decla
 
 -- ---- programs
 
+expect_fewer : (k : Kind) (line : ℕ) (i j : Input) → Is (expect k) line i j → same_kind k kind.Stop ≡ false → length j.rest < length i.rest
+expect_fewer k line i j is not_stop = let t = expected k line i j is in next_fewer k i j t.is not_stop t.behind
+
 -- the sites and the goals of one clause more
 clause_sites_push : (s : Hlds) (n m : ℕ) (ps : List Procedure) (p : Procedure) → m ≡ n + length ps → clause_sites s n (ps ++ p ∷ []) ≡ clause_sites s n ps ++ goal_sites s m p.body
 clause_sites_push s n m [] p is = let same : m ≡ n = omega (arith, is) in append-nil (goal_sites s n p.body) ∙ ap (λ k. goal_sites s k p.body) (sym same)
@@ -194,8 +198,9 @@ pub record IsGoodProcedure (p : Procedure) : Type 0 where
   pub short : IsShort p
   pub vars : 0 < length p.args → 0 < length p.vars
 
--- a place up to which a program was read; s is any program
-pub record Stands (s l : Hlds) (i : Input) : Type 0 where
+-- A place up to which a program was read from so many tokens; s is any program. Each declaration and each call site had a
+-- token of its own.
+pub record Stands (s l : Hlds) (total : ℕ) (i : Input) : Type 0 where
   pub limits : i.limits ≡ standard
   pub lines : HaveLines i.rest
   pub numbers : AreNumberedFrom 0 (clause_sites s 0 l.procedures)
@@ -205,10 +210,11 @@ pub record Stands (s l : Hlds) (i : Input) : Type 0 where
   pub procedures : Every IsGoodProcedure l.procedures
   pub module_line : 1 ≤ l.module_line
   pub module_name : length l.module_name ≤ 255
+  pub few : length i.rest + (length (clause_sites s 0 l.procedures) + (length l.procedures + length l.types)) < total
 
-declared_is : (s before' l : Hlds) (i j : Input) → Declared before' l i j → Stands s before' i → Stands s l j
+declared_is : (s before' l : Hlds) (total : ℕ) (i j : Input) → Declared before' l i j → Stands s before' total i → Stands s l total j
 unfolding rule.with_type_definition rule.with_procedure rule.procedure_from same_kind
-declared_is s before' _ _ _ (g.Declared.type t line i j k is read) h =
+declared_is s before' _ total _ _ (g.Declared.type t line i j k is read) h =
     let a = expect_steady kind.Declare line i j is in
     let b = type_is line t j k (a.limits ∙ h.limits) read in
     record {
@@ -221,8 +227,9 @@ declared_is s before' _ _ _ (g.Declared.type t line i j k is read) h =
       procedures = h.procedures;
       module_line = h.module_line;
       module_name = h.module_name;
+      few = omega (arith, h.few, expect_fewer kind.Declare line i j is refl, b.0.fewer, length-append before'.types (t ∷ []));
     }
-declared_is s before' _ _ _ (g.Declared.predicate d c line i j k l is declaration clause) h =
+declared_is s before' _ total _ _ (g.Declared.predicate d c line i j k l is declaration clause) h =
     let owner = length before'.procedures in
     let p = rule.procedure_from line d c in
     let a = expect_steady kind.Declare line i j is in
@@ -251,13 +258,24 @@ declared_is s before' _ _ _ (g.Declared.predicate d c line i j k l is declaratio
       );
       module_line = h.module_line;
       module_name = h.module_name;
+      few =
+          rw (e.behind, pushed)
+          (omega (
+            arith,
+            h.few,
+            expect_fewer kind.Declare line i j is refl,
+            b.0.fewer,
+            e.leads.fewer,
+            length-append before'.procedures (p ∷ []),
+            length-append xs ys,
+          ));
     }
 
-declarations_are : (s before' l : Hlds) (i j : Input) → Declarations before' l i j → Stands s before' i → Stands s l j
-declarations_are s _ _ _ _ (g.Declarations.none l i) h = h
-declarations_are s _ _ _ _ (g.Declarations.also before' l after' i j k is rest) h = declarations_are s l after' j k rest (declared_is s before' l i j is h)
+declarations_are : (s before' l : Hlds) (total : ℕ) (i j : Input) → Declarations before' l i j → Stands s before' total i → Stands s l total j
+declarations_are s _ _ total _ _ (g.Declarations.none l i) h = h
+declarations_are s _ _ total _ _ (g.Declarations.also before' l after' i j k is rest) h = declarations_are s l after' total j k rest (declared_is s before' l total i j is h)
 
-pub program_is : (s l : Hlds) (i j : Input) → i.limits ≡ standard → HaveLines i.rest → i.sites ≡ 0 → Program l i j → Stands s l j
+pub program_is : (s l : Hlds) (i j : Input) → i.limits ≡ standard → HaveLines i.rest → i.sites ≡ 0 → Program l i j → Stands s l (length i.rest) j
 unfolding same_kind
 program_is s _ _ _ limits lines none (program m line at l i j k n o p is word' name' end rest) =
     let a = expect_steady kind.Declare line i j is in
@@ -265,7 +283,7 @@ program_is s _ _ _ limits lines none (program m line at l i j k n o p is word' n
     let c = module_name_is m k n name' in
     let d = sign_steady kind.End n o end in
     let whole = after a (after b (after c.0 d)) in
-    declarations_are s (record { module_name = m; module_line = line; types = []; procedures = [] }) l o p rest
+    declarations_are s (record { module_name = m; module_line = line; types = []; procedures = [] }) l (length i.rest) o p rest
     (record {
       limits = whole.limits ∙ limits;
       lines = whole.lines lines;
@@ -276,4 +294,5 @@ program_is s _ _ _ limits lines none (program m line at l i j k n o p is word' n
       procedures = tt;
       module_line = line_expected kind.Declare line i j is refl lines;
       module_name = subst (λ (x : Limits). length m ≤ x.items) (b.limits ∙ a.limits ∙ limits) c.1;
+      few = omega (arith, expect_fewer kind.Declare line i j is refl, b.fewer, c.0.fewer, d.fewer);
     })

@@ -9,6 +9,7 @@ use Rattle.md_hlds.specs.Hlds.{Hlds, HldsType, named, procedure_called}
 use Rattle.md_token.specs.declared.kind.Kind.{Kind}
 use Rattle.md_token.specs.declared.kind.Kind.TheVariants as kind
 use Rattle.md_token.specs.Literal.{number_of as value_of, string_value}
+use Rattle.md_token.specs.Kinds.{same_kind}
 use Rattle.md_reader.specs.Input.{Input, Parser, ◌>>=◌, ◌>>◌, pure, refuse, limit, advance, token, kind_at, sees, next, take_name, name, variable}
 use Rattle.md_reader.specs.Rules as rule
 use Rattle.md_reader.specs.Grammar as g
@@ -16,7 +17,7 @@ use Rattle.md_reader.specs.Grammar.{Is, Sign, Listed, last, also, Enclosed, encl
 use Rattle.md_reader.proofs.Steps.{bind_ok, chosen, ok_input, ok_value}
 use Rattle.md_reader.proofs.Taking.{variable_kind, pred_kinds, signed}
 use Rattle.md_events.specs.Table.{number_of, expr_sites}
-use Rattle.md_spelled.proofs.Leads.{Leads, Steady, after, to_next, to_same, sign_steady, taken_name, name_is, pred_name_is, variable_steady, site_is}
+use Rattle.md_spelled.proofs.Leads.{Leads, Steady, after, to_next, to_same, sign_steady, taken_name, name_is, pred_name_is, pred_name_fewer, next_fewer, variable_steady, site_is}
 
 -- a choice between two rules
 applied_choice : {A : Type 0} (b : Bool) (p q : Parser A) (i : Input) (y : A × Input) → cond b p q i ≡ Ok y → (p i ≡ Ok y) ⊎ (q i ≡ Ok y)
@@ -63,7 +64,7 @@ type_name_is x i j is =
     ]
 
 to_home : (i : Input) (m : List ℕ) → Steady i (record i { home = m })
-to_home i m = record { limits = refl; numbers = tt; sites = omega arith; lines = λ l. l; goals = λ l. tt; vars = λ v. v }
+to_home i m = record { limits = refl; numbers = tt; sites = omega arith; lines = λ l. l; goals = λ l. tt; vars = λ v. v; fewer = omega arith }
 
 pub module_name_is : (x : List ℕ) (i j : Input) → Is rule.module_name x i j → Steady i j × (length x ≤ i.limits.items)
 unfolding rule.module_name
@@ -178,11 +179,17 @@ module _ (s : Hlds) (owner : ℕ) where
   call_leads _ _ _ (g.Call.builtin q ys t i j k is args found) =
       plain_leads t i k (after (pred_name_is q i j is).0 (arguments_steady [] ys j k args)) (builtin_plain q ys t found)
   call_leads _ _ _ (g.Call.call q ys n i j k m is args found at) =
-      after (pred_name_is q i j is).0 (after (arguments_steady [] ys j k args) (site_is n k m (record { owner = owner; callee = number_of (procedure_called s q) }) at))
+      let behind = arguments_steady [] ys j k args in
+      site_is n i k m (record { owner = owner; callee = number_of (procedure_called s q) }) (after (pred_name_is q i j is).0 behind)
+      (omega (arith, pred_name_fewer q i j is, behind.fewer)) at
 
   pub closure_call_leads : (t : GoalExpr) (i j : Input) → ClosureCall t i j → Leads i j (expr_sites s owner t) (goals_below t)
+  unfolding same_kind
   closure_call_leads _ _ _ (g.ClosureCall.closure_call f ys n i j k m o mark opening args at) =
-      after (sign_steady kind.Call i j mark) (after (sign_steady kind.Open j k opening) (after (variables_steady kind.Close [] (f ∷ ys) k m args) (site_is n m o (record { owner = owner; callee = None }) at)))
+      let behind = after (sign_steady kind.Open j k opening) (variables_steady kind.Close [] (f ∷ ys) k m args) in
+      let first = signed kind.Call i j mark in
+      site_is n i m o (record { owner = owner; callee = None }) (after (sign_steady kind.Call i j mark) behind)
+      (omega (arith, next_fewer kind.Call i j first.is refl first.behind, behind.fewer)) at
 
 -- what each begins with
 pub call_kind : (t : GoalExpr) (i j : Input) → Call t i j → (kind_at i ≡ kind.Name) ⊎ (kind_at i ≡ kind.Qualified)

@@ -79,6 +79,9 @@ some_args : (args : List (HldsType × Mode)) → are_main_args args ≡ true →
 some_args [] is = absurd (cc)
 some_args (a ∷ args) is = omega arith
 
+pub main_has_args : (p : Procedure) → is_main p ≡ true → 0 < length p.args
+main_has_args p is = some_args p.args (args_by_main p is)
+
 same_mains : (p q : Procedure) → IsNamedMain p → IsNamedMain q → same_declared (declared_procedure q) (declared_procedure p) ≡ true
 same_mains p q a b = rw (a.qualifier, a.name, b.qualifier, b.name) refl
 
@@ -119,11 +122,11 @@ no_second_main seen (p ∷ ps) once before is =
 
 -- ---- the predicate that is called main
 
--- the predicate that a search finds, with arguments
+-- the predicate that a search finds, which is a main
 record FindsMain (n : ℕ) (ps : List Procedure) : Type 0 where
   found : ℕ × Procedure
   is : find_procedure main_name n ps ≡ Some found
-  args : 0 < length found.1.args
+  main : is_main found.1 ≡ true
 
 finds_main : (n : ℕ) (seen : List Declared) (ps : List Procedure) → first_second seen (map declared_procedure ps) ≡ None → has_main ps ≡ true → FindsMain n ps
 finds_main n seen [] once is = absurd (cc)
@@ -135,11 +138,11 @@ finds_main n seen (p ∷ ps) once is =
   where
     by : (called main : Bool) → is_called main_name p ≡ called → is_main p ≡ main → (main || has_main ps) ≡ true
         → (IsNamedMain p → has_main ps ≡ true → ⊥) → (has_main ps ≡ true → FindsMain (suc n) ps) → FindsMain n (p ∷ ps)
-    by true true called main is second later = record { found = (n, p); is = rw called refl; args = some_args p.args (args_by_main p main) }
+    by true true called main is second later = record { found = (n, p); is = rw called refl; main = main }
     by true false called main is second later = absurd (second (named_by_call p called) is)
     by false true called main is second later = absurd (let other = called_by_name p (named_by_main p main) in cc)
-    by false false called main is second later = let f = later is in record { found = f.found; is = rw called f.is; args = f.args }
+    by false false called main is second later = let f = later is in record { found = f.found; is = rw called f.is; main = f.main }
 
 -- in a program without faults of modes, in which nothing is declared twice, main is called by its name
-pub main_called : (s : Hlds) → duplicate s ≡ None → mode_fault s ≡ None → (m : ℕ × Procedure) × (procedure_called s main_name ≡ Some m) × (0 < length m.1.args)
-main_called s once modes = let f = finds_main 0 [] s.procedures (procedures_once s once) (has_main_accepted s modes) in (f.found, f.is, f.args)
+pub main_called : (s : Hlds) → duplicate s ≡ None → mode_fault s ≡ None → (m : ℕ × Procedure) × (procedure_called s main_name ≡ Some m) × (is_main m.1 ≡ true)
+main_called s once modes = let f = finds_main 0 [] s.procedures (procedures_once s once) (has_main_accepted s modes) in (f.found, f.is, f.main)

@@ -1,5 +1,5 @@
 // The laws of a text's program. Each is the contract of a function that does nothing.
-ghost use Rattle.md_spelled.specs.Laws.{TextsHaveSites, TextsHaveLines, TextsHaveShortNames, AcceptedTextsHaveMains, AcceptedTextsAreWithinBounds, AcceptedRunsAreHistories};
+ghost use Rattle.md_spelled.specs.Laws.{TextsHaveSites, TextsHaveLines, TextsHaveShortNames, TextsHaveFewParts, MainIsCalled, AcceptedTextsHaveMains, AcceptedTextsAreWithinBounds, AcceptedRunsAreHistories};
 
 /// The goals of the program that a text spells name its call sites, which are numbered from 0 in text order.
 pub fn texts_have_sites()
@@ -16,9 +16,16 @@ pub fn texts_have_short_names()
     ensures { TextsHaveShortNames }
 {}
 
-/// Where it has no fault of modes, the predicate that `main` names has the io states as its arguments.
+/// It has no more call sites, predicates and types together than the text has bytes.
+pub fn texts_have_few_parts()
+    ensures { TextsHaveFewParts }
+{}
+
+/// Where it has no fault of modes, the predicate that `main` names is the one with the io states, and its clause has a
+/// variable.
 pub fn accepted_texts_have_mains()
-    ensures { AcceptedTextsHaveMains }
+    ensures called { MainIsCalled }
+    ensures variable { AcceptedTextsHaveMains }
 {}
 
 /// What the laws of a run's events ask of a program holds of it then.
