@@ -1,19 +1,19 @@
 -- A job that stands after a history: its innermost activation runs, each frame's caller is its activation's parent, the
 -- goals name their sites, and what is left of the budget is few enough.
 use Rattle.std.specs.Prelude.{⊤}
-use Rattle.std.proofs.Common.{◌≡◌, ◌≢◌, refl, sym, ap, ◌∙◌, subst, ℕ, suc, ◌+◌, ◌<◌, ◌≤◌, List, [], ◌∷◌, ◌++◌, length, Option, Some, None, slice_get, arith}
-use Rattle.md_hlds.specs.HldsGoal.{HldsGoal, HldsGoals, nothing, also, goal_size, Numbered, numbered_from}
+use Rattle.std.proofs.Common.{◌≡◌, ◌∙◌, ℕ, ◌+◌, ◌<◌, ◌≤◌, List, [], ◌∷◌, ◌++◌, Option, Some, slice_get, arith}
+use Rattle.md_hlds.specs.HldsGoal.{HldsGoals, nothing, also, goal_size, Numbered, numbered_from}
 use Rattle.md_hlds.specs.Hlds.{Hlds}
 use Rattle.md_hlds.specs.Value.{Env}
-use Rattle.md_hlds.specs.Trace.{Excp, Items, Frame, excps}
+use Rattle.md_hlds.specs.Trace.{Frame, excps}
 use Rattle.md_trace.specs.declared.event.Event.{Event}
 use Rattle.md_trace.specs.declared.event.Event.TheVariants.{Excp as ExcpOf}
-use Rattle.md_trace.specs.Activation.{Activation, activations, numbered, parent_of, procedure_of}
-use Rattle.md_trace.specs.PortHistory.{CallSite, SiteTable, MayFollow, current}
+use Rattle.md_trace.specs.Activation.{Activation, activations, parent_of, procedure_of}
+use Rattle.md_trace.specs.PortHistory.{CallSite, SiteTable, current}
 use Rattle.md_trace.specs.Laws.{procedure-below}
 use Rattle.md_events.specs.Table.{goal_sites, goals_sites}
-use Rattle.md_events.proofs.Goes.{count, Then, AtAnswer, Leaves, Goes}
-use Rattle.md_events.proofs.Later.{Outside, Later, Inside, same_parent, same_procedure, later_now, later_then, later_among, later_as, later_excp}
+use Rattle.md_events.proofs.Goes.{count, Then, AtAnswer, Leaves}
+use Rattle.md_events.proofs.Later.{Outside, Later, same_parent, same_procedure, later_then, later_as, later_excp}
 
 -- ---- sites
 

@@ -1,10 +1,10 @@
 -- A history later than another: what a trace has changed, and what it has left as it was.
 use Rattle.std.specs.Prelude.{⊤}
-use Rattle.std.proofs.Common.{◌≡◌, ◌≢◌, refl, sym, ap, ◌∙◌, subst, ℕ, suc, ◌+◌, ◌-◌, ◌<◌, ◌≤◌, Bool, true, List, [], ◌∷◌, length, Option, Some, None, arith}
+use Rattle.std.proofs.Common.{◌≡◌, ◌≢◌, refl, ◌∙◌, ℕ, suc, ◌+◌, ◌-◌, ◌<◌, ◌≤◌, List, [], ◌∷◌, Option, Some, arith}
 use Rattle.std.proofs.lemmas.Bool.{ne_eqb}
 use Rattle.md_trace.specs.declared.event.Event.{Event}
 use Rattle.md_trace.specs.declared.event.Event.TheVariants.{Call as CallOf, Exit as ExitOf, Redo as RedoOf, Fail as FailOf, Excp as ExcpOf, Alloc as AllocOf}
-use Rattle.md_trace.specs.Activation.{Activation, activations, numbered, parent_of, procedure_of}
+use Rattle.md_trace.specs.Activation.{activations, numbered, parent_of, procedure_of}
 use Rattle.md_trace.specs.PortHistory.{current, has_exited}
 use Rattle.md_trace.proofs.Numbered.{numbered-more}
 use Rattle.md_events.proofs.Goes.{count}

@@ -1,20 +1,19 @@
 -- The run of a program leads lawfully on to its end, the budget cuts it to a front, and so its events are a port history.
 use Rattle.std.specs.Prelude.{⊤}
-use Rattle.std.proofs.Common.{◌≡◌, refl, sym, ap, ◌∙◌, subst, ℕ, zero, suc, ◌+◌, ◌-◌, ◌<◌, ◌≤◌, ◌^◌, Bool, true, false, List, [], ◌∷◌, ◌++◌, length, Option, Some, None, slice_get, nat_le, arith}
+use Rattle.std.proofs.Common.{◌≡◌, refl, sym, ap, subst, ℕ, suc, ◌+◌, ◌-◌, ◌<◌, ◌≤◌, ◌^◌, Bool, true, false, List, [], ◌∷◌, ◌++◌, length, Option, Some, None, slice_get, nat_le, arith}
 use Rattle.std.proofs.lemmas.Bool.{leb-true, false≢true}
-use Rattle.md_hlds.specs.HldsGoal.{site_count}
 use Rattle.md_hlds.specs.Hlds.{Hlds, Procedure, procedure_called}
 use Rattle.md_hlds.specs.Value.{Env}
 use Rattle.md_hlds.specs.Trace.{Turn, Call, Exit, Redo, Fail, Excp, Alloc, Out, Throw, Answer, Stuck, Deep, Items, first, trace, call_weight}
-use Rattle.md_hlds.specs.Run.{cut, cut_turn, is_finished, is_thrown, error, events, main_name, main_frame, main_items, run_main, run}
+use Rattle.md_hlds.specs.Run.{cut, cut_turn, is_finished, is_thrown, events, main_name, main_frame, main_items, run_main, run}
 use Rattle.md_hlds.proofs.BudgetLemmas.{won, lost}
 use Rattle.md_trace.specs.declared.event.Event.{Event}
 use Rattle.md_trace.specs.declared.event.Event.TheVariants.{Call as CallOf, Exit as ExitOf, Redo as RedoOf, Fail as FailOf, Excp as ExcpOf, Alloc as AllocOf}
-use Rattle.md_trace.specs.PortHistory.{SiteTable, IsSiteTable, MayFollow, IsPortHistory, current}
+use Rattle.md_trace.specs.PortHistory.{SiteTable, MayFollow, IsPortHistory, current}
 use Rattle.md_events.specs.History.{told, history, call_count}
 use Rattle.md_events.specs.Table.{site_table, HasSites, HasMain}
 use Rattle.md_events.specs.Laws.{IsWithinBounds, RunsAreHistories, FrontsAreHistories, EndedRunsAreLeft, CallsAreFew, EventsAreTold}
-use Rattle.md_events.proofs.Goes.{count, Then, AtAnswer, Leaves, Goes, leaves_append}
+use Rattle.md_events.proofs.Goes.{count, Then, Leaves, Goes, leaves_append}
 use Rattle.md_events.proofs.Later.{same_parent}
 use Rattle.md_events.proofs.TraceLaw.{IsTableOf, goes_trace}
 use Rattle.md_events.proofs.SiteLemmas.{found_by_name, table_of, main_in_table, programs_have_tables}

@@ -5,7 +5,7 @@ use Rattle.md_hlds.specs.declared.goal.PredName.{PredName}
 use Rattle.md_hlds.specs.HldsGoal.{HldsGoal, At, GoalExpr, SimpleGoal, CallGoal, HoCallGoal, ConjGoal, DisjGoal, IfGoal, NotGoal, SomeGoal, HldsGoals, nothing, also, site_lines, expr_lines, goals_lines}
 use Rattle.md_hlds.specs.Hlds.{Hlds, Procedure, is_called, find_procedure, procedure_called, numbered, nth_procedure, owned_by, sites_from}
 use Rattle.md_hlds.specs.Run.{main_name}
-use Rattle.md_trace.specs.PortHistory.{CallSite, SiteTable, IsSiteTable}
+use Rattle.md_trace.specs.PortHistory.{CallSite, SiteTable}
 use Rattle.md_trace.proofs.Lists.{get-within}
 use Rattle.md_events.specs.Table.{number_of, goal_sites, expr_sites, goals_sites, clause_sites, program_sites, number_or_zero, site_alone, site_table, AreNumberedFrom, HasSites, HasMain}
 use Rattle.md_events.specs.Laws.{ProgramsHaveTables, OwnersAgree, owner_of_site, owner_of_pair}

@@ -1,6 +1,5 @@
 -- The trace of a job leads lawfully on: by induction on the depth, and there on the callers.
-use Rattle.std.specs.Prelude.{⊤}
-use Rattle.std.proofs.Common.{◌≡◌, ◌≢◌, refl, sym, ap, ◌∙◌, subst, ℕ, zero, suc, ◌+◌, ◌-◌, ◌<◌, ◌≤◌, Bool, true, false, cond, List, [], ◌∷◌, ◌++◌, length, Option, Some, None, IsSomeAnd, MatchOption, slice_get, nat_eq, arith}
+use Rattle.std.proofs.Common.{◌≡◌, refl, sym, ◌∙◌, subst, ℕ, zero, suc, ◌+◌, ◌-◌, ◌<◌, ◌≤◌, Bool, true, false, cond, List, [], ◌∷◌, ◌++◌, length, Option, Some, None, IsSomeAnd, slice_get, nat_eq, arith}
 use Rattle.std.proofs.lemmas.Bool.{eq-eqb}
 use Rattle.md_hlds.specs.declared.types.Det.{Det}
 use Rattle.md_hlds.specs.declared.types.Det.TheVariants.{Semidet, Multi, Nondet, Failure}
@@ -10,16 +9,15 @@ use Rattle.md_hlds.specs.Hlds.{Hlds, Procedure, procedure_called, nth_procedure}
 use Rattle.md_hlds.specs.Value.{Value, Number, Literal, Built, Closure, listed_values, Env, value_at}
 use Rattle.md_hlds.specs.Simple.{Outcome, Go, No, Throws, Stop, simple}
 use Rattle.md_hlds.specs.Switch.{Key, switch_shape, has_the_key, arm_for}
-use Rattle.md_hlds.specs.Trace.{Turn, Call, Exit, Redo, Fail, Excp, Alloc, Out, Throw, Answer, Stuck, Deep, Items, Does, Frame, joined, first, excps, doing, knowing, alone, allocated, written, after_simple, arms, one_arm, switched, disjunction, body_frame, cut_off, run_body, back, call_if, invoked, applied, entered, called, call_weight, unfold_expr, unfold_goal, returns, trace, pairs_of, without}
+use Rattle.md_hlds.specs.Trace.{Exit, Redo, Fail, Deep, Items, Does, Frame, first, excps, doing, knowing, alone, allocated, written, after_simple, arms, one_arm, switched, disjunction, cut_off, run_body, back, call_if, invoked, applied, entered, unfold_expr, unfold_goal, returns, trace, pairs_of, without}
 use Rattle.md_trace.specs.declared.event.Event.{Event}
 use Rattle.md_trace.specs.declared.event.Event.TheVariants.{Call as CallOf, Exit as ExitOf, Redo as RedoOf, Fail as FailOf, Excp as ExcpOf, Alloc as AllocOf}
-use Rattle.md_trace.specs.Activation.{Activation, activations, numbered, parent_of, procedure_of}
-use Rattle.md_trace.specs.PortHistory.{CallSite, SiteTable, MayCallAt, MayFollow, current, has_exited}
-use Rattle.md_trace.proofs.Numbered.{numbered-new}
-use Rattle.md_events.specs.Table.{number_of, goal_sites, goals_sites, expr_sites}
-use Rattle.md_events.proofs.Goes.{count, Then, AtAnswer, Leaves, Goes, goes_joined, goes_first}
+use Rattle.md_trace.specs.Activation.{activations, parent_of, procedure_of}
+use Rattle.md_trace.specs.PortHistory.{SiteTable, MayCallAt}
+use Rattle.md_events.specs.Table.{goal_sites, expr_sites}
+use Rattle.md_events.proofs.Goes.{count, Then, AtAnswer, Goes, goes_joined, goes_first}
 use Rattle.md_events.proofs.Later.{Outside, Later, Inside, same_parent, same_procedure, later_now, later_then, later_among, later_as, later_exit, later_redo, later_fail, later_excp, later_alloc, later_call}
-use Rattle.md_events.proofs.Callers.{ArePlaced, placed_first, placed_second, AreSited, sited_before, sited_alone, acts, root, AreCallers, callers_later, outside_callers, Ends, Job, job_below, job_later, leaves_excps}
+use Rattle.md_events.proofs.Callers.{ArePlaced, placed_first, placed_second, AreSited, sited_before, sited_alone, acts, AreCallers, callers_later, outside_callers, Job, job_below, job_later, leaves_excps}
 
 -- the procedures of the program stand in the table with their sites
 pub record IsTableOf (s : Hlds) (t : SiteTable) : Type 0 where

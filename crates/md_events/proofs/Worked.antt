@@ -1,19 +1,17 @@
 -- Site tables and histories computed on small programs: each was worked out by hand, and `refl` says that the
 -- definitions give it.
-use Rattle.std.proofs.Common.{◌≡◌, refl, arith, ℕ, suc, List, [], ◌∷◌, Some, None}
+use Rattle.std.proofs.Common.{◌≡◌, refl, arith, ℕ, List, [], ◌∷◌, Some, None}
 use Rattle.std.specs.Prelude.{codes}
 use Rattle.md_hlds.specs.declared.types.Det.TheVariants.{Multi}
 use Rattle.md_hlds.specs.declared.types.Det.TheVariants.{Det as One}
-use Rattle.md_hlds.specs.declared.goal.Term.TheVariants.{Name}
 use Rattle.md_hlds.specs.HldsGoal.{HldsGoal, SimpleGoal, SomeGoal, Raises}
 use Rattle.md_hlds.specs.Hlds.{Hlds}
 use Rattle.md_hlds.specs.Run.{run}
 use Rattle.md_hlds.proofs.Worked.{goal, conj, disj, is_int, is_text, same, call, procedure, program, main, at_most, minus, choose, none, higher_order}
-use Rattle.md_trace.specs.declared.event.Event.{Event}
-use Rattle.md_trace.specs.declared.event.Event.TheVariants.{Call, Exit, Redo, Fail, Excp, Alloc}
+use Rattle.md_trace.specs.declared.event.Event.TheVariants.{Call, Exit, Excp}
 use Rattle.md_trace.specs.PortHistory.{CallSite, SiteTable}
 use Rattle.md_events.specs.History.{history, call_count}
-use Rattle.md_events.specs.Table.{site_table, HasSites, HasMain}
+use Rattle.md_events.specs.Table.{site_table, HasSites}
 use Rattle.md_events.specs.Laws.{IsWithinBounds}
 
 -- a site at which this procedure calls that one, and one that is higher-order

@@ -1,5 +1,5 @@
 -- What holds of the events of every run.
-use Rattle.std.specs.Prelude.{◌≡◌, ℕ, ◌<◌, ◌^◌, true, List, ◌++◌, map, None}
+use Rattle.std.specs.Prelude.{◌≡◌, ℕ, ◌<◌, ◌^◌, true, ◌++◌, map, None}
 use Rattle.md_hlds.specs.Hlds.{Hlds, sites_of}
 use Rattle.md_hlds.specs.Trace.{Items}
 use Rattle.md_hlds.specs.Run.{run, events, is_finished, is_thrown}

@@ -1,7 +1,7 @@
 -- What the steps of the grammar do to the place: the limits stay, call sites get the next numbers, and every token has a
 -- line.
 use Rattle.std.specs.Prelude.{⊤}
-use Rattle.std.proofs.Common.{◌≡◌, refl, sym, ap, ◌∙◌, subst, ℕ, zero, suc, ◌+◌, ◌<◌, ◌≤◌, Bool, true, false, cond, not, ◌&&◌, ◌||◌, nat_lt, ◌==◌, List, [], ◌∷◌, ◌++◌, length, drop, Option, Some, None, IfSome, Ok, Err, ◌⊎◌, inl, inr, arith, append-nil, append_assoc, length-append}
+use Rattle.std.proofs.Common.{◌≡◌, refl, sym, ap, ◌∙◌, subst, ℕ, suc, ◌+◌, ◌<◌, ◌≤◌, Bool, true, false, cond, not, ◌||◌, nat_lt, ◌==◌, List, [], ◌∷◌, ◌++◌, length, drop, Option, Some, None, IfSome, Ok, ◌⊎◌, inl, inr, arith, append-nil, length-append}
 use Rattle.std.proofs.lemmas.Bool.{ltb-false}
 use Rattle.std.specs.List.{list_any}
 use Rattle.std.specs.Prelude.{unwrap_or}
@@ -10,16 +10,15 @@ use Rattle.md_hlds.specs.declared.types.Mode.{Mode}
 use Rattle.md_hlds.specs.declared.types.Det.{Det}
 use Rattle.md_hlds.specs.declared.goal.PredName.{PredName}
 use Rattle.md_hlds.specs.HldsGoal.{HldsGoal, At}
-use Rattle.md_hlds.specs.Hlds.{Hlds, HldsType}
 use Rattle.md_token.specs.declared.kind.Kind.{Kind}
 use Rattle.md_token.specs.declared.kind.Kind.TheVariants as kind
 use Rattle.md_token.specs.Kinds.{same_kind}
 use Rattle.md_token.specs.Token.{Lexeme}
-use Rattle.md_reader.specs.Input.{Input, Parser, Outcome, pure, refuse, limit, first, token, kind_at, sees, next, place, expect, take_name, name, word, variable, place_of, with_variable, site}
+use Rattle.md_reader.specs.Input.{Input, refuse, limit, first, token, kind_at, sees, next, expect, take_name, name, word, variable, place_of, with_variable, site}
 use Rattle.md_reader.specs.Rules as rule
-use Rattle.md_reader.specs.Grammar.{Is, Sign, Listed, last, also, Enclosed, enclosed}
+use Rattle.md_reader.specs.Grammar.{Is, Sign}
 use Rattle.md_reader.proofs.Steps.{chosen, ok_input, ok_value, past_three}
-use Rattle.md_reader.proofs.Taking.{Taken, signed, expected, word_behind}
+use Rattle.md_reader.proofs.Taking.{Taken, signed, expected, word_behind, pred_kinds}
 use Rattle.md_trace.specs.PortHistory.{CallSite}
 use Rattle.md_events.specs.Table.{AreNumberedFrom}
 
@@ -41,7 +40,7 @@ pub numbered_append : (n m : ℕ) (xs ys : List (ℕ × CallSite)) → m ≡ n +
 numbered_append n m [] ys is a b = let same : n ≡ m = omega (arith, is) in rw same b
 numbered_append n m (x ∷ xs) ys is a b = (a.0, numbered_append (suc n) m xs ys (omega (arith, is)) a.1 b)
 
--- from i to j stand goals with these call sites
+-- From i to j stand goals with these call sites. Each site has a token of its own.
 pub record Leads (i j : Input) (xs : List (ℕ × CallSite)) (gs : List HldsGoal) : Type 0 where
   pub limits : j.limits ≡ i.limits
   pub numbers : AreNumberedFrom i.sites xs
@@ -49,6 +48,7 @@ pub record Leads (i j : Input) (xs : List (ℕ × CallSite)) (gs : List HldsGoal
   pub lines : HaveLines i.rest → HaveLines j.rest
   pub goals : HaveLines i.rest → AreLined gs
   pub vars : 0 < length i.vars → 0 < length j.vars
+  pub fewer : length j.rest + length xs ≤ length i.rest
 
 -- from i to j stands no goal
 abbrev pub Steady : Input → Input → Type 0
@@ -62,6 +62,7 @@ leads_then {i = i} {j = j} {xs = xs} {ys = ys} {gs = gs} {hs = hs} a b = record 
   lines = λ l. b.lines (a.lines l);
   goals = λ l. lined_append gs hs (a.goals l) (b.goals (a.lines l));
   vars = λ v. b.vars (a.vars v);
+  fewer = omega (arith, a.fewer, b.fewer, length-append xs ys);
 }
 
 -- no goal before, and none behind
@@ -74,16 +75,20 @@ before {i = i} {k = k} {xs = xs} {gs = gs} a b =
 
 -- ---- one token
 
-lines_behind : (ts : List Lexeme) → HaveLines ts → HaveLines (drop 1 ts)
+pub lines_behind : (ts : List Lexeme) → HaveLines ts → HaveLines (drop 1 ts)
 lines_behind [] l = tt
 lines_behind (t ∷ ts) l = l.1
 
+drop_fewer : (ts : List Lexeme) → length (drop 1 ts) + 0 ≤ length ts
+drop_fewer [] = omega arith
+drop_fewer (t ∷ ts) = omega arith
+
 pub to_next : (i : Input) → Steady i (next i)
 unfolding next
-to_next i = record { limits = refl; numbers = tt; sites = omega arith; lines = λ l. lines_behind i.rest l; goals = λ l. tt; vars = λ v. v }
+to_next i = record { limits = refl; numbers = tt; sites = omega arith; lines = λ l. lines_behind i.rest l; goals = λ l. tt; vars = λ v. v; fewer = drop_fewer i.rest }
 
 pub to_same : (i j : Input) → i ≡ j → Steady i j
-to_same i j is = subst (λ (k : Input). Steady i k) is (record { limits = refl; numbers = tt; sites = omega arith; lines = λ l. l; goals = λ l. tt; vars = λ v. v })
+to_same i j is = subst (λ (k : Input). Steady i k) is (record { limits = refl; numbers = tt; sites = omega arith; lines = λ l. l; goals = λ l. tt; vars = λ v. v; fewer = omega arith })
 
 pub taken_steady : (k : Kind) (i j : Input) → Taken k i j → Steady i j
 taken_steady k i j t = subst (λ (m : Input). Steady i m) (sym t.behind) (to_next i)
@@ -107,9 +112,19 @@ pub line_at : (k : Kind) (i : Input) → kind_at i ≡ k → same_kind k kind.St
 unfolding token
 line_at k i is not_stop l = line_by i.rest (ap (λ (x : Kind). same_kind x kind.Stop) is ∙ not_stop) l
 
+-- it was taken
+taken_fewer : (ts : List Lexeme) → same_kind (first ts).kind kind.Stop ≡ false → length (drop 1 ts) < length ts
+unfolding same_kind
+taken_fewer [] not_stop = absurd (cc)
+taken_fewer (t ∷ ts) not_stop = omega arith
+
+pub next_fewer : (k : Kind) (i j : Input) → kind_at i ≡ k → same_kind k kind.Stop ≡ false → j ≡ next i → length j.rest < length i.rest
+unfolding token next
+next_fewer k i j is not_stop behind = rw behind (taken_fewer i.rest (ap (λ (x : Kind). same_kind x kind.Stop) is ∙ not_stop))
+
 -- ---- names
 
-taken_name : (text : List ℕ) (x : List ℕ) (i j : Input) → take_name text i ≡ Ok (x, j) → Steady i j × (length x ≤ i.limits.items)
+pub taken_name : (text : List ℕ) (x : List ℕ) (i j : Input) → take_name text i ≡ Ok (x, j) → Steady i j × (length x ≤ i.limits.items)
 unfolding take_name
 taken_name text x i j is =
     elim (chosen (nat_lt i.limits.items (length text)) (limit i) (Ok (text, next i)) (Ok (x, j)) is) [
@@ -168,6 +183,21 @@ taken_written (Some w) q i j is =
           )
     ]
 
+written_behind : (o : Option rule.Written) (q : PredName) (i j : Input) → rule.take_written o i ≡ Ok (q, j) → j ≡ next i
+written_behind None q i j is = absurd (cc)
+written_behind (Some w) q i j is =
+    elim (chosen (rule.is_long i.limits.items w) (limit i) (Ok (rule.meant i.home w, next i)) (Ok (q, j)) is) [
+      | inl l ↦ absurd (let e = l.1 in cc)
+      | inr r ↦ sym (ok_input (rule.meant i.home w) q (next i) j r.1)
+    ]
+
+-- the name of a predicate is a token that isn't the end
+pub pred_name_fewer : (q : PredName) (i j : Input) → Is rule.pred_name q i j → length j.rest < length i.rest
+unfolding rule.pred_name same_kind
+pred_name_fewer q i j is =
+    let behind = written_behind (rule.written (token i)) q i j is in
+    elim (pred_kinds q i j is) [ inl name ↦ next_fewer kind.Name i j name refl behind | inr name ↦ next_fewer kind.Qualified i j name refl behind ]
+
 pub pred_name_is : (q : PredName) (i j : Input) → Is rule.pred_name q i j → Steady i j × ShortName i q
 unfolding rule.pred_name
 pred_name_is q i j is = taken_written (rule.written (token i)) q i j is
@@ -222,7 +252,7 @@ some_variable x (v ∷ vars) = with_one (place_of x (v ∷ vars) == length (v �
 
 to_variable : (i : Input) → Steady i (record (next i) { vars = with_variable (token i).text i.vars })
 unfolding next
-to_variable i = record { limits = refl; numbers = tt; sites = omega arith; lines = λ l. lines_behind i.rest l; goals = λ l. tt; vars = λ v. some_variable (token i).text i.vars }
+to_variable i = record { limits = refl; numbers = tt; sites = omega arith; lines = λ l. lines_behind i.rest l; goals = λ l. tt; vars = λ v. some_variable (token i).text i.vars; fewer = drop_fewer i.rest }
 
 pub variable_is : (seen : List ℕ) (x : ℕ) (i j : Input) → Is (variable seen) x i j → Steady i j × (0 < length j.vars)
 unfolding variable
@@ -255,10 +285,18 @@ determinism_steady d i j is = taken_word (rule.det_named (token i).text) d i j i
 
 -- ---- call sites
 
--- the next number, and one site with it
-pub site_is : (n : ℕ) (i j : Input) (x : CallSite) → Is site n i j → Leads i j ((n, x) ∷ []) []
+-- behind a token at least, the next number, and one site with it
+pub site_is : (n : ℕ) (i k j : Input) (x : CallSite) → Steady i k → length k.rest < length i.rest → Is site n k j → Leads i j ((n, x) ∷ []) []
 unfolding site
-site_is n i j x is =
-    let number : i.sites ≡ n = ok_value i.sites n (record i { sites = i.sites + 1 }) j is in
-    subst (λ (m : Input). Leads i m ((n, x) ∷ []) []) (ok_input i.sites n (record i { sites = i.sites + 1 }) j is)
-    (record { limits = refl; numbers = (sym number, tt); sites = omega arith; lines = λ l. l; goals = λ l. tt; vars = λ v. v })
+site_is n i k j x before less is =
+    let number : k.sites ≡ n = ok_value k.sites n (record k { sites = k.sites + 1 }) j is in
+    subst (λ (m : Input). Leads i m ((n, x) ∷ []) []) (ok_input k.sites n (record k { sites = k.sites + 1 }) j is)
+    (record {
+      limits = before.limits;
+      numbers = (omega (arith, number, before.sites), tt);
+      sites = omega (arith, before.sites);
+      lines = before.lines;
+      goals = before.goals;
+      vars = before.vars;
+      fewer = omega (arith, less);
+    })

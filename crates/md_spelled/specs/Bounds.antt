@@ -1,6 +1,6 @@
 -- What holds of the program of a text besides the grammar: its lines count from 1, and its names and lists of arguments
 -- are short.
-use Rattle.std.specs.Prelude.{◌≡◌, ℕ, ◌≤◌, List, length, All, Option, IfSome}
+use Rattle.std.specs.Prelude.{◌≡◌, ℕ, ◌≤◌, length, All, IfSome}
 use Rattle.md_hlds.specs.HldsGoal.{HldsGoal, At}
 use Rattle.md_hlds.specs.Hlds.{HldsFunctor, HldsTypeDef, Procedure, Hlds, clause_goals, sites_of}
 
