@@ -1,5 +1,5 @@
 -- What the steps of the grammar do to the place: the limits stay, call sites get the next numbers, and every token has a
--- line.
+-- line and is whole.
 use Rattle.std.specs.Prelude.{⊤}
 use Rattle.std.proofs.Common.{◌≡◌, refl, sym, ap, ◌∙◌, subst, ℕ, suc, ◌+◌, ◌<◌, ◌≤◌, Bool, true, false, cond, not, ◌||◌, nat_lt, ◌==◌, List, [], ◌∷◌, ◌++◌, length, drop, Option, Some, None, IfSome, Ok, ◌⊎◌, inl, inr, arith, append-nil, length-append}
 use Rattle.std.proofs.lemmas.Bool.{ltb-false}
@@ -21,11 +21,20 @@ use Rattle.md_reader.proofs.Steps.{chosen, ok_input, ok_value, past_three}
 use Rattle.md_reader.proofs.Taking.{Taken, signed, expected, word_behind, pred_kinds}
 use Rattle.md_trace.specs.PortHistory.{CallSite}
 use Rattle.md_events.specs.Table.{AreNumberedFrom}
+use Rattle.md_spelled.proofs.Names.{HasName, stop_name, AreNames, declared_names}
 
--- each token has a line
-abbrev pub HaveLines : List Lexeme → Type 0
-HaveLines [] = ⊤
-HaveLines (t ∷ ts) = (1 ≤ t.line) × HaveLines ts
+-- each token has a line, and the text of one that is a name is a name
+abbrev pub AreSound : List Lexeme → Type 0
+AreSound [] = ⊤
+AreSound (t ∷ ts) = (1 ≤ t.line) × HasName t.kind t.text × AreSound ts
+
+first_name : (ts : List Lexeme) → AreSound ts → HasName (first ts).kind (first ts).text
+first_name [] l = stop_name []
+first_name (t ∷ ts) l = l.1
+
+pub name_at : (i : Input) → AreSound i.rest → HasName (token i).kind (token i).text
+unfolding token
+name_at i l = first_name i.rest l
 
 -- each goal has one
 abbrev pub AreLined : List HldsGoal → Type 0
@@ -45,8 +54,8 @@ pub record Leads (i j : Input) (xs : List (ℕ × CallSite)) (gs : List HldsGoal
   pub limits : j.limits ≡ i.limits
   pub numbers : AreNumberedFrom i.sites xs
   pub sites : j.sites ≡ i.sites + length xs
-  pub lines : HaveLines i.rest → HaveLines j.rest
-  pub goals : HaveLines i.rest → AreLined gs
+  pub lines : AreSound i.rest → AreSound j.rest
+  pub goals : AreSound i.rest → AreLined gs
   pub vars : 0 < length i.vars → 0 < length j.vars
   pub fewer : length j.rest + length xs ≤ length i.rest
 
@@ -75,9 +84,9 @@ before {i = i} {k = k} {xs = xs} {gs = gs} a b =
 
 -- ---- one token
 
-pub lines_behind : (ts : List Lexeme) → HaveLines ts → HaveLines (drop 1 ts)
+pub lines_behind : (ts : List Lexeme) → AreSound ts → AreSound (drop 1 ts)
 lines_behind [] l = tt
-lines_behind (t ∷ ts) l = l.1
+lines_behind (t ∷ ts) l = l.2
 
 drop_fewer : (ts : List Lexeme) → length (drop 1 ts) + 0 ≤ length ts
 drop_fewer [] = omega arith
@@ -103,12 +112,12 @@ pub word_steady : (w : List ℕ) (line : ℕ) (i j : Input) → Is (word w) line
 word_steady w line i j is = taken_steady kind.Name i j (word_behind w line i j is)
 
 -- a token that isn't the end has a line
-line_by : (ts : List Lexeme) → same_kind (first ts).kind kind.Stop ≡ false → HaveLines ts → 1 ≤ (first ts).line
+line_by : (ts : List Lexeme) → same_kind (first ts).kind kind.Stop ≡ false → AreSound ts → 1 ≤ (first ts).line
 unfolding same_kind
 line_by [] not_stop l = absurd (cc)
 line_by (t ∷ ts) not_stop l = l.0
 
-pub line_at : (k : Kind) (i : Input) → kind_at i ≡ k → same_kind k kind.Stop ≡ false → HaveLines i.rest → 1 ≤ (token i).line
+pub line_at : (k : Kind) (i : Input) → kind_at i ≡ k → same_kind k kind.Stop ≡ false → AreSound i.rest → 1 ≤ (token i).line
 unfolding token
 line_at k i is not_stop l = line_by i.rest (ap (λ (x : Kind). same_kind x kind.Stop) is ∙ not_stop) l
 
@@ -134,6 +143,15 @@ taken_name text x i j is =
             subst (λ (m : Input). Steady i m) (ok_input text x (next i) j r.1) (to_next i),
             subst (λ (y : List ℕ). length y ≤ i.limits.items) same (ltb-false i.limits.items (length text) r.0),
           )
+    ]
+
+-- it is the token's text
+pub taken_text : (text : List ℕ) (x : List ℕ) (i j : Input) → take_name text i ≡ Ok (x, j) → text ≡ x
+unfolding take_name
+taken_text text x i j is =
+    elim (chosen (nat_lt i.limits.items (length text)) (limit i) (Ok (text, next i)) (Ok (x, j)) is) [
+      | inl l ↦ absurd (let e = l.1 in cc)
+      | inr r ↦ ok_value text x (next i) j r.1
     ]
 
 pub name_is : (x : List ℕ) (i j : Input) → Is name x i j → Steady i j × (length x ≤ i.limits.items)
@@ -217,6 +235,9 @@ taken_declared (Some w) q i j is =
 pub declared_name_is : (q : PredName) (i j : Input) → Is rule.declared_name q i j → Steady i j × ShortName i q
 unfolding rule.declared_name
 declared_name_is q i j is = taken_declared (rule.written (token i)) q i j is
+
+pub declared_name_names : (q : PredName) (i j : Input) → Is rule.declared_name q i j → AreSound i.rest → AreNames q.name q.qualifier
+declared_name_names q i j is l = declared_names q i j (name_at i l) is
 
 -- the name of a clause's head: a token that isn't the end
 taken_same : (q : PredName) (o : Option rule.Written) (i j : Input) → rule.take_same q o i ≡ Ok (tt, j) → Steady i j × ((w : rule.Written) × (o ≡ Some w))

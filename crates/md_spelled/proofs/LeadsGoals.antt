@@ -12,18 +12,18 @@ use Rattle.md_reader.specs.Grammar.{Is, Sign, Goal, Units, Conjunction, Arms}
 use Rattle.md_reader.proofs.Taking.{expected, expected_line}
 use Rattle.md_trace.specs.PortHistory.{CallSite}
 use Rattle.md_events.specs.Table.{goal_sites, goals_sites}
-use Rattle.md_spelled.proofs.Leads.{HaveLines, AreLined, Leads, leads_then, after, before, sign_steady, expect_steady, line_at}
+use Rattle.md_spelled.proofs.Leads.{AreSound, AreLined, Leads, leads_then, after, before, sign_steady, expect_steady, line_at}
 use Rattle.md_spelled.proofs.LeadsTerms.{quantified_steady, relation_is, plain_leads, call_leads, closure_call_leads, call_kind, closure_call_kind}
 
 -- a goal around goals
-pub around : (line : ℕ) (x : GoalExpr) {i j : Input} {xs : List (ℕ × CallSite)} {gs : List HldsGoal} → (HaveLines i.rest → 1 ≤ line) → Leads i j xs gs → Leads i j xs (At line x ∷ gs)
+pub around : (line : ℕ) (x : GoalExpr) {i j : Input} {xs : List (ℕ × CallSite)} {gs : List HldsGoal} → (AreSound i.rest → 1 ≤ line) → Leads i j xs gs → Leads i j xs (At line x ∷ gs)
 around line x has l = record { limits = l.limits; numbers = l.numbers; sites = l.sites; lines = l.lines; goals = λ h. (has h, l.goals h); vars = l.vars; fewer = l.fewer }
 
 -- the line of a token of a kind that was taken
-pub line_expected : (k : Kind) (line : ℕ) (i j : Input) → Is (expect k) line i j → same_kind k kind.Stop ≡ false → HaveLines i.rest → 1 ≤ line
+pub line_expected : (k : Kind) (line : ℕ) (i j : Input) → Is (expect k) line i j → same_kind k kind.Stop ≡ false → AreSound i.rest → 1 ≤ line
 line_expected k line i j is not_stop h = subst (λ (n : ℕ). 1 ≤ n) (expected_line k line i j is) (line_at k i (expected k line i j is).is not_stop h)
 
-pub named_line : (i : Input) → (kind_at i ≡ kind.Name) ⊎ (kind_at i ≡ kind.Qualified) → HaveLines i.rest → 1 ≤ (token i).line
+pub named_line : (i : Input) → (kind_at i ≡ kind.Name) ⊎ (kind_at i ≡ kind.Qualified) → AreSound i.rest → 1 ≤ (token i).line
 unfolding same_kind
 named_line i (inl is) h = line_at kind.Name i is refl h
 named_line i (inr is) h = line_at kind.Qualified i is refl h

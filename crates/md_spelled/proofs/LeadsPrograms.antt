@@ -17,8 +17,9 @@ use Rattle.md_reader.proofs.Steps.{ok_input, ok_value}
 use Rattle.md_reader.proofs.Taking.{expected}
 use Rattle.md_events.specs.Table.{AreNumberedFrom, goal_sites, clause_sites}
 use Rattle.md_spelled.specs.Bounds.{IsShortFunctor, IsShortType, IsShort}
-use Rattle.md_spelled.proofs.Leads.{next_fewer, HaveLines, AreLined, lined_append, numbered_append, Leads, Steady, after, before, to_same, sign_steady, expect_steady, word_steady, name_is, declared_name_is, this_name_is, variable_is, variable_steady, mode_steady, ho_mode_steady, determinism_steady}
-use Rattle.md_spelled.proofs.LeadsTerms.{simple_type_steady, type_name_is, module_name_is, listed_steady, enclosed_steady}
+use Rattle.md_spelled.proofs.Names.{IsName, AreNames}
+use Rattle.md_spelled.proofs.Leads.{declared_name_names, next_fewer, AreSound, AreLined, lined_append, numbered_append, Leads, Steady, after, before, to_same, sign_steady, expect_steady, word_steady, name_is, declared_name_is, this_name_is, variable_is, variable_steady, mode_steady, ho_mode_steady, determinism_steady}
+use Rattle.md_spelled.proofs.LeadsTerms.{module_name_name, simple_type_steady, type_name_is, module_name_is, listed_steady, enclosed_steady}
 use Rattle.md_spelled.proofs.LeadsGoals.{line_expected, named_line, conjunction_is}
 
 -- ---- lists
@@ -113,9 +114,10 @@ record ShortDeclaration (d : rule.Declaration) : Type 0 where
   name : length d.name.name ≤ 255
   qualifier : IfSome d.name.qualifier (λ m. length m ≤ 255)
   args : length d.args ≤ 255
+  names : AreNames d.name.name d.name.qualifier
 
-declaration_is : (d : rule.Declaration) (i j : Input) → i.limits ≡ standard → PredDeclaration d i j → Steady i j × ShortDeclaration d
-declaration_is _ _ _ limits (pred_declaration q args d i j k l m n o pred is declared is' det end) =
+declaration_is : (d : rule.Declaration) (i j : Input) → i.limits ≡ standard → AreSound i.rest → PredDeclaration d i j → Steady i j × ShortDeclaration d
+declaration_is _ _ _ limits sound (pred_declaration q args d i j k l m n o pred is declared is' det end) =
     let a = sign_steady kind.Pred i j pred in
     let b = declared_name_is q j k is in
     let c = declared_arguments_are args k l declared in
@@ -126,6 +128,7 @@ declaration_is _ _ _ limits (pred_declaration q args d i j k l m n o pred is dec
         name = subst (λ (x : Limits). length q.name ≤ x.items) at_name b.1.0;
         qualifier = subst (λ (x : Limits). IfSome q.qualifier (λ m. length m ≤ x.items)) at_name b.1.1;
         args = subst (λ (x : Limits). length args ≤ x.items) at_args c.1;
+        names = declared_name_names q j k is (a.lines sound);
       },
     )
 
@@ -151,7 +154,7 @@ record ReadsClause (s : Hlds) (owner arity : ℕ) (c : rule.Clause) (i j : Input
   leads : Leads i end (goal_sites s owner c.body) (goals_within c.body)
   behind : j ≡ record end { vars = [] }
   head : length c.head ≡ arity
-  line : HaveLines i.rest → 1 ≤ c.line
+  line : AreSound i.rest → 1 ≤ c.line
   vars : 0 < arity → 0 < length c.vars
 
 clause_is : (s : Hlds) (owner : ℕ) (q : _) (arity : ℕ) (c : rule.Clause) (i j : Input) → PredClause q arity c i j → ReadsClause s owner arity c i j
@@ -197,12 +200,13 @@ pub record IsGoodProcedure (p : Procedure) : Type 0 where
   pub clause_line : 1 ≤ p.clause_line
   pub short : IsShort p
   pub vars : 0 < length p.args → 0 < length p.vars
+  pub names : AreNames p.name p.qualifier
 
 -- A place up to which a program was read from so many tokens; s is any program. Each declaration and each call site had a
 -- token of its own.
 pub record Stands (s l : Hlds) (total : ℕ) (i : Input) : Type 0 where
   pub limits : i.limits ≡ standard
-  pub lines : HaveLines i.rest
+  pub lines : AreSound i.rest
   pub numbers : AreNumberedFrom 0 (clause_sites s 0 l.procedures)
   pub sites : i.sites ≡ length (clause_sites s 0 l.procedures)
   pub goals : AreLined (clause_goals l.procedures)
@@ -210,6 +214,7 @@ pub record Stands (s l : Hlds) (total : ℕ) (i : Input) : Type 0 where
   pub procedures : Every IsGoodProcedure l.procedures
   pub module_line : 1 ≤ l.module_line
   pub module_name : length l.module_name ≤ 255
+  pub module_is : IsName l.module_name
   pub few : length i.rest + (length (clause_sites s 0 l.procedures) + (length l.procedures + length l.types)) < total
 
 declared_is : (s before' l : Hlds) (total : ℕ) (i j : Input) → Declared before' l i j → Stands s before' total i → Stands s l total j
@@ -227,16 +232,17 @@ declared_is s before' _ total _ _ (g.Declared.type t line i j k is read) h =
       procedures = h.procedures;
       module_line = h.module_line;
       module_name = h.module_name;
+      module_is = h.module_is;
       few = omega (arith, h.few, expect_fewer kind.Declare line i j is refl, b.0.fewer, length-append before'.types (t ∷ []));
     }
 declared_is s before' _ total _ _ (g.Declared.predicate d c line i j k l is declaration clause) h =
     let owner = length before'.procedures in
     let p = rule.procedure_from line d c in
     let a = expect_steady kind.Declare line i j is in
-    let b = declaration_is d j k (a.limits ∙ h.limits) declaration in
+    let b = declaration_is d j k (a.limits ∙ h.limits) (a.lines h.lines) declaration in
     let e = clause_is s owner d.name (length d.args) c k l clause in
     let at_clause : k.sites ≡ i.sites = omega (arith, b.0.sites, a.sites) in
-    let lines_clause : HaveLines k.rest = b.0.lines (a.lines h.lines) in
+    let lines_clause : AreSound k.rest = b.0.lines (a.lines h.lines) in
     let xs = clause_sites s 0 before'.procedures in
     let ys = goal_sites s owner c.body in
     let pushed : clause_sites s 0 (before'.procedures ++ p ∷ []) ≡ xs ++ ys = clause_sites_push s 0 owner before'.procedures p (omega arith) in
@@ -253,11 +259,13 @@ declared_is s before' _ total _ _ (g.Declared.predicate d c line i j k l is decl
           clause_line = e.line lines_clause;
           short = record { qualifier = b.1.qualifier; name = b.1.name; args = b.1.args; head = e.head };
           vars = e.vars;
+          names = b.1.names;
         },
         tt,
       );
       module_line = h.module_line;
       module_name = h.module_name;
+      module_is = h.module_is;
       few =
           rw (e.behind, pushed)
           (omega (
@@ -275,7 +283,7 @@ declarations_are : (s before' l : Hlds) (total : ℕ) (i j : Input) → Declarat
 declarations_are s _ _ total _ _ (g.Declarations.none l i) h = h
 declarations_are s _ _ total _ _ (g.Declarations.also before' l after' i j k is rest) h = declarations_are s l after' total j k rest (declared_is s before' l total i j is h)
 
-pub program_is : (s l : Hlds) (i j : Input) → i.limits ≡ standard → HaveLines i.rest → i.sites ≡ 0 → Program l i j → Stands s l (length i.rest) j
+pub program_is : (s l : Hlds) (i j : Input) → i.limits ≡ standard → AreSound i.rest → i.sites ≡ 0 → Program l i j → Stands s l (length i.rest) j
 unfolding same_kind
 program_is s _ _ _ limits lines none (program m line at l i j k n o p is word' name' end rest) =
     let a = expect_steady kind.Declare line i j is in
@@ -294,5 +302,6 @@ program_is s _ _ _ limits lines none (program m line at l i j k n o p is word' n
       procedures = tt;
       module_line = line_expected kind.Declare line i j is refl lines;
       module_name = subst (λ (x : Limits). length m ≤ x.items) (b.limits ∙ a.limits ∙ limits) c.1;
+      module_is = module_name_name m k n name' (b.lines (a.lines lines));
       few = omega (arith, expect_fewer kind.Declare line i j is refl, b.fewer, c.0.fewer, d.fewer);
     })

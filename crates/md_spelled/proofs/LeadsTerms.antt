@@ -1,6 +1,6 @@
 -- Names of modules and types, variables, terms and goals without parts: no call site stands in a term, and a call has the
 -- next one.
-use Rattle.std.proofs.Common.{◌≡◌, refl, sym, subst, ℕ, suc, ◌≤◌, Bool, true, false, cond, nat_lt, List, [], ◌∷◌, length, Option, Some, None, Ok, ◌⊎◌, inl, inr, arith}
+use Rattle.std.proofs.Common.{◌∙◌, ◌≡◌, refl, sym, subst, ℕ, suc, ◌≤◌, Bool, true, false, cond, nat_lt, List, [], ◌∷◌, length, Option, Some, None, Ok, ◌⊎◌, inl, inr, arith}
 use Rattle.std.specs.Str.{bytes_eq}
 use Rattle.std.specs.Prelude.{codes, ◌&&◌, not}
 use Rattle.md_hlds.specs.declared.goal.PredName.{PredName}
@@ -17,7 +17,12 @@ use Rattle.md_reader.specs.Grammar.{Is, Sign, Listed, last, also, Enclosed, encl
 use Rattle.md_reader.proofs.Steps.{bind_ok, chosen, ok_input, ok_value}
 use Rattle.md_reader.proofs.Taking.{variable_kind, pred_kinds, signed}
 use Rattle.md_events.specs.Table.{number_of, expr_sites}
-use Rattle.md_spelled.proofs.Leads.{Leads, Steady, after, to_next, to_same, sign_steady, taken_name, name_is, pred_name_is, pred_name_fewer, next_fewer, variable_steady, site_is}
+use Rattle.md_spelled.proofs.Names.{IsName}
+use Rattle.md_spelled.proofs.Leads.{AreSound, name_at, taken_text, Leads, Steady, after, to_next, to_same, sign_steady, taken_name, name_is, pred_name_is, pred_name_fewer, next_fewer, variable_steady, site_is}
+
+first_true : (a b : Bool) → (a && b) ≡ true → a ≡ true
+first_true true b is = refl
+first_true false b is = absurd (cc)
 
 -- a choice between two rules
 applied_choice : {A : Type 0} (b : Bool) (p q : Parser A) (i : Input) (y : A × Input) → cond b p q i ≡ Ok y → (p i ≡ Ok y) ⊎ (q i ≡ Ok y)
@@ -77,6 +82,19 @@ module_name_is x i j is =
             after t.0 (after (to_home b.0.1 text) (to_same (record b.0.1 { home = text }) j (ok_input b.0.0 x (record b.0.1 { home = text }) j b.2))),
             subst (λ (y : List ℕ). length y ≤ i.limits.items) (ok_value b.0.0 x (record b.0.1 { home = text }) j b.2) t.1,
           )
+      | inr r ↦ absurd (let e = r.1 in cc)
+    ]
+
+pub module_name_name : (x : List ℕ) (i j : Input) → Is rule.module_name x i j → AreSound i.rest → IsName x
+unfolding rule.module_name
+module_name_name x i j is l =
+    let text = (token i).text in
+    elim (chosen (rule.is_name (token i).kind && not (rule.is_library text)) _ (refuse i) (Ok (x, j)) is) [
+      | inl l' ↦
+          let b = bind_ok (take_name text i) (λ m. rule.set_home text >> pure m) (x, j) l'.1 in
+          let same : text ≡ x = taken_text text b.0.0 i b.0.1 b.1 ∙ ok_value b.0.0 x (record b.0.1 { home = text }) j b.2 in
+          let is_word = first_true (rule.is_name (token i).kind) (not (rule.is_library text)) l'.0 in
+          subst IsName same ((name_at i l).word is_word)
       | inr r ↦ absurd (let e = r.1 in cc)
     ]
 

@@ -1,5 +1,5 @@
 -- From the tokens of a text to its program.
-use Rattle.std.proofs.Common.{◌≡◌, refl, subst, ℕ, zero, suc, ◌+◌, ◌≤◌, Bool, true, false, cond, ◌==◌, List, [], ◌∷◌, ◌++◌, map, Some, slice_get, arith, ◌<◌, length, length-append, sym, ap, ◌∙◌}
+use Rattle.std.proofs.Common.{IfSome, IsTrue, Option, None, ◌≡◌, refl, subst, ℕ, zero, suc, ◌+◌, ◌≤◌, Bool, true, false, cond, ◌==◌, List, [], ◌∷◌, ◌++◌, map, Some, slice_get, arith, ◌<◌, length, length-append, sym, ap, ◌∙◌}
 use Rattle.md_hlds.specs.HldsGoal.{HldsGoal, At, GoalExpr, SimpleGoal, CallGoal, HoCallGoal, ConjGoal, DisjGoal, IfGoal, NotGoal, SomeGoal, HldsGoals, nothing, also, goals_within, goals_below, goals_among, site_lines, expr_lines, goals_lines}
 use Rattle.md_hlds.specs.Hlds.{Hlds, Procedure, HldsTypeDef, clause_goals, owned_by, sites_from, sites_of}
 use Rattle.md_hlds.specs.Run.{main_name}
@@ -13,9 +13,11 @@ use Rattle.md_events.specs.Table.{site_alone, program_sites}
 use Rattle.md_events.specs.Laws.{owner_of_site, owner_of_pair}
 use Rattle.md_events.proofs.RunLaw.{runs_are_histories}
 use Rattle.md_events.proofs.SiteLemmas.{found_by_name, owners_agree}
-use Rattle.md_spelled.specs.Bounds.{line_of, IsShortType, IsShort}
-use Rattle.md_spelled.specs.Laws.{TextsHaveSites, TextsHaveLines, TextsHaveShortNames, TextsHaveFewParts, MainIsCalled, AcceptedTextsHaveMains, AcceptedTextsAreWithinBounds, AcceptedRunsAreHistories}
-use Rattle.md_spelled.proofs.Leads.{HaveLines, AreLined}
+use Rattle.md_spelled.specs.Bounds.{IsNamed, line_of, IsShortType, IsShort}
+use Rattle.md_spelled.specs.Laws.{TextsHaveNames, TextsHaveSites, TextsHaveLines, TextsHaveShortNames, TextsHaveFewParts, MainIsCalled, AcceptedTextsHaveMains, AcceptedTextsAreWithinBounds, AcceptedRunsAreHistories}
+use Rattle.md_static.specs.Names.{is_name}
+use Rattle.md_spelled.proofs.Names.{IsName, token_name, stop_name, bad_name, table_name}
+use Rattle.md_spelled.proofs.Leads.{AreSound, AreLined}
 use Rattle.md_spelled.proofs.LeadsPrograms.{Every, all_of, every_append, IsGoodType, IsGoodProcedure, Stands, program_is}
 use Rattle.md_spelled.proofs.MainLemmas.{main_called, main_has_args}
 
@@ -25,14 +27,14 @@ more_lines : (c : Bool) (line : ℕ) → 1 ≤ line → 1 ≤ cond c (line + 1) 
 more_lines true line has = omega (arith, has)
 more_lines false line has = has
 
-cut_lined : (line : ℕ) (text : List ℕ) (ts : List Lexeme) → Cut line text ts → 1 ≤ line → HaveLines ts
-cut_lined _ _ _ (Cut.stop line) has = (has, tt)
+cut_lined : (line : ℕ) (text : List ℕ) (ts : List Lexeme) → Cut line text ts → 1 ≤ line → AreSound ts
+cut_lined _ _ _ (Cut.stop line) has = (has, stop_name [], tt)
 cut_lined _ _ _ (Cut.blank line b text ts is rest) has = cut_lined (line_behind b line) text ts rest (more_lines (b == 10) line has)
 cut_lined _ _ _ (Cut.comment line w text ts is ended rest) has = cut_lined line text ts rest has
-cut_lined _ _ _ (Cut.token line k text w after ts is rest) has = (has, cut_lined line after ts rest has)
-cut_lined _ _ _ (Cut.bad line b bytes blank percent is) has = (has, tt)
+cut_lined _ _ _ (Cut.token line k text w after ts is rest) has = (has, token_name after k w is.token, cut_lined line after ts rest has)
+cut_lined _ _ _ (Cut.bad line b bytes blank percent is) has = (has, bad_name [], tt)
 
-tokens_lined : (text : List ℕ) → HaveLines (tokens_of text)
+tokens_lined : (text : List ℕ) → AreSound (tokens_of text)
 tokens_lined text = cut_lined 1 text (tokens_of text) (tokens_cut text) (omega arith)
 
 -- ---- a token has a byte at least
@@ -161,6 +163,21 @@ texts_have_short_names text p t =
       module_name = h.module_name;
       types = all_of IsShortType p.types (every_map IsGoodType IsShortType p.types (λ d g. g.short) h.types);
       procedures = all_of IsShort p.procedures (every_map IsGoodProcedure IsShort p.procedures (λ q g. g.short) h.procedures);
+    }
+
+table_qualifier : (o : Option (List ℕ)) → IfSome o IsName → IfSome o (λ m. length m ≤ 255) → IfSome o (λ m. IsTrue (is_name m))
+table_qualifier None is short = tt
+table_qualifier (Some m) is short = table_name m is short
+
+named : (q : Procedure) → IsGoodProcedure q → IsNamed q
+named q g = record { name = table_name q.name g.names.0 g.short.name; qualifier = table_qualifier q.qualifier g.names.1 g.short.qualifier }
+
+pub texts_have_names : TextsHaveNames
+texts_have_names text p t =
+    let h = spelled p text p t in
+    record {
+      module_name = table_name p.module_name h.module_is h.module_name;
+      procedures = all_of IsNamed p.procedures (every_map IsGoodProcedure IsNamed p.procedures named h.procedures);
     }
 
 length_map : {A B : Type 0} (f : A → B) (xs : List A) → length (map f xs) ≡ length xs

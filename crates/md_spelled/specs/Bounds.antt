@@ -1,8 +1,9 @@
 -- What holds of the program of a text besides the grammar: its lines count from 1, and its names and lists of arguments
 -- are short.
-use Rattle.std.specs.Prelude.{◌≡◌, ℕ, ◌≤◌, length, All, IfSome}
+use Rattle.std.specs.Prelude.{◌≡◌, ℕ, ◌≤◌, length, All, IfSome, IsTrue}
 use Rattle.md_hlds.specs.HldsGoal.{HldsGoal, At}
 use Rattle.md_hlds.specs.Hlds.{HldsFunctor, HldsTypeDef, Procedure, Hlds, clause_goals, sites_of}
+use Rattle.md_static.specs.Names.{is_name}
 
 abbrev pub line_of : HldsGoal → ℕ
 line_of (At line t) = line
@@ -37,3 +38,13 @@ pub record HasShortNames (s : Hlds) : Type 0 where
   pub module_name : length s.module_name ≤ 255
   pub types : All IsShortType s.types
   pub procedures : All IsShort s.procedures
+
+-- the name of a predicate, and its qualifier, are names as the tables of a profile have them
+pub record IsNamed (p : Procedure) : Type 0 where
+  pub name : IsTrue (is_name p.name)
+  pub qualifier : IfSome p.qualifier (λ m. IsTrue (is_name m))
+
+-- so is that of the module
+pub record HasNames (s : Hlds) : Type 0 where
+  pub module_name : IsTrue (is_name s.module_name)
+  pub procedures : All IsNamed s.procedures

@@ -8,7 +8,7 @@ use Rattle.md_events.specs.Table.{site_table, HasSites, HasMain}
 use Rattle.md_events.specs.Laws.{IsWithinBounds}
 use Rattle.md_reader.specs.Grammar.{Spells}
 use Rattle.md_modes.specs.Modes.{is_main, mode_fault}
-use Rattle.md_spelled.specs.Bounds.{HasLines, HasShortNames}
+use Rattle.md_spelled.specs.Bounds.{HasLines, HasShortNames, HasNames}
 
 -- the goals of a text's program name its call sites in text order
 abbrev pub TextsHaveSites : Type 0
@@ -21,6 +21,10 @@ TextsHaveLines = (text : List ℕ) (p : Hlds) → Spells text p → HasLines p
 -- its names and lists of arguments are within the limits
 abbrev pub TextsHaveShortNames : Type 0
 TextsHaveShortNames = (text : List ℕ) (p : Hlds) → Spells text p → HasShortNames p
+
+-- those of the module and of predicates are names as the tables of a profile have them
+abbrev pub TextsHaveNames : Type 0
+TextsHaveNames = (text : List ℕ) (p : Hlds) → Spells text p → HasNames p
 
 -- it has no fewer bytes than its program has call sites, predicates and types together
 abbrev pub TextsHaveFewParts : Type 0

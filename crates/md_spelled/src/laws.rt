@@ -1,5 +1,5 @@
 // The laws of a text's program. Each is the contract of a function that does nothing.
-ghost use Rattle.md_spelled.specs.Laws.{TextsHaveSites, TextsHaveLines, TextsHaveShortNames, TextsHaveFewParts, MainIsCalled, AcceptedTextsHaveMains, AcceptedTextsAreWithinBounds, AcceptedRunsAreHistories};
+ghost use Rattle.md_spelled.specs.Laws.{TextsHaveSites, TextsHaveLines, TextsHaveShortNames, TextsHaveNames, TextsHaveFewParts, MainIsCalled, AcceptedTextsHaveMains, AcceptedTextsAreWithinBounds, AcceptedRunsAreHistories};
 
 /// The goals of the program that a text spells name its call sites, which are numbered from 0 in text order.
 pub fn texts_have_sites()
@@ -14,6 +14,11 @@ pub fn texts_have_lines()
 /// Its names have at most 255 bytes and its lists of arguments at most 255 members.
 pub fn texts_have_short_names()
     ensures { TextsHaveShortNames }
+{}
+
+/// The names of its module and of its predicates are names as the tables of a profile have them.
+pub fn texts_have_names()
+    ensures { TextsHaveNames }
 {}
 
 /// It has no more call sites, predicates and types together than the text has bytes.

@@ -6,5 +6,6 @@ mod laws;
 
 pub use laws::{
     accepted_runs_are_histories, accepted_texts_are_within_bounds, accepted_texts_have_mains,
-    texts_have_few_parts, texts_have_lines, texts_have_short_names, texts_have_sites,
+    texts_have_few_parts, texts_have_lines, texts_have_names, texts_have_short_names,
+    texts_have_sites,
 };
