@@ -1,6 +1,6 @@
 -- The run of a program leads lawfully on to its end, the budget cuts it to a front, and so its events are a port history.
 use Rattle.std.specs.Prelude.{⊤}
-use Rattle.std.proofs.Common.{◌≡◌, refl, sym, ap, subst, ℕ, suc, ◌+◌, ◌-◌, ◌<◌, ◌≤◌, ◌^◌, Bool, true, false, List, [], ◌∷◌, ◌++◌, length, Option, Some, None, slice_get, nat_le, arith}
+use Rattle.std.proofs.Common.{inl, inr, ◌≡◌, refl, sym, ap, subst, ℕ, suc, ◌+◌, ◌-◌, ◌<◌, ◌≤◌, ◌^◌, Bool, true, false, List, [], ◌∷◌, ◌++◌, length, Option, Some, None, slice_get, nat_le, arith}
 use Rattle.std.proofs.lemmas.Bool.{leb-true, false≢true}
 use Rattle.md_hlds.specs.Hlds.{Hlds, Procedure, procedure_called}
 use Rattle.md_hlds.specs.Value.{Env}
@@ -10,9 +10,12 @@ use Rattle.md_hlds.proofs.BudgetLemmas.{won, lost}
 use Rattle.md_trace.specs.declared.event.Event.{Event}
 use Rattle.md_trace.specs.declared.event.Event.TheVariants.{Call as CallOf, Exit as ExitOf, Redo as RedoOf, Fail as FailOf, Excp as ExcpOf, Alloc as AllocOf}
 use Rattle.md_trace.specs.PortHistory.{SiteTable, MayFollow, IsPortHistory, current}
+use Rattle.md_trace.proofs.Balanced.{links-balanced}
+use Rattle.md_trace.proofs.ContextBalance.{contexts-balanced}
+use Rattle.md_trace.proofs.Ends.{activations-end, cut-ones-have-exited}
 use Rattle.md_events.specs.History.{told, history, call_count}
 use Rattle.md_events.specs.Table.{site_table, HasSites, HasMain}
-use Rattle.md_events.specs.Laws.{IsWithinBounds, RunsAreHistories, FrontsAreHistories, EndedRunsAreLeft, CallsAreFew, EventsAreTold}
+use Rattle.md_events.specs.Laws.{IsWithinBounds, RunsAreHistories, FrontsAreHistories, EndedRunsAreLeft, LinksOfRunsBalance, ContextsOfRunsBalance, ActivationsOfRunsEnd, CutOnesOfRunsHaveExited, CallsAreFew, EventsAreTold}
 use Rattle.md_events.proofs.Goes.{count, Then, Leaves, Goes, leaves_append}
 use Rattle.md_events.proofs.Later.{same_parent}
 use Rattle.md_events.proofs.TraceLaw.{IsTableOf, goes_trace}
@@ -151,7 +154,8 @@ pub runs_are_histories : RunsAreHistories
 runs_are_histories s b within = let r = stand_run s b within in r.lawful
 
 pub ended_runs_are_left : EndedRunsAreLeft
-ended_runs_are_left s b within = let r = stand_run s b within in (r.finished, r.thrown)
+ended_runs_are_left s b within (inl finished) = let r = stand_run s b within in r.finished finished
+ended_runs_are_left s b within (inr thrown) = let r = stand_run s b within in r.thrown thrown
 
 -- ---- fronts
 
@@ -219,6 +223,26 @@ few t (AllocOf a w ∷ h) is = few t h is.0
 
 pub calls_are_few : CallsAreFew
 calls_are_few s b within = omega (arith, few (site_table s) (history (run s b)) (runs_are_histories s b within), calls_told (run s b) [])
+
+-- ---- the balance of a run that has ended
+
+pub links_of_runs_balance : LinksOfRunsBalance
+links_of_runs_balance s b l within ended = links-balanced (site_table s) (history (run s b)) l (runs_are_histories s b within) (ended_runs_are_left s b within ended)
+
+pub contexts_of_runs_balance : ContextsOfRunsBalance
+contexts_of_runs_balance s b c within ended = contexts-balanced (site_table s) (history (run s b)) c (runs_are_histories s b within) (ended_runs_are_left s b within ended)
+
+-- an activation of the run is one of its history
+called_below : (s : Hlds) (b a : ℕ) → a < call_count (run s b) → a < count (history (run s b))
+called_below s b a below = omega (arith, below, calls_told (run s b) [])
+
+pub activations_of_runs_end : ActivationsOfRunsEnd
+activations_of_runs_end s b a within ended below =
+    activations-end (site_table s) (history (run s b)) a (runs_are_histories s b within) (ended_runs_are_left s b within ended) (called_below s b a below)
+
+pub cut_ones_of_runs_have_exited : CutOnesOfRunsHaveExited
+cut_ones_of_runs_have_exited s b a within ended below =
+    cut-ones-have-exited (site_table s) (history (run s b)) a (runs_are_histories s b within) (ended_runs_are_left s b within ended) (called_below s b a below)
 
 -- ---- the events alone
 

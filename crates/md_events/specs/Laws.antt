@@ -1,9 +1,16 @@
 -- What holds of the events of every run.
-use Rattle.std.specs.Prelude.{◌≡◌, ℕ, ◌<◌, ◌^◌, true, ◌++◌, map, None}
+use Rattle.std.specs.Prelude.{◌≡◌, ◌⊎◌, ℕ, ◌+◌, ◌<◌, ◌^◌, true, List, ◌++◌, map, Some, None}
 use Rattle.md_hlds.specs.Hlds.{Hlds, sites_of}
 use Rattle.md_hlds.specs.Trace.{Items}
 use Rattle.md_hlds.specs.Run.{run, events, is_finished, is_thrown}
 use Rattle.md_trace.specs.PortHistory.{CallSite, IsSiteTable, IsPortHistory, current}
+use Rattle.md_base.specs.declared.measure.Measure.TheVariants.{Calls, Exits, Fails, Redos, Excps}
+use Rattle.md_trace.specs.declared.event.Event.{Event}
+use Rattle.md_trace.specs.declared.event.Event.TheVariants.{Exit, Fail, Excp}
+use Rattle.md_trace.specs.Context.{Link, has_link}
+use Rattle.md_trace.specs.Count.{set_counts}
+use Rattle.md_trace.specs.Totals.{own, in_context}
+use Rattle.md_trace.specs.Balance.{IsNotFull, IsEven, NoneIsFull, last_port, WasCut}
 use Rattle.md_events.specs.History.{history, call_count}
 use Rattle.md_events.specs.Table.{site_table, HasSites, HasMain}
 
@@ -36,11 +43,44 @@ RunsAreHistories = (s : Hlds) (budget : ℕ) → IsWithinBounds s budget → IsP
 abbrev pub FrontsAreHistories : Type 0
 FrontsAreHistories = (s : Hlds) (budget : ℕ) (front more : Items) → IsWithinBounds s budget → run s budget ≡ front ++ more → IsPortHistory (site_table s) (history front)
 
--- after a run that is finished or thrown nothing runs
+-- a run that is finished or has thrown
+abbrev pub HasEnded : Items → Type 0
+HasEnded xs = (is_finished xs ≡ true) ⊎ (is_thrown xs ≡ true)
+
+-- after it nothing runs
 abbrev pub EndedRunsAreLeft : Type 0
-EndedRunsAreLeft =
-    (s : Hlds) (budget : ℕ) → IsWithinBounds s budget →
-    (is_finished (run s budget) ≡ true → current (history (run s budget)) ≡ None) × (is_thrown (run s budget) ≡ true → current (history (run s budget)) ≡ None)
+EndedRunsAreLeft = (s : Hlds) (budget : ℕ) → IsWithinBounds s budget → HasEnded (run s budget) → current (history (run s budget)) ≡ None
+
+-- in it each link that isn't full was entered as often as it was left
+abbrev pub LinksOfRunsBalance : Type 0
+LinksOfRunsBalance =
+    (s : Hlds) (budget : ℕ) (l : Link) → IsWithinBounds s budget → HasEnded (run s budget)
+    → IsNotFull (set_counts (site_table s).main (history (run s budget)) (has_link l))
+    → IsEven (set_counts (site_table s).main (history (run s budget)) (has_link l))
+
+-- a context's own calls and redos are as many as its own exits, fails and exceptions
+abbrev pub IsEvenIn : (main : ℕ) → List Event → (context : ℕ) → Type 0
+IsEvenIn main h c =
+    own main h (in_context c) Calls + own main h (in_context c) Redos
+    ≡ (own main h (in_context c) Exits + own main h (in_context c) Fails) + own main h (in_context c) Excps
+
+-- so was each context none of whose links is full
+abbrev pub ContextsOfRunsBalance : Type 0
+ContextsOfRunsBalance =
+    (s : Hlds) (budget c : ℕ) → IsWithinBounds s budget → HasEnded (run s budget)
+    → NoneIsFull (site_table s).main (history (run s budget)) c → IsEvenIn (site_table s).main (history (run s budget)) c
+
+-- the last port of each of its activations is an exit, a fail or an exception
+abbrev pub ActivationsOfRunsEnd : Type 0
+ActivationsOfRunsEnd =
+    (s : Hlds) (budget a : ℕ) → IsWithinBounds s budget → HasEnded (run s budget) → a < call_count (run s budget)
+    → (last_port (history (run s budget)) a ≡ Some (Exit a)) ⊎ (last_port (history (run s budget)) a ≡ Some (Fail a)) ⊎ (last_port (history (run s budget)) a ≡ Some (Excp a))
+
+-- and where the activation was cut it is an exit
+abbrev pub CutOnesOfRunsHaveExited : Type 0
+CutOnesOfRunsHaveExited =
+    (s : Hlds) (budget a : ℕ) → IsWithinBounds s budget → HasEnded (run s budget) → a < call_count (run s budget)
+    → WasCut (history (run s budget)) a → last_port (history (run s budget)) a ≡ Some (Exit a)
 
 -- a run has fewer calls than the greatest number of 32 bits
 abbrev pub CallsAreFew : Type 0

@@ -1,5 +1,5 @@
 // The laws of a run's events. Each is the contract of a function that does nothing.
-ghost use Rattle.md_events.specs.Laws.{ProgramsHaveTables, OwnersAgree, RunsAreHistories, FrontsAreHistories, EndedRunsAreLeft, CallsAreFew, EventsAreTold};
+ghost use Rattle.md_events.specs.Laws.{ProgramsHaveTables, OwnersAgree, RunsAreHistories, FrontsAreHistories, EndedRunsAreLeft, LinksOfRunsBalance, ContextsOfRunsBalance, ActivationsOfRunsEnd, CutOnesOfRunsHaveExited, CallsAreFew, EventsAreTold};
 
 /// The site table of a program that declares a main is a site table: each procedure that it names is one of the
 /// program's.
@@ -26,6 +26,19 @@ pub fn fronts_are_histories()
 /// After such a run, where it is finished or thrown, nothing runs.
 pub fn ended_runs_are_left()
     ensures { EndedRunsAreLeft }
+{}
+
+/// In such a run, where it is finished or thrown, each link that isn't full was entered as often as it was left, and so was
+/// each context none of whose links is full.
+pub fn ended_runs_balance()
+    ensures links { LinksOfRunsBalance }
+    ensures contexts { ContextsOfRunsBalance }
+{}
+
+/// The last port of each activation of it is an exit, a fail or an exception. One that was cut ends with an exit.
+pub fn activations_of_runs_end()
+    ensures ended { ActivationsOfRunsEnd }
+    ensures cut { CutOnesOfRunsHaveExited }
 {}
 
 /// Such a run has fewer than 4,294,967,295 calls.

@@ -5,6 +5,6 @@
 mod laws;
 
 pub use laws::{
-    calls_are_few, ended_runs_are_left, events_are_told, fronts_are_histories, owners_agree,
-    programs_have_tables, runs_are_histories,
+    activations_of_runs_end, calls_are_few, ended_runs_are_left, ended_runs_balance,
+    events_are_told, fronts_are_histories, owners_agree, programs_have_tables, runs_are_histories,
 };
