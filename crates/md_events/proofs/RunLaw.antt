@@ -1,6 +1,6 @@
 -- The run of a program leads lawfully on to its end, the budget cuts it to a front, and so its events are a port history.
 use Rattle.std.specs.Prelude.{⊤}
-use Rattle.std.proofs.Common.{inl, inr, ◌≡◌, refl, sym, ap, subst, ℕ, suc, ◌+◌, ◌-◌, ◌<◌, ◌≤◌, ◌^◌, Bool, true, false, List, [], ◌∷◌, ◌++◌, length, Option, Some, None, slice_get, nat_le, arith}
+use Rattle.std.proofs.Common.{◌∙◌, append_assoc, inl, inr, ◌≡◌, refl, sym, ap, subst, ℕ, suc, ◌+◌, ◌-◌, ◌<◌, ◌≤◌, ◌^◌, Bool, true, false, List, [], ◌∷◌, ◌++◌, length, Option, Some, None, slice_get, nat_le, arith}
 use Rattle.std.proofs.lemmas.Bool.{leb-true, false≢true}
 use Rattle.md_hlds.specs.Hlds.{Hlds, Procedure, procedure_called}
 use Rattle.md_hlds.specs.Value.{Env}
@@ -15,7 +15,7 @@ use Rattle.md_trace.proofs.ContextBalance.{contexts-balanced}
 use Rattle.md_trace.proofs.Ends.{activations-end, cut-ones-have-exited}
 use Rattle.md_events.specs.History.{told, history, call_count}
 use Rattle.md_events.specs.Table.{site_table, HasSites, HasMain}
-use Rattle.md_events.specs.Laws.{IsWithinBounds, RunsAreHistories, FrontsAreHistories, EndedRunsAreLeft, LinksOfRunsBalance, ContextsOfRunsBalance, ActivationsOfRunsEnd, CutOnesOfRunsHaveExited, CallsAreFew, EventsAreTold}
+use Rattle.md_events.specs.Laws.{IsWithinBounds, RunsAreHistories, FrontsAreHistories, NextEventsFollow, EndedRunsAreLeft, LinksOfRunsBalance, ContextsOfRunsBalance, ActivationsOfRunsEnd, CutOnesOfRunsHaveExited, CallsAreFew, EventsAreTold}
 use Rattle.md_events.proofs.Goes.{count, Then, Leaves, Goes, leaves_append}
 use Rattle.md_events.proofs.Later.{same_parent}
 use Rattle.md_events.proofs.TraceLaw.{IsTableOf, goes_trace}
@@ -159,7 +159,7 @@ ended_runs_are_left s b within (inr thrown) = let r = stand_run s b within in r.
 
 -- ---- fronts
 
-told_append : (xs ys : Items) (h : List Event) → told (xs ++ ys) h ≡ told ys (told xs h)
+pub told_append : (xs ys : Items) (h : List Event) → told (xs ++ ys) h ≡ told ys (told xs h)
 told_append [] ys h = refl
 told_append (Turn a n w ∷ xs) ys h = told_append xs ys h
 told_append (Call a p s q ∷ xs) ys h = told_append xs ys (CallOf a p s q ∷ h)
@@ -175,7 +175,7 @@ told_append (Stuck ∷ xs) ys h = told_append xs ys h
 told_append (Deep ∷ xs) ys h = told_append xs ys h
 
 -- what comes before a port history's last events is one
-lawful_before : (t : SiteTable) (xs : Items) (h : List Event) → IsPortHistory t (told xs h) → IsPortHistory t h
+pub lawful_before : (t : SiteTable) (xs : Items) (h : List Event) → IsPortHistory t (told xs h) → IsPortHistory t h
 lawful_before t [] h is = is
 lawful_before t (Turn a n w ∷ xs) h is = lawful_before t xs h is
 lawful_before t (Call a p s q ∷ xs) h is = (lawful_before t xs (CallOf a p s q ∷ h) is).0
@@ -195,9 +195,14 @@ fronts_are_histories s b front more within is =
     let whole : IsPortHistory (site_table s) (told (front ++ more) []) = subst (λ xs. IsPortHistory (site_table s) (history xs)) is (runs_are_histories s b within) in
     lawful_before (site_table s) more (history front) (subst (λ h. IsPortHistory (site_table s) h) (told_append front more []) whole)
 
+pub next_events_follow : NextEventsFollow
+next_events_follow s b done next more within is =
+    let longer : run s b ≡ (done ++ next) ++ more = is ∙ sym (append_assoc done next more) in
+    subst (λ h. IsPortHistory (site_table s) h) (told_append done next []) (fronts_are_histories s b (done ++ next) more within longer)
+
 -- ---- calls
 
-calls_told : (xs : Items) (h : List Event) → count (told xs h) ≡ call_count xs + count h
+pub calls_told : (xs : Items) (h : List Event) → count (told xs h) ≡ call_count xs + count h
 calls_told [] h = omega arith
 calls_told (Call a p s q ∷ xs) h = omega (arith, calls_told xs (CallOf a p s q ∷ h))
 calls_told (Turn a n w ∷ xs) h = calls_told xs h

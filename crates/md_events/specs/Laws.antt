@@ -11,7 +11,7 @@ use Rattle.md_trace.specs.Context.{Link, has_link}
 use Rattle.md_trace.specs.Count.{set_counts}
 use Rattle.md_trace.specs.Totals.{own, in_context}
 use Rattle.md_trace.specs.Balance.{IsNotFull, IsEven, NoneIsFull, last_port, WasCut}
-use Rattle.md_events.specs.History.{history, call_count}
+use Rattle.md_events.specs.History.{told, history, call_count}
 use Rattle.md_events.specs.Table.{site_table, HasSites, HasMain}
 
 -- a program whose goals name its sites, run within a budget below 2 ^ 32
@@ -42,6 +42,12 @@ RunsAreHistories = (s : Hlds) (budget : ℕ) → IsWithinBounds s budget → IsP
 -- so are the events of each front of the run
 abbrev pub FrontsAreHistories : Type 0
 FrontsAreHistories = (s : Hlds) (budget : ℕ) (front more : Items) → IsWithinBounds s budget → run s budget ≡ front ++ more → IsPortHistory (site_table s) (history front)
+
+-- the events of the items that come next may follow those of a front
+abbrev pub NextEventsFollow : Type 0
+NextEventsFollow =
+    (s : Hlds) (budget : ℕ) (done next more : Items) → IsWithinBounds s budget → run s budget ≡ done ++ (next ++ more)
+    → IsPortHistory (site_table s) (told next (history done))
 
 -- a run that is finished or has thrown
 abbrev pub HasEnded : Items → Type 0

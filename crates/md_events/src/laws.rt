@@ -1,5 +1,5 @@
 // The laws of a run's events. Each is the contract of a function that does nothing.
-ghost use Rattle.md_events.specs.Laws.{ProgramsHaveTables, OwnersAgree, RunsAreHistories, FrontsAreHistories, EndedRunsAreLeft, LinksOfRunsBalance, ContextsOfRunsBalance, ActivationsOfRunsEnd, CutOnesOfRunsHaveExited, CallsAreFew, EventsAreTold};
+ghost use Rattle.md_events.specs.Laws.{ProgramsHaveTables, OwnersAgree, RunsAreHistories, FrontsAreHistories, NextEventsFollow, EndedRunsAreLeft, LinksOfRunsBalance, ContextsOfRunsBalance, ActivationsOfRunsEnd, CutOnesOfRunsHaveExited, CallsAreFew, EventsAreTold};
 
 /// The site table of a program that declares a main is a site table: each procedure that it names is one of the
 /// program's.
@@ -18,9 +18,10 @@ pub fn runs_are_histories()
     ensures { RunsAreHistories }
 {}
 
-/// So are the events of each front of such a run.
+/// So are the events of each front of such a run, and they with those of the items that come next.
 pub fn fronts_are_histories()
-    ensures { FrontsAreHistories }
+    ensures fronts { FrontsAreHistories }
+    ensures next { NextEventsFollow }
 {}
 
 /// After such a run, where it is finished or thrown, nothing runs.
