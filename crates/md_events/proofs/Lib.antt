@@ -1,6 +1,7 @@
 pub mod Callers
 pub mod Goes
 pub mod Later
+pub mod Paid
 pub mod RunLaw
 pub mod SiteLemmas
 pub mod TraceLaw

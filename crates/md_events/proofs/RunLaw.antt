@@ -15,7 +15,7 @@ use Rattle.md_trace.proofs.ContextBalance.{contexts-balanced}
 use Rattle.md_trace.proofs.Ends.{activations-end, cut-ones-have-exited}
 use Rattle.md_events.specs.History.{told, history, call_count}
 use Rattle.md_events.specs.Table.{site_table, HasSites, HasMain}
-use Rattle.md_events.specs.Laws.{IsWithinBounds, RunsAreHistories, FrontsAreHistories, NextEventsFollow, EndedRunsAreLeft, LinksOfRunsBalance, ContextsOfRunsBalance, ActivationsOfRunsEnd, CutOnesOfRunsHaveExited, CallsAreFew, EventsAreTold}
+use Rattle.md_events.specs.Laws.{IsWithinBounds, RunsAreHistories, FrontsAreHistories, NextEventsFollow, EndedRunsAreLeft, LinksOfRunsBalance, ContextsOfRunsBalance, ActivationsOfRunsEnd, CutOnesOfRunsHaveExited, EventsAreTold}
 use Rattle.md_events.proofs.Goes.{count, Then, Leaves, Goes, leaves_append}
 use Rattle.md_events.proofs.Later.{same_parent}
 use Rattle.md_events.proofs.TraceLaw.{IsTableOf, goes_trace}
@@ -216,18 +216,6 @@ calls_told (Throw bytes ∷ xs) h = calls_told xs h
 calls_told (Answer e ∷ xs) h = calls_told xs h
 calls_told (Stuck ∷ xs) h = calls_told xs h
 calls_told (Deep ∷ xs) h = calls_told xs h
-
-few : (t : SiteTable) (h : List Event) → IsPortHistory t h → count h < 4294967295
-few t [] is = omega arith
-few t (CallOf a p s q ∷ h) is = let room = is.1.1 in omega (arith, room)
-few t (ExitOf a ∷ h) is = few t h is.0
-few t (RedoOf a ∷ h) is = few t h is.0
-few t (FailOf a ∷ h) is = few t h is.0
-few t (ExcpOf a ∷ h) is = few t h is.0
-few t (AllocOf a w ∷ h) is = few t h is.0
-
-pub calls_are_few : CallsAreFew
-calls_are_few s b within = omega (arith, few (site_table s) (history (run s b)) (runs_are_histories s b within), calls_told (run s b) [])
 
 -- ---- the balance of a run that has ended
 

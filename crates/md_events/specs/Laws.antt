@@ -1,5 +1,5 @@
 -- What holds of the events of every run.
-use Rattle.std.specs.Prelude.{◌≡◌, ◌⊎◌, ℕ, ◌+◌, ◌<◌, ◌^◌, true, List, ◌++◌, map, Some, None}
+use Rattle.std.specs.Prelude.{◌≡◌, ◌⊎◌, ℕ, ◌+◌, ◌<◌, ◌≤◌, ◌^◌, true, List, ◌++◌, map, Some, None}
 use Rattle.md_hlds.specs.Hlds.{Hlds, sites_of}
 use Rattle.md_hlds.specs.Trace.{Items}
 use Rattle.md_hlds.specs.Run.{run, events, is_finished, is_thrown}
@@ -88,9 +88,13 @@ CutOnesOfRunsHaveExited =
     (s : Hlds) (budget a : ℕ) → IsWithinBounds s budget → HasEnded (run s budget) → a < call_count (run s budget)
     → WasCut (history (run s budget)) a → last_port (history (run s budget)) a ≡ Some (Exit a)
 
--- a run has fewer calls than the greatest number of 32 bits
+-- whatever the program, a run has no more calls than its budget
+abbrev pub CallsArePaid : Type 0
+CallsArePaid = (s : Hlds) (budget : ℕ) → call_count (run s budget) ≤ budget
+
+-- and within a budget below 2 ^ 32 it has fewer calls than the greatest number of 32 bits, since that of main costs 2 or more
 abbrev pub CallsAreFew : Type 0
-CallsAreFew = (s : Hlds) (budget : ℕ) → IsWithinBounds s budget → call_count (run s budget) < 4294967295
+CallsAreFew = (s : Hlds) (budget : ℕ) → HasMain s → budget < 2 ^ 32 → call_count (run s budget) < 4294967295
 
 -- the history of a run's items is that of its events
 abbrev pub EventsAreTold : Type 0

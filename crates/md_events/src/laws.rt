@@ -1,5 +1,5 @@
 // The laws of a run's events. Each is the contract of a function that does nothing.
-ghost use Rattle.md_events.specs.Laws.{ProgramsHaveTables, OwnersAgree, RunsAreHistories, FrontsAreHistories, NextEventsFollow, EndedRunsAreLeft, LinksOfRunsBalance, ContextsOfRunsBalance, ActivationsOfRunsEnd, CutOnesOfRunsHaveExited, CallsAreFew, EventsAreTold};
+ghost use Rattle.md_events.specs.Laws.{ProgramsHaveTables, OwnersAgree, RunsAreHistories, FrontsAreHistories, NextEventsFollow, EndedRunsAreLeft, LinksOfRunsBalance, ContextsOfRunsBalance, ActivationsOfRunsEnd, CutOnesOfRunsHaveExited, CallsArePaid, CallsAreFew, EventsAreTold};
 
 /// The site table of a program that declares a main is a site table: each procedure that it names is one of the
 /// program's.
@@ -42,9 +42,11 @@ pub fn activations_of_runs_end()
     ensures cut { CutOnesOfRunsHaveExited }
 {}
 
-/// Such a run has fewer than 4,294,967,295 calls.
+/// Whatever the program, a run has no more calls than its budget; and it has fewer than 4,294,967,295 within a budget below
+/// 2 ^ 32.
 pub fn calls_are_few()
-    ensures { CallsAreFew }
+    ensures paid { CallsArePaid }
+    ensures few { CallsAreFew }
 {}
 
 /// What is unfolded and written doesn't count: the history of items is that of their events.
