@@ -57,18 +57,18 @@ HasEnded xs = (is_finished xs ≡ true) ⊎ (is_thrown xs ≡ true)
 abbrev pub EndedRunsAreLeft : Type 0
 EndedRunsAreLeft = (s : Hlds) (budget : ℕ) → IsWithinBounds s budget → HasEnded (run s budget) → current (history (run s budget)) ≡ None
 
--- in it each link that isn't full was entered as often as it was left
-abbrev pub LinksOfRunsBalance : Type 0
-LinksOfRunsBalance =
-    (s : Hlds) (budget : ℕ) (l : Link) → IsWithinBounds s budget → HasEnded (run s budget)
-    → IsNotFull (set_counts (site_table s).main (history (run s budget)) (has_link l))
-    → IsEven (set_counts (site_table s).main (history (run s budget)) (has_link l))
-
 -- a context's own calls and redos are as many as its own exits, fails and exceptions
 abbrev pub IsEvenIn : (main : ℕ) → List Event → (context : ℕ) → Type 0
 IsEvenIn main h c =
     own main h (in_context c) Calls + own main h (in_context c) Redos
     ≡ (own main h (in_context c) Exits + own main h (in_context c) Fails) + own main h (in_context c) Excps
+
+-- in a run that has ended each link that isn't full was entered as often as it was left
+abbrev pub LinksOfRunsBalance : Type 0
+LinksOfRunsBalance =
+    (s : Hlds) (budget : ℕ) (l : Link) → IsWithinBounds s budget → HasEnded (run s budget)
+    → IsNotFull (set_counts (site_table s).main (history (run s budget)) (has_link l))
+    → IsEven (set_counts (site_table s).main (history (run s budget)) (has_link l))
 
 -- so was each context none of whose links is full
 abbrev pub ContextsOfRunsBalance : Type 0
@@ -76,7 +76,7 @@ ContextsOfRunsBalance =
     (s : Hlds) (budget c : ℕ) → IsWithinBounds s budget → HasEnded (run s budget)
     → NoneIsFull (site_table s).main (history (run s budget)) c → IsEvenIn (site_table s).main (history (run s budget)) c
 
--- the last port of each of its activations is an exit, a fail or an exception
+-- the last port of each activation of such a run is an exit, a fail or an exception
 abbrev pub ActivationsOfRunsEnd : Type 0
 ActivationsOfRunsEnd =
     (s : Hlds) (budget a : ℕ) → IsWithinBounds s budget → HasEnded (run s budget) → a < call_count (run s budget)
