@@ -20,4 +20,6 @@ pub mod SwitchLemmas
 pub mod Tally
 pub mod Declared
 pub mod RoleLemmas
+pub mod TurnsFit
+pub mod EachTurn
 pub mod Worked
