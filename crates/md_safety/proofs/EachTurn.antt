@@ -77,7 +77,7 @@ turn_thrown a n (Answer e ∷ xs) ys h t = turn_thrown a n xs ys h t
 turn_thrown a n (Stuck ∷ xs) ys h t = turn_thrown a n xs ys h t
 turn_thrown a n (Deep ∷ xs) ys h t = turn_thrown a n xs ys h t
 
-turn_first : (a n : ℕ) (xs : Items) (k : ℕ) (found : Env → ℕ → Items) (missed : ℕ → Items) (thrown : Items) → AreExcps thrown → HasTurn a n (first xs k found missed thrown) → InFirst a n xs k found missed
+pub turn_first : (a n : ℕ) (xs : Items) (k : ℕ) (found : Env → ℕ → Items) (missed : ℕ → Items) (thrown : Items) → AreExcps thrown → HasTurn a n (first xs k found missed thrown) → InFirst a n xs k found missed
 turn_first a n [] k found missed thrown h t = inr (inr (k, refl, t))
 turn_first a n (Turn b (Some g) w ∷ xs) k found missed thrown h (inl is) = inl (inl is)
 turn_first a n (Turn b (Some g) w ∷ xs) k found missed thrown h (inr t) = more_first a n b g w xs k found missed (turn_first a n xs k found missed thrown h t)

@@ -22,4 +22,6 @@ pub mod Declared
 pub mod RoleLemmas
 pub mod TurnsFit
 pub mod EachTurn
+pub mod RunTurns
+pub mod NotedGoals
 pub mod Worked

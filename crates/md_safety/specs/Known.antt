@@ -1,13 +1,17 @@
 -- What the mode rules have as known before each goal of a clause, and environments that fit it at a turn.
 use Rattle.std.specs.Prelude.{⊤, ◌≡◌, ℕ, suc, ◌+◌, Bool, true, false, List, [], ◌∷◌, ◌++◌, Some, Ok, slice_get}
 use Rattle.md_hlds.specs.HldsGoal.{HldsGoal, At, ConjGoal, DisjGoal, IfGoal, NotGoal, SomeGoal, HldsGoals, also, goal_size, Numbered}
-use Rattle.md_hlds.specs.Hlds.{Procedure, Hlds, body_number}
+use Rattle.md_hlds.specs.Hlds.{Procedure, Hlds, body_number, goal_at, procedure_called}
 use Rattle.md_hlds.specs.Value.{Env}
+use Rattle.md_hlds.specs.Run.{main_name}
 use Rattle.md_inst.specs.Instantiation.{InstMap}
 use Rattle.md_modes.specs.Branches.{After}
 use Rattle.md_modes.specs.Goals.{Scope, variables, clause_variables, goal}
 use Rattle.md_modes.specs.Modes.{entry}
+use Rattle.md_modes.specs.Notes.{role_of, program_notes}
+use Rattle.md_modes.specs.Classes.{role_at}
 use Rattle.md_safety.specs.Values.{Fits}
+use Rattle.md_safety.specs.Unfolding.{main_job, expr_in, ComesToTurn}
 
 -- where a goal of the clause stands, within a condition, a negation or `some` or not
 abbrev pub place : Hlds → Procedure → Bool → Scope
@@ -59,3 +63,17 @@ pub record FitsAt (s : Hlds) (e : Env) (g : Numbered) (goals : List Numbered) : 
 abbrev pub FitsFirst : Hlds → Env → List Numbered → Type 0
 FitsFirst s e [] = ⊤
 FitsFirst s e (g ∷ goals) = FitsAt s e g goals
+
+-- The turn of the activation a at the goal of number n, in a run within this budget: main's trace comes to it, and the
+-- environment fits there.
+pub record FitsInRun (s : Hlds) (budget a n : ℕ) : Type 0 where
+  pub main : ℕ × Procedure
+  pub called : procedure_called s main_name ≡ Some main
+  pub turn : ComesToTurn s (main_job s budget main) a n
+  pub fits : FitsFirst s turn.to.frame.env turn.to.frame.goals
+
+-- The goal of that number, and what the checks find there: the role of a unification or of a closure's call is the one that
+-- this known has.
+pub record IsNoted (s : Hlds) (n : ℕ) (p : HldsGoal) (kn : InstMap) : Type 0 where
+  pub goal : goal_at s n ≡ Some p
+  pub role : role_at (program_notes s) n ≡ role_of s (expr_in p) kn

@@ -7,7 +7,7 @@ mod runs;
 mod turns;
 
 pub use laws::{answers_as_declared, comes_to_its_end, never_stuck};
-pub use runs::{no_turn_is_left_out, turns_fit};
+pub use runs::{known_is_noted, no_turn_is_left_out, turns_fit};
 pub use turns::{
     calls_fit, closures_meet_their_type, simple_goals_fit, unifications_meet_their_class,
 };
