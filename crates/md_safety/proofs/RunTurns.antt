@@ -1,5 +1,5 @@
 -- Each turn of a run is one that main's trace comes to.
-use Rattle.std.proofs.Common.{◌≡◌, refl, inl, inr, ℕ, suc, ◌-◌, Bool, true, false, nat_le, List, [], ◌∷◌, Option, Some, None}
+use Rattle.std.proofs.Common.{◌≡◌, refl, inl, inr, ℕ, ◌-◌, Bool, true, false, nat_le, List, [], ◌∷◌, Option, Some, None}
 use Rattle.md_hlds.specs.Hlds.{Hlds, Procedure, procedure_called}
 use Rattle.md_hlds.specs.Trace.{Turn, Call, Exit, Redo, Fail, Excp, Alloc, Out, Throw, Answer, Stuck, Deep, Items, trace}
 use Rattle.md_hlds.specs.Run.{cut, cut_turn, main_name, main_frame, main_items, run_main, run}

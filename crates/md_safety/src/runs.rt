@@ -23,7 +23,9 @@ pub fn no_turn_is_left_out()
     ensures { (program : Hlds) (depth : ℕ) (f : Frame) (callers : List Frame) (next a n : ℕ) → HasTurn a n (trace program depth f callers next) → ComesToTurn program (job depth f callers next) a n }
 {}
 
-/// What the mode rules have as known before the goal of a number is what the checks' notes at that number are made of.
+/// What the mode rules have as known before the goal of a number is one thing, and the role that the checks note at that
+/// number is the one that this known has.
 pub fn known_is_noted()
-    ensures { (program : Hlds) (q : ℕ × Procedure) (strict : Bool) (n : ℕ) (p : HldsGoal) (known : InstMap) → slice_get program.procedures q.0 ≡ Some q.1 → Begins program q strict n p known → IsNoted program n p known }
+    ensures noted { (program : Hlds) (q : ℕ × Procedure) (strict : Bool) (n : ℕ) (p : HldsGoal) (known : InstMap) → slice_get program.procedures q.0 ≡ Some q.1 → Begins program q strict n p known → IsNoted program n p known }
+    ensures one { (program : Hlds) (q r : ℕ × Procedure) (strict close : Bool) (n : ℕ) (p o : HldsGoal) (known other : InstMap) → slice_get program.procedures q.0 ≡ Some q.1 → slice_get program.procedures r.0 ≡ Some r.1 → Begins program q strict n p known → Begins program r close n o other → known ≡ other }
 {}
