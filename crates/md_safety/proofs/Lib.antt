@@ -25,3 +25,4 @@ pub mod EachTurn
 pub mod RunTurns
 pub mod NotedGoals
 pub mod Worked
+pub mod WorkedTurns

@@ -142,6 +142,7 @@ first_fits s q strict number p kn rest a e goals placed come = record {
   strict = strict;
   known = kn;
   before = placed.before;
+  tidy = placed.tidy;
   after = a;
   accepted = placed.accepted;
   fits = fits_fewer s (variables p ++ rest) (variables p ++ (goals_variables goals ++ q.1.head)) kn e (after_same (variables p) (goals_variables goals ++ q.1.head) rest come) placed.fits;

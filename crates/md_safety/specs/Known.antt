@@ -11,6 +11,7 @@ use Rattle.md_modes.specs.Modes.{entry}
 use Rattle.md_modes.specs.Notes.{role_of, program_notes}
 use Rattle.md_modes.specs.Classes.{role_at}
 use Rattle.md_safety.specs.Values.{Fits}
+use Rattle.md_safety.specs.Turns.{IsTidy}
 use Rattle.md_safety.specs.Unfolding.{main_job, expr_in, ComesToTurn}
 
 -- where a goal of the clause stands, within a condition, a negation or `some` or not
@@ -48,13 +49,15 @@ goals_variables [] = []
 goals_variables (g ∷ goals) = variables g.goal ++ goals_variables goals
 
 -- At a turn the environment fits what the mode rules have as known before the goal, as far as the variables of that goal,
--- of the frame's goals after it and of its clause's head are concerned; and with that known they accept the goal.
+-- of the frame's goals after it and of its clause's head are concerned; and with that known they accept the goal, which is as
+-- the grammar has it.
 pub record FitsAt (s : Hlds) (e : Env) (g : Numbered) (goals : List Numbered) : Type 0 where
   pub procedure : ℕ × Procedure
   pub at : slice_get s.procedures procedure.0 ≡ Some procedure.1
   pub strict : Bool
   pub known : InstMap
   pub before : Begins s procedure strict g.number g.goal known
+  pub tidy : IsTidy g.goal
   pub after : After
   pub accepted : goal (place s procedure.1 strict) g.goal known ≡ Ok after
   pub fits : Fits s (variables g.goal ++ (goals_variables goals ++ procedure.1.head)) known e

@@ -137,7 +137,8 @@ NextOf s m f (caller ∷ js) k [] j = j ≡ job m (knowing caller (back f.pairs 
 abbrev pub Next : Hlds → Job → Job → Type 0
 Next s i j = NextOf s i.depth i.frame i.callers i.next i.frame.goals j
 
--- the trace of the one job comes to the other
+-- The trace of the one job comes to the other. (Where a part is cut at its first answer, what would come after that is among
+-- these too.)
 pub data Comes (s : Hlds) : Job → Job → Type 0 where
   here : (i : Job) → Comes s i i
   further : (i j l : Job) → Next s i j → Comes s j l → Comes s i l
