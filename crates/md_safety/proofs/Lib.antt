@@ -20,4 +20,9 @@ pub mod SwitchLemmas
 pub mod Tally
 pub mod Declared
 pub mod RoleLemmas
+pub mod TurnsFit
+pub mod EachTurn
+pub mod RunTurns
+pub mod NotedGoals
 pub mod Worked
+pub mod WorkedTurns

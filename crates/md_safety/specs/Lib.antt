@@ -4,3 +4,5 @@ pub mod Turns
 pub mod Safe
 pub mod Answers
 pub mod Roles
+pub mod Known
+pub mod Unfolding
