@@ -1,5 +1,5 @@
 -- What building a cell leaves.
-use Rattle.std.proofs.Common.{ℕ, ◌+◌, ◌≡◌, ◌<◌, List, [], ◌∷◌, ◌++◌, length, All, refl, sym, ap, ◌∙◌, subst, arith}
+use Rattle.std.proofs.Common.{ℕ, ◌≡◌, List, [], ◌∷◌, ◌++◌, length, All, sym, ap, ◌∙◌, subst}
 use Rattle.md_heap.specs.declared.row.Row.{Row}
 use Rattle.md_heap.specs.declared.value.Value.{Value}
 use Rattle.md_heap.specs.declared.value.Value.TheVariants.{Cell}

@@ -1,15 +1,14 @@
 -- A comparison's frames: what a look at two cells finds, what a frame's next pair leaves, and what the loop keeps.
-use Rattle.std.proofs.Common.{ℕ, ℤ, ◌⊎◌, inl, inr, zero, suc, ◌+◌, ◌≡◌, ◌≤◌, ◌<◌, ◌&&◌, Bool, true, false, List, [], ◌∷◌, ◌++◌, length, drop, All, Some, slice_get, get_or, eqb, cond, refl, sym, ap, ◌∙◌, arith}
+use Rattle.std.proofs.Common.{ℕ, ℤ, inl, inr, suc, ◌+◌, ◌≡◌, ◌≤◌, ◌<◌, ◌&&◌, Bool, true, false, List, [], ◌∷◌, ◌++◌, length, drop, All, Some, slice_get, eqb, cond, refl, sym, ap, ◌∙◌, arith}
 use Rattle.std.proofs.lemmas.Bool.{cases_eq, eq-eqb, ne_eqb, le-leb, lt-leb, cond-true, cond-false}
 use Rattle.std.proofs.lemmas.List.{drop_more, drop_all, nil_from_length}
 use Rattle.std.proofs.lemmas.Option.{get_or_from_slice_get, slice_get_within}
 use Rattle.md_heap.specs.declared.same.Frame.{Frame}
-use Rattle.md_heap.specs.declared.same.Same.{Same}
 use Rattle.md_heap.specs.declared.same.Same.TheVariants.{Equal, Differ, Over}
 use Rattle.md_heap.specs.declared.value.Value.{Value}
 use Rattle.md_heap.specs.declared.value.Value.TheVariants.{Int, Lit, Cell}
-use Rattle.md_heap.specs.Cells.{Node, Cells, IsThere, AreOlder, cell_at, cell_tree, tree_of, trees_of}
-use Rattle.md_heap.specs.Tree.{Compared, Tree, Trees, no_trees, Number, Literal, Built, one_pair, below_pair, then_compared, compared, all_compared, same_within, tree_count}
+use Rattle.md_heap.specs.Cells.{Cells, IsThere, AreOlder, cell_at, cell_tree, tree_of, trees_of}
+use Rattle.md_heap.specs.Tree.{Compared, Trees, no_trees, Number, Literal, Built, one_pair, below_pair, then_compared, compared, all_compared, same_within, tree_count}
 use Rattle.md_heap.specs.Pending.{IsFrame, frame_due, due, more}
 use Rattle.md_heap.proofs.Meaning.{unfolds, trees-count, parts-there, there-at}
 use Rattle.md_heap.proofs.Sums.{same-compared, then-assoc, then-nothing, more-then, more-more, due-push, some-pairs, then-some}

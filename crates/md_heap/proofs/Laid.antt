@@ -1,8 +1,8 @@
 -- The cells of rows and parts: which cell a number names, and what a row with parts added at the end makes of them.
-use Rattle.std.proofs.Common.{ℕ, zero, suc, ◌+◌, ◌-◌, ◌≡◌, ◌<◌, ◌≤◌, ◌⊎◌, inl, inr, List, [], ◌∷◌, ◌++◌, length, take, drop, All, Option, Some, None, slice_get, get_or, refl, sym, ap, ◌∙◌, subst, arith}
+use Rattle.std.proofs.Common.{ℕ, zero, suc, ◌+◌, ◌-◌, ◌≡◌, ◌<◌, ◌≤◌, inl, inr, List, [], ◌∷◌, ◌++◌, length, take, drop, All, Some, slice_get, get_or, refl, sym, ap, ◌∙◌, subst, arith}
 use Rattle.std.proofs.Math.Numerals.{suc-eq-add-one}
 use Rattle.std.proofs.lemmas.Bool.{cases_eq, cases_lt}
-use Rattle.std.proofs.lemmas.List.{length-append, length-drop, length-take, take_at, drop_at, take_all, take-append-le, drop-append-le, get_or-take, get_or-drop}
+use Rattle.std.proofs.lemmas.List.{length-append, length-drop, length-take, drop_at, take_all, take-append-le, drop-append-le, get_or-take, get_or-drop}
 use Rattle.std.proofs.lemmas.Option.{slice_get-get_or, slice_get_past, slice_get_read}
 use Rattle.md_heap.specs.declared.row.Row.{Row}
 use Rattle.md_heap.specs.declared.value.Value.{Value}

@@ -1,10 +1,10 @@
 -- What cells stand for: an older cell stays what it was, and a cell stands for its head with its parts' trees.
-use Rattle.std.proofs.Common.{ℕ, zero, suc, ◌≡◌, ◌<◌, ◌≤◌, ◌⊎◌, inl, inr, List, [], ◌∷◌, length, All, Option, Some, None, slice_get, cond, refl, sym, ap, ◌∙◌, arith}
+use Rattle.std.proofs.Common.{ℕ, zero, suc, ◌≡◌, ◌<◌, ◌≤◌, inl, inr, List, [], ◌∷◌, length, All, Some, slice_get, refl, sym, ap, ◌∙◌, arith}
 use Rattle.std.proofs.lemmas.Bool.{cases_eq, eq-eqb, ne_eqb, cond-true, cond-false}
 use Rattle.std.proofs.lemmas.List.Elements.{All-head, All-tail, All-weaker}
 use Rattle.md_heap.specs.declared.value.Value.{Value}
 use Rattle.md_heap.specs.declared.value.Value.TheVariants.{Int, Lit, Cell}
-use Rattle.md_heap.specs.Tree.{Tree, Number, Literal, Built, Trees, no_trees, also_tree, tree_get, tree_count}
+use Rattle.md_heap.specs.Tree.{Tree, Built, also_tree, tree_get, tree_count}
 use Rattle.md_heap.specs.Cells.{Node, Cells, IsThere, AreOlder, cell_at, tree_by, trees_by, cell_tree, tree_of, trees_of}
 
 -- the newest cell, and the others

@@ -1,8 +1,8 @@
 -- Sums of comparisons: first one, then another.
-use Rattle.std.proofs.Common.{ℕ, suc, ◌+◌, ◌≡◌, ◌≤◌, ◌<◌, Bool, true, false, List, [], ◌∷◌, ◌++◌, length, cond, refl, sym, ap, ◌∙◌, arith}
+use Rattle.std.proofs.Common.{ℕ, ◌+◌, ◌≡◌, ◌≤◌, Bool, true, false, List, [], ◌∷◌, ◌++◌, refl, sym, ap, ◌∙◌, arith}
 use Rattle.md_heap.specs.declared.same.Frame.{Frame}
 use Rattle.md_heap.specs.Cells.{Cells}
-use Rattle.md_heap.specs.Tree.{Compared, one_pair, below_pair, then_compared, compared, all_compared, Tree, Trees, Number, Literal, Built}
+use Rattle.md_heap.specs.Tree.{Compared, below_pair, then_compared, compared, all_compared, Tree, Number, Literal, Built}
 use Rattle.md_heap.specs.Pending.{frame_due, due, more}
 
 -- two comparisons with the same numbers are the same

@@ -1,8 +1,8 @@
 -- Small heaps, worked out by hand: what their cells stand for, and how many pairs of nodes comparisons look at.
-use Rattle.std.proofs.Common.{ℕ, pos, ◌≡◌, List, [], ◌∷◌, refl}
+use Rattle.std.proofs.Common.{pos, ◌≡◌, [], ◌∷◌, refl}
 use Rattle.md_heap.specs.declared.same.Same.TheVariants.{Equal, Differ, Over}
 use Rattle.md_heap.specs.declared.value.Value.TheVariants.{Int, Lit, Cell}
-use Rattle.md_heap.specs.Tree.{Number, Literal, Built, no_trees, also_tree, compared, same_within}
+use Rattle.md_heap.specs.Tree.{Number, Built, no_trees, also_tree, compared, same_within}
 use Rattle.md_heap.specs.Cells.{Cells, tree_of}
 
 -- the empty list is the cell 0, [2] the cell 1, [1, 2] the cell 2, another [2] the cell 3, [1, 2] the cell 4 and

@@ -1,4 +1,4 @@
-use Rattle.std.proofs.Common.{ℕ, ◌≡◌, length, ap, ◌∙◌, arith}
+use Rattle.std.proofs.Common.{◌≡◌, length, ap, arith}
 use Rattle.md_heap.specs.declared.row.Row.{Row}
 use Rattle.md_heap.specs.declared.value.Value.TheVariants.{Cell}
 use Rattle.md_heap.specs.Layout.{cells_of}

@@ -1,4 +1,4 @@
-use Rattle.std.proofs.Common.{ap, sym, ◌∙◌, ◌≡◌, subst, Some, arith}
+use Rattle.std.proofs.Common.{ap, sym, ◌∙◌, subst, arith}
 use Rattle.md_heap.specs.Cells.{Cells, AreOlder, cell_at, trees_of}
 use Rattle.md_heap.specs.Tree.{Built}
 use Rattle.md_heap.proofs.Laid.{cell-read, head-read}

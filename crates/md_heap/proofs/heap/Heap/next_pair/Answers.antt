@@ -1,4 +1,4 @@
-use Rattle.std.proofs.Common.{All, Some, length, arith}
+use Rattle.std.proofs.Common.{Some}
 use Rattle.std.proofs.lemmas.List.Elements.{All-pop}
 use Rattle.md_heap.specs.Pending.{IsFrame}
 use Rattle.md_heap.proofs.Frames.{next-more, next-last, part-there}

@@ -1,4 +1,4 @@
-use Rattle.std.proofs.Common.{◌+◌, ◌<◌, ◌≤◌, ◌≡◌, ◌∙◌, length, ap, arith}
+use Rattle.std.proofs.Common.{◌+◌, ◌<◌, ◌≤◌, length, arith}
 use Rattle.md_heap.proofs.Laid.{cell-read, count-next, count-last}
 use Rattle.md_heap.proofs.heap.Heap.part_count.Goals as goal
 
