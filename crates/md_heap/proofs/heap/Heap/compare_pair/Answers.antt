@@ -1,0 +1,11 @@
+use Rattle.md_heap.specs.Cells.{tree_of}
+use Rattle.md_heap.specs.Tree.{compared}
+use Rattle.md_heap.specs.Pending.{step_due}
+use Rattle.md_heap.proofs.Frames.{below-then}
+use Rattle.md_heap.proofs.heap.Heap.compare_pair.Goals as goal
+
+pub returns-in_ok-push-in-Below-clause-sum : goal.returns-in_ok-push-in-Below-clause-sum
+returns-in_ok-push-in-Below-clause-sum c =
+    let h = c.args.self.now in
+    below-then h c.args.todo.now.items c.push.new.self.items c.in-Below.frame (compared (tree_of h c.args.v) (tree_of h c.args.w)) (step_due h c.next_pair-in-Below.result c.next_pair-in-Below.new.todo.items)
+    c.in-Below.ensures.sum c.in_ok-push-in-Below.ensures.items c.next_pair-in-Below.ensures.sum

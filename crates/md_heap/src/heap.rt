@@ -1,0 +1,113 @@
+// The cells that a run has built, numbered in the order in which they were built.
+ghost use Rattle.std.specs.Prelude.{◌≡◌, ◌<◌, [], ◌∷◌, length, slice_get, All, Some, IfOk, OnOk, OnErr};
+
+use crate::row::Row;
+use crate::value::Value;
+use md_base::NoMemory;
+use std::alloc::Global;
+use std::marker::Model;
+
+/// Cells, each with a head and parts. A part is an integer, a literal or an older cell, so each cell stands for a
+/// finite tree.
+#[derive(Drop)]
+pub struct Heap {
+    rows: Vec<Row>,
+    parts: Vec<Value>,
+}
+
+impl Model for Heap {
+    ghost use Rattle.md_heap.specs.Cells.{Cells};
+    ghost use Rattle.md_heap.specs.Layout.{cells_of, IsLaidOut};
+
+    ghost Value = { Cells };
+
+    ghost view = { λ heap. cells_of heap.rows.items heap.parts.items };
+
+    ghost invariant = { λ heap. IsLaidOut heap.rows.items heap.parts.items };
+}
+
+impl Heap {
+    ghost use Rattle.std.specs.Prelude.{◌≡◌, ◌<◌, [], ◌∷◌, length, slice_get, All, Some, IfOk, OnOk, OnErr};
+    ghost use Rattle.md_heap.specs.Tree.{Built, part_of};
+    ghost use Rattle.md_heap.specs.Cells.{IsThere, AreOlder, cell_at, tree_of, trees_of};
+    ghost use Rattle.md_heap.specs.declared.value.Value.{Value as AnyValue};
+
+    /// No cells. Takes no memory.
+    pub fn new(alloc: Global) -> Heap
+        ensures { result ≡ [] }
+    {
+        Heap {
+            rows: Vec::new(alloc),
+            parts: Vec::new(alloc),
+        }
+    }
+
+    /// Adds a cell with this head and these parts, and gives it as a value. It stands for the head with what the parts
+    /// stood for. What was there stands for what it stood for. Where memory is wanting, the heap is as it was.
+    pub fn build(&mut self, head: u32, parts: &[Value]) -> Result<Value, NoMemory>
+        requires there { All (IsThere (length self.old)) parts.now }
+        requires room { length self.old < 4294967295 }
+        ensures cell { IfOk result (λ value. value ≡ Value.Cell (length self.old)) }
+        ensures added { OnOk result (self.new ≡ record { head = head; parts = parts.now } ∷ self.old) }
+        ensures means { IfOk result (λ value. tree_of self.new value ≡ Built head (trees_of self.old parts.now)) }
+        ensures stays { OnOk result ((value : AnyValue) → IsThere (length self.old) value → tree_of self.new value ≡ tree_of self.old value) }
+        ensures err { OnErr result (self.new ≡ self.old) }
+    {
+        let cell = self.rows.len() as u32;
+        let first = self.parts.len();
+        self.rows.reserve(1)?;
+        self.parts.extend_from_slice(parts)?;
+        self.rows.push_reserved(Row { head, first });
+        Ok(Value::Cell(cell))
+    }
+
+    /// The head of a cell, which stands for this head with what its parts stand for. Takes no memory.
+    pub fn head(&self, cell: u32) -> u32
+        requires { cell < length self.now }
+        ensures value { result ≡ (cell_at self.now cell).head }
+        ensures means { tree_of self.now (Value.Cell cell) ≡ Built result (trees_of self.now (cell_at self.now cell).parts) }
+    {
+        self.rows[cell as usize].head
+    }
+
+    /// The part of a cell at a place, which is an integer, a literal or an older cell. Takes no memory.
+    pub fn part(&self, cell: u32, place: u32) -> Value
+        requires cell_there { cell < length self.now }
+        requires place_there { place < length (cell_at self.now cell).parts }
+        ensures value { slice_get (cell_at self.now cell).parts place ≡ Some result }
+        ensures means { part_of (tree_of self.now (Value.Cell cell)) place ≡ Some (tree_of self.now result) }
+        ensures there { IsThere (length self.now) result }
+    {
+        self.part_at(cell, place as usize)
+    }
+
+    /// The part of a cell at a place.
+    pub(crate) fn part_at(&self, cell: u32, place: usize) -> Value
+        requires cell_there { cell < length self.now }
+        requires place_there { place < length (cell_at self.now cell).parts }
+        ensures value { slice_get (cell_at self.now cell).parts place ≡ Some result }
+        ensures older { AreOlder self.now }
+    {
+        self.parts[self.rows[cell as usize].first + place]
+    }
+
+    /// How many parts a cell has.
+    pub(crate) fn part_count(&self, cell: u32) -> usize
+        requires { cell < length self.now }
+        ensures value { result ≡ length (cell_at self.now cell).parts }
+        ensures older { AreOlder self.now }
+    {
+        let place = cell as usize;
+        let first = self.rows[place].first;
+        if place + 1 < self.rows.len() {
+            self.rows[place + 1].first - first
+        } else {
+            self.parts.len() - first
+        }
+    }
+
+    /// Where the heap takes its memory.
+    pub(crate) fn allocator(&self) -> Global {
+        *self.rows.allocator()
+    }
+}
