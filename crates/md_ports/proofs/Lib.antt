@@ -1,0 +1,4 @@
+mod Bytes
+mod Names
+mod Once
+mod Lists
