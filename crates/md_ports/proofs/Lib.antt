@@ -2,3 +2,6 @@ mod Bytes
 mod Names
 mod Once
 mod Lists
+mod SiteTables
+mod Numbers
+mod Sound

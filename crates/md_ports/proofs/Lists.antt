@@ -1,5 +1,5 @@
 -- Call sites of goals one after the other, and of goals with parts.
-use Rattle.std.proofs.Common.{◌≡◌, refl, sym, ap, ◌∙◌, subst, ℕ, suc, ◌<◌, List, [], ◌∷◌, ◌++◌, length, drop, get_or, Vec, Box, append_assoc, Result, OnOk}
+use Rattle.std.proofs.Common.{◌≡◌, refl, sym, ap, ◌∙◌, subst, ℕ, suc, ◌<◌, List, [], ◌∷◌, ◌++◌, length, drop, get_or, Vec, append_assoc, Result, OnOk}
 use Rattle.std.specs.List.{flat_map}
 use Rattle.std.proofs.lemmas.Grind.{flat_map-append}
 use Rattle.std.proofs.Math.Seq.{drop-cons}
@@ -8,7 +8,7 @@ use Rattle.md_hlds.specs.declared.types.Ty.{Ty}
 use Rattle.md_hlds.specs.declared.types.Mode.{Mode}
 use Rattle.md_hlds.specs.declared.goal.Goal.{Goal}
 use Rattle.md_hlds.specs.declared.program.Pred.{Pred}
-use Rattle.md_hlds.specs.declared.goal.GoalKind.{GoalKind, Conj, Disj, If}
+use Rattle.md_hlds.specs.declared.goal.GoalKind.{GoalKind, Conj, Disj}
 use Rattle.md_hlds.specs.HldsGoal.{HldsGoal, At, HldsGoals, also, goal_of, goals_of, gathered, expr_of, goals_within, goals_among}
 use Rattle.md_hlds.specs.Hlds.{Hlds, args_of, procedures_of}
 use Rattle.md_hlds.proofs.Bridge.{expr_of-Conj, expr_of-Disj}
@@ -36,15 +36,12 @@ sites-Conj s owner l k v e = ap (λ j. goal_sites s owner (At l (expr_of j))) e 
 pub sites-Disj : (s : Hlds) (owner l : ℕ) (k : GoalKind) (v : Vec Goal Global) → k ≡ Disj v → goal_sites s owner (At l (expr_of k)) ≡ all_sites s owner (gathered (goals_of v.items))
 sites-Disj s owner l k v e = ap (λ j. goal_sites s owner (At l (expr_of j))) e ∙ ap (λ t. goal_sites s owner (At l t)) (expr_of-Disj v)
 
--- those of an if-then-else are those of its parts
-pub sites-If : (s : Hlds) (owner l : ℕ) (k : GoalKind) (c t e : Box Goal Global) (g h j : Goal) → k ≡ If c t e
-    → g ≡ c.value → h ≡ t.value → j ≡ e.value
-    → goal_sites s owner (At l (expr_of k)) ≡ goal_sites s owner (goal_of g) ++ (goal_sites s owner (goal_of h) ++ goal_sites s owner (goal_of j))
-sites-If s owner l k c t e g h j is gs hs js =
-    ap (λ j. goal_sites s owner (At l (expr_of j))) is
-    ∙ (rw (sym gs, sym hs, sym js) refl
-    ∙ (among_append s owner (goals_within (goal_of g)) (goals_within (goal_of h) ++ goals_within (goal_of j))
-    ∙ ap (λ (xs : List Site). goal_sites s owner (goal_of g) ++ xs) (among_append s owner (goals_within (goal_of h)) (goals_within (goal_of j)))))
+-- an if-then-else's parts, one after the other
+pub sites-parts : (s : Hlds) (owner : ℕ) (c t e : HldsGoal)
+    → flat_map (site_of s owner) (goals_within c ++ (goals_within t ++ goals_within e)) ≡ goal_sites s owner c ++ (goal_sites s owner t ++ goal_sites s owner e)
+sites-parts s owner c t e =
+    among_append s owner (goals_within c) (goals_within t ++ goals_within e)
+    ∙ ap (λ (xs : List Site). goal_sites s owner c ++ xs) (among_append s owner (goals_within t) (goals_within e))
 
 -- what was added may be said of an equal list
 pub added_along : {A E : Type 0} (r : Result A E) (new old xs ys : List Site) → xs ≡ ys → OnOk r (new ≡ old ++ ys) → OnOk r (new ≡ old ++ xs)

@@ -19,7 +19,7 @@ without_step m x ns true is = rw is refl
 without_step m x ns false is = rw is refl
 
 -- a name that differs from the one that is left out stays as it was
-any_without : (x m : List ℕ) (ns : List (List ℕ)) → bytes_eq x m ≡ false → list_any (bytes_eq x) (without m ns) ≡ list_any (bytes_eq x) ns
+pub any_without : (x m : List ℕ) (ns : List (List ℕ)) → bytes_eq x m ≡ false → list_any (bytes_eq x) (without m ns) ≡ list_any (bytes_eq x) ns
 any_without x m [] other = refl
 any_without x m (n ∷ ns) other = here (bytes_eq m n) refl (any_without x m ns other)
   where

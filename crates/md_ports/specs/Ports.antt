@@ -51,6 +51,10 @@ abbrev pub sites_from : Hlds → (n : ℕ) → List Procedure → List Site
 sites_from s n [] = []
 sites_from s n (p ∷ ps) = goal_sites s n p.body ++ sites_from s (suc n) ps
 
+-- a call site's owner and line
+abbrev pub owner_and_line : Site → ℕ × ℕ
+owner_and_line x = (x.owner, x.line)
+
 -- ---- the tables
 
 abbrev pub statics_of : Hlds → Static
