@@ -1,0 +1,15 @@
+use Rattle.std.proofs.Common.{◌∙◌, ap, ◌++◌, ◌∷◌, []}
+use Rattle.md_ports.proofs.Names.{known_module, new_module, was_new, was_known}
+use Rattle.md_ports.proofs.modules.add_module.Goals as goal
+
+pub returns-in_ok-push-clause-names : goal.returns-in_ok-push-clause-names
+returns-in_ok-push-clause-names c =
+    c.in_ok-push.ensures.items
+    ∙ (ap (λ x. c.args.names.now.items ++ x ∷ []) c.in_ok-copy.ensures
+    ∙ new_module c.args.name.now c.as_bytes.result c.args.numbers.now.keys c.args.names.now.items c.as_bytes.ensures.bytes c.requires
+    (was_new _ _ c.in_ok-insert.ensures.added c.if-branch.true))
+
+pub returns-else-branch-clause-names : goal.returns-else-branch-clause-names
+returns-else-branch-clause-names c =
+    known_module c.args.name.now c.as_bytes.result c.args.numbers.now.keys c.args.names.now.items c.as_bytes.ensures.bytes c.requires
+    (was_known _ _ c.in_ok-insert.ensures.added c.if-branch.false)

@@ -1,0 +1,13 @@
+//! What a program's text fixes of its profile: its modules, its procedures and its call sites, as tables.
+#![tactic(auto)]
+
+mod laws;
+mod modules;
+mod procs;
+mod sites;
+mod tables;
+#[cfg(test)]
+mod tests;
+
+pub use laws::{sites_keep_their_lines, tables_are_sound, tables_give_the_site_table};
+pub use tables::statics;
