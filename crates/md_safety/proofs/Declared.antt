@@ -116,7 +116,7 @@ body_run s judged n p e depth act next at fits =
 thrown_not : {A : Type 0} (bytes : List ℕ) → is_some (Some bytes) ≡ false → A
 thrown_not bytes h = absurd (true≢false h)
 
-none_left : (xs : Items) → IsWithin xs Zero → is_thrown xs ≡ false → answer_count xs ≡ 0
+pub none_left : (xs : Items) → IsWithin xs Zero → is_thrown xs ≡ false → answer_count xs ≡ 0
 none_left [] h g = refl
 none_left (Turn a t w ∷ xs) h g = none_left xs h g
 none_left (Call a p s q ∷ xs) h g = none_left xs h g
@@ -131,7 +131,7 @@ none_left (Answer e ∷ xs) h g = elim h [ ]
 none_left (Stuck ∷ xs) h g = none_left xs h g
 none_left (Deep ∷ xs) h g = none_left xs h g
 
-one_left : (xs : Items) → IsWithin xs One → is_thrown xs ≡ false → answer_count xs ≤ 1
+pub one_left : (xs : Items) → IsWithin xs One → is_thrown xs ≡ false → answer_count xs ≤ 1
 one_left [] h g = omega arith
 one_left (Turn a t w ∷ xs) h g = one_left xs h g
 one_left (Call a p s q ∷ xs) h g = one_left xs h g
@@ -146,7 +146,7 @@ one_left (Answer e ∷ xs) h g = let none = none_left xs h g in omega (arith, no
 one_left (Stuck ∷ xs) h g = one_left xs h g
 one_left (Deep ∷ xs) h g = one_left xs h g
 
-one_there : (good : Env → Type 0) (xs : Items) → HasEnd xs → Fine good xs → HasNoDeep xs → is_thrown xs ≡ false → 1 ≤ answer_count xs
+pub one_there : (good : Env → Type 0) (xs : Items) → HasEnd xs → Fine good xs → HasNoDeep xs → is_thrown xs ≡ false → 1 ≤ answer_count xs
 one_there good [] h f d g = elim h [ ]
 one_there good (Turn a t w ∷ xs) h f d g = one_there good xs h f d g
 one_there good (Call a p s q ∷ xs) h f d g = one_there good xs h f d g

@@ -26,3 +26,4 @@ pub mod RunTurns
 pub mod NotedGoals
 pub mod Worked
 pub mod WorkedTurns
+pub mod GoalLaws

@@ -8,12 +8,12 @@ use Rattle.md_hlds.specs.declared.goal.Term.{Term}
 use Rattle.md_hlds.specs.declared.goal.Term.TheVariants.{Var, Int, Str, Name}
 use Rattle.md_hlds.specs.declared.goal.Op.{Op}
 use Rattle.md_hlds.specs.declared.goal.PredName.{PredName}
-use Rattle.md_hlds.specs.HldsGoal.{Simple, Succeeds, Fails, Unifies, Computes, Compares, WritesInt, WritesText, EndsLine, Raises, HldsGoal, At, SimpleGoal}
+use Rattle.md_hlds.specs.HldsGoal.{Simple, Succeeds, Fails, Unifies, Computes, Compares, WritesInt, WritesText, EndsLine, Raises, At, SimpleGoal}
 use Rattle.md_hlds.specs.Hlds.{HldsType, named, HldsFunctor, HldsTypeDef, Procedure, Hlds, procedure_called, is_functor}
 use Rattle.md_hlds.specs.Value.{Value, Values, Number, Literal, Built, Closure, listed_values, value_count, compared, Env, value_at, values_at, bound}
 use Rattle.md_hlds.specs.Simple as run
 use Rattle.md_hlds.specs.Simple.{Outcome, Go, No, Throws, Stop, goes, answer, take_part, same_functor, unify_constant, unify_values, raise}
-use Rattle.md_hlds.specs.Switch.{Key, IntKey, TextKey, FunctorKey, term_key, variable_key, arm_key, has_the_key}
+use Rattle.md_hlds.specs.Switch.{Key, IntKey, TextKey, FunctorKey, term_key, variable_key, has_the_key}
 use Rattle.md_names.specs.Named.{construct_among, functor_found}
 use Rattle.md_inst.specs.declared.fault.ModeFault.TheVariants.{TypeClash}
 use Rattle.md_inst.specs.HldsTypes.{same_sort}
@@ -32,6 +32,7 @@ use Rattle.md_det.specs.Determinism.{sure, unsure, is_at, is_none_bound, apart_p
 use Rattle.md_det.proofs.Functors.{family_there, family_found}
 use Rattle.md_safety.specs.Values.{HasType, HaveTypes, IsBuiltOf, Agrees, Fits}
 use Rattle.md_safety.specs.Turns.{AreDistinct, IsTidySimple}
+use Rattle.md_safety.specs.GoalAnswers.{IsKeyed, IsChosen}
 use Rattle.md_safety.proofs.Environments.{value_at-bound_other}
 use Rattle.md_safety.proofs.SameTypes.{same_sort_is, same_bytes_are}
 use Rattle.md_safety.proofs.Verdicts.{ok_where}
@@ -54,23 +55,13 @@ any_unsure Stop = tt
 
 -- ---- the key of a switch's arm
 
--- a value has a key
-abbrev pub IsKeyed : Key → Option Value → Type 0
-IsKeyed k None = ⊥
-IsKeyed k (Some v) = has_the_key v k ≡ true
-
--- a goal begins an arm whose key the variable's value has
-abbrev pub Begins : Hlds → Option ℕ → HldsGoal → Env → Type 0
-Begins s None p e = ⊤
-Begins s (Some x) p e = (k : Key) × (arm_key s p ≡ Some (x, k)) × IsKeyed k (value_at e x)
-
 variable_is : (x y : ℕ) (o : Option Key) (k : Key) → variable_key x o ≡ Some (y, k) → (x ≡ y) × (o ≡ Some k)
 variable_is x y None k h = absurd (cc h)
 variable_is x y (Some j) k h =
     let is : ◌≡◌ {A = ℕ × Key} (x, j) (y, k) = cc h in
     (ap (λ (z : ℕ × Key). z.0) is, ap (λ (z : ℕ × Key). Some z.1) is)
 
-key_here : (s : Hlds) (at : Option ℕ) (l x : ℕ) (t : Term) (e : Env) → Begins s at (At l (SimpleGoal (Unifies x t))) e → is_at at x ≡ true → (k : Key) × (term_key s t ≡ Some k) × IsKeyed k (value_at e x)
+key_here : (s : Hlds) (at : Option ℕ) (l x : ℕ) (t : Term) (e : Env) → IsChosen s at (At l (SimpleGoal (Unifies x t))) e → is_at at x ≡ true → (k : Key) × (term_key s t ≡ Some k) × IsKeyed k (value_at e x)
 key_here s None l x t e h is = absurd (false≢true is)
 key_here s (Some y) l x t e h is =
     let a = variable_is x y (term_key s t) h.0 h.1 in
@@ -121,14 +112,14 @@ text_keyed t (Closure q vs) h = absurd (false≢true h)
 keyed_value : (k j : Key) (o : Option Value) (v : Value) → k ≡ j → o ≡ Some v → IsKeyed k o → has_the_key v j ≡ true
 keyed_value k j o v e is h = subst (λ (i : Key). has_the_key v i ≡ true) e (subst (λ (p : Option Value). IsKeyed k p) is h)
 
-int_sure : (s : Hlds) (at : Option ℕ) (l x : ℕ) (n : ℤ) (e : Env) (k : Instantiation) (kn : InstMap) → Agrees s (value_at e x) k → Begins s at (At l (SimpleGoal (Unifies x (Int n)))) e
+int_sure : (s : Hlds) (at : Option ℕ) (l x : ℕ) (n : ℤ) (e : Env) (k : Instantiation) (kn : InstMap) → Agrees s (value_at e x) k → IsChosen s at (At l (SimpleGoal (Unifies x (Int n)))) e
     → IsAllowed (unification_pair s at x (Int n) (role_of_term [] k kn)) (unify_constant e x (Number n) (value_at e x))
 int_sure s at l x n e free kn a h = let none = free_value s (value_at e x) free a refl in rw none refl
 int_sure s at l x n e (has t used) kn a h =
     constant_sure s (is_at at x || false) (Number n) x e (value_at e x)
     (λ b v is. let k = key_here s at l x (Int n) e h (or_false (is_at at x) b) in int_keyed n v (keyed_value k.0 (IntKey n) (value_at e x) v (let same : IntKey n ≡ k.0 = cc (k.1) in sym same) is k.2))
 
-text_sure : (s : Hlds) (at : Option ℕ) (l x : ℕ) (n : List ℕ) (e : Env) (k : Instantiation) (kn : InstMap) → Agrees s (value_at e x) k → Begins s at (At l (SimpleGoal (Unifies x (Str n)))) e
+text_sure : (s : Hlds) (at : Option ℕ) (l x : ℕ) (n : List ℕ) (e : Env) (k : Instantiation) (kn : InstMap) → Agrees s (value_at e x) k → IsChosen s at (At l (SimpleGoal (Unifies x (Str n)))) e
     → IsAllowed (unification_pair s at x (Str n) (role_of_term [] k kn)) (unify_constant e x (Literal n) (value_at e x))
 text_sure s at l x n e free kn a h = let none = free_value s (value_at e x) free a refl in rw none refl
 text_sure s at l x n e (has t used) kn a h =
@@ -229,7 +220,7 @@ either P false b h f g = g h
 -- a value of the functor's type is taken apart
 value_sure : (s : Hlds) → TypesDiffer s → (vars : List ℕ) (at : Option ℕ) (l x : ℕ) (q : PredName) (ys : List ℕ) (kn : InstMap) (e : Env) (v : Value) (w : HldsTypeDef × HldsFunctor)
     → Fits s vars kn e → In' ys vars → AreDistinct ys → value_at e x ≡ Some v → HasType s v (named w.0.name) → functor_found q.name (length ys) s.types ≡ Some w
-    → Begins s at (At l (SimpleGoal (Unifies x (Name q ys)))) e
+    → IsChosen s at (At l (SimpleGoal (Unifies x (Name q ys)))) e
     → IsAllowed (apart_pair (is_none_bound (bound_places 0 ys kn) && (is_at at x || is_only_functor s q (length ys)))) (run.unify_functor e x q.name ys (Some v))
 value_sure s differ vars at l x q ys kn e (Built g parts) w fits among d is typed found begins =
     tested_sure (is_none_bound (bound_places 0 ys kn) && (is_at at x || is_only_functor s q (length ys))) _
@@ -261,7 +252,7 @@ predicate_sure e x ys (Some v) None = tt
 
 functor_sure : (s : Hlds) → TypesDiffer s → (vars : List ℕ) (at : Option ℕ) (strict : Bool) (l x : ℕ) (q : PredName) (f : Functor) (ys : List ℕ) (kn r : InstMap) (e : Env) (o : Option Value) (k : Instantiation)
     → Fits s vars kn e → In' ys vars → AreDistinct ys → value_at e x ≡ o → Agrees s o k → IsFunctor s q (length ys) f → functor_known strict l x f ys k kn ≡ Ok r
-    → Begins s at (At l (SimpleGoal (Unifies x (Name q ys)))) e
+    → IsChosen s at (At l (SimpleGoal (Unifies x (Name q ys)))) e
     → IsAllowed (unification_pair s at x (Name q ys) (role_of_term ys k kn)) (run.unify_functor e x q.name ys o)
 functor_sure s differ vars at strict l x q f ys kn r e None free fits among d is a found g begins = build_sure e x (length ys) q.name (values_at e ys)
 functor_sure s differ vars at strict l x q f ys kn r e (Some v) (has t used) fits among d is a found g begins =
@@ -274,7 +265,7 @@ functor_sure s differ vars at strict l x q f ys kn r e (Some v) free fits among 
 
 name_sure : (s : Hlds) → TypesDiffer s → (vars : List ℕ) (at : Option ℕ) (strict : Bool) (l x : ℕ) (q : PredName) (ys : List ℕ) (kn r : InstMap) (e : Env) (f : Option Functor) (b : Bool)
     → Fits s vars kn e → In' (x ∷ ys) vars → AreDistinct ys → functor_called s q (length ys) ≡ f → b ≡ is_some f → named_term s strict l x q ys f kn ≡ Ok r
-    → Begins s at (At l (SimpleGoal (Unifies x (Name q ys)))) e
+    → IsChosen s at (At l (SimpleGoal (Unifies x (Name q ys)))) e
     → IsAllowed (unification_pair s at x (Name q ys) (role_of_name ys (known_at kn x) kn f)) (run.unify_name s e x q ys b)
 name_sure s differ vars at strict l x q ys kn r e None false fits among d found is g begins = predicate_sure e x ys (value_at e x) (procedure_called s q)
 name_sure s differ vars at strict l x q ys kn r e (Some f) true fits among d found is g begins =
@@ -284,7 +275,7 @@ name_sure s differ vars at strict l x q ys kn r e (Some f) false fits among d fo
 
 unify_sure : (s : Hlds) → TypesDiffer s → (vars : List ℕ) (at : Option ℕ) (strict : Bool) (l x : ℕ) (t : Term) (kn r : InstMap) (e : Env)
     → Fits s vars kn e → In' (simple_variables (Unifies x t)) vars → IsTidySimple (Unifies x t) → rules.unify s strict l x t kn ≡ Ok r
-    → Begins s at (At l (SimpleGoal (Unifies x t))) e
+    → IsChosen s at (At l (SimpleGoal (Unifies x t))) e
     → IsAllowed (unification_pair s at x t (role_of_unification s x t kn)) (run.unify s e x t)
 unify_sure s differ vars at strict l x (Var y) kn r e fits among tidy g begins =
     variables_sure s at x y e (value_at e x) (value_at e y) (known_at kn x) (known_at kn y) (fits.each x (in_first x (y ∷ []) vars among)) (fits.each y (in_first y [] vars (in_rest x (y ∷ []) vars among)))
@@ -334,7 +325,7 @@ raise_any p (Some (Built f b)) = tt
 raise_any p (Some (Closure f b)) = tt
 
 pub simple_sure : (s : Hlds) → TypesDiffer s → (vars : List ℕ) (at : Option ℕ) (strict : Bool) (l : ℕ) (g : Simple) (kn r : InstMap) (e : Env)
-    → Fits s vars kn e → In' (simple_variables g) vars → IsTidySimple g → rules.simple s strict l g kn ≡ Ok r → Begins s at (At l (SimpleGoal g)) e
+    → Fits s vars kn e → In' (simple_variables g) vars → IsTidySimple g → rules.simple s strict l g kn ≡ Ok r → IsChosen s at (At l (SimpleGoal g)) e
     → IsAllowed (simple_pair s at g kn) (run.simple s e g)
 simple_sure s differ vars at strict l Succeeds kn r e fits among tidy ok begins = refl
 simple_sure s differ vars at strict l Fails kn r e fits among tidy ok begins = refl

@@ -39,6 +39,7 @@ use Rattle.md_det.specs.Faults.{body_pair}
 use Rattle.md_safety.specs.Values.{Agrees, Fits}
 use Rattle.md_safety.specs.Arguments.{AreResults}
 use Rattle.md_safety.specs.Turns.{LeadsTo, AreDistinct, IsTidy, IsTidyExpr, AreTidy}
+use Rattle.md_safety.specs.GoalAnswers.{IsKeyed, IsChosen}
 use Rattle.md_safety.proofs.Environments.{fits_fewer}
 use Rattle.md_safety.proofs.Verdicts.{ok_then, ok_where, ok_unless, ok_is, ok_reached}
 use Rattle.md_safety.proofs.Handing.{In', more_times, first_times, handed}
@@ -50,7 +51,7 @@ use Rattle.md_safety.proofs.JoinLemmas.{Joins, EndsJoin, joined_join, fits_joine
 use Rattle.md_safety.proofs.Calls.{call_fits, others_return, without_size, sort_det, IsApplied, type_of, known_applied}
 use Rattle.md_safety.proofs.Safe.{Proper, scope, frame, HasRoom, all_below, IsCall, answers, in_left, in_right, fits_left, fits_right, room_outside, end_results, body_fine, back_fits, both_reach, condition_fine, only_goes}
 use Rattle.md_safety.proofs.TypesDiffer.{TypesDiffer}
-use Rattle.md_safety.proofs.Sure.{IsAllowed, IsKeyed, Begins, simple_sure}
+use Rattle.md_safety.proofs.Sure.{IsAllowed, simple_sure}
 use Rattle.md_safety.proofs.SwitchLemmas.{first_key, first_keys, shape_keys, shape_occurs, has_some_key, whole_any}
 use Rattle.md_safety.proofs.Counting.{Meets, meets_nothing, meets_allocated, meets_written, meets_joined, meets_then, meets_left, meets_right, meets_first, meets_cut, meets_assoc, meets_last, meets_sum, meets_one, meets_declared, IsWithin, or_left, or_right, greatest_left, greatest_right}
 
@@ -68,7 +69,7 @@ CountsOn s q m act goals pairs js rest a =
 abbrev pub Tally : Hlds → ℕ → Type 0
 Tally s m =
     (all : List ℕ) (strict : Bool) (at : Option ℕ) (p : HldsGoal) (kn : InstMap) (rest : List ℕ) (q : Pair) (a : After) (number act : ℕ) (e : Env) (goals : List Numbered) (pairs : List (ℕ × ℕ)) (js : List Frame) (k : ℕ)
-    → IsTidy p → goal (scope s all strict) p kn ≡ Ok a → HasRoom all (variables p) rest → Fits s (variables p ++ rest) kn e → Begins s at p e → CountsOn s q m act goals pairs js rest a
+    → IsTidy p → goal (scope s all strict) p kn ≡ Ok a → HasRoom all (variables p) rest → Fits s (variables p ++ rest) kn e → IsChosen s at p e → CountsOn s q m act goals pairs js rest a
     → Meets (in_turn (goal_pair (scope s all strict) at p kn) q) (trace s m (frame act e (numbered_goal number p ∷ goals) pairs) js k)
 
 abbrev pub TallyBelow : Hlds → ℕ → Type 0
@@ -251,17 +252,17 @@ closure_counted s judged m below r strict l o ys rest t kn kr e act own number g
 
 -- ---- conjunctions
 
--- the first of these goals begins an arm
-abbrev BeginsFirst : Hlds → Option ℕ → HldsGoals → Env → Type 0
-BeginsFirst s at nothing e = ⊤
-BeginsFirst s at (also p ps) e = Begins s at p e
+-- the first of these goals begins an arm that is chosen, if it begins one
+abbrev IsFirstChosen : Hlds → Option ℕ → HldsGoals → Env → Type 0
+IsFirstChosen s at nothing e = ⊤
+IsFirstChosen s at (also p ps) e = IsChosen s at p e
 
-begins_first : (s : Hlds) (at : Option ℕ) (l : ℕ) (ps : HldsGoals) (e : Env) → Begins s at (At l (ConjGoal ps)) e → BeginsFirst s at ps e
+begins_first : (s : Hlds) (at : Option ℕ) (l : ℕ) (ps : HldsGoals) (e : Env) → IsChosen s at (At l (ConjGoal ps)) e → IsFirstChosen s at ps e
 begins_first s at l nothing e h = tt
 begins_first s None l (also p ps) e h = tt
 begins_first s (Some x) l (also p ps) e h = (h.0, first_key s p x h.0 h.1, h.2)
 
-begins_none : (s : Hlds) (ps : HldsGoals) (e : Env) → BeginsFirst s None ps e
+begins_none : (s : Hlds) (ps : HldsGoals) (e : Env) → IsFirstChosen s None ps e
 begins_none s nothing e = tt
 begins_none s (also p ps) e = tt
 
@@ -270,7 +271,7 @@ known_is c p kn a ok = ap (known_after kn) ok
 
 each_counted : (s : Hlds) (m : ℕ) → TallyBelow s m → (all : List ℕ) (strict : Bool) (at : Option ℕ) (ps : HldsGoals) (n : ℕ) (kn : InstMap) (rest : List ℕ) (r : Pair) (a : After)
     (number act : ℕ) (e : Env) (goals : List Numbered) (pairs : List (ℕ × ℕ)) (js : List Frame) (k : ℕ) → n ≤ m
-    → AreTidy ps → each (scope s all strict) ps kn ≡ Ok a → HasRoom all (parts_variables ps) rest → Fits s (parts_variables ps ++ rest) kn e → BeginsFirst s at ps e → CountsOn s r (suc m) act goals pairs js rest a
+    → AreTidy ps → each (scope s all strict) ps kn ≡ Ok a → HasRoom all (parts_variables ps) rest → Fits s (parts_variables ps ++ rest) kn e → IsFirstChosen s at ps e → CountsOn s r (suc m) act goals pairs js rest a
     → Meets (in_turn (each_pair (scope s all strict) at ps kn) r) (trace s n (frame act e (numbered_from number ps ++ goals) pairs) js k)
 each_counted s m below all strict at nothing n kn rest r a number act e goals pairs js k le tidy ok room fits begins goes =
     let is : after kn true ≡ a = ok_is (Ok (after kn true)) (after kn true) a refl ok in
@@ -307,7 +308,7 @@ arm_counts s r m act goals pairs js all inner rest a b room joins goes n lt e k 
 abbrev ArmsCount : Hlds → Scope → Option ℕ → InstMap → Pair → Does → Frame → List Numbered → List Frame → HldsGoals → ℕ → Type 0
 ArmsCount s c at kn r go f goals js nothing number = ⊤
 ArmsCount s c at kn r go f goals js (also p ps) number =
-    ((k : ℕ) → Begins s at p f.env → Meets (in_turn (goal_pair c at p kn) r) (go (doing f (numbered_goal number p ∷ goals)) js k)) × ArmsCount s c at kn r go f goals js ps (number + goal_size p)
+    ((k : ℕ) → IsChosen s at p f.env → Meets (in_turn (goal_pair c at p kn) r) (go (doing f (numbered_goal number p ∷ goals)) js k)) × ArmsCount s c at kn r go f goals js ps (number + goal_size p)
 
 arms_counted : (s : Hlds) (m : ℕ) → TallyBelow s m → (all : List ℕ) (strict : Bool) (at : Option ℕ) (ps : HldsGoals) (kn : InstMap) (inner rest : List ℕ) (r : Pair) (a : After) (ends : List After)
     (number : ℕ) (f : Frame) (goals : List Numbered) (js : List Frame)
@@ -486,7 +487,7 @@ some_counted s judged m below all strict l vs c kn rest r a number f goals js k 
 
 expr_counted : (s : Hlds) (judged : Judged s) (m : ℕ) → TallyBelow s m → (all : List ℕ) (strict : Bool) (at : Option ℕ) (l : ℕ) (t : GoalExpr) (kn : InstMap) (rest : List ℕ) (r : Pair) (a : After)
     (number act : ℕ) (e : Env) (goals : List Numbered) (pairs : List (ℕ × ℕ)) (js : List Frame) (k : ℕ)
-    → IsTidyExpr t → expr (scope s all strict) l t kn ≡ Ok a → HasRoom all (expr_variables t) rest → Fits s (expr_variables t ++ rest) kn e → Begins s at (At l t) e → CountsOn s r (suc m) act goals pairs js rest a
+    → IsTidyExpr t → expr (scope s all strict) l t kn ≡ Ok a → HasRoom all (expr_variables t) rest → Fits s (expr_variables t ++ rest) kn e → IsChosen s at (At l t) e → CountsOn s r (suc m) act goals pairs js rest a
     → Meets (in_turn (expr_pair (scope s all strict) at t kn) r) (unfold_expr s (λ f js k. trace s m f js k) (frame act e (numbered_goal number (At l t) ∷ goals) pairs) number goals js k t)
 expr_counted s judged m below all strict at l (SimpleGoal g) kn rest r a number act e goals pairs js k tidy ok room fits begins goes =
     let o = ok_reached (goes_on g) (rules.simple s strict l g kn) a ok in

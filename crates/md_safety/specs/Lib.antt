@@ -6,3 +6,4 @@ pub mod Answers
 pub mod Roles
 pub mod Known
 pub mod Unfolding
+pub mod GoalAnswers
