@@ -27,3 +27,4 @@ pub mod NotedGoals
 pub mod Worked
 pub mod WorkedTurns
 pub mod GoalLaws
+pub mod WorkedNeeds
