@@ -27,4 +27,5 @@ pub mod NotedGoals
 pub mod Worked
 pub mod WorkedTurns
 pub mod GoalLaws
+pub mod FoundGoals
 pub mod WorkedNeeds

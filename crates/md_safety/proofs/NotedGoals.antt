@@ -16,13 +16,13 @@ use Rattle.md_safety.specs.Unfolding.{expr_in}
 
 -- ---- lists
 
-at_drop : {A : Type 0} (xs : List A) (n : ℕ) (x : A) (r : List A) → drop n xs ≡ x ∷ r → slice_get xs n ≡ Some x
+pub at_drop : {A : Type 0} (xs : List A) (n : ℕ) (x : A) (r : List A) → drop n xs ≡ x ∷ r → slice_get xs n ≡ Some x
 at_drop [] zero x r e = absurd (cc)
 at_drop [] (suc n) x r e = absurd (cc)
 at_drop (y ∷ ys) zero x r e = cc
 at_drop (y ∷ ys) (suc n) x r e = at_drop ys n x r e
 
-drop_one : {A : Type 0} (xs : List A) (n : ℕ) (x : A) (r : List A) → drop n xs ≡ x ∷ r → drop (suc n) xs ≡ r
+pub drop_one : {A : Type 0} (xs : List A) (n : ℕ) (x : A) (r : List A) → drop n xs ≡ x ∷ r → drop (suc n) xs ≡ r
 drop_one [] zero x r e = absurd (cc)
 drop_one [] (suc n) x r e = absurd (cc)
 drop_one (y ∷ ys) zero x r e = cc
@@ -34,7 +34,7 @@ drop_all xs n (y ∷ ys) r e =
     let m : n + suc (length ys) ≡ suc n + length ys = omega arith in
     rw m (drop_all xs (suc n) ys r (drop_one xs n y (ys ++ r) e))
 
-drop_many : {A : Type 0} (xs : List A) (n m : ℕ) (ys r : List A) → length ys ≡ m → drop n xs ≡ ys ++ r → drop (n + m) xs ≡ r
+pub drop_many : {A : Type 0} (xs : List A) (n m : ℕ) (ys r : List A) → length ys ≡ m → drop n xs ≡ ys ++ r → drop (n + m) xs ≡ r
 drop_many xs n m ys r size e = subst (λ (k : ℕ). drop (n + k) xs ≡ r) size (drop_all xs n ys r e)
 
 -- ---- what is known before a goal and before each goal within it, outer before inner, in text order
@@ -219,7 +219,7 @@ body_placed s all n (q ∷ qs) (suc i) p h is =
     subst (λ (k : ℕ). InPlace all k (of_goal (scope_of s p) p.body (entry p))) there
     (body_placed s all (n + goal_size q.body) qs i p (past all n (goal_size q.body) (of_goal (scope_of s q) q.body (entry q)) (of_clauses s qs) (goal_has (scope_of s q) q.body (entry q)) h) is)
 
-append_nil : {A : Type 0} (xs : List A) → xs ++ [] ≡ xs
+pub append_nil : {A : Type 0} (xs : List A) → xs ++ [] ≡ xs
 append_nil [] = refl
 append_nil (x ∷ xs) = ap (λ ys. x ∷ ys) (append_nil xs)
 
@@ -237,7 +237,7 @@ body_here s q at =
     (body_placed s (whole s) 0 s.procedures q.0 q.1 (all_placed (whole s)) at)
 
 -- what is known after a goal that is accepted
-after_is : (v : _) (kn : InstMap) (a : After) → v ≡ Ok a → known_after kn v ≡ a.known
+pub after_is : (v : _) (kn : InstMap) (a : After) → v ≡ Ok a → known_after kn v ≡ a.known
 after_is v kn a is = rw is refl
 
 -- the parts of a goal

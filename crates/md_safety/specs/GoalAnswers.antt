@@ -9,9 +9,13 @@ use Rattle.md_hlds.specs.Run.{HasNoDeep, is_thrown}
 use Rattle.md_inst.specs.Instantiation.{InstMap}
 use Rattle.md_det.specs.declared.pair.Bound.TheVariants.{Zero, One}
 use Rattle.md_det.specs.declared.pair.Pair.{Pair}
+use Rattle.md_det.specs.declared.finding.Finding.{Finding}
 use Rattle.md_det.specs.Switches.{switch_of, variable_of}
+use Rattle.md_det.specs.Determinism.{goal_pair}
+use Rattle.md_det.specs.Findings.{expr_switch}
 use Rattle.md_safety.specs.Answers.{answer_count}
-use Rattle.md_safety.specs.Known.{Begins, BeginsParts, BeginsArms, body, part, arm, condition, then, else, negated, quantified, parts, next_parts, arms, next_arms}
+use Rattle.md_safety.specs.Unfolding.{expr_in}
+use Rattle.md_safety.specs.Known.{place, Begins, BeginsParts, BeginsArms, body, part, arm, condition, then, else, negated, quantified, parts, next_parts, arms, next_arms}
 
 -- ---- the switch whose arm a goal begins
 
@@ -74,3 +78,9 @@ pub record TakesArm (s : Hlds) (e : Env) (x n : ℕ) (ps : HldsGoals) : Type 0 w
   pub taken : Numbered
   pub takes : arm_for value keys (numbered_from (suc n) ps) ≡ Some taken
   pub chosen : IsChosen s (Some x) taken.goal e
+
+-- ---- what the checks find
+
+-- what the checks find at a goal where this is known before it and it begins an arm of the switch on that variable
+abbrev pub found_at : Hlds → Procedure → Bool → Option ℕ → HldsGoal → InstMap → Finding
+found_at s p strict at g kn = record { switch = expr_switch s (expr_in g) kn; pair = goal_pair (place s p strict) at g kn }

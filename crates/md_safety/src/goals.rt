@@ -12,10 +12,11 @@ ghost use Rattle.md_det.specs.declared.finding.Switch.{Switch};
 ghost use Rattle.md_det.specs.Switches.{switch_of};
 ghost use Rattle.md_det.specs.Determinism.{goal_pair};
 ghost use Rattle.md_det.specs.Faults.{det_fault};
+ghost use Rattle.md_det.specs.Findings.{program_findings};
 ghost use Rattle.md_reader.specs.Grammar.{Spells};
 ghost use Rattle.md_safety.specs.Values.{Fits};
 ghost use Rattle.md_safety.specs.Known.{place, Begins};
-ghost use Rattle.md_safety.specs.GoalAnswers.{switches_on, IsChosen, AnswersAt, TakesArm};
+ghost use Rattle.md_safety.specs.GoalAnswers.{switches_on, IsChosen, AnswersAt, TakesArm, found_at};
 
 /// Each goal of an accepted program has as many answers as its pair says: at least one where it can't fail, at most one
 /// where its bound is one, none where it is zero. That is said of each trace of the goal by itself that is deep enough and
@@ -27,4 +28,9 @@ pub fn goals_answer_as_their_pair()
 /// A disjunction that is a switch with no functor missing takes an arm, one whose functor the variable's value has.
 pub fn whole_switches_take_an_arm()
     ensures { (bytes : List ℕ) (program : Hlds) → Spells bytes program → mode_fault program ≡ None → (q : ℕ × Procedure) (strict : Bool) (n l : ℕ) (ps : HldsGoals) (known : InstMap) → slice_get program.procedures q.0 ≡ Some q.1 → Begins program q strict n (At l (DisjGoal ps)) known → (e : Env) → Fits program (parts_variables ps) known e → (w : Switch) → switch_of program ps known ≡ Some w → w.whole ≡ true → TakesArm program e w.var n ps }
+{}
+
+/// What the checks find at a goal's number is its pair, with the switch whose arm it begins, and the switch that it is.
+pub fn pairs_are_found()
+    ensures { (program : Hlds) (q : ℕ × Procedure) (strict : Bool) (n : ℕ) (p : HldsGoal) (known : InstMap) → slice_get program.procedures q.0 ≡ Some q.1 → (before : Begins program q strict n p known) → slice_get (program_findings program) n ≡ Some (found_at program q.1 strict (switches_on before) p known) }
 {}

@@ -7,7 +7,7 @@ mod laws;
 mod runs;
 mod turns;
 
-pub use goals::{goals_answer_as_their_pair, whole_switches_take_an_arm};
+pub use goals::{goals_answer_as_their_pair, pairs_are_found, whole_switches_take_an_arm};
 pub use laws::{answers_as_declared, comes_to_its_end, never_stuck};
 pub use runs::{known_is_noted, no_turn_is_left_out, turns_fit};
 pub use turns::{
