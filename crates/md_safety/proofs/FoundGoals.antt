@@ -11,8 +11,8 @@ use Rattle.md_det.specs.declared.finding.Finding.{Finding}
 use Rattle.md_det.specs.Switches.{switch_of, variable_of}
 use Rattle.md_det.specs.Findings.{findings, inner_findings, each_findings, arm_findings, findings_from, program_findings}
 use Rattle.md_safety.specs.Known as known
-use Rattle.md_safety.specs.Known.{place, Begins, BeginsParts, BeginsArms}
-use Rattle.md_safety.specs.GoalAnswers.{switches_on, parts_switch_on, arms_switch_on, found_at}
+use Rattle.md_safety.specs.Known.{place, Begins, BeginsParts, BeginsArms, switches_on, parts_switch_on, arms_switch_on}
+use Rattle.md_safety.specs.GoalAnswers.{found_at}
 use Rattle.md_safety.proofs.NotedGoals.{at_drop, drop_one, drop_many, append_nil, after_is}
 
 -- ---- as many findings as a goal is goals

@@ -26,16 +26,17 @@ use Rattle.md_det.specs.Faults.{det_fault}
 use Rattle.md_safety.specs.Values.{Agrees, Fits}
 use Rattle.md_safety.specs.Turns.{IsTidy, AreTidy}
 use Rattle.md_safety.specs.Known as known
-use Rattle.md_safety.specs.Known.{place, Begins, BeginsParts, BeginsArms}
-use Rattle.md_safety.specs.GoalAnswers.{switches_on, IsKeyed, IsChosen, AnswersAsPair, goal_trace, AnswersAt, TakesArm}
+use Rattle.md_safety.specs.Known.{place, Begins, BeginsParts, BeginsArms, switches_on, IsChosen, goals_variables, FitsAt}
+use Rattle.md_safety.specs.GoalAnswers.{AnswersAsPair, goal_trace, AnswersAt, TakesArm}
 use Rattle.md_safety.proofs.Items.{Fine}
 use Rattle.md_safety.proofs.Environments.{fits_fewer}
 use Rattle.md_safety.proofs.Verdicts.{ok_then}
 use Rattle.md_safety.proofs.Accepted.{if_ok, not_ok, some_ok, each_ok, arms_ok}
-use Rattle.md_safety.proofs.Safe.{Proper, HasRoom, answers, claim}
+use Rattle.md_safety.proofs.Safe.{Proper, HasRoom, fits_left, answers, claim}
 use Rattle.md_safety.proofs.Whole.{proper}
 use Rattle.md_safety.proofs.TypesDiffer.{TypesDiffer, types_differ}
 use Rattle.md_safety.proofs.SwitchLemmas.{first_keys, shape_keys, shape_occurs, has_some_key, whole_any}
+use Rattle.md_safety.proofs.ChosenArms.{keyed_arm}
 use Rattle.md_safety.proofs.Counting.{Meets, meets_last, IsWithin}
 use Rattle.md_safety.proofs.Tally.{Judged, answered, tally}
 use Rattle.md_safety.proofs.Declared.{judged, none_left, one_left, one_there}
@@ -162,33 +163,31 @@ goals_answer_as_their_pair bytes s spells modes determinism q strict n p kn at b
     let all = judged bytes s spells modes determinism in
     answers_chosen s all q strict n p kn (switches_on before) f depth next (stands s all.proper q at strict n p kn before) fits chosen
 
+-- at a turn the environment fits, and an arm is the one that is chosen
+pub answers_at_a_turn : (bytes : List ℕ) (s : Hlds) → Spells bytes s → mode_fault s ≡ None → det_fault s ≡ None
+    → (f : Frame) (g : Numbered) (goals : List Numbered) → (turn : FitsAt s f.env g goals) → (depth next : ℕ)
+    → AnswersAt s f g.number g.goal (goal_pair (place s turn.procedure.1 turn.strict) (switches_on turn.before) g.goal turn.known) depth next
+answers_at_a_turn bytes s spells modes determinism f g goals turn depth next =
+    goals_answer_as_their_pair bytes s spells modes determinism turn.procedure turn.strict g.number g.goal turn.known turn.at turn.before f
+    (fits_left s (variables g.goal) (goals_variables goals ++ turn.procedure.1.head) turn.known f.env turn.fits) turn.chosen depth next
+
 -- ---- the arm of a switch
 
-keyed_at : (o : Option Value) (v : Value) (first key : Key) → o ≡ Some v → first ≡ key → has_the_key v key ≡ true → IsKeyed first o
-keyed_at o v first key at is h = rw (at, is) h
+takes_step : (v : Value) (n : ℕ) (key : Key) (keys : List Key) (p : HldsGoal) (ps : List Numbered) (b : Bool) → has_the_key v key ≡ b → (b || has_some_key v keys) ≡ true
+    → (has_some_key v keys ≡ true → (q : Numbered) × (arm_for v keys ps ≡ Some q)) → (q : Numbered) × (arm_for v (key ∷ keys) (numbered_goal n p ∷ ps) ≡ Some q)
+takes_step v n key keys p ps true is h later = (numbered_goal n p, rw is refl)
+takes_step v n key keys p ps false is h later = let r = later h in (r.0, rw is (r.1))
 
--- among these arms there is one for the value, and the value has its key
-record FindsArm (s : Hlds) (e : Env) (x n : ℕ) (v : Value) (keys : List Key) (ps : HldsGoals) : Type 0 where
-  taken : Numbered
-  takes : arm_for v keys (numbered_from n ps) ≡ Some taken
-  chosen : IsChosen s (Some x) taken.goal e
-
-finds_step : (s : Hlds) (e : Env) (x n : ℕ) (v : Value) (key : Key) (keys : List Key) (p : HldsGoal) (ps : HldsGoals) (b : Bool) → has_the_key v key ≡ b → (b || has_some_key v keys) ≡ true
-    → (b ≡ true → IsChosen s (Some x) p e) → (has_some_key v keys ≡ true → FindsArm s e x (n + goal_size p) v keys ps) → FindsArm s e x n v (key ∷ keys) (also p ps)
-finds_step s e x n v key keys p ps true is h here later = record { taken = numbered_goal n p; takes = rw is refl; chosen = here refl }
-finds_step s e x n v key keys p ps false is h here later = let r = later h in record { taken = r.taken; takes = rw is r.takes; chosen = r.chosen }
-
-finds_arm : (s : Hlds) (e : Env) (x n : ℕ) (v : Value) (keys : List Key) (ps : HldsGoals) → value_at e x ≡ Some v → keys_of s x ps ≡ Some keys → has_some_key v keys ≡ true → FindsArm s e x n v keys ps
-finds_arm s e x n v [] ps at is h = absurd (false≢true h)
-finds_arm s e x n v (key ∷ later) nothing at is h = absurd (cc is)
-finds_arm s e x n v (key ∷ later) (also p ps) at is h =
+-- among arms of these keys there is one for the value
+takes : (s : Hlds) (x n : ℕ) (v : Value) (keys : List Key) (ps : HldsGoals) → keys_of s x ps ≡ Some keys → has_some_key v keys ≡ true → (q : Numbered) × (arm_for v keys (numbered_from n ps) ≡ Some q)
+takes s x n v [] ps is h = absurd (false≢true h)
+takes s x n v (key ∷ later) nothing is h = absurd (cc is)
+takes s x n v (key ∷ later) (also p ps) is h =
     let keys = first_keys s x p ps (key ∷ later) is in
     let same = keys.is in
-    let first : keys.first ≡ key = cc same in
     let rest : keys.rest ≡ later = cc same in
-    finds_step s e x n v key later p ps (has_the_key v key) refl h
-    (λ found. (keys.first, keys.arm, keyed_at (value_at e x) v keys.first key at first found))
-    (λ more. finds_arm s e x (n + goal_size p) v later ps at (keys.others ∙ ap Some rest) more)
+    takes_step v n key later p (numbered_from (n + goal_size p) ps) (has_the_key v key) refl h
+    (λ more. takes s x (n + goal_size p) v later ps (keys.others ∙ ap Some rest) more)
 
 known_takes : (s : Hlds) → TypesDiffer s → (q : ℕ × Procedure) (b : Bool) (n : ℕ) (ps : HldsGoals) (kn : InstMap) (e : Env) (w : Switch) (x : ℕ) (keys : List Key) (i : Instantiation) (o : Option Value)
     → StandsArms s q b ps kn → switch_shape s ps ≡ Some (x, keys) → known_at kn x ≡ i → value_at e x ≡ o → Agrees s o i → switch_on_known s x keys i ≡ Some w → w.whole ≡ true → TakesArm s e w.var n ps
@@ -197,9 +196,9 @@ known_takes s differ q b n ps kn e w x keys (has t used) None h shape known at a
 known_takes s differ q b n ps kn e w x keys (has t used) (Some v) h shape known at agrees is whole =
     let same : ◌≡◌ {A = Switch} (record { var = x; whole = is_whole s keys }) w = cc is in
     let full : is_whole s keys ≡ true = ap (λ (u : Switch). u.whole) same ∙ whole in
-    let r = finds_arm s e x (suc n) v keys ps at (shape_keys s ps x keys shape) (whole_any s differ (place s q.1 b) ps x keys v t used kn h.ends refl shape known h.accepted agrees full) in
+    let r = takes s x (suc n) v keys ps (shape_keys s ps x keys shape) (whole_any s differ (place s q.1 b) ps x keys v t used kn h.ends refl shape known h.accepted agrees full) in
     subst (λ (y : ℕ). TakesArm s e y n ps) (ap (λ (u : Switch). u.var) same)
-    (record { keys = keys; shape = shape; value = v; has_value = at; taken = r.taken; takes = r.takes; chosen = r.chosen })
+    (record { keys = keys; shape = shape; value = v; has_value = at; taken = r.0; takes = r.1; chosen = keyed_arm s x (suc n) e v keys ps r.0 at (shape_keys s ps x keys shape) r.1 })
 
 shape_takes : (s : Hlds) → TypesDiffer s → (q : ℕ × Procedure) (b : Bool) (n : ℕ) (ps : HldsGoals) (kn : InstMap) (e : Env) (w : Switch) (o : Option (ℕ × List Key))
     → StandsArms s q b ps kn → Fits s (parts_variables ps) kn e → switch_shape s ps ≡ o → switch_with s o kn ≡ Some w → w.whole ≡ true → TakesArm s e w.var n ps

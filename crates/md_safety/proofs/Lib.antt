@@ -20,6 +20,7 @@ pub mod SwitchLemmas
 pub mod Tally
 pub mod Declared
 pub mod RoleLemmas
+pub mod ChosenArms
 pub mod TurnsFit
 pub mod EachTurn
 pub mod RunTurns

@@ -32,7 +32,7 @@ use Rattle.md_det.specs.Determinism.{sure, unsure, is_at, is_none_bound, apart_p
 use Rattle.md_det.proofs.Functors.{family_there, family_found}
 use Rattle.md_safety.specs.Values.{HasType, HaveTypes, IsBuiltOf, Agrees, Fits}
 use Rattle.md_safety.specs.Turns.{AreDistinct, IsTidySimple}
-use Rattle.md_safety.specs.GoalAnswers.{IsKeyed, IsChosen}
+use Rattle.md_safety.specs.Known.{IsKeyed, IsChosen}
 use Rattle.md_safety.proofs.Environments.{value_at-bound_other}
 use Rattle.md_safety.proofs.SameTypes.{same_sort_is, same_bytes_are}
 use Rattle.md_safety.proofs.Verdicts.{ok_where}

@@ -2,12 +2,13 @@
 use Rattle.std.proofs.Common.{◌≡◌, refl, sym, ap, ◌∙◌, subst, arith, ℕ, ◌<◌, Bool, true, false, ◌&&◌, ◌||◌, cond, nat_eq, List, [], ◌∷◌, length, Option, Some, None, Ok, is_some}
 use Rattle.std.proofs.lemmas.Bool.{and_parts, eqb-true, false≢true}
 use Rattle.std.specs.Str.{bytes_eq}
+use Rattle.std.specs.Prelude.{⊤}
 use Rattle.md_hlds.specs.declared.goal.Term.{Term}
 use Rattle.md_hlds.specs.declared.goal.Term.TheVariants.{Var, Int, Str, Name}
 use Rattle.md_hlds.specs.declared.goal.PredName.{PredName}
 use Rattle.md_hlds.specs.HldsGoal.{Succeeds, Fails, Unifies, Computes, Compares, WritesInt, WritesText, EndsLine, Raises, HldsGoal, At, SimpleGoal, CallGoal, HoCallGoal, ConjGoal, DisjGoal, IfGoal, NotGoal, SomeGoal, HldsGoals, nothing, also}
 use Rattle.md_hlds.specs.Hlds.{HldsType, named, HldsFunctor, HldsTypeDef, Hlds, is_functor}
-use Rattle.md_hlds.specs.Value.{Value, Values, Number, Literal, Built, Closure, value_count}
+use Rattle.md_hlds.specs.Value.{Value, Values, Number, Literal, Built, Closure, value_count, Env}
 use Rattle.md_hlds.specs.Switch.{Key, IntKey, TextKey, FunctorKey, term_key, variable_key, goal_key, arm_key, prepend_key, keys_of, has_key, all_different, if_different, switch_on, switch_shape, has_the_key}
 use Rattle.md_names.specs.Named.{construct_among, functor_found}
 use Rattle.md_inst.specs.declared.fault.ModeFault.TheVariants.{TypeClash}
@@ -22,6 +23,7 @@ use Rattle.md_modes.proofs.Counts.{times-append}
 use Rattle.md_det.specs.Switches.{family_with, key_of, all_have_keys, no_functor_missing, is_whole}
 use Rattle.md_det.proofs.Functors.{family_there, family_found}
 use Rattle.md_safety.specs.Values.{HasType, HaveTypes}
+use Rattle.md_safety.specs.Known.{IsChosen}
 use Rattle.md_safety.proofs.SameTypes.{same_sort_is, same_bytes_are}
 use Rattle.md_safety.proofs.Verdicts.{ok_where, ok_reached}
 use Rattle.md_safety.proofs.Handing.{first_times}
@@ -257,3 +259,19 @@ whole_any s differ c (also p ps) x ks v t used kn ends program shape known ok ty
     let o = arms_ok c p ps kn ends ok in
     subst (λ (js : List Key). has_some_key v js ≡ true) (sym keys.is)
     (whole_keys s differ c p x keys.first keys.rest v t used kn o.first program keys.arm known o.begins typed (subst (λ (js : List Key). is_whole s js ≡ true) keys.is whole))
+
+-- ---- the first of these goals
+
+-- the first of these goals begins an arm that is chosen, if it begins one
+abbrev pub IsFirstChosen : Hlds → Option ℕ → HldsGoals → Env → Type 0
+IsFirstChosen s at nothing e = ⊤
+IsFirstChosen s at (also p ps) e = IsChosen s at p e
+
+pub first_chosen : (s : Hlds) (at : Option ℕ) (l : ℕ) (ps : HldsGoals) (e : Env) → IsChosen s at (At l (ConjGoal ps)) e → IsFirstChosen s at ps e
+first_chosen s at l nothing e h = tt
+first_chosen s None l (also p ps) e h = tt
+first_chosen s (Some x) l (also p ps) e h = (h.0, first_key s p x h.0 h.1, h.2)
+
+pub none_chosen : (s : Hlds) (ps : HldsGoals) (e : Env) → IsFirstChosen s None ps e
+none_chosen s nothing e = tt
+none_chosen s (also p ps) e = tt

@@ -39,7 +39,7 @@ use Rattle.md_det.specs.Faults.{body_pair}
 use Rattle.md_safety.specs.Values.{Agrees, Fits}
 use Rattle.md_safety.specs.Arguments.{AreResults}
 use Rattle.md_safety.specs.Turns.{LeadsTo, AreDistinct, IsTidy, IsTidyExpr, AreTidy}
-use Rattle.md_safety.specs.GoalAnswers.{IsKeyed, IsChosen}
+use Rattle.md_safety.specs.Known.{IsKeyed, IsChosen}
 use Rattle.md_safety.proofs.Environments.{fits_fewer}
 use Rattle.md_safety.proofs.Verdicts.{ok_then, ok_where, ok_unless, ok_is, ok_reached}
 use Rattle.md_safety.proofs.Handing.{In', more_times, first_times, handed}
@@ -52,7 +52,7 @@ use Rattle.md_safety.proofs.Calls.{call_fits, others_return, without_size, sort_
 use Rattle.md_safety.proofs.Safe.{Proper, scope, frame, HasRoom, all_below, IsCall, answers, in_left, in_right, fits_left, fits_right, room_outside, end_results, body_fine, back_fits, both_reach, condition_fine, only_goes}
 use Rattle.md_safety.proofs.TypesDiffer.{TypesDiffer}
 use Rattle.md_safety.proofs.Sure.{IsAllowed, simple_sure}
-use Rattle.md_safety.proofs.SwitchLemmas.{first_key, first_keys, shape_keys, shape_occurs, has_some_key, whole_any}
+use Rattle.md_safety.proofs.SwitchLemmas.{first_keys, shape_keys, shape_occurs, has_some_key, whole_any, IsFirstChosen, first_chosen, none_chosen}
 use Rattle.md_safety.proofs.Counting.{Meets, meets_nothing, meets_allocated, meets_written, meets_joined, meets_then, meets_left, meets_right, meets_first, meets_cut, meets_assoc, meets_last, meets_sum, meets_one, meets_declared, IsWithin, or_left, or_right, greatest_left, greatest_right}
 
 -- each clause is accepted, types are told by their names, and each body does no more than its declaration says
@@ -252,20 +252,6 @@ closure_counted s judged m below r strict l o ys rest t kn kr e act own number g
 
 -- ---- conjunctions
 
--- the first of these goals begins an arm that is chosen, if it begins one
-abbrev IsFirstChosen : Hlds → Option ℕ → HldsGoals → Env → Type 0
-IsFirstChosen s at nothing e = ⊤
-IsFirstChosen s at (also p ps) e = IsChosen s at p e
-
-begins_first : (s : Hlds) (at : Option ℕ) (l : ℕ) (ps : HldsGoals) (e : Env) → IsChosen s at (At l (ConjGoal ps)) e → IsFirstChosen s at ps e
-begins_first s at l nothing e h = tt
-begins_first s None l (also p ps) e h = tt
-begins_first s (Some x) l (also p ps) e h = (h.0, first_key s p x h.0 h.1, h.2)
-
-begins_none : (s : Hlds) (ps : HldsGoals) (e : Env) → IsFirstChosen s None ps e
-begins_none s nothing e = tt
-begins_none s (also p ps) e = tt
-
 known_is : (c : Scope) (p : HldsGoal) (kn : InstMap) (a : After) → goal c p kn ≡ Ok a → known_after kn (goal c p kn) ≡ a.known
 known_is c p kn a ok = ap (known_after kn) ok
 
@@ -291,7 +277,7 @@ each_counted s m below all strict at (also p ps) n kn rest r a number act e goal
     (λ i lt d j reach inner.
     subst (λ (q : InstMap). Meets (in_turn (each_pair c None ps q) r) (trace s i (frame act d (numbered_from (number + goal_size p) ps ++ goals) pairs) js j)) (sym (known_is c p kn o.first o.begins))
     (each_counted s m below all strict None ps i o.first.known rest r o.rest (number + goal_size p) act d goals pairs js j (omega (arith, lt, le)) tidy.1 o.goes_on
-    (λ x. let q = room x in let f = times-append x (variables p) (parts_variables ps) in omega (arith, q, f)) inner (begins_none s ps d)
+    (λ x. let q = room x in let f = times-append x (variables p) (parts_variables ps) in omega (arith, q, f)) inner (none_chosen s ps d)
     (λ i lt d j there last. goes i lt d j
     (sym (ap (λ (b : After). b.reach) o.is) ∙ both_reach o.first.reach o.rest.reach reach there)
     (subst (λ (b : After). Fits s rest b.known d) o.is last)))))
@@ -511,7 +497,7 @@ expr_counted s judged m below all strict at l (HoCallGoal site f ys) kn rest r a
 expr_counted s judged m below all strict at l (ConjGoal ps) kn rest r a number act e goals pairs js k tidy ok room fits begins goes =
     let p = each_pair (scope s all strict) at ps kn in
     turned (in_turn p r) act (Some number) 1 (trace s m (frame act e (numbered_from (suc number) ps ++ goals) pairs) js k)
-    (each_counted s m below all strict at ps m kn rest r a (suc number) act e goals pairs js k (omega arith) tidy ok room fits (begins_first s at l ps e begins) goes)
+    (each_counted s m below all strict at ps m kn rest r a (suc number) act e goals pairs js k (omega arith) tidy ok room fits (first_chosen s at l ps e begins) goes)
 expr_counted s judged m below all strict at l (DisjGoal ps) kn rest r a number act e goals pairs js k tidy ok room fits begins goes =
     let b = ok_then (arms (scope s all strict) ps kn) (λ ends. branch.joined l (outside all (parts_variables ps)) kn ends) a ok in
     let f = frame act e (numbered_goal number (At l (DisjGoal ps)) ∷ goals) pairs in

@@ -22,13 +22,14 @@ use Rattle.md_inst.specs.Simple as rules
 use Rattle.md_inst.specs.Simple.{goes_on, call_checked, atomic}
 use Rattle.md_modes.specs.Branches as branch
 use Rattle.md_modes.specs.Branches.{After, after, outside}
-use Rattle.md_modes.specs.Goals.{variables, parts_variables, simple_variables, clause_variables, goal, each, arms}
+use Rattle.md_modes.specs.Goals.{variables, expr_variables, parts_variables, simple_variables, clause_variables, goal, each, arms}
 use Rattle.md_modes.specs.Modes.{entry, end, scope_of, is_main, mode_fault}
 use Rattle.md_modes.proofs.Counts.{times-append}
+use Rattle.md_det.specs.Switches.{switch_of, variable_of}
 use Rattle.md_safety.specs.Values.{Fits}
 use Rattle.md_safety.specs.Arguments.{AreResults}
 use Rattle.md_safety.specs.Turns.{LeadsTo, AreDistinct, IsTidy, AreTidy}
-use Rattle.md_safety.specs.Known.{place, Begins, BeginsParts, BeginsArms, body, part, arm, condition, then, else, negated, quantified, next_parts, next_arms, goals_variables, FitsAt, FitsFirst}
+use Rattle.md_safety.specs.Known.{place, Begins, BeginsParts, BeginsArms, body, part, arm, condition, then, else, negated, quantified, next_parts, next_arms, switches_on, parts_switch_on, arms_switch_on, IsChosen, goals_variables, FitsAt, FitsFirst}
 use Rattle.md_safety.specs.Known as known
 use Rattle.md_safety.specs.Unfolding.{Job, job, main_job, first_answer, Tries, at_once, later, Calls, begins_cut, has_exited, begins_whole, Unfolds, goes, parts, tries, switches, asks, holds, fails, denies, is_denied, seeks, has_found, calls, applies, Next, Comes, here, further}
 use Rattle.md_safety.proofs.Items.{Fine}
@@ -42,6 +43,8 @@ use Rattle.md_safety.proofs.Growing.{later_then, goal_later, arms_later}
 use Rattle.md_safety.proofs.JoinLemmas.{Joins, EndsJoin, joined_join, fits_joined}
 use Rattle.md_safety.proofs.Calls.{call_fits, others_return, IsApplied, type_of, known_applied}
 use Rattle.md_safety.proofs.Safe.{Proper, frame, HasRoom, IsCall, in_left, in_right, fits_left, fits_right, room_outside, answers, end_results, body_fine, back_fits, both_reach, ArmsFine, condition_fine, only_goes, all_below}
+use Rattle.md_safety.proofs.SwitchLemmas.{IsFirstChosen, first_chosen, none_chosen}
+use Rattle.md_safety.proofs.ChosenArms.{no_switch_chosen, arm_is_chosen}
 use Rattle.md_safety.proofs.Whole.{accepted, proper, main_fits}
 use Rattle.md_safety.proofs.OneMain.{one_main}
 
@@ -89,6 +92,7 @@ record Placed (s : Hlds) (q : ℕ × Procedure) (strict : Bool) (number : ℕ) (
   accepted : goal (place s q.1 strict) p kn ≡ Ok a
   room : HasRoom (clause_variables q.1) (variables p) rest
   fits : Fits s (variables p ++ rest) kn e
+  chosen : IsChosen s (switches_on before) p e
 
 -- the variables of the goals after it, and those of the head, are among those that are still to come
 abbrev AreToCome : ℕ × Procedure → List Numbered → List ℕ → Type 0
@@ -146,6 +150,7 @@ first_fits s q strict number p kn rest a e goals placed come = record {
   after = a;
   accepted = placed.accepted;
   fits = fits_fewer s (variables p ++ rest) (variables p ++ (goals_variables goals ++ q.1.head)) kn e (after_same (variables p) (goals_variables goals ++ q.1.head) rest come) placed.fits;
+  chosen = placed.chosen;
 }
 
 -- ---- calls
@@ -166,6 +171,7 @@ body_fit s proper m below strict l q held others ys kn r e act pairs js k c on =
       accepted = ok.1;
       room = λ x. let e = times-append x p.head (variables p.body) in omega (arith, e);
       fits = call_fits s (variables p.body ++ p.head) p held others ys e c.captured c.args;
+      chosen = tt;
     })
     (λ x there. there)
     (λ n lt d i reach fits. on n lt d i (others_return s held p.args others p.head d c.captured (end_results s p ok.0 d ok.2 reach fits)))
@@ -218,13 +224,13 @@ closure_call s strict l o c held q ys t kn r e app is there distinct fits =
 
 parts_fit : (s : Hlds) (m : ℕ) → Below s m → (q : ℕ × Procedure) (strict : Bool) (number : ℕ) (ps : HldsGoals) (n : ℕ) (kn : InstMap) (rest : List ℕ) (a : After)
     (act : ℕ) (e : Env) (goals : List Numbered) (pairs : List (ℕ × ℕ)) (js : List Frame) (k : ℕ) → n ≤ m → slice_get s.procedures q.0 ≡ Some q.1
-    → BeginsParts s q strict number ps kn → AreTidy ps → each (place s q.1 strict) ps kn ≡ Ok a → HasRoom (clause_variables q.1) (parts_variables ps) rest → Fits s (parts_variables ps ++ rest) kn e
+    → (before : BeginsParts s q strict number ps kn) → IsFirstChosen s (parts_switch_on before) ps e → AreTidy ps → each (place s q.1 strict) ps kn ≡ Ok a → HasRoom (clause_variables q.1) (parts_variables ps) rest → Fits s (parts_variables ps ++ rest) kn e
     → AreToCome q goals rest → GoOn s (suc m) act goals pairs js rest a
     → AllFit s (job n (frame act e (numbered_from number ps ++ goals) pairs) js k)
-parts_fit s m below q strict number nothing n kn rest a act e goals pairs js k le at before tidy ok room fits come on =
+parts_fit s m below q strict number nothing n kn rest a act e goals pairs js k le at before chosen tidy ok room fits come on =
     let is : after kn true ≡ a = ok_is (Ok (after kn true)) (after kn true) a refl ok in
     on n (omega (arith, le)) e k (sym (ap (λ (b : After). b.reach) is)) (subst (λ (b : After). Fits s rest b.known e) is fits)
-parts_fit s m below q strict number (also p ps) n kn rest a act e goals pairs js k le at before tidy ok room fits come on =
+parts_fit s m below q strict number (also p ps) n kn rest a act e goals pairs js k le at before chosen tidy ok room fits come on =
     let o = each_ok (place s q.1 strict) p ps kn a ok in
     below n le q strict number p kn (parts_variables ps ++ rest) o.first act e (numbered_from (number + goal_size p) ps ++ goals) pairs js k
     (record {
@@ -236,10 +242,11 @@ parts_fit s m below q strict number (also p ps) n kn rest a act e goals pairs js
       fits = fits_fewer s ((variables p ++ parts_variables ps) ++ rest) (variables p ++ (parts_variables ps ++ rest)) kn e
           (λ x there. let f = times-append x (variables p ++ parts_variables ps) rest in let g = times-append x (variables p) (parts_variables ps) in
           let h = times-append x (variables p) (parts_variables ps ++ rest) in let i = times-append x (parts_variables ps) rest in omega (arith, there, f, g, h, i)) fits;
+      chosen = chosen;
     })
     (come_after q (number + goal_size p) ps goals rest come)
     (λ i lt d j reach inner. parts_fit s m below q strict (number + goal_size p) ps i o.first.known rest o.rest act d goals pairs js j (omega (arith, lt, le)) at
-    (next_parts strict number p ps kn o.first before o.begins) tidy.1 o.goes_on
+    (next_parts strict number p ps kn o.first before o.begins) (none_chosen s ps d) tidy.1 o.goes_on
     (λ x. let r = room x in let f = times-append x (variables p) (parts_variables ps) in omega (arith, r, f)) inner come
     (λ i lt d j there last. on i lt d j
     (sym (ap (λ (b : After). b.reach) o.is) ∙ both_reach o.first.reach o.rest.reach reach there)
@@ -267,19 +274,20 @@ arm_on s m act goals pairs js all inner rest a b room joins on n lt e k reach fi
     let j = joins reach in
     on n (omega (arith, lt)) e k j.reach (fits_joined s (outside all inner) rest a b.known e j (room_outside all inner rest room) fits)
 
-abbrev ArmFit : Hlds → ℕ → Frame → List Numbered → List Frame → Numbered → ℕ → Type 0
-ArmFit s m f goals js p i = AllFit s (job m (doing f (p ∷ goals)) js i)
+-- an arm, where it is the one for the value of the variable that the disjunction switches on, if it is a switch
+abbrev ArmFit : Hlds → ℕ → Frame → List Numbered → List Frame → Option ℕ → Numbered → ℕ → Type 0
+ArmFit s m f goals js at p i = IsChosen s at p.goal f.env → AllFit s (job m (doing f (p ∷ goals)) js i)
 
 arms_fit : (s : Hlds) (m : ℕ) → Below s m → (q : ℕ × Procedure) (strict : Bool) (number : ℕ) (ps : HldsGoals) (kn : InstMap) (inner rest : List ℕ) (a : After) (ends : List After)
     (f : Frame) (goals : List Numbered) (js : List Frame) → slice_get s.procedures q.0 ≡ Some q.1
-    → BeginsArms s q strict number ps kn → AreTidy ps → arms (place s q.1 strict) ps kn ≡ Ok ends → HasRoom (clause_variables q.1) inner rest → ((x : ℕ) → times x (parts_variables ps) ≤ times x inner)
+    → (before : BeginsArms s q strict number ps kn) → AreTidy ps → arms (place s q.1 strict) ps kn ≡ Ok ends → HasRoom (clause_variables q.1) inner rest → ((x : ℕ) → times x (parts_variables ps) ≤ times x inner)
     → Fits s (inner ++ rest) kn f.env → AreToCome q goals rest → EndsJoin (outside (clause_variables q.1) inner) a ends → GoOn s (suc m) f.act goals f.pairs js rest a
-    → ArmsFine (ArmFit s m f goals js) (numbered_from number ps)
+    → ArmsFine (ArmFit s m f goals js (arms_switch_on before)) (numbered_from number ps)
 arms_fit s m below q strict number nothing kn inner rest a ends f goals js at before tidy ok room among fits come joins on = tt
 arms_fit s m below q strict number (also p ps) kn inner rest a ends f goals js at before tidy ok room among fits come joins on =
     let o = arms_ok (place s q.1 strict) p ps kn ends ok in
     let ends_join : EndsJoin (outside (clause_variables q.1) inner) a (o.first ∷ o.ends) = subst (λ (es : List After). EndsJoin (outside (clause_variables q.1) inner) a es) (sym o.is) joins in (
-      (λ k. below m (omega arith) q strict number p kn rest o.first f.act f.env goals f.pairs js k
+      (λ k chosen. below m (omega arith) q strict number p kn rest o.first f.act f.env goals f.pairs js k
           (record {
             at = at;
             before = arm strict number p ps kn before;
@@ -288,6 +296,7 @@ arms_fit s m below q strict number (also p ps) kn inner rest a ends f goals js a
             room = λ x. let r = room x in let i = among x in let t = times-append x (variables p) (parts_variables ps) in omega (arith, r, i, t);
             fits = fits_fewer s (inner ++ rest) (variables p ++ rest) kn f.env
                 (λ x there. let i = among x in let t = times-append x (variables p) (parts_variables ps) in let g = times-append x (variables p) rest in let h = times-append x inner rest in omega (arith, there, i, t, g, h)) fits;
+            chosen = chosen;
           })
           come (arm_on s m f.act goals f.pairs js (clause_variables q.1) inner rest a o.first room ends_join.0 on)),
       arms_fit s m below q strict (number + goal_size p) ps kn inner rest a o.ends f goals js at (next_arms strict number p ps kn before) tidy.1 o.others room
@@ -296,7 +305,7 @@ arms_fit s m below q strict number (also p ps) kn inner rest a ends f goals js a
 
 disjunction_fit : (s : Hlds) (m : ℕ) → Below s m → (q : ℕ × Procedure) (strict : Bool) (number l : ℕ) (ps : HldsGoals) (kn : InstMap) (rest : List ℕ) (a : After) (f : Frame) (goals : List Numbered) (js : List Frame)
     → Placed s q strict number (At l (DisjGoal ps)) kn rest a f.env → AreToCome q goals rest → GoOn s (suc m) f.act goals f.pairs js rest a
-    → ArmsFine (ArmFit s m f goals js) (numbered_from (suc number) ps)
+    → ArmsFine (ArmFit s m f goals js (variable_of (switch_of s ps kn))) (numbered_from (suc number) ps)
 disjunction_fit s m below q strict number l ps kn rest a f goals js placed come on =
     let b = ok_then (arms (place s q.1 strict) ps kn) (λ ends. branch.joined l (outside (clause_variables q.1) (parts_variables ps)) kn ends) a placed.accepted in
     arms_fit s m below q strict (suc number) ps kn (parts_variables ps) rest a b.0 f goals js placed.at (known.arms strict number l ps kn placed.before) placed.tidy b.1 placed.room (λ x. omega arith) placed.fits come
@@ -346,6 +355,7 @@ placed_if s q strict number l c t e kn rest a d placed =
         fits = fits_fewer s (inner ++ rest) (variables c ++ (variables t ++ rest)) kn d
             (λ x there. let i = times-append x (variables c) (variables t ++ variables e) in let j = times-append x (variables t) (variables e) in let g = times-append x inner rest in
             let h = times-append x (variables t) rest in let q = times-append x (variables c) (variables t ++ rest) in omega (arith, there, i, j, g, h, q)) placed.fits;
+        chosen = tt;
       };
       wins = λ b inside. record {
         at = placed.at;
@@ -354,6 +364,7 @@ placed_if s q strict number l c t e kn rest a d placed =
         accepted = o.wins;
         room = λ x. let r = placed.room x in let i = times-append x (variables c) (variables t ++ variables e) in let j = times-append x (variables t) (variables e) in omega (arith, r, i, j);
         fits = inside;
+        chosen = tt;
       };
       loses = record {
         at = placed.at;
@@ -364,6 +375,7 @@ placed_if s q strict number l c t e kn rest a d placed =
         fits = fits_fewer s (inner ++ rest) (variables e ++ rest) kn d
             (λ x there. let i = times-append x (variables c) (variables t ++ variables e) in let j = times-append x (variables t) (variables e) in let g = times-append x inner rest in
             let h = times-append x (variables e) rest in omega (arith, there, i, j, g, h)) placed.fits;
+        chosen = tt;
       };
       joins = joined_join l (outside (clause_variables q.1) inner) kn (o.then ∷ o.else ∷ []) a (later, (goal_later (place s q.1 strict) e kn o.else o.loses, tt)) o.joins;
     }
@@ -382,7 +394,7 @@ placed_not s q strict number l c kn rest a d placed =
     let there = only_goes s rest kn a d o.is (fits_right s (variables c) rest kn d placed.fits) in
     record {
       inner = o.inner;
-      asked = record { at = placed.at; before = negated strict number l c kn placed.before; tidy = placed.tidy; accepted = o.begins; room = placed.room; fits = placed.fits };
+      asked = record { at = placed.at; before = negated strict number l c kn placed.before; tidy = placed.tidy; accepted = o.begins; room = placed.room; fits = placed.fits; chosen = tt };
       reach = there.0;
       fits = there.1;
     }
@@ -402,6 +414,7 @@ placed_some s q strict number l vs c kn rest a d placed =
         room = λ x. let r = placed.room x in let i = times-append x vs (variables c) in omega (arith, r, i);
         fits = fits_fewer s ((vs ++ variables c) ++ rest) (variables c ++ rest) kn d
             (λ x there. let i = times-append x vs (variables c) in let g = times-append x (vs ++ variables c) rest in let h = times-append x (variables c) rest in omega (arith, there, i, g, h)) placed.fits;
+        chosen = tt;
       };
       reach = there.0;
       fits = there.1;
@@ -423,11 +436,13 @@ unfolds_fit : (s : Hlds) (proper : Proper s) (m : ℕ) → Below s m → (q : �
 unfolds_fit s proper m below q strict number l _ kn rest a f goals js k _ placed come on (goes g d extra words out is) =
     let o = simple_fits s q strict number l g kn rest a f.env d extra words out placed is in on m (omega arith) d k o.0 o.1
 unfolds_fit s proper m below q strict number l _ kn rest a f goals js k _ placed come on (parts ps) =
-    parts_fit s m below q strict (suc number) ps m kn rest a f.act f.env goals f.pairs js k (omega arith) placed.at (known.parts strict number l ps kn placed.before) placed.tidy placed.accepted placed.room placed.fits come on
+    parts_fit s m below q strict (suc number) ps m kn rest a f.act f.env goals f.pairs js k (omega arith) placed.at (known.parts strict number l ps kn placed.before) (first_chosen s (switches_on placed.before) l ps f.env placed.chosen) placed.tidy placed.accepted placed.room placed.fits come on
 unfolds_fit s proper m below q strict number l _ kn rest a f goals js k _ placed come on (tries ps p i no_value is) =
-    tried s m f goals js (ArmFit s m f goals js) (numbered_from (suc number) ps) k p i (disjunction_fit s m below q strict number l ps kn rest a f goals js placed come on) is
+    tried s m f goals js (ArmFit s m f goals js (variable_of (switch_of s ps kn))) (numbered_from (suc number) ps) k p i (disjunction_fit s m below q strict number l ps kn rest a f goals js placed come on) is
+    (no_switch_chosen s ps kn (expr_variables (DisjGoal ps) ++ rest) f.env p.goal placed.fits (in_left (parts_variables ps) rest) no_value)
 unfolds_fit s proper m below q strict number l _ kn rest a f goals js k _ placed come on (switches ps w v p shape value is) =
-    chosen (ArmFit s m f goals js) v w.1 (numbered_from (suc number) ps) p k (disjunction_fit s m below q strict number l ps kn rest a f goals js placed come on) is
+    chosen (ArmFit s m f goals js (variable_of (switch_of s ps kn))) v w.1 (numbered_from (suc number) ps) p k (disjunction_fit s m below q strict number l ps kn rest a f goals js placed come on) is
+    (arm_is_chosen s ps kn (suc number) w v p f.env shape value is)
 unfolds_fit s proper m below q strict number l _ kn rest a f goals js k _ placed come on (asks c t e) =
     let o = placed_if s q strict number l c t e kn rest a f.env placed in
     condition_fit s m below q (suc number) c kn (variables t ++ rest) o.condition f k o.asked (come_inside q goals (variables t) rest come)
@@ -499,6 +514,7 @@ main_fit s proper depth m at is =
       accepted = ok.1;
       room = λ x. let e = times-append x p.head (variables p.body) in omega (arith, e);
       fits = main_fits s _ p is (proper.heads m.0 p at);
+      chosen = tt;
     })
     (λ x there. there)
     (λ n lt e k reach fits. ended_fit s n 0 e [] k)

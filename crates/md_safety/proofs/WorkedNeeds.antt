@@ -25,8 +25,8 @@ use Rattle.md_det.specs.Faults.{det_fault}
 use Rattle.md_safety.specs.Safe.{HasNoStuck}
 use Rattle.md_safety.specs.Answers.{body_trace, answer_count, AnswersAsDeclared, is_over, ComesToItsEnd}
 use Rattle.md_safety.specs.Known as known
-use Rattle.md_safety.specs.Known.{place, Begins}
-use Rattle.md_safety.specs.GoalAnswers.{switches_on, IsKeyed, IsChosen, goal_trace}
+use Rattle.md_safety.specs.Known.{place, Begins, switches_on, IsKeyed, IsChosen}
+use Rattle.md_safety.specs.GoalAnswers.{goal_trace}
 use Rattle.md_safety.proofs.Spelled.{spelled, spelled_at}
 
 -- ---- no fault of modes

@@ -1,54 +1,20 @@
 -- The number of answers of one goal by itself, and the arm that a switch takes.
-use Rattle.std.specs.Prelude.{⊤, ◌≡◌, ℕ, suc, ◌≤◌, Bool, true, false, List, [], Option, Some, None}
+use Rattle.std.specs.Prelude.{◌≡◌, ℕ, suc, ◌≤◌, Bool, false, List, [], Option, Some}
 use Rattle.md_hlds.specs.HldsGoal.{HldsGoal, HldsGoals, Numbered, numbered_goal, numbered_from}
 use Rattle.md_hlds.specs.Hlds.{Procedure, Hlds}
 use Rattle.md_hlds.specs.Value.{Value, Env, value_at}
-use Rattle.md_hlds.specs.Switch.{Key, arm_key, switch_shape, has_the_key, arm_for}
+use Rattle.md_hlds.specs.Switch.{Key, switch_shape, arm_for}
 use Rattle.md_hlds.specs.Trace.{Items, Frame, alone, trace}
 use Rattle.md_hlds.specs.Run.{HasNoDeep, is_thrown}
 use Rattle.md_inst.specs.Instantiation.{InstMap}
 use Rattle.md_det.specs.declared.pair.Bound.TheVariants.{Zero, One}
 use Rattle.md_det.specs.declared.pair.Pair.{Pair}
 use Rattle.md_det.specs.declared.finding.Finding.{Finding}
-use Rattle.md_det.specs.Switches.{switch_of, variable_of}
 use Rattle.md_det.specs.Determinism.{goal_pair}
 use Rattle.md_det.specs.Findings.{expr_switch}
 use Rattle.md_safety.specs.Answers.{answer_count}
 use Rattle.md_safety.specs.Unfolding.{expr_in}
-use Rattle.md_safety.specs.Known.{place, Begins, BeginsParts, BeginsArms, body, part, arm, condition, then, else, negated, quantified, parts, next_parts, arms, next_arms}
-
--- ---- the switch whose arm a goal begins
-
--- The variable of the switch whose arm the goal at this place begins, if it begins one: of an arm of a disjunction that
--- is a switch there, and of the first part of such an arm.
-abbrev mutual
-  pub switches_on : {s : Hlds} {q : ℕ × Procedure} {b : Bool} {n : ℕ} {p : HldsGoal} {kn : InstMap} → Begins s q b n p kn → Option ℕ
-  switches_on body = None
-  switches_on (part b n p ps kn h) = parts_switch_on h
-  switches_on (arm b n p ps kn h) = arms_switch_on h
-  switches_on (condition b n l c t e kn h) = None
-  switches_on (then b n l c t e kn a h ok) = None
-  switches_on (else b n l c t e kn h) = None
-  switches_on (negated b n l c kn h) = None
-  switches_on (quantified b n l vs c kn h) = None
-
-  pub parts_switch_on : {s : Hlds} {q : ℕ × Procedure} {b : Bool} {n : ℕ} {ps : HldsGoals} {kn : InstMap} → BeginsParts s q b n ps kn → Option ℕ
-  parts_switch_on (parts b n l ps kn h) = switches_on h
-  parts_switch_on (next_parts b n p ps kn a h ok) = None
-
-  pub arms_switch_on : {s : Hlds} {q : ℕ × Procedure} {b : Bool} {n : ℕ} {ps : HldsGoals} {kn : InstMap} → BeginsArms s q b n ps kn → Option ℕ
-  arms_switch_on {s} (arms b n l ps kn h) = variable_of (switch_of s ps kn)
-  arms_switch_on (next_arms b n p ps kn h) = arms_switch_on h
-
--- a value has a key
-abbrev pub IsKeyed : Key → Option Value → Type 0
-IsKeyed k None = ⊥
-IsKeyed k (Some v) = has_the_key v k ≡ true
-
--- where a goal begins an arm of a switch on a variable, the variable's value has the arm's key
-abbrev pub IsChosen : Hlds → Option ℕ → HldsGoal → Env → Type 0
-IsChosen s None p e = ⊤
-IsChosen s (Some x) p e = (k : Key) × (arm_key s p ≡ Some (x, k)) × IsKeyed k (value_at e x)
+use Rattle.md_safety.specs.Known.{place, IsChosen}
 
 -- ---- answers
 

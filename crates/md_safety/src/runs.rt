@@ -12,7 +12,8 @@ ghost use Rattle.md_safety.specs.Unfolding.{Job, job, main_job, Comes, HasTurn, 
 
 /// At each turn of a run of an accepted program exactly those of the variables of the goal, of the goals that its frame
 /// still has to do, and of its clause's head have values that the mode rules have as bound before the goal, and each value
-/// is of its type. So it is at each turn that main's trace comes to, to whatever depth.
+/// is of its type; and a goal that begins an arm of a switch is the arm for the value of the switch's variable. So it is at
+/// each turn that main's trace comes to, to whatever depth.
 pub fn turns_fit()
     ensures of_a_run { (bytes : List ℕ) (program : Hlds) → Spells bytes program → mode_fault program ≡ None → (budget a n : ℕ) → HasTurn a n (run program budget) → FitsInRun program budget a n }
     ensures of_a_trace { (bytes : List ℕ) (program : Hlds) → Spells bytes program → mode_fault program ≡ None → (depth : ℕ) (main : ℕ × Procedure) → procedure_called program main_name ≡ Some main → (j : Job) → Comes program (main_job program depth main) j → FitsFirst program j.frame.env j.frame.goals }
