@@ -1,7 +1,7 @@
 -- Each hypothesis of the laws is needed. Here are small programs that the checks refuse, or that no text spells, and that go
 -- wrong in the definition of a run; and goals of an accepted program that have another number of answers than their pair
 -- says, where a hypothesis on the environment or on the trace doesn't hold.
-use Rattle.std.proofs.Common.{◌≡◌, refl, sym, ap, subst, ℕ, false, List, [], ◌∷◌, Option, Some, None, codes}
+use Rattle.std.proofs.Common.{◌≡◌, refl, sym, ap, subst, ℕ, true, false, List, [], ◌∷◌, Option, Some, None, codes}
 use Rattle.std.proofs.lemmas.Bool.{false≢true}
 use Rattle.md_hlds.specs.declared.types.Mode.TheVariants.{In, Out, Di, Uo}
 use Rattle.md_hlds.specs.declared.types.Det.TheVariants.{Failure, Multi}
@@ -20,6 +20,7 @@ use Rattle.md_modes.proofs.Worked.{conj, disj, is_int, same, made, call, fail, a
 use Rattle.md_det.specs.declared.fault.DetFault.TheVariants.{Declared}
 use Rattle.md_det.specs.declared.pair.Bound.TheVariants.{Zero}
 use Rattle.md_det.specs.Pairs.{pair}
+use Rattle.md_det.specs.Switches.{switch_of}
 use Rattle.md_det.specs.Determinism.{sure, goal_pair}
 use Rattle.md_det.specs.Faults.{det_fault}
 use Rattle.md_safety.specs.Safe.{HasNoStuck}
@@ -230,9 +231,18 @@ green_is_not_chosen : IsChosen coded (switches_on first_arm) red (with_colour (c
 green_is_not_chosen h =
     false≢true (subst (λ (k : Key). IsKeyed k (Some (colour (codes "green")))) (sym (same_key 0 (FunctorKey (codes "red") 0) h.0 h.1)) h.2)
 
--- where the arm of blue is missing, none is for it
-no_arm_for_blue : arm_for (colour (codes "blue")) (FunctorKey (codes "red") 0 ∷ FunctorKey (codes "green") 0 ∷ []) (numbered_from 2 (gathered arms)) ≡ None
+-- where the arm of blue is missing, the switch isn't whole, and none of its arms is for blue
+abbrev two_arms : List HldsGoal
+two_arms = red ∷ arm (codes "green") 2 ∷ []
+
+blue_is_missing : switch_of coded (gathered two_arms) (entry code) ≡ Some (record { var = 0; whole = false })
+blue_is_missing = refl
+
+no_arm_for_blue : arm_for (colour (codes "blue")) (FunctorKey (codes "red") 0 ∷ FunctorKey (codes "green") 0 ∷ []) (numbered_from 2 (gathered two_arms)) ≡ None
 no_arm_for_blue = refl
+
+none_is_missing : switch_of coded (gathered arms) (entry code) ≡ Some (record { var = 0; whole = true })
+none_is_missing = refl
 
 -- ---- a trace that is deep enough and isn't thrown
 

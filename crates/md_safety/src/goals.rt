@@ -20,8 +20,8 @@ ghost use Rattle.md_safety.specs.GoalAnswers.{AnswersAt, TakesArm, found_at};
 
 /// Each goal of an accepted program has as many answers as its pair says: at least one where it can't fail, at most one
 /// where its bound is one, none where it is zero. That is said of each trace of the goal by itself that is deep enough and
-/// not thrown. Of the arm of a switch it is said where the switch's variable has the functor or constant of that arm. At a
-/// turn of a run all of that holds.
+/// not thrown. Of the arm of a switch it is said where the switch's variable has the functor or constant of that arm, as it
+/// has at a turn of a run.
 pub fn goals_answer_as_their_pair()
     ensures at_a_place { (bytes : List ℕ) (program : Hlds) → Spells bytes program → mode_fault program ≡ None → det_fault program ≡ None → (q : ℕ × Procedure) (strict : Bool) (n : ℕ) (p : HldsGoal) (known : InstMap) → slice_get program.procedures q.0 ≡ Some q.1 → (before : Begins program q strict n p known) → (f : Frame) → Fits program (variables p) known f.env → IsChosen program (switches_on before) p f.env → (depth next : ℕ) → AnswersAt program f n p (goal_pair (place program q.1 strict) (switches_on before) p known) depth next }
     ensures at_a_turn { (bytes : List ℕ) (program : Hlds) → Spells bytes program → mode_fault program ≡ None → det_fault program ≡ None → (f : Frame) (g : Numbered) (goals : List Numbered) → (turn : FitsAt program f.env g goals) → (depth next : ℕ) → AnswersAt program f g.number g.goal (goal_pair (place program turn.procedure.1 turn.strict) (switches_on turn.before) g.goal turn.known) depth next }
