@@ -1,6 +1,6 @@
 -- What the steps of the grammar do to the place: the limits and the program's own module stay, and what follows are
 -- tokens of the text.
-use Rattle.std.proofs.Common.{◌≡◌, ◌≢◌, refl, sym, ap, ◌∙◌, subst, ℕ, suc, ◌+◌, ◌≤◌, Bool, true, false, cond, not, ◌&&◌, ◌||◌, nat_lt, ◌==◌, List, [], ◌∷◌, length, drop, Option, Some, None, IfSome, Ok, Err, Result, ◌⊎◌, inl, inr}
+use Rattle.std.proofs.Common.{◌≡◌, ◌≢◌, refl, sym, ap, ◌∙◌, subst, ℕ, suc, ◌+◌, ◌≤◌, Bool, true, false, cond, not, ◌&&◌, ◌||◌, nat_lt, ◌==◌, List, [], ◌∷◌, length, drop, arith, Option, Some, None, IfSome, Ok, Err, Result, ◌⊎◌, inl, inr}
 use Rattle.std.specs.Prelude.{⊤, unwrap_or, IsTrue, codes}
 use Rattle.std.proofs.lemmas.Bool.{ltb-false, false≢true}
 use Rattle.std.specs.List.{list_any}
@@ -13,6 +13,7 @@ use Rattle.md_hlds.specs.Hlds as hlds
 use Rattle.md_hlds.specs.Hlds.{HldsType}
 use Rattle.md_token.specs.declared.kind.Kind.{Kind}
 use Rattle.md_token.specs.declared.kind.Kind.TheVariants as kind
+use Rattle.md_token.specs.Kinds.{same_kind}
 use Rattle.md_token.specs.Token.{Lexeme}
 use Rattle.md_reader.specs.Input.{Input, Parser, Outcome, ◌>>=◌, ◌>>◌, pure, advance, refuse, limit, first, token, kind_at, sees, next, expect, take_name, name, word, variable, place_of, with_variable, site, end_clause}
 use Rattle.md_reader.specs.Rules as rule
@@ -21,26 +22,31 @@ use Rattle.md_reader.proofs.Steps.{bind_ok, chosen, ok_input, ok_value, past_thr
 use Rattle.md_reader.proofs.Taking.{Taken, signed, expected, word_behind}
 use Rattle.md_static.specs.Names.{is_name}
 use Rattle.md_ports.proofs.Bytes.{bytes_is, bytes_same}
-use Rattle.md_ports.proofs.Words.{IsPiece, ArePieces, IsWord, AreWords, written_words, word_name}
+use Rattle.md_ports.proofs.Words.{IsCut, ArePieces, IsWord, AreWords, written_words, word_name}
 
 pub record Onward (i j : Input) : Type 0 where
   pub limits : j.limits ≡ i.limits
   pub home : j.home ≡ i.home
   pub pieces : ArePieces i.rest → ArePieces j.rest
+  pub count : length j.rest ≤ length i.rest
 
 pub then : {i j k : Input} → Onward i j → Onward j k → Onward i k
-then a b = record { limits = b.limits ∙ a.limits; home = b.home ∙ a.home; pieces = λ p. b.pieces (a.pieces p) }
+then a b = record { limits = b.limits ∙ a.limits; home = b.home ∙ a.home; pieces = λ p. b.pieces (a.pieces p); count = omega (arith, a.count, b.count) }
 
 pub stay : (i : Input) → Onward i i
-stay i = record { limits = refl; home = refl; pieces = λ p. p }
+stay i = record { limits = refl; home = refl; pieces = λ p. p; count = omega arith }
 
 pieces_behind : (ts : List Lexeme) → ArePieces ts → ArePieces (drop 1 ts)
 pieces_behind [] p = tt
 pieces_behind (t ∷ ts) p = p.1
 
+fewer_behind : (ts : List Lexeme) → length (drop 1 ts) ≤ length ts
+fewer_behind [] = omega arith
+fewer_behind (t ∷ ts) = omega arith
+
 pub to_next : (i : Input) → Onward i (next i)
 unfolding next
-to_next i = record { limits = refl; home = refl; pieces = pieces_behind i.rest }
+to_next i = record { limits = refl; home = refl; pieces = pieces_behind i.rest; count = fewer_behind i.rest }
 
 -- ---- one token
 
@@ -93,15 +99,15 @@ variable_on seen x i j h =
     let at = place_of (token i).text i.vars in
     let p = past_three (not (sees kind.Variable i)) (list_any (λ y. y == at) seen) (nat_lt i.limits.items (length (token i).text)) _ _ _ _ _ h in
     subst (λ (m : Input). Onward i m) (ok_input at x (record (next i) { vars = with_variable (token i).text i.vars }) j p.3)
-    (record { limits = refl; home = refl; pieces = pieces_behind i.rest })
+    (record { limits = refl; home = refl; pieces = pieces_behind i.rest; count = fewer_behind i.rest })
 
 pub site_on : (n : ℕ) (i j : Input) → Is site n i j → Onward i j
 unfolding site
-site_on n i j h = subst (λ (m : Input). Onward i m) (ok_input i.sites n (record i { sites = i.sites + 1 }) j h) (record { limits = refl; home = refl; pieces = λ p. p })
+site_on n i j h = subst (λ (m : Input). Onward i m) (ok_input i.sites n (record i { sites = i.sites + 1 }) j h) (record { limits = refl; home = refl; pieces = λ p. p; count = omega arith })
 
 pub end_on : (vs : List (List ℕ)) (i j : Input) → Is end_clause vs i j → Onward i j
 unfolding end_clause
-end_on vs i j h = subst (λ (m : Input). Onward i m) (ok_input i.vars vs (record i { vars = [] }) j h) (record { limits = refl; home = refl; pieces = λ p. p })
+end_on vs i j h = subst (λ (m : Input). Onward i m) (ok_input i.vars vs (record i { vars = [] }) j h) (record { limits = refl; home = refl; pieces = λ p. p; count = omega arith })
 
 -- ---- words
 
@@ -203,11 +209,70 @@ take_declared_is (Some w) q i j words items h =
     let g = by_library (rule.is_of_library w.qualifier) w q i j h in
     (take_written_on (Some w) q i j g, taken_fits w q i j (words w refl) items g)
 
-first_piece : (ts : List Lexeme) → ArePieces ts → IsPiece (first ts)
-first_piece [] p = inr (inl refl)
-first_piece (t ∷ ts) p = p.0
+-- ---- a token that is there
 
-pub next_piece : (i : Input) → ArePieces i.rest → IsPiece (token i)
+fewer_by : (ts : List Lexeme) → same_kind (first ts).kind kind.Stop ≡ false → suc (length (drop 1 ts)) ≤ length ts
+unfolding same_kind
+fewer_by [] not_stop = absurd (cc)
+fewer_by (t ∷ ts) not_stop = omega arith
+
+-- a token that isn't the end is one of those that follow
+pub one_less : (k : Kind) (i : Input) → kind_at i ≡ k → same_kind k kind.Stop ≡ false → suc (length (next i).rest) ≤ length i.rest
+unfolding next token
+one_less k i is not_stop = fewer_by i.rest (ap (λ (x : Kind). same_kind x kind.Stop) is ∙ not_stop)
+
+line_by : (ts : List Lexeme) → same_kind (first ts).kind kind.Stop ≡ false → ArePieces ts → 1 ≤ (first ts).line
+unfolding same_kind
+line_by [] not_stop p = absurd (cc)
+line_by (t ∷ ts) not_stop p = p.0.line
+
+pub line_at : (k : Kind) (i : Input) → kind_at i ≡ k → same_kind k kind.Stop ≡ false → ArePieces i.rest → 1 ≤ (token i).line
+unfolding token
+line_at k i is not_stop p = line_by i.rest (ap (λ (x : Kind). same_kind x kind.Stop) is ∙ not_stop) p
+
+pub sign_less : (k : Kind) (i j : Input) → Sign k i j → same_kind k kind.Stop ≡ false → suc (length j.rest) ≤ length i.rest
+sign_less k i j s not_stop =
+    let t = signed k i j s in subst (λ (m : Input). suc (length m.rest) ≤ length i.rest) (sym t.behind) (one_less k i t.is not_stop)
+
+pub expect_less : (k : Kind) (line : ℕ) (i j : Input) → Is (expect k) line i j → same_kind k kind.Stop ≡ false → suc (length j.rest) ≤ length i.rest
+expect_less k line i j is not_stop =
+    let t = expected k line i j is in subst (λ (m : Input). suc (length m.rest) ≤ length i.rest) (sym t.behind) (one_less k i t.is not_stop)
+
+written_kinds : (text : List ℕ) (k : Kind) (w : rule.Written) → rule.written_by text k ≡ Some w → (k ≡ kind.Name) ⊎ (k ≡ kind.Qualified)
+written_kinds text kind.Name w h = inl refl
+written_kinds text kind.Qualified w h = inr refl
+written_kinds text _ w h = absurd (cc)
+
+not_stop : (text : List ℕ) (k : Kind) (w : rule.Written) → rule.written_by text k ≡ Some w → same_kind k kind.Stop ≡ false
+unfolding same_kind
+not_stop text k w h = elim (written_kinds text k w h) [ inl e ↦ rw e refl | inr e ↦ rw e refl ]
+
+-- the name of a predicate takes a token, which has a line
+pub record IsAt (i j : Input) : Type 0 where
+  pub less : suc (length j.rest) ≤ length i.rest
+  pub line : ArePieces i.rest → 1 ≤ (token i).line
+
+taken_at : (o : Option rule.Written) (q : PredName) (i j : Input) → ((w : rule.Written) → o ≡ Some w → same_kind (kind_at i) kind.Stop ≡ false) → rule.take_written o i ≡ Ok (q, j) → IsAt i j
+taken_at None q i j there h = absurd (cc)
+taken_at (Some w) q i j there h =
+    elim (chosen (rule.is_long i.limits.items w) (limit i) (Ok (rule.meant i.home w, next i)) (Ok (q, j)) h) [
+      | inl l ↦ absurd (let e = l.1 in cc)
+      | inr r ↦
+          record {
+            less = subst (λ (m : Input). suc (length m.rest) ≤ length i.rest) (ok_input (rule.meant i.home w) q (next i) j r.1) (one_less (kind_at i) i refl (there w refl));
+            line = line_at (kind_at i) i refl (there w refl);
+          }
+    ]
+
+pub pred_name_at : (q : PredName) (i j : Input) → Is rule.pred_name q i j → IsAt i j
+unfolding rule.pred_name rule.written
+pred_name_at q i j h = taken_at (rule.written (token i)) q i j (λ w is. not_stop (token i).text (kind_at i) w is) h
+
+first_piece : (ts : List Lexeme) → ArePieces ts → IsCut (first ts)
+first_piece [] p = inr (inl refl)
+first_piece (t ∷ ts) p = p.0.token
+
+pub next_piece : (i : Input) → ArePieces i.rest → IsCut (token i)
 unfolding token
 next_piece i p = first_piece i.rest p
 

@@ -1,6 +1,6 @@
 -- The names that the tokens of a text are.
 use Rattle.std.specs.Prelude.{⊤, codes, IsTrue}
-use Rattle.std.proofs.Common.{◌≡◌, refl, sym, ap, ◌∙◌, subst, arith, ℕ, suc, ◌+◌, ◌-◌, ◌≤◌, Bool, true, false, cond, ◌&&◌, ◌||◌, nat_le, ◌==◌, List, [], ◌∷◌, ◌++◌, length, take, drop, Option, Some, None, IfSome, ◌⊎◌, inl, inr}
+use Rattle.std.proofs.Common.{◌≡◌, refl, sym, ap, ◌∙◌, subst, arith, ℕ, suc, ◌+◌, ◌-◌, ◌≤◌, Bool, true, false, cond, ◌&&◌, ◌||◌, nat_le, ◌==◌, List, [], ◌∷◌, ◌++◌, length, take, drop, length-append, Option, Some, None, IfSome, ◌⊎◌, inl, inr}
 use Rattle.std.specs.Char.{is_ascii_lowercase}
 use Rattle.std.specs.List.{prefix_len}
 use Rattle.std.specs.Str.{bytes_eq}
@@ -26,22 +26,75 @@ pub record IsWord (t : List ℕ) : Type 0 where
 -- ---- tokens
 
 -- a token as texts have them, or what stands behind all tokens
-abbrev pub IsPiece : Lexeme → Type 0
-IsPiece t = ((after : List ℕ) × IsToken after t.kind t.text) ⊎ ((t.kind ≡ kind.Stop) ⊎ (t.kind ≡ kind.Bad))
+abbrev pub IsCut : Lexeme → Type 0
+IsCut t = ((after : List ℕ) × IsToken after t.kind t.text) ⊎ ((t.kind ≡ kind.Stop) ⊎ (t.kind ≡ kind.Bad))
+
+-- it has a line
+pub record IsPiece (t : Lexeme) : Type 0 where
+  pub token : IsCut t
+  pub line : 1 ≤ t.line
 
 abbrev pub ArePieces : List Lexeme → Type 0
 ArePieces [] = ⊤
 ArePieces (t ∷ ts) = IsPiece t × ArePieces ts
 
-cut_pieces : (line : ℕ) (text : List ℕ) (ts : List Lexeme) → Cut line text ts → ArePieces ts
-cut_pieces _ _ _ (spelling.stop line) = (inr (inl refl), tt)
-cut_pieces _ _ _ (spelling.blank line b text ts is rest) = cut_pieces _ text ts rest
-cut_pieces _ _ _ (spelling.comment line w text ts in_line ends rest) = cut_pieces line text ts rest
-cut_pieces _ _ _ (spelling.token line k text w after ts begins rest) = (inl (after, begins.token), cut_pieces line after ts rest)
-cut_pieces _ _ _ (spelling.bad line b bytes no_blank no_comment none) = (inr (inr refl), tt)
+further : (line b : ℕ) → 1 ≤ line → 1 ≤ spelling.line_behind b line
+further line b le = here (b == 10)
+  where
+    here : (c : Bool) → 1 ≤ cond c (line + 1) line
+    here true = omega (arith, le)
+    here false = le
+
+cut_pieces : (line : ℕ) (text : List ℕ) (ts : List Lexeme) → Cut line text ts → 1 ≤ line → ArePieces ts
+cut_pieces _ _ _ (spelling.stop line) le = (record { token = inr (inl refl); line = le }, tt)
+cut_pieces _ _ _ (spelling.blank line b text ts is rest) le = cut_pieces _ text ts rest (further line b le)
+cut_pieces _ _ _ (spelling.comment line w text ts in_line ends rest) le = cut_pieces line text ts rest le
+cut_pieces _ _ _ (spelling.token line k text w after ts begins rest) le = (record { token = inl (after, begins.token); line = le }, cut_pieces line after ts rest le)
+cut_pieces _ _ _ (spelling.bad line b bytes no_blank no_comment none) le = (record { token = inr (inr refl); line = le }, tt)
 
 pub text_pieces : (text : List ℕ) → ArePieces (tokens_of text)
-text_pieces text = cut_pieces 1 text (tokens_of text) (tokens_cut text)
+text_pieces text = cut_pieces 1 text (tokens_of text) (tokens_cut text) (omega arith)
+
+-- there are no more tokens than bytes, and the end
+sign_size : (k : Kind) (t : List ℕ) → IsSign k t → 1 ≤ length t
+sign_size _ _ spelling.declare = omega arith
+sign_size _ _ spelling.yields = omega arith
+sign_size _ _ spelling.then_sign = omega arith
+sign_size _ _ spelling.has_mode = omega arith
+sign_size _ _ spelling.semicolon = omega arith
+sign_size _ _ spelling.comma = omega arith
+sign_size _ _ spelling.open_sign = omega arith
+sign_size _ _ spelling.close = omega arith
+sign_size _ _ spelling.open_list = omega arith
+sign_size _ _ spelling.close_list = omega arith
+sign_size _ _ spelling.equals = omega arith
+sign_size _ _ spelling.at_most = omega arith
+sign_size _ _ spelling.less = omega arith
+sign_size _ _ spelling.greater = omega arith
+sign_size _ _ spelling.at_least = omega arith
+sign_size _ _ spelling.plus = omega arith
+sign_size _ _ spelling.minus = omega arith
+sign_size _ _ spelling.times = omega arith
+
+token_size : (after : List ℕ) (k : Kind) (t : List ℕ) → IsToken after k t → 1 ≤ length t
+token_size after _ _ (spelling.name b w small parts) = omega arith
+token_size after _ _ (spelling.qualified b c v w bs vs cs ws) = omega arith
+token_size after _ _ (spelling.variable b w first parts more) = omega arith
+token_size after _ _ (spelling.integer b w first parts) = omega arith
+token_size after _ _ (spelling.string v w writes) = omega arith
+token_size after _ _ (spelling.sign k w is) = sign_size k w is
+token_size after _ _ (spelling.end ends) = omega arith
+
+cut_size : (line : ℕ) (text : List ℕ) (ts : List Lexeme) → Cut line text ts → length ts ≤ suc (length text)
+cut_size _ _ _ (spelling.stop line) = omega arith
+cut_size _ _ _ (spelling.blank line b text ts is rest) = omega (arith, cut_size _ text ts rest)
+cut_size _ _ _ (spelling.comment line w text ts in_line ends rest) = omega (arith, cut_size line text ts rest, length-append w text)
+cut_size _ _ _ (spelling.token line k text w after ts begins rest) =
+    omega (arith, cut_size line after ts rest, ap length begins.whole, length-append w after, token_size after k w begins.token)
+cut_size _ _ _ (spelling.bad line b bytes no_blank no_comment none) = omega arith
+
+pub few_tokens : (text : List ℕ) → length (tokens_of text) ≤ suc (length text)
+few_tokens text = cut_size 1 text (tokens_of text) (tokens_cut text)
 
 -- ---- names
 
@@ -75,7 +128,7 @@ token_word after _ _ (spelling.sign k w is) h = absurd (no_sign k w is h)
 token_word after _ _ (spelling.end ends) h = absurd (cc)
 
 -- a token that is a name is a word
-pub piece_word : (t : Lexeme) → IsPiece t → rule.is_name t.kind ≡ true → IsWord t.text
+pub piece_word : (t : Lexeme) → IsCut t → rule.is_name t.kind ≡ true → IsWord t.text
 piece_word t (inl is) h = token_word is.0 t.kind t.text is.1 h
 piece_word t (inr (inl stop)) h = absurd (let e = ap rule.is_name stop in cc)
 piece_word t (inr (inr bad)) h = absurd (let e = ap rule.is_name bad in cc)
@@ -143,7 +196,7 @@ token_qualified after _ _ (spelling.string v w writes) h = absurd (cc)
 token_qualified after _ _ (spelling.sign k w is) h = absurd (unqualified_sign k w is h)
 token_qualified after _ _ (spelling.end ends) h = absurd (cc)
 
-piece_qualified : (t : Lexeme) → IsPiece t → t.kind ≡ kind.Qualified → IsQualified t.text
+piece_qualified : (t : Lexeme) → IsCut t → t.kind ≡ kind.Qualified → IsQualified t.text
 piece_qualified t (inl is) h = token_qualified is.0 t.kind t.text is.1 h
 piece_qualified t (inr (inl stop)) h = absurd (let e = sym stop ∙ h in cc)
 piece_qualified t (inr (inr bad)) h = absurd (let e = sym bad ∙ h in cc)
@@ -213,7 +266,7 @@ by_kind text kind.Name w one two h =
 by_kind text kind.Qualified w one two h = qualified_parts text w (two refl) h
 by_kind text _ w one two h = absurd (cc)
 
-pub written_words : (t : Lexeme) (w : rule.Written) → IsPiece t → rule.written t ≡ Some w → AreWords w
+pub written_words : (t : Lexeme) (w : rule.Written) → IsCut t → rule.written t ≡ Some w → AreWords w
 unfolding rule.written
 written_words t w is h = by_kind t.text t.kind w (piece_word t is) (piece_qualified t is) h
 
