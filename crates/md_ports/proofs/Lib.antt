@@ -8,3 +8,4 @@ mod Sound
 mod Words
 mod Onward
 mod Spelled
+mod Worked

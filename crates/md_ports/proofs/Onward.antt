@@ -1,7 +1,7 @@
 -- What the steps of the grammar do to the place: the limits and the program's own module stay, and what follows are
 -- tokens of the text.
-use Rattle.std.proofs.Common.{◌≡◌, ◌≢◌, refl, sym, ap, ◌∙◌, subst, ℕ, suc, ◌+◌, ◌≤◌, Bool, true, false, cond, not, ◌&&◌, ◌||◌, nat_lt, ◌==◌, List, [], ◌∷◌, length, drop, arith, Option, Some, None, IfSome, Ok, Err, Result, ◌⊎◌, inl, inr}
-use Rattle.std.specs.Prelude.{⊤, unwrap_or, IsTrue, codes}
+use Rattle.std.proofs.Common.{◌≡◌, ◌≢◌, refl, sym, ap, ◌∙◌, subst, ℕ, suc, ◌+◌, ◌≤◌, Bool, true, false, cond, not, ◌||◌, nat_lt, ◌==◌, List, [], ◌∷◌, length, drop, arith, Option, Some, None, IfSome, Ok, ◌⊎◌, inl, inr}
+use Rattle.std.specs.Prelude.{unwrap_or, IsTrue, codes}
 use Rattle.std.proofs.lemmas.Bool.{ltb-false, false≢true}
 use Rattle.std.specs.List.{list_any}
 use Rattle.std.specs.Str.{bytes_eq}
@@ -21,7 +21,7 @@ use Rattle.md_reader.specs.Grammar.{Is, Sign}
 use Rattle.md_reader.proofs.Steps.{bind_ok, chosen, ok_input, ok_value, past_three}
 use Rattle.md_reader.proofs.Taking.{Taken, signed, expected, word_behind}
 use Rattle.md_static.specs.Names.{is_name}
-use Rattle.md_ports.proofs.Bytes.{bytes_is, bytes_same}
+use Rattle.md_ports.proofs.Bytes.{bytes_same}
 use Rattle.md_ports.proofs.Words.{IsCut, ArePieces, IsWord, AreWords, written_words, word_name}
 
 pub record Onward (i j : Input) : Type 0 where
@@ -267,6 +267,15 @@ taken_at (Some w) q i j there h =
 pub pred_name_at : (q : PredName) (i j : Input) → Is rule.pred_name q i j → IsAt i j
 unfolding rule.pred_name rule.written
 pred_name_at q i j h = taken_at (rule.written (token i)) q i j (λ w is. not_stop (token i).text (kind_at i) w is) h
+
+-- a call of a closure takes one too
+pub call_at : (i j : Input) → Sign kind.Call i j → IsAt i j
+unfolding same_kind
+call_at i j s = record { less = sign_less kind.Call i j s refl; line = λ p. line_at kind.Call i (signed kind.Call i j s).is refl p }
+
+pub declare_goes : same_kind kind.Declare kind.Stop ≡ false
+unfolding same_kind
+declare_goes = refl
 
 first_piece : (ts : List Lexeme) → ArePieces ts → IsCut (first ts)
 first_piece [] p = inr (inl refl)
