@@ -5,3 +5,7 @@ mod Lists
 mod SiteTables
 mod Numbers
 mod Sound
+mod Words
+mod Onward
+mod Spelled
+mod Worked

@@ -1,7 +1,8 @@
 // Laws of the tables of a program. Each is the contract of a function that does nothing.
-ghost use Rattle.std.specs.Prelude.{◌≡◌, map};
-ghost use Rattle.md_hlds.specs.Hlds.{Hlds, sites_of, procedure_called};
+ghost use Rattle.std.specs.Prelude.{ℕ, ◌≡◌, ◌<◌, ◌^◌, ◌-◌, List, length, map, Some};
+ghost use Rattle.md_hlds.specs.Hlds.{Procedure, Hlds, sites_of, procedure_called};
 ghost use Rattle.md_hlds.specs.Run.{main_name};
+ghost use Rattle.md_reader.specs.Grammar.{Spells};
 ghost use Rattle.md_events.specs.Table as events;
 ghost use Rattle.md_static.specs.Sound.{IsSound};
 ghost use Rattle.md_static.specs.Tables.{site_table};
@@ -11,6 +12,11 @@ ghost use Rattle.md_ports.specs.Orderly.{IsOrderly};
 /// The tables of a program whose names and lines are as the language and the limits of a text ask are sound.
 pub fn tables_are_sound()
     ensures { (program : Hlds) → IsOrderly program → IsSound (statics_of program) }
+{}
+
+/// So are those of a program that a text spells and that declares a main.
+pub fn tables_of_a_text_are_sound()
+    ensures { (text : List ℕ) (program : Hlds) (main : ℕ × Procedure) → Spells text program → length text < 2 ^ 32 - 1 → procedure_called program main_name ≡ Some main → IsSound (statics_of program) }
 {}
 
 /// The call sites of the tables have the owners and lines of the program's call sites, in the same order.

@@ -9,5 +9,8 @@ mod tables;
 #[cfg(test)]
 mod tests;
 
-pub use laws::{sites_keep_their_lines, tables_are_sound, tables_give_the_site_table};
+pub use laws::{
+    sites_keep_their_lines, tables_are_sound, tables_give_the_site_table,
+    tables_of_a_text_are_sound,
+};
 pub use tables::statics;

@@ -10,28 +10,19 @@ fn name(alloc: Global, bytes: &[u8]) -> Result<Name, Fail> {
     Ok(Name::from_bytes(alloc, bytes)?.ok_or("a name")?)
 }
 
-fn called(alloc: Global, module: Option<&[u8]>, bytes: &[u8]) -> Result<PredName, Fail> {
-    let qualifier = match module {
-        None => None,
-        Some(module) => Some(name(alloc, module)?),
-    };
-    Ok(PredName {
+/// A predicate of this name and this module.
+fn pred(
+    alloc: Global,
+    qualifier: Option<Name>,
+    bytes: &[u8],
+    args: Vec<(Ty, Mode)>,
+    body: Goal,
+) -> Result<Pred, Fail> {
+    Ok(Pred {
         qualifier,
         name: name(alloc, bytes)?,
-    })
-}
-
-/// A predicate with so many arguments, on the line before its clause.
-fn pred(alloc: Global, head: PredName, arity: usize, body: Goal) -> Result<Pred, Fail> {
-    let mut args = Vec::new(alloc);
-    for _ in 0..arity {
-        args.push((Ty::Int, Mode::In))?;
-    }
-    Ok(Pred {
-        qualifier: head.qualifier,
-        name: head.name,
-        line: body.line,
-        clause_line: body.line,
+        line: 1,
+        clause_line: 1,
         args,
         det: Det::Det,
         vars: Vec::new(alloc),
@@ -40,37 +31,39 @@ fn pred(alloc: Global, head: PredName, arity: usize, body: Goal) -> Result<Pred,
     })
 }
 
-/// A call of `a.f` at this site, on this line.
-fn call(alloc: Global, line: u32, site: u32) -> Result<Goal, Fail> {
-    let callee = called(alloc, Some(b"a"), b"f")?;
-    let kind = GoalKind::Call(SiteId::new(site), callee, Variables::new(alloc));
-    Ok(Goal { line, kind })
-}
-
-/// `main :- a.f, call(F).`, `a.f(X) :- true.` and `h :- not ( a.f ).`, on lines 3, 5 and 7.
-fn program(alloc: Global) -> Result<Program, Fail> {
+/// `a.f, call(P)`, on lines 3 and 4.
+fn body(alloc: Global) -> Result<Goal, Fail> {
+    let callee = PredName {
+        qualifier: Some(name(alloc, b"a")?),
+        name: name(alloc, b"f")?,
+    };
     let mut goals = Vec::new(alloc);
-    goals.push(call(alloc, 3, 0)?)?;
     goals.push(Goal {
         line: 3,
+        kind: GoalKind::Call(SiteId::new(0), callee, Variables::new(alloc)),
+    })?;
+    goals.push(Goal {
+        line: 4,
         kind: GoalKind::HoCall(SiteId::new(1), 0, Variables::new(alloc)),
     })?;
-    let both = Goal {
+    Ok(Goal {
         line: 3,
         kind: GoalKind::Conj(goals),
-    };
+    })
+}
+
+/// The module `t` with `main :- a.f, call(P).` and `a.f(X) :- true.`
+fn program(alloc: Global) -> Result<Program, Fail> {
+    let mut args = Vec::new(alloc);
+    args.push((Ty::Int, Mode::In))?;
     let nothing = Goal {
         line: 5,
         kind: GoalKind::True,
     };
-    let negated = Goal {
-        line: 7,
-        kind: GoalKind::Not(Box::new(alloc, call(alloc, 7, 2)?)?),
-    };
+    let qualifier = Some(name(alloc, b"a")?);
     let mut preds = Vec::new(alloc);
-    preds.push(pred(alloc, called(alloc, None, b"main")?, 0, both)?)?;
-    preds.push(pred(alloc, called(alloc, Some(b"a"), b"f")?, 1, nothing)?)?;
-    preds.push(pred(alloc, called(alloc, None, b"h")?, 0, negated)?)?;
+    preds.push(pred(alloc, None, b"main", Vec::new(alloc), body(alloc)?)?)?;
+    preds.push(pred(alloc, qualifier, b"f", args, nothing)?)?;
     Ok(Program {
         module: name(alloc, b"t")?,
         module_line: 1,
@@ -80,32 +73,29 @@ fn program(alloc: Global) -> Result<Program, Fail> {
 }
 
 #[test]
-fn modules_procedures_and_sites_are_in_text_order(rt: HostRuntime) -> Result<(), Fail> {
+fn a_program_of_two_modules_has_its_tables(rt: HostRuntime) -> Result<(), Fail> {
     let alloc = rt.alloc();
     let program = program(alloc)?;
     let tables = statics(alloc, &program)?;
     assert_eq!(rt; tables.modules().len(), 2);
-    for (module, bytes) in tables.modules().iter().zip([b"t".as_slice(), b"a"]) {
-        assert_eq!(rt; module.as_bytes(), bytes);
-    }
-    assert_eq!(rt; tables.procs().len(), 3);
-    for (proc, (module, bytes, arity)) in tables
-        .procs()
-        .iter()
-        .zip([(0, b"main".as_slice(), 0), (1, b"f", 1), (0, b"h", 0)])
-    {
-        assert_eq!(rt; proc.module, module);
-        assert_eq!(rt; proc.name.as_bytes(), bytes);
-        assert_eq!(rt; proc.arity, arity);
-    }
-    assert_eq!(rt; tables.sites().len(), 3);
-    for (site, (owner, line, kind)) in tables.sites().iter().zip([
-        (0, 3, SiteKind::Plain(ProcId::new(1))),
-        (0, 3, SiteKind::HigherOrder),
-        (2, 7, SiteKind::Plain(ProcId::new(1))),
-    ]) {
-        let owner = ProcId::new(owner);
-        assert_eq!(rt; *site, Site { owner, line, kind });
-    }
+    let other = tables.modules().last().ok_or("a module")?;
+    assert_eq!(rt; other.as_bytes(), b"a".as_slice());
+    assert_eq!(rt; tables.procs().len(), 2);
+    let called = tables.procs().last().ok_or("a procedure")?;
+    assert_eq!(rt; (called.module, called.arity), (1, 1));
+    let owner = ProcId::new(0);
+    let sites = [
+        Site {
+            owner,
+            line: 3,
+            kind: SiteKind::Plain(ProcId::new(1)),
+        },
+        Site {
+            owner,
+            line: 4,
+            kind: SiteKind::HigherOrder,
+        },
+    ];
+    assert_eq!(rt; tables.sites(), sites.as_slice());
     Ok(())
 }
