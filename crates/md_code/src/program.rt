@@ -1,0 +1,45 @@
+// Programs laid out.
+ghost use Rattle.std.specs.Prelude.{◌≡◌, IfOk};
+ghost use Rattle.md_hlds.specs.Hlds.{hlds_of, procedure_of};
+ghost use Rattle.md_code.specs.Layout.{routine_of};
+ghost use Rattle.md_code.specs.Told.{routine_told};
+ghost use Rattle.md_code.specs.IsCode.{IsCodeOf};
+
+use crate::code::{Code, Routine};
+use crate::extent::{extent_of, sum};
+use crate::layout::lay;
+use crate::step::place;
+use md_base::NoMemory;
+use md_hlds::{Pred, Program};
+use md_names::Names;
+use std::alloc::Global;
+
+/// The program as a table. Takes time near linear in it: for each goal, the levels at which it is nested. No program has
+/// as many goals as there are places, which are numbers of 32 bits, and memory for them.
+pub fn prepare<'a>(alloc: Global, program: &'a Program) -> Result<Code<'a>, NoMemory>
+    ensures { IfOk result (λ code. IsCodeOf (hlds_of program.now) code) }
+{
+    let names = Names::new(alloc, program)?;
+    let mut entries = Vec::new(alloc);
+    let mut routines = Vec::new(alloc);
+    for pred in program.preds.as_slice() {
+        routines.push(routine_of(pred, entries.len())?)?;
+        lay(&names, &mut entries, &pred.body, None)?;
+    }
+    Ok(Code { entries, routines })
+}
+
+/// The routine of a predicate whose body has this number.
+fn routine_of(pred: &Pred, number: usize) -> Result<Routine, NoMemory>
+    ensures { IfOk result (λ routine. routine_told routine ≡ routine_of number (procedure_of pred.now)) }
+{
+    let variables = pred.vars.len();
+    let weight = sum(1, sum(variables, extent_of(&pred.body)?.sites)?)?;
+    Ok(Routine {
+        head: &pred.head,
+        variables,
+        det: pred.det,
+        weight,
+        body: place(number)?,
+    })
+}
