@@ -1,8 +1,8 @@
 -- The table of a program: from each of its places it goes on as the definition has it.
-use Rattle.std.proofs.Common.{◌≡◌, refl, ap, ◌∙◌, sym, subst, arith, ℕ, zero, suc, ◌+◌, ◌<◌, ◌≤◌, Bool, true, false, List, [], ◌∷◌, ◌++◌, length, Option, Some, None, cond, nat_eq, slice_get, length-append}
+use Rattle.std.proofs.Common.{◌≡◌, refl, ap, ◌∙◌, sym, subst, arith, ℕ, zero, suc, ◌+◌, ◌<◌, Bool, true, false, List, [], ◌∷◌, length, Option, Some, None, nat_eq, slice_get, length-append}
 use Rattle.std.proofs.lemmas.Bool.{eqb-true}
 use Rattle.std.proofs.lemmas.Cmp.{nat_eq_equiv}
-use Rattle.md_hlds.specs.HldsGoal.{HldsGoal, GoalExpr, goal_size, goals_within, Numbered, numbered_goal}
+use Rattle.md_hlds.specs.HldsGoal.{HldsGoal, goal_size, goals_within, Numbered, numbered_goal}
 use Rattle.md_hlds.specs.Hlds.{Hlds, Procedure, goals_before, clause_goals}
 use Rattle.md_code.specs.Layout.{Cell, cell, Begun, table, clause_table, routine_of, routines_from}
 use Rattle.md_code.specs.IsCode.{goals_along, goals_from, IsEntry, IsRoutine, Stands, IsTableOf}

@@ -1,5 +1,5 @@
 -- Extents of goals one after the other, and of the goals of a vector inside a goal.
-use Rattle.std.proofs.Common.{◌≡◌, refl, ap, ◌∙◌, sym, arith, ℕ, suc, ◌+◌, ◌<◌, List, [], ◌∷◌, ◌++◌, length, drop, Vec, Box, get_or, length-append}
+use Rattle.std.proofs.Common.{◌≡◌, refl, ap, ◌∙◌, sym, arith, ℕ, suc, ◌+◌, ◌<◌, List, ◌++◌, length, drop, Vec, Box, get_or, length-append}
 use Rattle.std.specs.declared.alloc.Global.{Global}
 use Rattle.md_hlds.specs.declared.goal.Goal.{Goal}
 use Rattle.md_hlds.specs.declared.goal.GoalKind.{Conj, Disj, If}

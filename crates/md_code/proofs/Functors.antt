@@ -1,10 +1,8 @@
 -- Functors by their names, as the definitions of switches and those of look-ups have them.
-use Rattle.std.proofs.Common.{◌≡◌, refl, sym, ap, ◌∙◌, ℕ, suc, Bool, true, false, cond, ◌&&◌, List, [], ◌∷◌, length, Option, Some, None, nat_eq}
+use Rattle.std.proofs.Common.{◌≡◌, refl, ℕ, Bool, true, false, cond, ◌&&◌, List, [], ◌∷◌, length, Option, Some, None, nat_eq}
 use Rattle.std.specs.Prelude.{is_some}
 use Rattle.std.specs.Str.{bytes_eq}
-use Rattle.md_hlds.specs.declared.program.Functor.{Functor}
-use Rattle.md_hlds.specs.declared.program.TypeDef.{TypeDef}
-use Rattle.md_hlds.specs.Hlds.{HldsFunctor, HldsTypeDef, hlds_functors_of, type_def_of, declares_functor, has_functor}
+use Rattle.md_hlds.specs.Hlds.{HldsFunctor, HldsTypeDef, declares_functor, has_functor}
 use Rattle.md_names.specs.Named.{construct_among, found_in, functor_found}
 
 among_cond : (b : Bool) (f : HldsFunctor) (r : Option HldsFunctor) (x : Bool) → x ≡ is_some r → cond b true x ≡ is_some (cond b (Some f) r)

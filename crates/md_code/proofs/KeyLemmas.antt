@@ -1,12 +1,10 @@
 -- Keys of switches: those of the code and those of the definitions, and lists of them that are pairwise different.
-use Rattle.std.proofs.Common.{◌≡◌, refl, sym, ap, ◌∙◌, ℕ, suc, ◌+◌, ◌<◌, Bool, true, false, cond, not, ◌&&◌, ◌||◌, List, [], ◌∷◌, ◌++◌, length, drop, get_or, Option, Some, None, slice_get, nat_eq, append_assoc, drop-cons, add-one}
+use Rattle.std.proofs.Common.{◌≡◌, refl, sym, ap, ◌∙◌, ℕ, suc, ◌+◌, ◌<◌, Bool, true, false, cond, not, ◌&&◌, ◌||◌, List, [], ◌∷◌, ◌++◌, length, drop, get_or, Option, Some, None, nat_eq, append_assoc, drop-cons, add-one}
 use Rattle.std.proofs.lemmas.Cmp.{int_eq_equiv, nat_eq_equiv}
 use Rattle.std.specs.List.{list_any}
 use Rattle.std.specs.Str.{bytes_eq}
 use Rattle.md_hlds.specs.declared.goal.Goal.{Goal}
-use Rattle.md_hlds.specs.declared.program.Functor.{Functor}
-use Rattle.md_hlds.specs.declared.types.Ty.{Ty}
-use Rattle.md_hlds.specs.Hlds.{Hlds, hlds_functor_of, hlds_functors_of, hlds_types_of}
+use Rattle.md_hlds.specs.Hlds.{Hlds}
 use Rattle.md_hlds.specs.HldsGoal.{gathered, goal_of, goals_of}
 use Rattle.md_hlds.specs.Switch.{Key, IntKey, TextKey, FunctorKey, same_key, has_key, all_different, if_different, keys_of, prepend_key, arm_key}
 use Rattle.std.specs.Cmp.Lexicographic.{pointwise}

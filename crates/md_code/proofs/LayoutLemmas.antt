@@ -1,11 +1,11 @@
 -- The entries that the code adds, as the tables of goals.
-use Rattle.std.proofs.Common.{◌≡◌, refl, ap, ◌∙◌, sym, subst, arith, ℕ, zero, suc, ◌+◌, ◌<◌, ◌≤◌, ◌-◌, List, [], ◌∷◌, ◌++◌, length, take, drop, Vec, Box, Option, Some, None, get_or, length-append, append_assoc, append-nil, add-one, drop-cons}
+use Rattle.std.proofs.Common.{◌≡◌, refl, ap, ◌∙◌, sym, subst, arith, ℕ, suc, ◌+◌, ◌<◌, ◌≤◌, ◌-◌, List, [], ◌∷◌, ◌++◌, length, take, drop, Vec, Box, Option, Some, None, get_or, length-append, append_assoc, append-nil, add-one, drop-cons}
 use Rattle.std.proofs.lemmas.List.{length-drop, take_all, drop_all}
 use Rattle.std.specs.declared.alloc.Global.{Global}
 use Rattle.md_hlds.specs.declared.goal.Goal.{Goal}
 use Rattle.md_hlds.specs.declared.goal.GoalKind.{GoalKind, Conj, Disj, If}
 use Rattle.md_hlds.specs.declared.program.Pred.{Pred}
-use Rattle.md_hlds.specs.HldsGoal.{HldsGoal, HldsGoals, GoalExpr, also, ConjGoal, DisjGoal, IfGoal, expr_of, gathered, goal_of, goals_of, goal_size}
+use Rattle.md_hlds.specs.HldsGoal.{HldsGoal, ConjGoal, DisjGoal, expr_of, gathered, goal_of, goals_of, goal_size}
 use Rattle.md_hlds.specs.Hlds.{Hlds, procedure_of, procedures_of}
 use Rattle.md_hlds.proofs.Bridge.{expr_of-Conj, expr_of-Disj}
 use Rattle.md_code.specs.declared.code.Entry.{Entry}

@@ -5,3 +5,4 @@ pub mod ExtentLemmas
 pub mod TableLemmas
 pub mod CodeLemmas
 pub mod LayoutLemmas
+mod Worked

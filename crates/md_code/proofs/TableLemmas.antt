@@ -1,5 +1,5 @@
 -- The table of a goal: how long it is, that each next place is further on, and that its steps are those of the goals.
-use Rattle.std.proofs.Common.{◌≡◌, refl, ap, ◌∙◌, sym, subst, arith, ℕ, zero, suc, ◌+◌, ◌<◌, ◌≤◌, List, [], ◌∷◌, ◌++◌, length, Option, Some, None, cond, nat_eq, length-append}
+use Rattle.std.proofs.Common.{◌≡◌, refl, ap, ◌∙◌, sym, subst, arith, ℕ, suc, ◌+◌, ◌≤◌, List, [], ◌∷◌, ◌++◌, length, Option, Some, None, length-append}
 use Rattle.md_hlds.specs.HldsGoal.{HldsGoal, At, GoalExpr, SimpleGoal, CallGoal, HoCallGoal, ConjGoal, DisjGoal, IfGoal, NotGoal, SomeGoal, HldsGoals, nothing, also, goal_size, parts_size, goals_size, goals_within, goals_below, goals_among, Numbered, numbered_goal, numbered_from}
 use Rattle.md_hlds.specs.Hlds.{Hlds}
 use Rattle.md_code.specs.Layout.{Planned, Does, Calls, Applies, Conjoins, Chooses, Tests, Negates, Quantifies, Cell, begins, places, planned, table, inner_table, conjunction_table, arm_table}

@@ -9,6 +9,8 @@ mod layout;
 mod program;
 mod step;
 mod switch;
+#[cfg(test)]
+mod tests;
 
 pub use code::{Code, Entry, Named, Routine, Step, Switch};
 pub use key::Key;

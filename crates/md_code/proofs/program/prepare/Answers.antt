@@ -4,7 +4,7 @@ use Rattle.md_hlds.specs.declared.program.Program.{Program}
 use Rattle.md_hlds.specs.Hlds.{hlds_of, procedure_of, procedures_of}
 use Rattle.md_hlds.specs.HldsGoal.{goal_of}
 use Rattle.md_code.specs.declared.code.Routine.{Routine}
-use Rattle.md_code.specs.Layout.{table, clause_table, routine_of, routines_from}
+use Rattle.md_code.specs.Layout.{table, routine_of, routines_from}
 use Rattle.md_code.specs.Told.{cells_of, routines_told, routine_told}
 use Rattle.md_code.proofs.LayoutLemmas.{clauses-next, routines-next, prepared}
 use Rattle.md_code.proofs.program.prepare.Goals as goal
