@@ -1,8 +1,9 @@
 -- The table of a goal: how long it is, that each next place is further on, and that its steps are those of the goals.
-use Rattle.std.proofs.Common.{◌≡◌, refl, ap, ◌∙◌, sym, subst, arith, ℕ, suc, ◌+◌, ◌≤◌, List, [], ◌∷◌, ◌++◌, length, Option, Some, None, length-append}
+use Rattle.std.proofs.Common.{◌≡◌, refl, ap, ◌∙◌, sym, subst, arith, ℕ, suc, ◌+◌, ◌≤◌, List, [], ◌∷◌, ◌++◌, length, Option, Some, None, length-append, Bool, true, false, cond, slice_get, zero}
 use Rattle.md_hlds.specs.HldsGoal.{HldsGoal, At, GoalExpr, SimpleGoal, CallGoal, HoCallGoal, ConjGoal, DisjGoal, IfGoal, NotGoal, SomeGoal, HldsGoals, nothing, also, goal_size, parts_size, goals_size, goals_within, goals_below, goals_among, Numbered, numbered_goal, numbered_from}
-use Rattle.md_hlds.specs.Hlds.{Hlds}
-use Rattle.md_code.specs.Layout.{Planned, Does, Calls, Applies, Conjoins, Chooses, Tests, Negates, Quantifies, Cell, begins, places, planned, table, inner_table, conjunction_table, arm_table}
+use Rattle.md_hlds.specs.declared.goal.PredName.{PredName}
+use Rattle.md_hlds.specs.Hlds.{Hlds, Procedure, find_procedure, is_called, nth_procedure, numbered, procedure_called}
+use Rattle.md_code.specs.Layout.{number_of, callee_of, Planned, Does, Calls, Applies, Conjoins, Chooses, Tests, Negates, Quantifies, Cell, begins, places, planned, table, inner_table, conjunction_table, arm_table}
 use Rattle.md_code.specs.IsCode.{LeadOn, IsSimple, IsCall, IsApplication, IsConjunction, IsDisjunction, IsTest, IsNegation, IsQuantified}
 
 -- ---- lengths
@@ -186,6 +187,37 @@ ends : (from : Option ℕ → List Numbered) (s : Hlds) (n : ℕ) (c : HldsGoal)
     → Linked from n (goals_within c) (table s n None c) → from (Some n) ≡ numbered_goal n c ∷ []
 ends from s n c none h = goal_leads from s n None c h ∙ ap (λ gs. numbered_goal n c ∷ gs) none
 
+-- ---- procedures by their names
+
+number_from : (name : PredName) (n : ℕ) (ps : List Procedure) (k : ℕ) → number_of (find_procedure name n ps) ≡ Some k → n ≤ k
+number_from name n [] k e = absurd (cc)
+number_from name n (p ∷ ps) k e = here (is_called name p) (λ f. number_from name (suc n) ps k f) e
+  where
+    here : (b : Bool) → (number_of (find_procedure name (suc n) ps) ≡ Some k → suc n ≤ k)
+        → number_of (cond b (Some (n, p)) (find_procedure name (suc n) ps)) ≡ Some k → n ≤ k
+    here true later e = let same : n ≡ k = cc in omega (arith, same)
+    here false later e = let after : suc n ≤ k = later e in omega (arith, after)
+
+found_there : (name : PredName) (n : ℕ) (ps : List Procedure) (m k : ℕ) → k ≡ n + m → number_of (find_procedure name n ps) ≡ Some k
+    → numbered k (slice_get ps m) ≡ find_procedure name n ps
+found_there name n [] m k at e = absurd (cc)
+found_there name n (p ∷ ps) zero k at e = here (is_called name p) e
+  where
+    here : (b : Bool) → number_of (cond b (Some (n, p)) (find_procedure name (suc n) ps)) ≡ Some k → Some (k, p) ≡ cond b (Some (n, p)) (find_procedure name (suc n) ps)
+    here true e = let same : k ≡ n = cc in ap (λ i. Some (i, p)) same
+    here false e = let after : suc n ≤ k = number_from name (suc n) ps k e in absurd (omega (arith, at, after))
+found_there name n (p ∷ ps) (suc m) k at e = here (is_called name p) (λ f. found_there name (suc n) ps m k (omega (arith, at)) f) e
+  where
+    here : (b : Bool) → (number_of (find_procedure name (suc n) ps) ≡ Some k → numbered k (slice_get ps m) ≡ find_procedure name (suc n) ps)
+        → number_of (cond b (Some (n, p)) (find_procedure name (suc n) ps)) ≡ Some k
+        → numbered k (slice_get ps m) ≡ cond b (Some (n, p)) (find_procedure name (suc n) ps)
+    here true later e = let same : k ≡ n = cc in absurd (omega (arith, at, same))
+    here false later e = later e
+
+-- the procedure of a callee's number is the one that the name stands for
+callee_there : (s : Hlds) (name : PredName) (q : ℕ) → callee_of s name ≡ Some q → nth_procedure s q ≡ procedure_called s name
+callee_there s name q e = found_there name 0 s.procedures q q (omega arith) e
+
 -- ---- steps
 
 abbrev pub IsStep : Hlds → (Option ℕ → List Numbered) → ℕ → Option ℕ → HldsGoal → Planned → Type 0
@@ -236,7 +268,7 @@ test_is from s n next l c t e none h =
 step_is : (from : Option ℕ → List Numbered) (s : Hlds) (n : ℕ) (next : Option ℕ) (l : ℕ) (t : GoalExpr) → from None ≡ []
     → Linked from (suc n) (goals_below t) (inner_table s (suc n) next t) → IsStep s from n next (At l t) (planned s (suc n) next t)
 step_is from s n next l (SimpleGoal g) none h = record { line = l; simple = g; goal = refl; same = refl; names = refl }
-step_is from s n next l (CallGoal site q ys) none h = record { line = l; name = q; goal = refl; called = refl }
+step_is from s n next l (CallGoal site q ys) none h = record { line = l; name = q; goal = refl; called = refl; reached = λ k e. callee_there s q k e }
 step_is from s n next l (HoCallGoal site p ys) none h = record { line = l; goal = refl }
 step_is from s n next l (ConjGoal ps) none h = record { line = l; parts = ps; goal = refl; leads = conjunction_leads from s (suc n) next ps h }
 step_is from s n next l (DisjGoal ps) none h = record { line = l; parts = ps; goal = refl; lead = arms_lead from s (suc n) next ps h; shape = refl }

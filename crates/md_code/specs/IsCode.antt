@@ -2,7 +2,7 @@
 use Rattle.std.specs.Prelude.{ℕ, suc, ◌+◌, ◌<◌, ◌≡◌, List, [], ◌∷◌, ◌++◌, length, Option, Some, None, cond, nat_eq, slice_get}
 use Rattle.md_hlds.specs.declared.goal.PredName.{PredName}
 use Rattle.md_hlds.specs.HldsGoal.{Simple, HldsGoal, At, GoalExpr, SimpleGoal, CallGoal, HoCallGoal, ConjGoal, DisjGoal, IfGoal, NotGoal, SomeGoal, HldsGoals, goal_size, Numbered, numbered_goal, numbered_from}
-use Rattle.md_hlds.specs.Hlds.{Hlds, Procedure, clause_goals, goal_at, body_number}
+use Rattle.md_hlds.specs.Hlds.{Hlds, Procedure, clause_goals, goal_at, body_number, procedure_called, nth_procedure}
 use Rattle.md_hlds.specs.Switch.{Key, switch_shape}
 use Rattle.md_hlds.specs.Trace.{call_weight}
 use Rattle.md_code.specs.declared.code.Named.{Named}
@@ -41,6 +41,8 @@ pub record IsCall (s : Hlds) (g : HldsGoal) (site : ℕ) (callee : Option ℕ) (
   pub name : PredName
   pub goal : g ≡ At line (CallGoal site name ys)
   pub called : callee ≡ callee_of s name
+  -- the procedure of the callee's number is the one of that name
+  pub reached : (q : ℕ) → callee ≡ Some q → nth_procedure s q ≡ procedure_called s name
 
 pub record IsApplication (g : HldsGoal) (site p : ℕ) (ys : List ℕ) : Type 0 where
   pub line : ℕ
