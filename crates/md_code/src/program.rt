@@ -14,8 +14,9 @@ use md_hlds::{Pred, Program};
 use md_names::Names;
 use std::alloc::Global;
 
-/// The program as a table. Takes time near linear in it: for each goal, the levels at which it is nested. No program has
-/// as many goals as there are places, which are numbers of 32 bits, and memory for them.
+/// The program as a table. Takes for each goal a time of the levels at which it is nested, and memory linear in the
+/// program. Places are numbers of 32 bits: a program with more goals than those is answered as one that memory has no room
+/// for. (A text of a megabyte has fewer.)
 pub fn prepare<'a>(alloc: Global, program: &'a Program) -> Result<Code<'a>, NoMemory>
     ensures { IfOk result (λ code. IsCodeOf (hlds_of program.now) code) }
 {
