@@ -1,0 +1,8 @@
+pub mod Functors
+pub mod Arms
+pub mod KeyLemmas
+pub mod ExtentLemmas
+pub mod TableLemmas
+pub mod CodeLemmas
+pub mod LayoutLemmas
+mod Worked

@@ -1,0 +1,319 @@
+-- The table of a goal: how long it is, that each next place is further on, and that its steps are those of the goals.
+use Rattle.std.proofs.Common.{◌≡◌, refl, ap, ◌∙◌, sym, subst, arith, ℕ, suc, ◌+◌, ◌≤◌, List, [], ◌∷◌, ◌++◌, length, Option, Some, None, length-append, Bool, true, false, cond, slice_get, zero}
+use Rattle.md_hlds.specs.HldsGoal.{HldsGoal, At, GoalExpr, SimpleGoal, CallGoal, HoCallGoal, ConjGoal, DisjGoal, IfGoal, NotGoal, SomeGoal, HldsGoals, nothing, also, goal_size, parts_size, goals_size, goals_within, goals_below, goals_among, Numbered, numbered_goal, numbered_from}
+use Rattle.md_hlds.specs.declared.goal.PredName.{PredName}
+use Rattle.md_hlds.specs.Hlds.{Hlds, Procedure, find_procedure, is_called, nth_procedure, numbered, procedure_called}
+use Rattle.md_code.specs.Layout.{number_of, callee_of, Planned, Does, Calls, Applies, Conjoins, Chooses, Tests, Negates, Quantifies, Cell, begins, places, planned, table, inner_table, conjunction_table, arm_table}
+use Rattle.md_code.specs.IsCode.{LeadOn, IsSimple, IsCall, IsApplication, IsConjunction, IsDisjunction, IsTest, IsNegation, IsQuantified}
+
+-- ---- lengths
+
+mutual
+  pub length-table : (s : Hlds) (n : ℕ) (next : Option ℕ) (p : HldsGoal) → length (table s n next p) ≡ goal_size p
+  length-table s n next (At l t) = ap suc (length-inner s (suc n) next t)
+
+  length-inner : (s : Hlds) (n : ℕ) (next : Option ℕ) (t : GoalExpr) → length (inner_table s n next t) ≡ parts_size t
+  length-inner s n next (SimpleGoal g) = refl
+  length-inner s n next (CallGoal site q ys) = refl
+  length-inner s n next (HoCallGoal site p ys) = refl
+  length-inner s n next (ConjGoal ps) = length-conjunction s n next ps
+  length-inner s n next (DisjGoal ps) = length-arms s n next ps
+  length-inner s n next (IfGoal c t e) =
+      omega (
+        arith,
+        length-append (table s n None c) (table s (n + goal_size c) next t ++ table s (n + goal_size c + goal_size t) next e),
+        length-append (table s (n + goal_size c) next t) (table s (n + goal_size c + goal_size t) next e),
+        length-table s n None c,
+        length-table s (n + goal_size c) next t,
+        length-table s (n + goal_size c + goal_size t) next e,
+      )
+  length-inner s n next (NotGoal c) = length-table s n None c
+  length-inner s n next (SomeGoal vs c) = length-table s n None c
+
+  length-conjunction : (s : Hlds) (n : ℕ) (next : Option ℕ) (ps : HldsGoals) → length (conjunction_table s n next ps) ≡ goals_size ps
+  length-conjunction s n next nothing = refl
+  length-conjunction s n next (also p ps) =
+      omega (
+        arith,
+        length-append (table s n (begins (n + goal_size p) ps next) p) (conjunction_table s (n + goal_size p) next ps),
+        length-table s n (begins (n + goal_size p) ps next) p,
+        length-conjunction s (n + goal_size p) next ps,
+      )
+
+  length-arms : (s : Hlds) (n : ℕ) (next : Option ℕ) (ps : HldsGoals) → length (arm_table s n next ps) ≡ goals_size ps
+  length-arms s n next nothing = refl
+  length-arms s n next (also p ps) =
+      omega (
+        arith,
+        length-append (table s n next p) (arm_table s (n + goal_size p) next ps),
+        length-table s n next p,
+        length-arms s (n + goal_size p) next ps,
+      )
+
+mutual
+  pub length-within : (p : HldsGoal) → length (goals_within p) ≡ goal_size p
+  length-within (At l t) = ap suc (length-below t)
+
+  length-below : (t : GoalExpr) → length (goals_below t) ≡ parts_size t
+  length-below (SimpleGoal g) = refl
+  length-below (CallGoal site q ys) = refl
+  length-below (HoCallGoal site p ys) = refl
+  length-below (ConjGoal ps) = length-among ps
+  length-below (DisjGoal ps) = length-among ps
+  length-below (IfGoal c t e) =
+      omega (
+        arith,
+        length-append (goals_within c) (goals_within t ++ goals_within e),
+        length-append (goals_within t) (goals_within e),
+        length-within c,
+        length-within t,
+        length-within e,
+      )
+  length-below (NotGoal c) = length-within c
+  length-below (SomeGoal vs c) = length-within c
+
+  length-among : (ps : HldsGoals) → length (goals_among ps) ≡ goals_size ps
+  length-among nothing = refl
+  length-among (also p ps) = omega (arith, length-append (goals_within p) (goals_among ps), length-within p, length-among ps)
+
+-- ---- places further on
+
+-- a place is no less than n, if there is one
+abbrev pub From : ℕ → Option ℕ → Type 0
+From n None = Unit {0}
+From n (Some p) = n ≤ p
+
+-- each next place is greater than the entry's own, of which the first is n
+abbrev pub Ahead : ℕ → List Cell → Type 0
+Ahead n [] = Unit {0}
+Ahead n (c ∷ cs) = From (suc n) c.next × Ahead (suc n) cs
+
+pub from_less : (m n : ℕ) (x : Option ℕ) → m ≤ n → From n x → From m x
+from_less m n None le h = tt
+from_less m n (Some p) le h = omega (arith, le, h)
+
+pub ahead-join : (n m : ℕ) (cs ds : List Cell) → m ≡ n + length cs → Ahead n cs → Ahead m ds → Ahead n (cs ++ ds)
+ahead-join n m [] ds e h i = let same : m ≡ n = omega (arith, e) in subst (λ k. Ahead k ds) same i
+ahead-join n m (c ∷ cs) ds e h i = (h.0, ahead-join (suc n) m cs ds (omega (arith, e)) h.1 i)
+
+begins_from : (n : ℕ) (ps : HldsGoals) (next : Option ℕ) → From (n + goals_size ps) next → From n (begins n ps next)
+begins_from n nothing next h = from_less n (n + 0) next (omega arith) h
+begins_from n (also p ps) next h = omega arith
+
+mutual
+  pub table_ahead : (s : Hlds) (n : ℕ) (next : Option ℕ) (p : HldsGoal) → From (n + goal_size p) next → Ahead n (table s n next p)
+  table_ahead s n next (At l t) h = (
+    from_less (suc n) (n + suc (parts_size t)) next (omega arith) h,
+    inner_ahead s (suc n) next t (from_less (suc n + parts_size t) (n + suc (parts_size t)) next (omega arith) h),
+  )
+
+  inner_ahead : (s : Hlds) (n : ℕ) (next : Option ℕ) (t : GoalExpr) → From (n + parts_size t) next → Ahead n (inner_table s n next t)
+  inner_ahead s n next (SimpleGoal g) h = tt
+  inner_ahead s n next (CallGoal site q ys) h = tt
+  inner_ahead s n next (HoCallGoal site p ys) h = tt
+  inner_ahead s n next (ConjGoal ps) h = conjunction_ahead s n next ps h
+  inner_ahead s n next (DisjGoal ps) h = arms_ahead s n next ps h
+  inner_ahead s n next (IfGoal c t e) h =
+      let whole = n + (goal_size c + (goal_size t + goal_size e)) in
+      ahead-join n (n + goal_size c) (table s n None c) _ (omega (arith, length-table s n None c)) (table_ahead s n None c tt)
+      (ahead-join (n + goal_size c) (n + goal_size c + goal_size t) (table s (n + goal_size c) next t) _ (omega (arith, length-table s (n + goal_size c) next t))
+      (table_ahead s (n + goal_size c) next t (from_less (n + goal_size c + goal_size t) whole next (omega arith) h))
+      (table_ahead s (n + goal_size c + goal_size t) next e (from_less (n + goal_size c + goal_size t + goal_size e) whole next (omega arith) h)))
+  inner_ahead s n next (NotGoal c) h = table_ahead s n None c tt
+  inner_ahead s n next (SomeGoal vs c) h = table_ahead s n None c tt
+
+  conjunction_ahead : (s : Hlds) (n : ℕ) (next : Option ℕ) (ps : HldsGoals) → From (n + goals_size ps) next → Ahead n (conjunction_table s n next ps)
+  conjunction_ahead s n next nothing h = tt
+  conjunction_ahead s n next (also p ps) h =
+      let rest = from_less (n + goal_size p + goals_size ps) (n + (goal_size p + goals_size ps)) next (omega arith) h in
+      let then' = begins (n + goal_size p) ps next in
+      ahead-join n (n + goal_size p) (table s n then' p) _ (omega (arith, length-table s n then' p))
+      (table_ahead s n then' p (begins_from (n + goal_size p) ps next rest))
+      (conjunction_ahead s (n + goal_size p) next ps rest)
+
+  arms_ahead : (s : Hlds) (n : ℕ) (next : Option ℕ) (ps : HldsGoals) → From (n + goals_size ps) next → Ahead n (arm_table s n next ps)
+  arms_ahead s n next nothing h = tt
+  arms_ahead s n next (also p ps) h =
+      let whole = n + (goal_size p + goals_size ps) in
+      ahead-join n (n + goal_size p) (table s n next p) _ (omega (arith, length-table s n next p))
+      (table_ahead s n next p (from_less (n + goal_size p) whole next (omega arith) h))
+      (arms_ahead s (n + goal_size p) next ps (from_less (n + goal_size p + goals_size ps) whole next (omega arith) h))
+
+-- ---- ways from places
+
+-- from each place, of which the first is n, it goes on with its goal and then from its next place
+abbrev pub Linked : (Option ℕ → List Numbered) → ℕ → List HldsGoal → List Cell → Type 0
+Linked from n [] [] = Unit {0}
+Linked from n (g ∷ gs) (c ∷ cs) = (from (Some n) ≡ numbered_goal n g ∷ from c.next) × Linked from (suc n) gs cs
+Linked from n gs cs = ⊥
+
+pub linked-split : (from : Option ℕ → List Numbered) (n m : ℕ) (gs hs : List HldsGoal) (cs ds : List Cell) → length gs ≡ length cs → m ≡ n + length gs
+    → Linked from n (gs ++ hs) (cs ++ ds) → Linked from n gs cs × Linked from m hs ds
+linked-split from n m [] hs [] ds e at h = let same : n ≡ m = omega (arith, at) in (tt, subst (λ k. Linked from k hs ds) same h)
+linked-split from n m [] hs (c ∷ cs) ds e at h = absurd (omega (arith, e))
+linked-split from n m (g ∷ gs) hs [] ds e at h = absurd (omega (arith, e))
+linked-split from n m (g ∷ gs) hs (c ∷ cs) ds e at h =
+    let rest = linked-split from (suc n) m gs hs cs ds (omega (arith, e)) (omega (arith, at)) h.1 in
+    ((h.0, rest.0), rest.1)
+
+-- the first goal of several, and the others
+pub first-split : (from : Option ℕ → List Numbered) (s : Hlds) (n : ℕ) (next : Option ℕ) (p : HldsGoal) (hs : List HldsGoal) (ds : List Cell)
+    → Linked from n (goals_within p ++ hs) (table s n next p ++ ds) → Linked from n (goals_within p) (table s n next p) × Linked from (n + goal_size p) hs ds
+first-split from s n next p hs ds h =
+    linked-split from n (n + goal_size p) (goals_within p) hs (table s n next p) ds
+    (length-within p ∙ sym (length-table s n next p)) (ap (λ k. n + k) (sym (length-within p))) h
+
+pub goal_leads : (from : Option ℕ → List Numbered) (s : Hlds) (n : ℕ) (next : Option ℕ) (p : HldsGoal)
+    → Linked from n (goals_within p) (table s n next p) → from (Some n) ≡ numbered_goal n p ∷ from next
+goal_leads from s n next (At l t) h = h.0
+
+conjunction_leads : (from : Option ℕ → List Numbered) (s : Hlds) (n : ℕ) (next : Option ℕ) (ps : HldsGoals)
+    → Linked from n (goals_among ps) (conjunction_table s n next ps) → from (begins n ps next) ≡ numbered_from n ps ++ from next
+conjunction_leads from s n next nothing h = refl
+conjunction_leads from s n next (also p ps) h =
+    let parts = first-split from s n (begins (n + goal_size p) ps next) p (goals_among ps) (conjunction_table s (n + goal_size p) next ps) h in
+    goal_leads from s n (begins (n + goal_size p) ps next) p parts.0
+    ∙ ap (λ gs. numbered_goal n p ∷ gs) (conjunction_leads from s (n + goal_size p) next ps parts.1)
+
+arms_lead : (from : Option ℕ → List Numbered) (s : Hlds) (n : ℕ) (next : Option ℕ) (ps : HldsGoals)
+    → Linked from n (goals_among ps) (arm_table s n next ps) → LeadOn from next (places n ps) (numbered_from n ps)
+arms_lead from s n next nothing h = tt
+arms_lead from s n next (also p ps) h =
+    let parts = first-split from s n next p (goals_among ps) (arm_table s (n + goal_size p) next ps) h in
+    (refl, goal_leads from s n next p parts.0, arms_lead from s (n + goal_size p) next ps parts.1)
+
+-- a goal on which nothing follows
+ends : (from : Option ℕ → List Numbered) (s : Hlds) (n : ℕ) (c : HldsGoal) → from None ≡ []
+    → Linked from n (goals_within c) (table s n None c) → from (Some n) ≡ numbered_goal n c ∷ []
+ends from s n c none h = goal_leads from s n None c h ∙ ap (λ gs. numbered_goal n c ∷ gs) none
+
+-- ---- procedures by their names
+
+number_from : (name : PredName) (n : ℕ) (ps : List Procedure) (k : ℕ) → number_of (find_procedure name n ps) ≡ Some k → n ≤ k
+number_from name n [] k e = absurd (cc)
+number_from name n (p ∷ ps) k e = here (is_called name p) (λ f. number_from name (suc n) ps k f) e
+  where
+    here : (b : Bool) → (number_of (find_procedure name (suc n) ps) ≡ Some k → suc n ≤ k)
+        → number_of (cond b (Some (n, p)) (find_procedure name (suc n) ps)) ≡ Some k → n ≤ k
+    here true later e = let same : n ≡ k = cc in omega (arith, same)
+    here false later e = let after : suc n ≤ k = later e in omega (arith, after)
+
+found_there : (name : PredName) (n : ℕ) (ps : List Procedure) (m k : ℕ) → k ≡ n + m → number_of (find_procedure name n ps) ≡ Some k
+    → numbered k (slice_get ps m) ≡ find_procedure name n ps
+found_there name n [] m k at e = absurd (cc)
+found_there name n (p ∷ ps) zero k at e = here (is_called name p) e
+  where
+    here : (b : Bool) → number_of (cond b (Some (n, p)) (find_procedure name (suc n) ps)) ≡ Some k → Some (k, p) ≡ cond b (Some (n, p)) (find_procedure name (suc n) ps)
+    here true e = let same : k ≡ n = cc in ap (λ i. Some (i, p)) same
+    here false e = let after : suc n ≤ k = number_from name (suc n) ps k e in absurd (omega (arith, at, after))
+found_there name n (p ∷ ps) (suc m) k at e = here (is_called name p) (λ f. found_there name (suc n) ps m k (omega (arith, at)) f) e
+  where
+    here : (b : Bool) → (number_of (find_procedure name (suc n) ps) ≡ Some k → numbered k (slice_get ps m) ≡ find_procedure name (suc n) ps)
+        → number_of (cond b (Some (n, p)) (find_procedure name (suc n) ps)) ≡ Some k
+        → numbered k (slice_get ps m) ≡ cond b (Some (n, p)) (find_procedure name (suc n) ps)
+    here true later e = let same : k ≡ n = cc in absurd (omega (arith, at, same))
+    here false later e = later e
+
+-- the procedure of a callee's number is the one that the name stands for
+callee_there : (s : Hlds) (name : PredName) (q : ℕ) → callee_of s name ≡ Some q → nth_procedure s q ≡ procedure_called s name
+callee_there s name q e = found_there name 0 s.procedures q q (omega arith) e
+
+-- ---- steps
+
+abbrev pub IsStep : Hlds → (Option ℕ → List Numbered) → ℕ → Option ℕ → HldsGoal → Planned → Type 0
+IsStep s from n next g (Does t named) = IsSimple s g t named
+IsStep s from n next g (Calls site callee ys) = IsCall s g site callee ys
+IsStep s from n next g (Applies site p ys) = IsApplication g site p ys
+IsStep s from n next g (Conjoins first) = IsConjunction from n next g first
+IsStep s from n next g (Chooses arms switch) = IsDisjunction s from n next g arms switch
+IsStep s from n next g (Tests c t e) = IsTest from n next g c t e
+IsStep s from n next g (Negates c) = IsNegation from n g c
+IsStep s from n next g (Quantifies c) = IsQuantified from n g c
+
+-- each entry's step is that of its goal
+abbrev pub AreSteps : Hlds → (Option ℕ → List Numbered) → ℕ → List HldsGoal → List Cell → Type 0
+AreSteps s from n [] [] = Unit {0}
+AreSteps s from n (g ∷ gs) (c ∷ cs) = IsStep s from n c.next g c.step × AreSteps s from (suc n) gs cs
+AreSteps s from n gs cs = ⊥
+
+pub steps-join : (s : Hlds) (from : Option ℕ → List Numbered) (n m : ℕ) (gs hs : List HldsGoal) (cs ds : List Cell) → m ≡ n + length gs
+    → AreSteps s from n gs cs → AreSteps s from m hs ds → AreSteps s from n (gs ++ hs) (cs ++ ds)
+steps-join s from n m [] hs [] ds at h i = let same : m ≡ n = omega (arith, at) in subst (λ k. AreSteps s from k hs ds) same i
+steps-join s from n m [] hs (c ∷ cs) ds at h i = absurd h
+steps-join s from n m (g ∷ gs) hs [] ds at h i = absurd h
+steps-join s from n m (g ∷ gs) hs (c ∷ cs) ds at h i = (h.0, steps-join s from (suc n) m gs hs cs ds (omega (arith, at)) h.1 i)
+
+pub first-join : (s : Hlds) (from : Option ℕ → List Numbered) (n : ℕ) (p : HldsGoal) (hs : List HldsGoal) (cs ds : List Cell)
+    → AreSteps s from n (goals_within p) cs → AreSteps s from (n + goal_size p) hs ds → AreSteps s from n (goals_within p ++ hs) (cs ++ ds)
+first-join s from n p hs cs ds h i = steps-join s from n (n + goal_size p) (goals_within p) hs cs ds (ap (λ k. n + k) (sym (length-within p))) h i
+
+test_is : (from : Option ℕ → List Numbered) (s : Hlds) (n : ℕ) (next : Option ℕ) (l : ℕ) (c t e : HldsGoal) → from None ≡ []
+    → Linked from (suc n) (goals_below (IfGoal c t e)) (inner_table s (suc n) next (IfGoal c t e))
+    → IsTest from n next (At l (IfGoal c t e)) (suc n) (suc n + goal_size c) (suc n + goal_size c + goal_size t)
+test_is from s n next l c t e none h =
+    let first = first-split from s (suc n) None c (goals_within t ++ goals_within e)
+    (table s (suc n + goal_size c) next t ++ table s (suc n + goal_size c + goal_size t) next e) h in
+    let second = first-split from s (suc n + goal_size c) next t (goals_within e) (table s (suc n + goal_size c + goal_size t) next e) first.1 in
+    record {
+      line = l;
+      condition = c;
+      met = t;
+      otherwise = e;
+      goal = refl;
+      tries = ends from s (suc n) c none first.0;
+      goes = goal_leads from s (suc n + goal_size c) next t second.0;
+      turns = goal_leads from s (suc n + goal_size c + goal_size t) next e second.1;
+    }
+
+step_is : (from : Option ℕ → List Numbered) (s : Hlds) (n : ℕ) (next : Option ℕ) (l : ℕ) (t : GoalExpr) → from None ≡ []
+    → Linked from (suc n) (goals_below t) (inner_table s (suc n) next t) → IsStep s from n next (At l t) (planned s (suc n) next t)
+step_is from s n next l (SimpleGoal g) none h = record { line = l; simple = g; goal = refl; same = refl; names = refl }
+step_is from s n next l (CallGoal site q ys) none h = record { line = l; name = q; goal = refl; called = refl; reached = λ k e. callee_there s q k e }
+step_is from s n next l (HoCallGoal site p ys) none h = record { line = l; goal = refl }
+step_is from s n next l (ConjGoal ps) none h = record { line = l; parts = ps; goal = refl; leads = conjunction_leads from s (suc n) next ps h }
+step_is from s n next l (DisjGoal ps) none h = record { line = l; parts = ps; goal = refl; lead = arms_lead from s (suc n) next ps h; shape = refl }
+step_is from s n next l (IfGoal c t e) none h = test_is from s n next l c t e none h
+step_is from s n next l (NotGoal c) none h = record { line = l; condition = c; goal = refl; tries = ends from s (suc n) c none h }
+step_is from s n next l (SomeGoal vs c) none h = record { line = l; variables = vs; condition = c; goal = refl; tries = ends from s (suc n) c none h }
+
+mutual
+  pub table_steps : (from : Option ℕ → List Numbered) (s : Hlds) (n : ℕ) (next : Option ℕ) (p : HldsGoal) → from None ≡ []
+      → Linked from n (goals_within p) (table s n next p) → AreSteps s from n (goals_within p) (table s n next p)
+  table_steps from s n next (At l t) none h = (step_is from s n next l t none h.1, inner_steps from s (suc n) next t none h.1)
+
+  inner_steps : (from : Option ℕ → List Numbered) (s : Hlds) (n : ℕ) (next : Option ℕ) (t : GoalExpr) → from None ≡ []
+      → Linked from n (goals_below t) (inner_table s n next t) → AreSteps s from n (goals_below t) (inner_table s n next t)
+  inner_steps from s n next (SimpleGoal g) none h = tt
+  inner_steps from s n next (CallGoal site q ys) none h = tt
+  inner_steps from s n next (HoCallGoal site p ys) none h = tt
+  inner_steps from s n next (ConjGoal ps) none h = conjunction_steps from s n next ps none h
+  inner_steps from s n next (DisjGoal ps) none h = arms_steps from s n next ps none h
+  inner_steps from s n next (IfGoal c t e) none h =
+      let first = first-split from s n None c (goals_within t ++ goals_within e)
+      (table s (n + goal_size c) next t ++ table s (n + goal_size c + goal_size t) next e) h in
+      let second = first-split from s (n + goal_size c) next t (goals_within e) (table s (n + goal_size c + goal_size t) next e) first.1 in
+      first-join s from n c (goals_within t ++ goals_within e) (table s n None c)
+      (table s (n + goal_size c) next t ++ table s (n + goal_size c + goal_size t) next e)
+      (table_steps from s n None c none first.0)
+      (first-join s from (n + goal_size c) t (goals_within e) (table s (n + goal_size c) next t) (table s (n + goal_size c + goal_size t) next e)
+      (table_steps from s (n + goal_size c) next t none second.0)
+      (table_steps from s (n + goal_size c + goal_size t) next e none second.1))
+  inner_steps from s n next (NotGoal c) none h = table_steps from s n None c none h
+  inner_steps from s n next (SomeGoal vs c) none h = table_steps from s n None c none h
+
+  conjunction_steps : (from : Option ℕ → List Numbered) (s : Hlds) (n : ℕ) (next : Option ℕ) (ps : HldsGoals) → from None ≡ []
+      → Linked from n (goals_among ps) (conjunction_table s n next ps) → AreSteps s from n (goals_among ps) (conjunction_table s n next ps)
+  conjunction_steps from s n next nothing none h = tt
+  conjunction_steps from s n next (also p ps) none h =
+      let then' = begins (n + goal_size p) ps next in
+      let parts = first-split from s n then' p (goals_among ps) (conjunction_table s (n + goal_size p) next ps) h in
+      first-join s from n p (goals_among ps) (table s n then' p) (conjunction_table s (n + goal_size p) next ps)
+      (table_steps from s n then' p none parts.0) (conjunction_steps from s (n + goal_size p) next ps none parts.1)
+
+  arms_steps : (from : Option ℕ → List Numbered) (s : Hlds) (n : ℕ) (next : Option ℕ) (ps : HldsGoals) → from None ≡ []
+      → Linked from n (goals_among ps) (arm_table s n next ps) → AreSteps s from n (goals_among ps) (arm_table s n next ps)
+  arms_steps from s n next nothing none h = tt
+  arms_steps from s n next (also p ps) none h =
+      let parts = first-split from s n next p (goals_among ps) (arm_table s (n + goal_size p) next ps) h in
+      first-join s from n p (goals_among ps) (table s n next p) (arm_table s (n + goal_size p) next ps)
+      (table_steps from s n next p none parts.0) (arms_steps from s (n + goal_size p) next ps none parts.1)

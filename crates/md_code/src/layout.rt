@@ -1,0 +1,102 @@
+// Goals laid out in text order, outer before inner.
+ghost use Rattle.std.specs.Prelude.{◌≡◌, ◌++◌, length, OnOk};
+ghost use Rattle.md_hlds.specs.Hlds.{hlds_of};
+ghost use Rattle.md_hlds.specs.HldsGoal.{expr_of, goal_of, goals_of, gathered};
+ghost use Rattle.md_code.specs.Layout.{table, inner_table, conjunction_table, arm_table};
+ghost use Rattle.md_code.specs.Told.{cells_of};
+
+use crate::code::Entry;
+use crate::extent::{extent_of, sum};
+use crate::step::{begins, step_of};
+use md_base::NoMemory;
+use md_hlds::{Goal, GoalKind};
+use md_names::Names;
+
+/// Adds the entry of a goal after which comes `next`, and those of the goals within it.
+#[cycle(layout)]
+pub fn lay<'a>(
+    names: &Names,
+    entries: &mut Vec<Entry<'a>>,
+    goal: &'a Goal,
+    next: Option<u32>,
+) -> Result<(), NoMemory>
+    ensures { OnOk result (cells_of entries.new.items
+        ≡ cells_of entries.old.items ++ table (hlds_of names.now) (length entries.old.items) next (goal_of goal.now)) }
+{
+    let alloc = *entries.allocator();
+    let inner = sum(entries.len(), 1)?;
+    let step = step_of(alloc, names, &goal.kind, inner, next)?;
+    entries.push(Entry { step, next })?;
+    lay_inner(names, entries, &goal.kind, next)
+}
+
+/// Adds the entries of the goals within a goal.
+#[cycle(layout)]
+fn lay_inner<'a>(
+    names: &Names,
+    entries: &mut Vec<Entry<'a>>,
+    kind: &'a GoalKind,
+    next: Option<u32>,
+) -> Result<(), NoMemory>
+    ensures { OnOk result (cells_of entries.new.items
+        ≡ cells_of entries.old.items ++ inner_table (hlds_of names.now) (length entries.old.items) next (expr_of kind.now)) }
+{
+    match kind {
+        GoalKind::Conj(goals) => lay_conjunction(names, entries, goals.as_slice(), next),
+        GoalKind::Disj(arms) => lay_arms(names, entries, arms.as_slice(), next),
+        GoalKind::If(condition, then, otherwise) => {
+            lay(names, entries, condition, None)?;
+            lay(names, entries, then, next)?;
+            lay(names, entries, otherwise, next)
+        }
+        GoalKind::Not(inner) => lay(names, entries, inner, None),
+        GoalKind::Some(_, inner) => lay(names, entries, inner, None),
+        GoalKind::True
+        | GoalKind::Fail
+        | GoalKind::Unify(..)
+        | GoalKind::Arith(..)
+        | GoalKind::Compare(..)
+        | GoalKind::WriteInt(..)
+        | GoalKind::WriteStr(..)
+        | GoalKind::Nl(..)
+        | GoalKind::Call(..)
+        | GoalKind::HoCall(..)
+        | GoalKind::Error(_) => Ok(()),
+    }
+}
+
+/// Adds the entries of goals that lead to one another and then to `next`.
+#[cycle(layout)]
+fn lay_conjunction<'a>(
+    names: &Names,
+    entries: &mut Vec<Entry<'a>>,
+    goals: &'a [Goal],
+    next: Option<u32>,
+) -> Result<(), NoMemory>
+    ensures { OnOk result (cells_of entries.new.items
+        ≡ cells_of entries.old.items ++ conjunction_table (hlds_of names.now) (length entries.old.items) next (gathered (goals_of goals.now))) }
+{
+    for (number, goal) in goals.iter().enumerate() {
+        let end = sum(entries.len(), extent_of(goal)?.goals)?;
+        let then = begins(&goals[number + 1..], end, next)?;
+        lay(names, entries, goal, then)?;
+    }
+    Ok(())
+}
+
+/// Adds the entries of goals that each lead to `next`.
+#[cycle(layout)]
+fn lay_arms<'a>(
+    names: &Names,
+    entries: &mut Vec<Entry<'a>>,
+    arms: &'a [Goal],
+    next: Option<u32>,
+) -> Result<(), NoMemory>
+    ensures { OnOk result (cells_of entries.new.items
+        ≡ cells_of entries.old.items ++ arm_table (hlds_of names.now) (length entries.old.items) next (gathered (goals_of arms.now))) }
+{
+    for arm in arms {
+        lay(names, entries, arm, next)?;
+    }
+    Ok(())
+}
