@@ -12,7 +12,7 @@ pub returns-in-Conj : goal.returns-in-Conj
 returns-in-Conj c =
     subst (λ (t : GoalExpr). IfOk c.conjunction.result (λ u. unfolded_of u
     ≡ unfolds_expr (hlds_of c.args.program.now) (frame_of c.args.front.frame) c.args.first.number (numbereds_of c.args.front.goals.now) (frames_of c.args.front.callers.now) (waits_of c.args.front.waits.now) c.args.front.next t))
-    (conj_of c.args.first.goal.now.kind c.in-Conj.parts c.as_slice-in-Conj.result.now c.in-Conj.is c.as_slice-in-Conj.ensures.value)
+    (conj_of c.args.first.goal.now.kind c.in-Conj.parts c.as_slice.result.now c.in-Conj.is c.as_slice.ensures.value)
     c.conjunction.ensures
 
 pub returns-in-Disj : goal.returns-in-Disj
