@@ -1,0 +1,5 @@
+mod ValueLemmas
+mod GoalLemmas
+mod RunLemmas
+mod BeginLemmas
+mod AdvanceLemmas

@@ -1,0 +1,9 @@
+pub mod Values
+pub mod Names
+pub mod Goals
+pub mod Keys
+pub mod Outcomes
+pub mod States
+pub mod Steps
+pub mod Unfolded
+pub mod Leads
