@@ -14,7 +14,7 @@ use md_base::{NoMemory, ProcId, SiteId};
 /// What a sink keeps is said by the port histories for which it stands: after an event it stands for each of them
 /// with that event at its end.
 pub trait PortSink {
-    type Mark: Drop;
+    type Mark: Copy + Drop;
 
     /// The sink stands for this history over these call sites.
     ghost stands_for: { Self → SiteTable → List Event → Type 0 };
