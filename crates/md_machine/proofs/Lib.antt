@@ -1,10 +1,3 @@
-pub mod ArgumentLemmas
-pub mod CallLemmas
-pub mod FormLemmas
-pub mod FormTests
-pub mod IndexLemmas
-pub mod MachineLemmas
-pub mod Moves
-pub mod RestLemmas
-pub mod RunLemmas
-pub mod ValueLemmas
+mod FrameLemmas
+mod StepLemmas
+mod AnswerLemmas

@@ -1,10 +1,5 @@
-pub mod Named
-pub mod Index
-pub mod FirstForm
-pub mod Rest
-pub mod Owes
-pub mod Values
-pub mod Effect
-pub mod Machine
-pub mod Call
+pub mod Frames
+pub mod Waits
+pub mod States
+
 pub mod Ran

@@ -1,16 +1,10 @@
-//! Runs programs: what they write and whether they finish within a budget of steps are those of the definition of a run.
+//! A machine that runs every program that the checks accept, within a budget of steps, and hands each port and each
+//! allocation to a sink as it comes.
 #![tactic(auto)]
 
-mod arguments;
-mod execute;
-mod form;
-mod index;
-mod machine;
-mod simple;
-#[cfg(test)]
-mod tests;
-mod value;
-mod weight;
+mod frame;
+mod ran;
+mod step;
+mod wait;
 
-pub use execute::{End, Ran, walk};
-pub use form::is_first_form;
+pub use ran::{End, Ran};

@@ -1,0 +1,13 @@
+use Rattle.std.proofs.Common.{◌≡◌, ap, ◌∙◌, sym, subst, List, IfOk}
+use Rattle.md_hlds.specs.Trace as trace
+use Rattle.md_steps.specs.Steps as steps
+use Rattle.md_steps.specs.Steps.{returned}
+use Rattle.md_machine.specs.Frames.{frame_of, frames_of, callers_of, nearest_told, NearestKnown}
+use Rattle.md_machine.specs.Waits.{stack_of}
+use Rattle.md_machine.specs.States.{IsStep}
+use Rattle.md_machine.proofs.StepLemmas.{returns_to}
+use Rattle.md_machine.proofs.step.returned.Goals as goal
+
+pub returns-in-Some : goal.returns-in-Some
+returns-in-Some g c = returns_to c.args.frame c.in-Some.caller c.in-Some.others c.in_ok-nearest.field-0 c.args.callers (stack_of c.args.waits.now) (stack_of c.exit_to.new.waits) c.exit_to.result c.in-Some.is
+    (λ from. c.in_ok-nearest.ensures.told from) (λ known. c.in_ok-nearest.ensures.known known) c.exit_to.ensures

@@ -1,0 +1,5 @@
+mod ValueLemmas
+mod Sums
+mod Frames
+mod OutcomeLemmas
+mod KeyLemmas

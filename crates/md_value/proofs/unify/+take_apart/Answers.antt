@@ -1,0 +1,9 @@
+use Rattle.std.proofs.Common.{◌∙◌, sym, ap}
+use Rattle.md_value.specs.Values.{value_of, parts_of, option_value, env_of}
+use Rattle.md_value.proofs.OutcomeLemmas.{first_part-over}
+use Rattle.md_value.proofs.unify.+take_apart.Goals as goal
+
+pub returns-in-Over : goal.returns-in-Over
+returns-in-Over t c =
+    first_part-over c.args.limit c.args.extra (env_of c.args.slots.now) c.args.variables.now (parts_of c.args.parts.now) (value_of c.in-Also.part) (value_of c.in-Some.value) (parts_of c.in-Also.rest.now)
+    c.in-len1-up.len_at_least (ap parts_of c.in-Also.is) c.requires (sym (ap option_value c.in-Some.is) ∙ c.value_at.ensures) (sym c.in-Over.is ∙ c.in_ok-pairs-in-Some.ensures)

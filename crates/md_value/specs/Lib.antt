@@ -1,0 +1,4 @@
+pub mod Values
+pub mod Arms
+pub mod Comparisons
+pub mod Outcomes
