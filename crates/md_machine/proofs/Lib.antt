@@ -1,3 +1,4 @@
 mod FrameLemmas
 mod StepLemmas
 mod AnswerLemmas
+mod TurnLemmas

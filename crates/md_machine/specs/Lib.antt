@@ -1,5 +1,5 @@
 pub mod Frames
 pub mod Waits
 pub mod States
-
+pub mod Turns
 pub mod Ran

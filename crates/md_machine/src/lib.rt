@@ -5,6 +5,7 @@
 mod frame;
 mod ran;
 mod step;
+mod unfold;
 mod wait;
 
 pub use ran::{End, Ran};

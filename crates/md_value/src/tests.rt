@@ -6,7 +6,7 @@ use crate::{
 };
 use bumpalo::Bump;
 use indexmap::IndexSet;
-use md_base::{Name, ProcId, Text};
+use md_base::{Name, ProcId};
 use md_code::{Key, Named};
 use md_hlds::{Cmp, GoalKind, Op, PredName, Term, Variables};
 use std::alloc::Global;
@@ -51,31 +51,53 @@ fn number_at(slots: &[Option<Value>], place: u32) -> i64 {
     }
 }
 
-#[test]
-fn values_are_passed_and_given_back(rt: HostRuntime) -> Result<(), Fail> {
-    let alloc = rt.alloc();
-    let bump = Bump::new(alloc);
-    let none: &Parts = bump.try_alloc(Parts::Nothing)?;
-    let held: &Parts = bump.try_alloc(Parts::Also(Value::Number(7), none))?;
-    assert_eq!(rt; count(held)?, 1);
-    // the head is 2, 0, 1; the caller calls with its variables 1 and 0
-    let head = [2, 0, 1];
+/// One number.
+fn one<'a>(bump: &'a Bump, number: i64) -> Result<&'a Parts<'a>, Fail> {
+    let none: &'a Parts<'a> = bump.try_alloc(Parts::Nothing)?;
+    let one: &'a Parts<'a> = bump.try_alloc(Parts::Also(Value::Number(number), none))?;
+    Ok(one)
+}
+
+/// Enters a clause whose head has these variables.
+fn enter<'a>(
+    held: &'a Parts<'a>,
+    head: &[u32],
+    arguments: &[u32],
+    caller: &[Option<Value<'a>>],
+    callee: &mut [Option<Value<'a>>],
+) {
+    give(held, head, callee);
+    pass(without(held, head), arguments, caller, callee)
+}
+
+/// The numbers of three variables after a call with two arguments, and of the caller's two after its return.
+fn call<'a>(alloc: Global, bump: &'a Bump) -> Result<[i64; 5], Fail> {
+    let held = one(bump, 7)?;
     let mut caller = blank(alloc, 2)?;
     let mut callee = blank(alloc, 3)?;
-    bind(caller.as_mut_slice(), 1, Value::Number(5));
-    bind(caller.as_mut_slice(), 9, Value::Number(6));
-    give(held, &head, callee.as_mut_slice());
-    let rest = without(held, &head);
-    pass(rest, &[1, 0], caller.as_slice(), callee.as_mut_slice());
-    assert_eq!(rt; number_at(callee.as_slice(), 2), 7);
-    assert_eq!(rt; number_at(callee.as_slice(), 0), 5);
-    assert_eq!(rt; number_at(callee.as_slice(), 1), -1);
+    bind(&mut caller, 1, Value::Number(5));
+    bind(&mut caller, 9, Value::Number(6));
+    enter(held, &[2, 0, 1], &[1, 0], &caller, &mut callee);
+    let first = number_at(&callee, 2);
+    let second = number_at(&callee, 0);
+    let third = number_at(&callee, 1);
+    bind(&mut callee, 0, Value::Number(8));
+    bind(&mut callee, 1, Value::Number(9));
+    give_back(without(held, &[2, 0, 1]), &[1, 0], &callee, &mut caller);
+    Ok([
+        first,
+        second,
+        third,
+        number_at(&caller, 1),
+        number_at(&caller, 0),
+    ])
+}
+
+#[test]
+fn values_are_passed_and_given_back(rt: HostRuntime) -> Result<(), Fail> {
+    let bump = Bump::new(rt.alloc());
     // what the caller has stays, and what it lacks it gets
-    bind(callee.as_mut_slice(), 0, Value::Number(8));
-    bind(callee.as_mut_slice(), 1, Value::Number(9));
-    give_back(rest, &[1, 0], callee.as_slice(), caller.as_mut_slice());
-    assert_eq!(rt; number_at(caller.as_slice(), 1), 5);
-    assert_eq!(rt; number_at(caller.as_slice(), 0), 9);
+    assert_eq!(rt; call(rt.alloc(), &bump)?, [7, 5, -1, 5, 9]);
     Ok(())
 }
 
@@ -126,87 +148,134 @@ fn is_term(alloc: Global, x: u32, name: &[u8], variables: &[u32]) -> Result<Goal
     Ok(GoalKind::Unify(x, Term::Name(name, variables)))
 }
 
+/// What a goal does, in numbers.
+fn does<'a>(
+    alloc: Global,
+    bump: &'a Bump,
+    kind: &'a GoalKind,
+    named: Named,
+    slots: &mut [Option<Value<'a>>],
+    limit: u32,
+) -> Result<(u8, u32, u32, usize), Fail> {
+    Ok(told(simple(alloc, bump, kind, named, slots, limit)?))
+}
+
+/// What goals do one after the other.
+fn all<'a>(
+    bump: &'a Bump,
+    goals: &'a [GoalKind],
+    named: Named,
+    slots: &mut [Option<Value<'a>>],
+    limit: u32,
+    found: &mut Vec<(u8, u32, u32, usize)>,
+) -> Result<(), Fail> {
+    let alloc = *found.allocator();
+    for kind in goals {
+        found.push(does(alloc, bump, kind, named, slots, limit)?)?;
+    }
+    Ok(())
+}
+
+/// What goals do three times, within a limit of 1, of 2 and of 1. The second variable is 6 and the third is `[]`.
+fn thrice<'a>(
+    alloc: Global,
+    bump: &'a Bump,
+    goals: &'a [GoalKind],
+) -> Result<Vec<(u8, u32, u32, usize)>, Fail> {
+    let empty = list(bump, 0)?;
+    let mut slots = blank(alloc, 4)?;
+    bind(&mut slots, 1, Value::Number(6));
+    bind(&mut slots, 2, empty);
+    let mut found = Vec::new(alloc);
+    all(bump, goals, Named::Functor, &mut slots, 1, &mut found)?;
+    all(bump, goals, Named::Functor, &mut slots, 2, &mut found)?;
+    all(bump, goals, Named::Functor, &mut slots, 1, &mut found)?;
+    Ok(found)
+}
+
 #[test]
 fn terms_are_built_and_taken_apart(rt: HostRuntime) -> Result<(), Fail> {
     let alloc = rt.alloc();
-    let builds = is_term(alloc, 0, b"[|]", &[1, 2])?;
-    let takes = is_term(alloc, 0, b"[|]", &[2, 3])?;
-    let asks = is_term(alloc, 0, b"[|]", &[1, 3])?;
-    let closes = is_term(alloc, 4, b"p", &[1])?;
+    let mut goals = Vec::new(alloc);
+    goals.push(is_term(alloc, 0, b"[|]", &[1, 2])?)?;
+    goals.push(is_term(alloc, 0, b"[|]", &[2, 3])?)?;
+    goals.push(is_term(alloc, 0, b"[|]", &[1, 3])?)?;
     let bump = Bump::new(alloc);
-    let mut slots = blank(alloc, 5)?;
-    let slots = slots.as_mut_slice();
-    bind(slots, 1, Value::Number(6));
-    bind(slots, 2, list(&bump, 0)?);
-    let heavy = simple(alloc, &bump, &builds, Named::Functor, slots, 1)?;
-    assert_eq!(rt; told(heavy), (b'h', 0, 0, 0));
-    let built = simple(alloc, &bump, &builds, Named::Functor, slots, 2)?;
-    assert_eq!(rt; told(built), (b'g', 2, 2, 0));
-    // [] with 6
-    let differs = simple(alloc, &bump, &takes, Named::Functor, slots, 1)?;
-    assert_eq!(rt; told(differs), (b'f', 1, 0, 0));
-    // 6 with 6, and the other part is new
-    let taken = simple(alloc, &bump, &asks, Named::Functor, slots, 1)?;
-    assert_eq!(rt; told(taken), (b'g', 1, 0, 0));
-    // 6 with 6, and [] with []
-    let again = simple(alloc, &bump, &asks, Named::Functor, slots, 2)?;
-    assert_eq!(rt; told(again), (b'g', 2, 0, 0));
-    let over = simple(alloc, &bump, &asks, Named::Functor, slots, 1)?;
-    assert_eq!(rt; told(over), (b'h', 0, 0, 0));
-    let unknown = simple(alloc, &bump, &closes, Named::Nothing, slots, 9)?;
-    assert_eq!(rt; told(unknown), (b's', 0, 0, 0));
-    let closed = simple(
-        alloc,
-        &bump,
-        &closes,
-        Named::Predicate(ProcId::new(3)),
-        slots,
-        4,
-    )?;
-    assert_eq!(rt; told(closed), (b'g', 4, 4, 0));
+    let found = thrice(alloc, &bump, goals.as_slice())?;
+    assert_eq!(rt;
+        found.as_slice(),
+        [
+            // two words are too many, and the others have no value for the fourth variable
+            (b'h', 0, 0, 0),
+            (b's', 0, 0, 0),
+            (b's', 0, 0, 0),
+            // built; [] with 6; 6 with 6, and the fourth variable gets []
+            (b'g', 2, 2, 0),
+            (b'f', 1, 0, 0),
+            (b'g', 1, 0, 0),
+            // two pairs are too many, where the first doesn't differ
+            (b'h', 0, 0, 0),
+            (b'f', 1, 0, 0),
+            (b'h', 0, 0, 0)
+        ]
+        .as_slice()
+    );
     Ok(())
+}
+
+#[test]
+fn a_closure_has_three_words_more(rt: HostRuntime) -> Result<(), Fail> {
+    let alloc = rt.alloc();
+    let closes = is_term(alloc, 1, b"p", &[0])?;
+    let bump = Bump::new(alloc);
+    let mut slots = blank(alloc, 2)?;
+    bind(&mut slots, 0, Value::Number(6));
+    let unknown = does(alloc, &bump, &closes, Named::Nothing, &mut slots, 9)?;
+    assert_eq!(rt; unknown, (b's', 0, 0, 0));
+    let named = Named::Predicate(ProcId::new(3));
+    let closed = does(alloc, &bump, &closes, named, &mut slots, 4)?;
+    assert_eq!(rt; closed, (b'g', 4, 4, 0));
+    Ok(())
+}
+
+/// `A = 4, B = A, B = A, C = A - G, C < A, C > A`, writes of C, a line's end and F, and then F as an exception.
+fn goals(alloc: Global) -> Result<Vec<GoalKind>, Fail> {
+    let mut goals = Vec::new(alloc);
+    goals.push(GoalKind::Unify(0, Term::Int(4)))?;
+    goals.push(GoalKind::Unify(1, Term::Var(0)))?;
+    goals.push(GoalKind::Unify(1, Term::Var(0)))?;
+    goals.push(GoalKind::Arith(2, 0, Op::Sub, 6))?;
+    goals.push(GoalKind::Compare(2, Cmp::Lt, 0))?;
+    goals.push(GoalKind::Compare(2, Cmp::Gt, 0))?;
+    goals.push(GoalKind::WriteInt(2, 3, 4))?;
+    goals.push(GoalKind::Nl(4, 7))?;
+    goals.push(GoalKind::WriteStr(5, 7, 8))?;
+    goals.push(GoalKind::Error(5))?;
+    Ok(goals)
 }
 
 #[test]
 fn numbers_are_computed_compared_and_written(rt: HostRuntime) -> Result<(), Fail> {
     let alloc = rt.alloc();
-    let text = Text::from_bytes(alloc, b"bad")?;
-    let number = GoalKind::Unify(0, Term::Int(4));
-    let literal = GoalKind::Unify(5, Term::Str(text));
-    let same = GoalKind::Unify(1, Term::Var(0));
-    let difference = GoalKind::Arith(2, 0, Op::Sub, 6);
-    let less = GoalKind::Compare(2, Cmp::Lt, 0);
-    let greater = GoalKind::Compare(2, Cmp::Gt, 0);
-    let writes = GoalKind::WriteInt(2, 3, 4);
-    let ends = GoalKind::Nl(4, 7);
-    let says = GoalKind::WriteStr(5, 7, 8);
-    let raises = GoalKind::Error(5);
+    let goals = goals(alloc)?;
     let bump = Bump::new(alloc);
     let mut slots = blank(alloc, 9)?;
-    let slots = slots.as_mut_slice();
-    bind(slots, 3, Value::Number(0));
-    bind(slots, 6, Value::Number(14));
-    let mut all = Vec::new(alloc);
-    for kind in [
-        &number,
-        &literal,
-        &same,
-        &same,
-        &difference,
-        &less,
-        &greater,
-        &writes,
-        &ends,
-        &says,
-        &raises,
-    ] {
-        all.push(told(simple(alloc, &bump, kind, Named::Nothing, slots, 3)?))?;
-    }
-    assert_eq!(rt; number_at(slots, 2), -10);
+    bind(&mut slots, 3, Value::Number(0));
+    bind(&mut slots, 5, Value::Literal(b"bad"));
+    bind(&mut slots, 6, Value::Number(14));
+    let mut found = Vec::new(alloc);
+    all(
+        &bump,
+        goals.as_slice(),
+        Named::Nothing,
+        &mut slots,
+        3,
+        &mut found,
+    )?;
+    assert_eq!(rt; number_at(&slots, 2), -10);
     assert_eq!(rt;
-        all.as_slice(),
+        found.as_slice(),
         [
-            (b'g', 0, 0, 0),
             (b'g', 0, 0, 0),
             (b'g', 0, 0, 0),
             // one pair
