@@ -2,3 +2,4 @@ mod FrameLemmas
 mod StepLemmas
 mod AnswerLemmas
 mod TurnLemmas
+mod CallLemmas

@@ -2,4 +2,5 @@ pub mod Frames
 pub mod Waits
 pub mod States
 pub mod Turns
+pub mod Calls
 pub mod Ran

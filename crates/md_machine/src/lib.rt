@@ -2,6 +2,7 @@
 //! allocation to a sink as it comes.
 #![tactic(auto)]
 
+mod call;
 mod frame;
 mod ran;
 mod step;

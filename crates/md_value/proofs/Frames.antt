@@ -1,5 +1,5 @@
 -- A comparison's frames, and what its loop keeps.
-use Rattle.std.proofs.Common.{ℕ, suc, ◌+◌, ◌≡◌, ◌≤◌, ◌<◌, Bool, true, false, List, [], ◌∷◌, ◌++◌, cond, Result, Ok, Err, IfOk, refl, sym, ap, ◌∙◌, arith}
+use Rattle.std.proofs.Common.{ℕ, suc, ◌+◌, ◌≡◌, ◌≤◌, ◌<◌, Bool, true, List, [], ◌∷◌, ◌++◌, cond, Result, Ok, Err, IfOk, sym, ap, ◌∙◌, arith}
 use Rattle.std.proofs.lemmas.Bool.{le-leb, lt-leb, cond-true, cond-false}
 use Rattle.md_hlds.specs.Value.{Compared, below_pair, then_compared, compared, all_compared, Values, also_value}
 use Rattle.md_hlds.specs.Value.{Value as Meant}

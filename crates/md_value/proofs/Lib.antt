@@ -1,4 +1,4 @@
-mod ValueLemmas
+pub mod ValueLemmas
 mod Sums
 mod Frames
 mod OutcomeLemmas

@@ -48,7 +48,7 @@ heavier limit (y ∷ ys) [] e extra lt = lt
 heavier limit (y ∷ ys) (v ∷ vs) e extra lt = heavier_part limit extra y (take_apart ys vs) e v (value_at e y) (λ f m. heavier limit ys vs f m) lt
 
 -- a part whose comparison passes what is left of the limit
-pub part-over : (limit extra : ℕ) (e : Env) (y : ℕ) (ys : List ℕ) (v w : Value) (vs : List Value) → extra ≤ limit → Some w ≡ value_at e y → Over ≡ same_within (limit - extra) (compared w v) →
+part-over : (limit extra : ℕ) (e : Env) (y : ℕ) (ys : List ℕ) (v w : Value) (vs : List Value) → extra ≤ limit → Some w ≡ value_at e y → Over ≡ same_within (limit - extra) (compared w v) →
     Exceeds limit (take_apart (y ∷ ys) (v ∷ vs) e extra)
 part-over limit extra e y ys v w vs le had is =
     let c = compared w v in

@@ -1,5 +1,5 @@
 -- Sums of comparisons: first one, then another.
-use Rattle.std.proofs.Common.{ℕ, suc, ◌+◌, ◌≡◌, ◌≤◌, Bool, true, false, List, [], ◌∷◌, ◌++◌, refl, sym, ap, ◌∙◌, arith}
+use Rattle.std.proofs.Common.{ℕ, ◌+◌, ◌≡◌, ◌≤◌, Bool, true, false, List, [], ◌∷◌, ◌++◌, refl, sym, ap, ◌∙◌, arith}
 use Rattle.md_hlds.specs.Value.{Compared, below_pair, then_compared, compared, all_compared, Value, Number, Literal, Built, Closure}
 use Rattle.md_value.specs.declared.comparison.Frame.{Frame}
 use Rattle.md_value.specs.Comparisons.{frame_due, due, more}

@@ -1,5 +1,5 @@
 -- Values, slot by slot and part by part.
-use Rattle.std.proofs.Common.{◌≡◌, refl, ap, ◌∙◌, sym, arith, ℕ, zero, suc, ◌+◌, ◌<◌, ◌≤◌, List, [], ◌∷◌, length, replicate, Option, Some, None, slice_set, get_or}
+use Rattle.std.proofs.Common.{◌≡◌, refl, ap, arith, ℕ, zero, suc, ◌<◌, ◌≤◌, List, [], ◌∷◌, length, replicate, Option, Some, None, slice_set, get_or}
 use Rattle.md_hlds.specs.Value.{Env, value_at, bound, blank, Values, no_values, also_value, listed_values, gathered_values, value_count}
 use Rattle.md_hlds.specs.Value.{Value as Meant}
 use Rattle.md_value.specs.declared.value.Value.{Value}

@@ -1,5 +1,5 @@
 -- The program's values as values of the definition, and its slots as environments.
-use Rattle.std.specs.Prelude.{ℕ, List, [], ◌∷◌, Option, Some, None}
+use Rattle.std.specs.Prelude.{List, [], ◌∷◌, Option, Some, None}
 use denote.Ref.{Bor}
 use Rattle.md_hlds.specs.Value.{Values, no_values, also_value, listed_values, Env}
 use Rattle.md_hlds.specs.Value.{Value as Meant, Number as N, Literal as L, Built as B, Closure as C}

@@ -1,4 +1,4 @@
-use Rattle.std.proofs.Common.{◌∙◌, sym, ap}
+use Rattle.std.proofs.Common.{◌∙◌, ap}
 use Rattle.md_hlds.specs.Value.{compared, all_compared}
 use Rattle.md_value.specs.Values.{value_of, values_of}
 use Rattle.md_value.specs.Comparisons.{due, look_due, step_due}

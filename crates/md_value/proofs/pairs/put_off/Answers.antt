@@ -1,5 +1,5 @@
 use Rattle.std.proofs.Common.{◌∙◌, ap, sym}
-use Rattle.md_hlds.specs.Value.{all_compared, then_compared}
+use Rattle.md_hlds.specs.Value.{then_compared}
 use Rattle.md_value.specs.Values.{values_of}
 use Rattle.md_value.specs.Comparisons.{due}
 use Rattle.md_value.proofs.Frames.{pushed, also-compared}

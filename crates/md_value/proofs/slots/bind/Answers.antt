@@ -1,4 +1,3 @@
-use Rattle.md_hlds.specs.Value.{bound}
 use Rattle.md_value.specs.Values.{value_of}
 use Rattle.md_value.proofs.ValueLemmas.{env_of-bound, bound-past_slots}
 use Rattle.md_value.proofs.slots.bind.Goals as goal
