@@ -3,3 +3,4 @@ mod StepLemmas
 mod AnswerLemmas
 mod TurnLemmas
 mod CallLemmas
+mod UnfoldLemmas

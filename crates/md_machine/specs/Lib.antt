@@ -3,4 +3,5 @@ pub mod Waits
 pub mod States
 pub mod Turns
 pub mod Calls
+pub mod Running
 pub mod Ran

@@ -20,18 +20,19 @@ ghost use Rattle.md_machine.specs.Calls.{Calls};
 use crate::frame::{Activation, Chain, Frame, under};
 use crate::step::Doing;
 use crate::wait::{Cut, Wait, Waits};
-use md_base::{NoMemory, ProcId, SiteId};
+use md_base::NoMemory;
 use md_code::{Code, Routine};
 use md_hlds::Det;
 use md_value::{Parts, Value, blank, count, give, pass, value_at, without};
 use std::alloc::Global;
 use std::rc::Rc;
 
-/// A call that is due: its site, the procedure, the values that a closure holds, and the variables of the caller.
+/// A call that is due: the numbers of its site and its procedure, that procedure, the values that a
+/// closure holds, and the variables of the caller.
 #[derive(Clone, Copy)]
 pub struct Call<'a> {
-    pub site: SiteId,
-    pub callee: ProcId,
+    pub site: u32,
+    pub callee: u32,
     pub routine: &'a Routine<'a>,
     pub held: &'a Parts<'a>,
     pub arguments: &'a [u32],
@@ -41,8 +42,8 @@ pub struct Call<'a> {
 pub fn plain_call<'a>(
     code: &'a Code<'a>,
     nothing: &'a Parts<'a>,
-    site: SiteId,
-    callee: Option<ProcId>,
+    site: u32,
+    callee: Option<u32>,
     arguments: &'a [u32],
 ) -> Result<Option<Call<'a>>, NoMemory>
     ensures { IfOk result (λ found. (s : Hlds) (n : ℕ) (g : HldsGoal) (next : Option ℕ) (env : Env) → parts_of nothing.now ≡ [] → IsAt s (cells_of code.now.entries.items) (routines_told code.now.routines.items) n g (layout.Calls site callee arguments.now) next
@@ -57,7 +58,7 @@ pub fn plain_call<'a>(
 /// The call that a call of this closure is, or `None` where no rule applies.
 pub fn closure_call<'a>(
     code: &'a Code<'a>,
-    site: SiteId,
+    site: u32,
     closure: Option<Value<'a>>,
     arguments: &'a [u32],
 ) -> Result<Option<Call<'a>>, NoMemory>
@@ -70,7 +71,7 @@ pub fn closure_call<'a>(
     };
     match value {
         Value::Closure(number, held) => {
-            fitting(code, site, ProcId::new(number), held, arguments)
+            fitting(code, site, number, held, arguments)
         }
         Value::Number(_) => Ok(None),
         Value::Literal(_) => Ok(None),
@@ -81,15 +82,15 @@ pub fn closure_call<'a>(
 /// The call of this procedure, where it is there and takes as many arguments.
 fn fitting<'a>(
     code: &'a Code<'a>,
-    site: SiteId,
-    callee: ProcId,
+    site: u32,
+    callee: u32,
     held: &'a Parts<'a>,
     arguments: &'a [u32],
 ) -> Result<Option<Call<'a>>, NoMemory>
     ensures { IfOk result (λ found. (s : Hlds) (next : Option ℕ) (env : Env) → IsCodeOf s code.now
         → Calls s (cells_of code.now.entries.items) (λ f js ws k. steps.calls s f (ways s (cells_of code.now.entries.items) next) js ws k site (nth_procedure s callee) (parts_of held.now) arguments.now) env (ways s (cells_of code.now.entries.items)) next found) }
 {
-    let number = callee.number() as usize;
+    let number = callee as usize;
     if number >= code.routines.len() {
         return Ok(None);
     }

@@ -4,6 +4,8 @@
 
 mod call;
 mod frame;
+mod hand;
+mod machine;
 mod ran;
 mod step;
 mod unfold;

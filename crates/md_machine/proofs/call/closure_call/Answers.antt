@@ -10,8 +10,8 @@ use Rattle.md_machine.proofs.call.closure_call.Goals as goal
 
 pub returns-in-Closure : goal.returns-in-Closure
 returns-in-Closure c =
-    closure_ok c.args.code.now c.args.site c.new.result (values_of c.in-Closure.held.now) c.args.arguments.now (option_value c.args.closure) c.fitting.result
-    (by_value c.args.closure c.in-Some.value _ c.in-Some.is c.in-Closure.is ∙ ap (λ (q : ℕ). Some (Closure q (values_of c.in-Closure.held.now))) (sym c.new.ensures)) c.fitting.ensures
+    closure_ok c.args.code.now c.args.site c.in-Closure.number (values_of c.in-Closure.held.now) c.args.arguments.now (option_value c.args.closure) c.fitting.result
+    (by_value c.args.closure c.in-Some.value _ c.in-Some.is c.in-Closure.is) c.fitting.ensures
 
 pub returns-in-Number : goal.returns-in-Number
 returns-in-Number c s n p g' next env at is f js ws k same =

@@ -17,7 +17,7 @@ returns-then-values-as_slice c s next env code f js ws k same =
     let inside : c.args.callee < length c.args.code.now.routines.items = search rules in
     let there : slice_get c.args.code.now.routines.items c.args.callee ≡ Some (get_or c.args.code.now.routines.items c.args.callee c.index-routine.result.now) = slice_get-get_or c.args.code.now.routines.items c.args.callee c.index-routine.result.now inside in
     let told : length (parts_of c.args.held.now) + length c.args.arguments.now ≡ length c.index-routine.result.now.head.now → c.in-Some.values ≡ length c.as_slice.result.now = λ is. search (rules, is) in
-    misfits s (cells_of c.args.code.now.entries.items) c.args.code.now.routines.items c.args.callee c.index-routine.result.now (ways s (cells_of c.args.code.now.entries.items) next) c.args.site (parts_of c.args.held.now) c.args.arguments.now code (there ∙ ap Some (sym (c.index-routine.ensures ∙ ap (λ n. get_or c.args.code.now.routines.items n c.index-routine.result.now) c.number-number.ensures)))
+    misfits s (cells_of c.args.code.now.entries.items) c.args.code.now.routines.items c.args.callee c.index-routine.result.now (ways s (cells_of c.args.code.now.entries.items) next) c.args.site (parts_of c.args.held.now) c.args.arguments.now code (there ∙ ap Some (sym c.index-routine.ensures))
     (ne_eqb (length (parts_of c.args.held.now) + length c.args.arguments.now) (length c.index-routine.result.now.head.now) (λ is. c.if-values-as_slice.true (told is))) f js ws k
 
 pub returns : goal.returns
@@ -25,5 +25,5 @@ returns c s next env code =
     let inside : c.args.callee < length c.args.code.now.routines.items = search rules in
     let there : slice_get c.args.code.now.routines.items c.args.callee ≡ Some (get_or c.args.code.now.routines.items c.args.callee c.index-routine.result.now) = slice_get-get_or c.args.code.now.routines.items c.args.callee c.index-routine.result.now inside in
     let fit : length (parts_of c.args.held.now) + length c.args.arguments.now ≡ length c.index-routine.result.now.head.now = search rules in
-    fits s (cells_of c.args.code.now.entries.items) c.args.code.now.routines.items next env (parts_of c.args.held.now) c.args.arguments.now record { site = c.args.site; callee = c.args.callee; routine = c.index-routine.result; held = c.args.held; arguments = c.args.arguments } code (there ∙ ap Some (sym (c.index-routine.ensures ∙ ap (λ n. get_or c.args.code.now.routines.items n c.index-routine.result.now) c.number-number.ensures)))
+    fits s (cells_of c.args.code.now.entries.items) c.args.code.now.routines.items next env (parts_of c.args.held.now) c.args.arguments.now record { site = c.args.site; callee = c.args.callee; routine = c.index-routine.result; held = c.args.held; arguments = c.args.arguments } code (there ∙ ap Some (sym c.index-routine.ensures))
     (eq-eqb (length (parts_of c.args.held.now) + length c.args.arguments.now) (length c.index-routine.result.now.head.now) fit) refl refl

@@ -1,0 +1,19 @@
+// Ports are handed to a sink.
+ghost use Rattle.md_machine.specs.Running.{CanHand, Hands};
+
+use crate::step::Port;
+use md_trace::PortSink;
+
+/// Hands a port to a sink.
+pub fn hand<S: PortSink>(port: Port<S::Mark>, sink: &mut S)
+    requires { CanHand (S.stands_for sink.old) S.belongs port }
+    ensures taken { Hands (S.stands_for sink.old) (S.stands_for sink.new) S.belongs port }
+    ensures alike { S.alike sink.old sink.new }
+{
+    match port {
+        Port::Exit(activation) => sink.exit(&activation.mark),
+        Port::Redo(activation) => sink.redo(&activation.mark),
+        Port::Fail(activation) => sink.fail(&activation.mark),
+        Port::Excp(activation) => sink.excp(&activation.mark),
+    }
+}
