@@ -4,3 +4,4 @@ mod AnswerLemmas
 mod TurnLemmas
 mod CallLemmas
 mod UnfoldLemmas
+mod MadeLemmas

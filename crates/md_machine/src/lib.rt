@@ -7,6 +7,7 @@ mod frame;
 mod hand;
 mod machine;
 mod ran;
+mod run;
 mod step;
 mod unfold;
 mod wait;
