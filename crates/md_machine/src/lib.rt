@@ -3,6 +3,7 @@
 #![tactic(auto)]
 
 mod call;
+mod charge;
 mod frame;
 mod hand;
 mod machine;
