@@ -5,5 +5,5 @@ mod TurnLemmas
 mod CallLemmas
 mod UnfoldLemmas
 mod MadeLemmas
-mod RoundLemmas
 mod TakenLemmas
+mod RoundLemmas
