@@ -105,7 +105,7 @@ get_none [] i past = refl
 get_none (x ∷ xs) zero past = absurd (omega (arith, past))
 get_none (x ∷ xs) (suc i) past = get_none xs i (omega (arith, past))
 
-length_told : (rs : List Routine) → length (routines_told rs) ≡ length rs
+pub length_told : (rs : List Routine) → length (routines_told rs) ≡ length rs
 length_told [] = refl
 length_told (r ∷ rs) = ap suc (length_told rs)
 

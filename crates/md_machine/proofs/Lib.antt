@@ -7,3 +7,5 @@ mod UnfoldLemmas
 mod MadeLemmas
 mod TakenLemmas
 mod RoundLemmas
+mod EndLemmas
+mod BeginLemmas

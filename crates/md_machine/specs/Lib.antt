@@ -4,4 +4,5 @@ pub mod States
 pub mod Turns
 pub mod Calls
 pub mod Running
+pub mod Begins
 pub mod Ran

@@ -2,6 +2,7 @@
 //! allocation to a sink as it comes.
 #![tactic(auto)]
 
+mod begin;
 mod call;
 mod charge;
 mod frame;
