@@ -1,19 +1,29 @@
 // Where a run begins.
-ghost use Rattle.std.specs.Prelude.{ℕ, ◌≡◌, List, IfOk};
+ghost use Rattle.std.specs.Prelude.{ℕ, ◌≡◌, false, List, [], Some, None, IfOk, OnOk, OnErr};
 ghost use Rattle.md_hlds.specs.Hlds.{Hlds, hlds_of};
-ghost use Rattle.md_hlds.specs.Run.{main_frame};
+ghost use Rattle.md_hlds.specs.Run.{run, main_frame};
+ghost use Rattle.md_events.specs.History.{history};
+ghost use Rattle.md_events.specs.Table.{site_table};
 ghost use Rattle.md_code.specs.Layout.{Cell};
 ghost use Rattle.md_code.specs.Told.{routine_told};
 ghost use Rattle.md_code.specs.IsCode.{IsRoutine};
 ghost use Rattle.md_machine.specs.Frames.{frame_of};
 ghost use Rattle.md_machine.specs.Turns.{ways};
 ghost use Rattle.md_machine.specs.Begins.{IsMain};
+ghost use Rattle.md_machine.specs.Ran.{IsEnd, IsRunOf, StandsForFront};
+ghost use Rattle.md_machine.specs.Running.{IsOf};
 
 use crate::frame::{Activation, Frame};
-use md_base::{Name, NoMemory};
+use crate::machine::{Context, Machine};
+use crate::ran::{End, Ran};
+use crate::run::{affordable, run_on};
+use crate::step::Doing;
+use crate::wait::Waits;
+use md_base::{Name, NoMemory, ProcId};
 use md_code::Routine;
 use md_hlds::{PredName, Program};
 use md_names::Names;
+use md_trace::PortSink;
 use md_value::{Value, bind, blank};
 use std::alloc::Global;
 
@@ -56,4 +66,49 @@ pub fn main_frame<'a, M: Copy + Drop>(
         head: &[],
         arguments: &[],
     })
+}
+
+/// Main is called and its body runs.
+pub fn begin<'a, S: PortSink>(
+    context: Context<'a>,
+    program: &Program,
+    number: u32,
+    budget: u32,
+    sink: &mut S,
+) -> Result<Ran, NoMemory>
+    requires main { IsMain (hlds_of program.now) (Some number) }
+    requires its { IsOf (hlds_of program.now) budget context }
+    requires begins { S.stands_for sink.old (site_table (hlds_of program.now)) [] }
+    ensures run { IfOk result (λ ran. IsRunOf (hlds_of program.now) budget ran) }
+    ensures whole { OnOk result (S.stands_for sink.new (site_table (hlds_of program.now)) (history (run (hlds_of program.now) budget))) }
+    ensures front { OnErr result (StandsForFront (hlds_of program.now) budget (S.stands_for sink.new (site_table (hlds_of program.now)))) }
+    ensures alike { S.alike sink.old sink.new }
+{
+    let alloc = context.alloc;
+    let routine = &context.code.routines[number as usize];
+    let Some(weight) = affordable(routine.weight, budget) else {
+        return Ok(unfinished(alloc));
+    };
+    let mark = sink.call(None, ProcId::new(number))?;
+    let frame = main_frame(alloc, routine, mark)?;
+    let machine = Machine {
+        waits: Waits::new(alloc),
+        next: 1,
+        left: budget - weight,
+        output: Vec::new(alloc),
+        error: None,
+        main: mark,
+    };
+    run_on(context, Doing::Goes(frame, None), machine, sink)
+}
+
+/// A run that ended before it did anything.
+pub fn unfinished(alloc: Global) -> Ran
+    ensures { IsEnd result [] false None }
+{
+    Ran {
+        output: Vec::new(alloc),
+        end: End::OutOfSteps,
+        error: Vec::new(alloc),
+    }
 }
