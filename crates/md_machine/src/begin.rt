@@ -69,8 +69,8 @@ pub fn main_frame<'a, M: Copy + Drop>(
 }
 
 /// Main is called and its body runs.
-pub fn begin<'a, S: PortSink>(
-    context: Context<'a>,
+pub fn begin<'a, 'p, S: PortSink>(
+    context: Context<'a, 'p>,
     program: &Program,
     number: u32,
     budget: u32,

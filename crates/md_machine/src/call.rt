@@ -30,22 +30,22 @@ use std::rc::Rc;
 /// A call that is due: the numbers of its site and its procedure, that procedure, the values that a
 /// closure holds, and the variables of the caller.
 #[derive(Clone, Copy)]
-pub struct Call<'a> {
+pub struct Call<'a, 'p> {
     pub site: u32,
     pub callee: u32,
-    pub routine: &'a Routine<'a>,
+    pub routine: &'a Routine<'p>,
     pub held: &'a Parts<'a>,
     pub arguments: &'a [u32],
 }
 
 /// The call that a plain call is, or `None` where no rule applies. It holds no values, as `nothing` tells.
-pub fn plain_call<'a>(
-    code: &'a Code<'a>,
+pub fn plain_call<'a, 'p>(
+    code: &'a Code<'p>,
     nothing: &'a Parts<'a>,
     site: u32,
     callee: Option<u32>,
     arguments: &'a [u32],
-) -> Result<Option<Call<'a>>, NoMemory>
+) -> Result<Option<Call<'a, 'p>>, NoMemory>
     ensures { IfOk result (λ found. (s : Hlds) (n : ℕ) (g : HldsGoal) (next : Option ℕ) (env : Env) → parts_of nothing.now ≡ [] → IsAt s (cells_of code.now.entries.items) (routines_told code.now.routines.items) n g (layout.Calls site callee arguments.now) next
         → Calls s (cells_of code.now.entries.items) (λ f js ws k. steps.unfolds s f n (ways s (cells_of code.now.entries.items) next) js ws k g) env (ways s (cells_of code.now.entries.items)) next found) }
 {
@@ -56,12 +56,12 @@ pub fn plain_call<'a>(
 }
 
 /// The call that a call of this closure is, or `None` where no rule applies.
-pub fn closure_call<'a>(
-    code: &'a Code<'a>,
+pub fn closure_call<'a, 'p>(
+    code: &'a Code<'p>,
     site: u32,
     closure: Option<Value<'a>>,
     arguments: &'a [u32],
-) -> Result<Option<Call<'a>>, NoMemory>
+) -> Result<Option<Call<'a, 'p>>, NoMemory>
     ensures { IfOk result (λ found. (s : Hlds) (n p : ℕ) (g : HldsGoal) (next : Option ℕ) (env : Env) → IsAt s (cells_of code.now.entries.items) (routines_told code.now.routines.items) n g (layout.Applies site p arguments.now) next
         → option_value closure.entry ≡ value_at env p
         → Calls s (cells_of code.now.entries.items) (λ f js ws k. steps.unfolds s f n (ways s (cells_of code.now.entries.items) next) js ws k g) env (ways s (cells_of code.now.entries.items)) next found) }
@@ -80,13 +80,13 @@ pub fn closure_call<'a>(
 }
 
 /// The call of this procedure, where it is there and takes as many arguments.
-fn fitting<'a>(
-    code: &'a Code<'a>,
+fn fitting<'a, 'p>(
+    code: &'a Code<'p>,
     site: u32,
     callee: u32,
     held: &'a Parts<'a>,
     arguments: &'a [u32],
-) -> Result<Option<Call<'a>>, NoMemory>
+) -> Result<Option<Call<'a, 'p>>, NoMemory>
     ensures { IfOk result (λ found. (s : Hlds) (next : Option ℕ) (env : Env) → IsCodeOf s code.now
         → Calls s (cells_of code.now.entries.items) (λ f js ws k. steps.calls s f (ways s (cells_of code.now.entries.items) next) js ws k site (nth_procedure s callee) (parts_of held.now) arguments.now) env (ways s (cells_of code.now.entries.items)) next found) }
 {
@@ -111,9 +111,9 @@ fn fitting<'a>(
 }
 
 /// The body of a call begins as this activation, cut at its first answer or not, as the procedure's determinism says.
-pub fn enter<'a, M: Copy + Drop>(
+pub fn enter<'a, 'p, M: Copy + Drop>(
     alloc: Global,
-    call: &Call<'a>,
+    call: &Call<'a, 'p>,
     activation: Activation<M>,
     next: Option<u32>,
     frame: Frame<'a, M>,
@@ -140,9 +140,9 @@ pub fn enter<'a, M: Copy + Drop>(
 }
 
 /// The frame in which the body of a call begins.
-fn body<'a, M: Copy + Drop>(
+fn body<'a, 'p, M: Copy + Drop>(
     alloc: Global,
-    call: &Call<'a>,
+    call: &Call<'a, 'p>,
     activation: Activation<M>,
     caller: &Frame<'a, M>,
 ) -> Result<Frame<'a, M>, NoMemory>

@@ -49,7 +49,7 @@ pub fn allocate<S: PortSink>(words: u32, sink: &mut S)
 }
 
 /// The entry at a place.
-pub fn entry_at<'a>(context: Context<'a>, place: Option<u32>) -> Option<&'a Entry<'a>>
+pub fn entry_at<'a, 'p>(context: Context<'a, 'p>, place: Option<u32>) -> Option<&'a Entry<'p>>
     ensures { IsEntryFound context.entry place result }
 {
     let Some(place) = place else {

@@ -8,10 +8,12 @@ mod charge;
 mod frame;
 mod hand;
 mod machine;
+mod program;
 mod ran;
 mod run;
 mod step;
 mod unfold;
 mod wait;
 
+pub use program::run_program;
 pub use ran::{End, Ran};

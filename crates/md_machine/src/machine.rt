@@ -22,10 +22,10 @@ use std::rc::Rc;
 
 /// What a run rests on: where it takes memory, and its program as a table. `nothing` is a list of no values.
 #[derive(Clone, Copy)]
-pub struct Context<'a> {
+pub struct Context<'a, 'p> {
     pub alloc: Global,
     pub bump: &'a Bump,
-    pub code: &'a Code<'a>,
+    pub code: &'a Code<'p>,
     pub nothing: &'a Parts<'a>,
 }
 
@@ -56,19 +56,19 @@ pub enum Progress<'a, M: Copy + Drop> {
 
 /// Whether the next goal is a call.
 #[derive(Clone, Copy)]
-pub enum Found<'a> {
+pub enum Found<'a, 'p> {
     NoCall,
     /// It is a call, and no rule applies.
     Stuck,
-    Calls(Call<'a>),
+    Calls(Call<'a, 'p>),
 }
 
 /// The call that the goal of this entry is.
-pub fn call_at<'a>(
-    context: Context<'a>,
-    entry: &'a Entry<'a>,
+pub fn call_at<'a, 'p>(
+    context: Context<'a, 'p>,
+    entry: &'a Entry<'p>,
     slots: &[Option<Value<'a>>],
-) -> Result<Found<'a>, NoMemory>
+) -> Result<Found<'a, 'p>, NoMemory>
     ensures { IfOk result (λ found. IsFound context.entry entry.now (env_of slots.now) found) }
 {
     match &entry.step {
@@ -102,7 +102,7 @@ fn number_of(procedure: Option<ProcId>) -> Option<u32>
     }
 }
 
-fn found_or_stuck(found: Option<Call>) -> Found
+fn found_or_stuck<'a, 'p>(found: Option<Call<'a, 'p>>) -> Found<'a, 'p>
     ensures { result ≡ found_or_stuck found.entry }
 {
     match found {
@@ -112,9 +112,9 @@ fn found_or_stuck(found: Option<Call>) -> Found
 }
 
 /// The goal of this entry, which is no call, is unfolded.
-pub fn unfold<'a, M: Copy + Drop>(
-    context: Context<'a>,
-    entry: &'a Entry<'a>,
+pub fn unfold<'a, 'p, M: Copy + Drop>(
+    context: Context<'a, 'p>,
+    entry: &'a Entry<'p>,
     frame: Frame<'a, M>,
     callers: Option<Rc<Chain<'a, M>>>,
     waits: &mut Waits<'a, M>,

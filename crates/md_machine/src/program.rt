@@ -1,0 +1,69 @@
+// The run of a program within a budget of steps, for a sink of its ports.
+ghost use Rattle.std.specs.Prelude.{[], IfOk, OnOk, OnErr};
+ghost use Rattle.md_hlds.specs.Hlds.{hlds_of};
+ghost use Rattle.md_hlds.specs.Run.{run};
+ghost use Rattle.md_events.specs.History.{history};
+ghost use Rattle.md_events.specs.Table.{site_table};
+ghost use Rattle.md_events.specs.Laws.{IsWithinBounds};
+ghost use Rattle.md_code.specs.IsCode.{IsCodeOf};
+ghost use Rattle.md_machine.specs.Ran.{IsRunOf, StandsForFront};
+
+use crate::begin::{begin, find_main, unfinished};
+use crate::machine::Context;
+use crate::ran::Ran;
+use bumpalo::Bump;
+use md_base::NoMemory;
+use md_code::{Code, prepare};
+use md_hlds::Program;
+use md_trace::PortSink;
+use md_value::Parts;
+use std::alloc::Global;
+
+/// The run of a program.
+pub fn run_program<S: PortSink>(
+    alloc: Global,
+    program: &Program,
+    budget: u32,
+    sink: &mut S,
+) -> Result<Ran, NoMemory>
+    requires bounds { IsWithinBounds (hlds_of program.now) budget }
+    requires begins { S.stands_for sink.old (site_table (hlds_of program.now)) [] }
+    ensures run { IfOk result (λ ran. IsRunOf (hlds_of program.now) budget ran) }
+    ensures whole { OnOk result (S.stands_for sink.new (site_table (hlds_of program.now)) (history (run (hlds_of program.now) budget))) }
+    ensures front { OnErr result (StandsForFront (hlds_of program.now) budget (S.stands_for sink.new (site_table (hlds_of program.now)))) }
+    ensures alike { S.alike sink.old sink.new }
+{
+    let code = prepare(alloc, program)?;
+    let bump = Bump::new(alloc);
+    run_code(alloc, &bump, &code, program, budget, sink)
+}
+
+/// The run of a program with its table.
+fn run_code<'a, 'p, S: PortSink>(
+    alloc: Global,
+    bump: &'a Bump,
+    code: &'a Code<'p>,
+    program: &Program,
+    budget: u32,
+    sink: &mut S,
+) -> Result<Ran, NoMemory>
+    requires code { IsCodeOf (hlds_of program.now) code.now }
+    requires bounds { IsWithinBounds (hlds_of program.now) budget }
+    requires begins { S.stands_for sink.old (site_table (hlds_of program.now)) [] }
+    ensures run { IfOk result (λ ran. IsRunOf (hlds_of program.now) budget ran) }
+    ensures whole { OnOk result (S.stands_for sink.new (site_table (hlds_of program.now)) (history (run (hlds_of program.now) budget))) }
+    ensures front { OnErr result (StandsForFront (hlds_of program.now) budget (S.stands_for sink.new (site_table (hlds_of program.now)))) }
+    ensures alike { S.alike sink.old sink.new }
+{
+    let Some(number) = find_main(alloc, program)? else {
+        return Ok(unfinished(alloc));
+    };
+    let nothing: &'a Parts<'a> = bump.try_alloc(Parts::Nothing)?;
+    let context = Context {
+        alloc,
+        bump,
+        code,
+        nothing,
+    };
+    begin(context, program, number, budget, sink)
+}
