@@ -15,5 +15,5 @@ mod step;
 mod unfold;
 mod wait;
 
-pub use program::run_program;
+pub use program::interpret;
 pub use ran::{End, Ran};

@@ -14,13 +14,35 @@ use crate::ran::Ran;
 use bumpalo::Bump;
 use md_base::NoMemory;
 use md_code::{Code, prepare};
+use md_det::Checked;
 use md_hlds::Program;
 use md_trace::PortSink;
 use md_value::Parts;
 use std::alloc::Global;
 
+/// Runs a program within a budget of steps (a turn costs its weight), and hands each port and each allocation to the
+/// sink. The output and the end are those of the definition of the run, and the sink, which stood for the empty history
+/// over the program's call sites, stands then for that of the run's events; after want of memory, for that of a front of
+/// them. Time is in proportion to the weight of the run and the ports; memory grows with the depth of calls, the open
+/// choices and the values built, and not with turns or events. `NoMemory` also comes where a run makes 2^64 - 1 steps.
+pub fn interpret<S: PortSink>(
+    alloc: Global,
+    checked: &Checked,
+    budget: u32,
+    sink: &mut S,
+) -> Result<Ran, NoMemory>
+    requires bounds { IsWithinBounds (hlds_of checked.now) budget }
+    requires begins { S.stands_for sink.old (site_table (hlds_of checked.now)) [] }
+    ensures run { IfOk result (λ ran. IsRunOf (hlds_of checked.now) budget ran) }
+    ensures whole { OnOk result (S.stands_for sink.new (site_table (hlds_of checked.now)) (history (run (hlds_of checked.now) budget))) }
+    ensures front { OnErr result (StandsForFront (hlds_of checked.now) budget (S.stands_for sink.new (site_table (hlds_of checked.now)))) }
+    ensures alike { S.alike sink.old sink.new }
+{
+    run_program(alloc, checked.program(), budget, sink)
+}
+
 /// The run of a program.
-pub fn run_program<S: PortSink>(
+fn run_program<S: PortSink>(
     alloc: Global,
     program: &Program,
     budget: u32,

@@ -14,7 +14,7 @@ use Rattle.md_det.specs.declared.fault.DetFault.{DetFault}
 use Rattle.md_det.specs.declared.fault.DetFault.TheVariants as determinism
 use Rattle.md_det.specs.Faults.{det_fault}
 use Rattle.md_tool.specs.declared.fault.Fault.{Fault}
-use Rattle.md_tool.specs.declared.fault.Fault.TheVariants.{Usage, Read, TooLong, NotBuilt, OutOfSteps, Write, NoMemory}
+use Rattle.md_tool.specs.declared.fault.Fault.TheVariants.{Usage, Read, TooLong, OutOfSteps, Thrown, Write, NoMemory}
 use Rattle.md_tool.specs.declared.fault.Fault.TheVariants.{Refused as RefusedAt}
 use Rattle.md_tool.specs.Accepted.{Accepts, IsAccepted, HasModeFault, HasDetFault, HasFaultOfModes, HasFaultOfDeterminism, ProgramHas, TextFault, refusal_of, modes_refusal, determinism_refusal}
 
@@ -96,8 +96,8 @@ text_fault text program NoMemory spelled is_read has = tt
 text_fault text program Usage spelled is_read has = of_text program Usage has
 text_fault text program Read spelled is_read has = of_text program Read has
 text_fault text program TooLong spelled is_read has = of_text program TooLong has
-text_fault text program NotBuilt spelled is_read has = of_text program NotBuilt has
 text_fault text program OutOfSteps spelled is_read has = of_text program OutOfSteps has
+text_fault text program (Thrown bytes) spelled is_read has = of_text program (Thrown bytes) has
 text_fault text program Write spelled is_read has = of_text program Write has
 
 -- a text is accepted as the program that it spells, where that has no fault

@@ -13,7 +13,7 @@ use Rattle.md_det.specs.declared.fault.DetFault.{DetFault}
 use Rattle.md_det.specs.declared.fault.DetFault.TheVariants as determinism
 use Rattle.md_det.specs.Faults.{det_fault}
 use Rattle.md_tool.specs.declared.fault.Fault.{Fault}
-use Rattle.md_tool.specs.declared.fault.Fault.TheVariants.{Usage, Read, TooLong, NotBuilt, OutOfSteps, Write, NoMemory}
+use Rattle.md_tool.specs.declared.fault.Fault.TheVariants.{Usage, Read, TooLong, OutOfSteps, Thrown, Write, NoMemory}
 use Rattle.md_tool.specs.declared.fault.Fault.TheVariants.{Refused as RefusedAt}
 use Rattle.md_tool.specs.declared.fault.Why.TheVariants as why
 
@@ -91,8 +91,8 @@ TextFault text NoMemory = Unit {0}
 TextFault text Usage = ⊥
 TextFault text Read = ⊥
 TextFault text TooLong = ⊥
-TextFault text NotBuilt = ⊥
 TextFault text OutOfSteps = ⊥
+TextFault text (Thrown bytes) = ⊥
 TextFault text Write = ⊥
 
 -- the text is accepted as this program

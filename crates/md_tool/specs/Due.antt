@@ -1,23 +1,19 @@
 -- What a command owes, and what there is of it after the call.
-use Rattle.std.specs.Prelude.{ℕ, ◌≡◌, ◌⊎◌, ◌≤◌, Bool, true, false, IsTrue, List, length, Option, Result, Ok, Err, codes}
+use Rattle.std.specs.Prelude.{ℕ, ◌≡◌, ◌⊎◌, ◌≤◌, Bool, true, false, List, ◌++◌, length, Option, Result, Ok, Err, codes}
 use Rattle.md_base.specs.Outside.{added, PartAdded}
 use Rattle.md_base.specs.Files.{Files, FileIs, FileIsLonger}
 use Rattle.md_hlds.specs.Hlds.{Hlds}
-use Rattle.md_hlds.specs.Run.{run, output, is_finished}
+use Rattle.md_hlds.specs.Run.{run, output}
+use Rattle.md_trace.specs.Counted.{procedure_counts}
+use Rattle.md_events.specs.History.{history}
+use Rattle.md_events.specs.Table.{site_table}
+use Rattle.md_ports.specs.Ports.{statics_of}
 use Rattle.md_printer.specs.Printed.{printed}
-use Rattle.md_machine.specs.FirstForm.{is_first_form}
-use Rattle.md_machine.specs.Ran.{IsRunOf, says_finished}
-use Rattle.md_machine.specs.declared.execute.End.{End}
-use Rattle.md_machine.specs.declared.execute.End.TheVariants.{Finished}
-use Rattle.md_machine.specs.declared.execute.End.TheVariants.{OutOfSteps as RanOut}
-use Rattle.md_machine.specs.declared.execute.Ran.{Ran}
 use Rattle.md_tool.specs.declared.fault.Fault.{Fault}
-use Rattle.md_tool.specs.declared.fault.Fault.TheVariants.{Usage, Read, TooLong, Refused, NotBuilt, OutOfSteps, Write, NoMemory}
+use Rattle.md_tool.specs.declared.fault.Fault.TheVariants.{Usage, Read, TooLong, Refused, OutOfSteps, Thrown, Write, NoMemory}
 use Rattle.md_tool.specs.Accepted.{Accepted, NotAccepted}
-
--- the budget of a run
-abbrev pub budget : ℕ
-budget = 1000000
+use Rattle.md_tool.specs.Ends.{RunEnd, Finished, Threw, RanOut, end_of}
+use Rattle.md_tool.specs.Procs.{procs_page}
 
 -- the longest text of a program, in bytes
 abbrev pub longest : ℕ
@@ -44,77 +40,127 @@ pub record IsRefused (held : Option Files) (file : List ℕ) (before now : Optio
   pub cause : NotAccepted text fault
   pub untouched : now ≡ before
 
+-- ---- writing
+
+-- the bytes were written, or a front of them: `writes` says that the sink's count of faults rose
+abbrev pub WriteEnds : List ℕ → Option (List ℕ) → Option (List ℕ) → Type 0 → Result (Unit {0}) Fault → Type 0
+WriteEnds bytes before now writes (Ok done) = now ≡ added bytes before
+WriteEnds bytes before now writes (Err Write) = writes × PartAdded bytes before now
+WriteEnds bytes before now writes (Err NoMemory) = PartAdded bytes before now
+WriteEnds bytes before now writes (Err fault) = ⊥
+
 -- ---- `run`
 
--- an accepted text whose program can be run
-pub record Runs (text : List ℕ) : Type 0 where
-  pub accepted : Accepted text
-  pub form : IsTrue (is_first_form accepted.program)
-
--- the bytes that the run of the program writes, and whether it is finished
-abbrev pub output_of : {text : List ℕ} → Runs text → List ℕ
-output_of r = output (run r.accepted.program budget)
-
-abbrev pub finished : {text : List ℕ} → Runs text → Bool
-finished r = is_finished (run r.accepted.program budget)
-
--- the file's text is accepted, and its program is of another form; nothing was written
-pub record IsOther (held : Option Files) (file : List ℕ) (before now : Option (List ℕ)) : Type 0 where
+-- the file's program was run, and all that its run writes within so many steps was written
+pub record HasRun (held : Option Files) (file : List ℕ) (steps : ℕ) (before now : Option (List ℕ)) (end : RunEnd) : Type 0 where
   pub text : List ℕ
   pub is_text : IsText held file text
   pub accepted : Accepted text
-  pub form : is_first_form accepted.program ≡ false
-  pub untouched : now ≡ before
-
--- what a run of a program came to, and why it isn't run
-pub record ProgramRuns (program : Hlds) (ran : Ran) : Type 0 where
-  pub form : IsTrue (is_first_form program)
-  pub is_run : IsRunOf program budget ran
-
-abbrev pub ProgramFault : Hlds → Fault → Type 0
-ProgramFault program NotBuilt = is_first_form program ≡ false
-ProgramFault program NoMemory = Unit {0}
-ProgramFault program fault = ⊥
-
--- what the end of a run tells
-abbrev pub told_of : End → Result (Unit {0}) Fault
-told_of Finished = Ok tt
-told_of RanOut = Err OutOfSteps
-
--- what a run wrote was written, or a front of it
-abbrev pub ShowEnds : Ran → Option (List ℕ) → Option (List ℕ) → Type 0 → Result (Unit {0}) Fault → Type 0
-ShowEnds ran before now writes (Ok done) = (now ≡ added ran.output.items before) × (says_finished ran.end ≡ true)
-ShowEnds ran before now writes (Err OutOfSteps) = (now ≡ added ran.output.items before) × (says_finished ran.end ≡ false)
-ShowEnds ran before now writes (Err Write) = writes × PartAdded ran.output.items before now
-ShowEnds ran before now writes (Err NoMemory) = PartAdded ran.output.items before now
-ShowEnds ran before now writes (Err fault) = ⊥
-
--- the file's program was run, and all that its run writes was written
-pub record HasRun (held : Option Files) (file : List ℕ) (before now : Option (List ℕ)) (finished' : Bool) : Type 0 where
-  pub text : List ℕ
-  pub is_text : IsText held file text
-  pub runs : Runs text
-  pub written : now ≡ added (output_of runs) before
-  pub end : finished runs ≡ finished'
+  pub written : now ≡ added (output (run accepted.program steps)) before
+  pub ended : end_of (run accepted.program steps) ≡ end
 
 -- the file's program was run, and a front of what its run writes was written
-pub record HasRunInPart (held : Option Files) (file : List ℕ) (before now : Option (List ℕ)) : Type 0 where
+pub record HasRunInPart (held : Option Files) (file : List ℕ) (steps : ℕ) (before now : Option (List ℕ)) : Type 0 where
   pub text : List ℕ
   pub is_text : IsText held file text
-  pub runs : Runs text
-  pub written : PartAdded (output_of runs) before now
+  pub accepted : Accepted text
+  pub written : PartAdded (output (run accepted.program steps)) before now
 
 -- what a run of a file came to
-abbrev pub RunEnds : Option Files → List ℕ → Option (List ℕ) → Option (List ℕ) → Type 0 → Type 0 → Result (Unit {0}) Fault → Type 0
-RunEnds held file before now reads writes (Ok done) = HasRun held file before now true
-RunEnds held file before now reads writes (Err OutOfSteps) = HasRun held file before now false
-RunEnds held file before now reads writes (Err Read) = reads × (now ≡ before)
-RunEnds held file before now reads writes (Err TooLong) = FileIsLonger held file longest × (now ≡ before)
-RunEnds held file before now reads writes (Err (Refused line why)) = IsRefused held file before now (Refused line why)
-RunEnds held file before now reads writes (Err NotBuilt) = IsOther held file before now
-RunEnds held file before now reads writes (Err Write) = writes × HasRunInPart held file before now
-RunEnds held file before now reads writes (Err NoMemory) = (now ≡ before) ⊎ HasRunInPart held file before now
-RunEnds held file before now reads writes (Err Usage) = ⊥
+abbrev pub RunEnds : Option Files → List ℕ → (steps : ℕ) → Option (List ℕ) → Option (List ℕ) → Type 0 → Type 0 → Result (Unit {0}) Fault → Type 0
+RunEnds held file steps before now reads writes (Ok done) = HasRun held file steps before now Finished
+RunEnds held file steps before now reads writes (Err OutOfSteps) = HasRun held file steps before now RanOut
+RunEnds held file steps before now reads writes (Err (Thrown bytes)) = HasRun held file steps before now (Threw bytes.items)
+RunEnds held file steps before now reads writes (Err Read) = reads × (now ≡ before)
+RunEnds held file steps before now reads writes (Err TooLong) = FileIsLonger held file longest × (now ≡ before)
+RunEnds held file steps before now reads writes (Err (Refused line why)) = IsRefused held file before now (Refused line why)
+RunEnds held file steps before now reads writes (Err Write) = writes × HasRunInPart held file steps before now
+RunEnds held file steps before now reads writes (Err NoMemory) = (now ≡ before) ⊎ HasRunInPart held file steps before now
+RunEnds held file steps before now reads writes (Err Usage) = ⊥
+
+-- what is written of a run with this output and this end
+abbrev pub ShowEnds : (output : List ℕ) → RunEnd → Option (List ℕ) → Option (List ℕ) → Type 0 → Result (Unit {0}) Fault → Type 0
+ShowEnds bytes end before now writes (Ok done) = (now ≡ added bytes before) × (end ≡ Finished)
+ShowEnds bytes end before now writes (Err OutOfSteps) = (now ≡ added bytes before) × (end ≡ RanOut)
+ShowEnds bytes end before now writes (Err (Thrown thrown)) = (now ≡ added bytes before) × (end ≡ Threw thrown.items)
+ShowEnds bytes end before now writes (Err Write) = writes × PartAdded bytes before now
+ShowEnds bytes end before now writes (Err NoMemory) = PartAdded bytes before now
+ShowEnds bytes end before now writes (Err fault) = ⊥
+
+-- ---- `report`
+
+-- what the error stream gets of a run: its output, and a line that ends it
+abbrev pub reported_output : Hlds → ℕ → List ℕ
+reported_output program steps = output (run program steps) ++ codes "-- end of output\n"
+
+-- the page of a run: each procedure of the program with its own counts over the run's events
+abbrev pub reported_page : Hlds → ℕ → List ℕ
+reported_page program steps = procs_page (statics_of program) (procedure_counts (site_table program).main (history (run program steps)))
+
+-- the output was written to `err`, and the page to `out`
+pub record IsWhole (output page : List ℕ) (out out' err err' : Option (List ℕ)) : Type 0 where
+  pub output_is : err' ≡ added output err
+  pub page_is : out' ≡ added page out
+
+-- a front of the output was written to `err`
+pub record IsOutputPart (output : List ℕ) (out out' err err' : Option (List ℕ)) : Type 0 where
+  pub output_is : PartAdded output err err'
+  pub no_page : out' ≡ out
+
+-- the output was written to `err`, and a front of the page to `out`
+pub record IsPagePart (output page : List ℕ) (out out' err err' : Option (List ℕ)) : Type 0 where
+  pub output_is : err' ≡ added output err
+  pub page_is : PartAdded page out out'
+
+-- neither stream got anything
+pub record IsUntouched (out out' err err' : Option (List ℕ)) : Type 0 where
+  pub out_is : out' ≡ out
+  pub err_is : err' ≡ err
+
+-- the file's program was run; `err` got all that its run writes within so many steps, and `out` the page
+pub record HasReported (held : Option Files) (file : List ℕ) (steps : ℕ) (out out' err err' : Option (List ℕ)) (end : RunEnd) : Type 0 where
+  pub text : List ℕ
+  pub is_text : IsText held file text
+  pub accepted : Accepted text
+  pub written : IsWhole (reported_output accepted.program steps) (reported_page accepted.program steps) out out' err err'
+  pub ended : end_of (run accepted.program steps) ≡ end
+
+-- the file's program was run, and `err` got a front of what its run writes
+pub record HasOutputInPart (held : Option Files) (file : List ℕ) (steps : ℕ) (out out' err err' : Option (List ℕ)) : Type 0 where
+  pub text : List ℕ
+  pub is_text : IsText held file text
+  pub accepted : Accepted text
+  pub written : IsOutputPart (reported_output accepted.program steps) out out' err err'
+
+-- the file's program was run; `err` got all that its run writes, and `out` a front of the page
+pub record HasPageInPart (held : Option Files) (file : List ℕ) (steps : ℕ) (out out' err err' : Option (List ℕ)) : Type 0 where
+  pub text : List ℕ
+  pub is_text : IsText held file text
+  pub accepted : Accepted text
+  pub written : IsPagePart (reported_output accepted.program steps) (reported_page accepted.program steps) out out' err err'
+
+-- what a report on a file came to
+abbrev pub ReportEnds : Option Files → List ℕ → (steps : ℕ) → (out out' err err' : Option (List ℕ)) → (reads outs errs : Type 0) → Result (Unit {0}) Fault → Type 0
+ReportEnds held file steps out out' err err' reads outs errs (Ok done) = HasReported held file steps out out' err err' Finished
+ReportEnds held file steps out out' err err' reads outs errs (Err OutOfSteps) = HasReported held file steps out out' err err' RanOut
+ReportEnds held file steps out out' err err' reads outs errs (Err (Thrown bytes)) = HasReported held file steps out out' err err' (Threw bytes.items)
+ReportEnds held file steps out out' err err' reads outs errs (Err Read) = reads × IsUntouched out out' err err'
+ReportEnds held file steps out out' err err' reads outs errs (Err TooLong) = FileIsLonger held file longest × IsUntouched out out' err err'
+ReportEnds held file steps out out' err err' reads outs errs (Err (Refused line why)) = IsRefused held file out out' (Refused line why) × (err' ≡ err)
+ReportEnds held file steps out out' err err' reads outs errs (Err Write) =
+    (errs × HasOutputInPart held file steps out out' err err') ⊎ (outs × HasPageInPart held file steps out out' err err')
+ReportEnds held file steps out out' err err' reads outs errs (Err NoMemory) =
+    IsUntouched out out' err err' ⊎ (HasOutputInPart held file steps out out' err err' ⊎ HasPageInPart held file steps out out' err err')
+ReportEnds held file steps out out' err err' reads outs errs (Err Usage) = ⊥
+
+-- what is written of a run with this output, this page and this end
+abbrev pub PageEnds : (output page : List ℕ) → RunEnd → (out out' err err' : Option (List ℕ)) → (outs errs : Type 0) → Result (Unit {0}) Fault → Type 0
+PageEnds output page end out out' err err' outs errs (Ok done) = IsWhole output page out out' err err' × (end ≡ Finished)
+PageEnds output page end out out' err err' outs errs (Err OutOfSteps) = IsWhole output page out out' err err' × (end ≡ RanOut)
+PageEnds output page end out out' err err' outs errs (Err (Thrown bytes)) = IsWhole output page out out' err err' × (end ≡ Threw bytes.items)
+PageEnds output page end out out' err err' outs errs (Err Write) = (errs × IsOutputPart output out out' err err') ⊎ (outs × IsPagePart output page out out' err err')
+PageEnds output page end out out' err err' outs errs (Err NoMemory) = IsOutputPart output out out' err err' ⊎ IsPagePart output page out out' err err'
+PageEnds output page end out out' err err' outs errs (Err fault) = ⊥
 
 -- ---- `check`
 
@@ -122,13 +168,6 @@ RunEnds held file before now reads writes (Err Usage) = ⊥
 abbrev pub check_output : Bool → Hlds → List ℕ
 check_output true program = printed program
 check_output false program = codes "accepted\n"
-
--- the bytes were written, or a front of them
-abbrev pub WriteEnds : List ℕ → Option (List ℕ) → Option (List ℕ) → Type 0 → Result (Unit {0}) Fault → Type 0
-WriteEnds bytes before now writes (Ok done) = now ≡ added bytes before
-WriteEnds bytes before now writes (Err Write) = writes × PartAdded bytes before now
-WriteEnds bytes before now writes (Err NoMemory) = PartAdded bytes before now
-WriteEnds bytes before now writes (Err fault) = ⊥
 
 -- the file's text is accepted, and that was written
 pub record HasChecked (held : Option Files) (file : List ℕ) (print : Bool) (before now : Option (List ℕ)) : Type 0 where

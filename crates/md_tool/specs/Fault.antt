@@ -4,7 +4,7 @@ use Rattle.std.specs.Fmt.{decimal}
 use Rattle.md_hlds.specs.declared.types.Det.{Det}
 use Rattle.md_hlds.specs.declared.types.Det.TheVariants as det
 use Rattle.md_tool.specs.declared.fault.Fault.{Fault}
-use Rattle.md_tool.specs.declared.fault.Fault.TheVariants.{Usage, Read, TooLong, Refused, NotBuilt, OutOfSteps, Write, NoMemory}
+use Rattle.md_tool.specs.declared.fault.Fault.TheVariants.{Usage, Read, TooLong, Refused, OutOfSteps, Thrown, Write, NoMemory}
 use Rattle.md_tool.specs.declared.fault.Why.{Why}
 use Rattle.md_tool.specs.declared.fault.Why.TheVariants as why
 
@@ -13,14 +13,18 @@ status_of Usage = 1
 status_of Read = 2
 status_of TooLong = 3
 status_of (Refused line w) = 3
-status_of NotBuilt = 3
 status_of OutOfSteps = 4
+status_of (Thrown error) = 10
 status_of Write = 7
 status_of NoMemory = 8
 
 -- a line that speaks of no file, of a file, and of a place in it
 abbrev pub plain_line : List ℕ → List ℕ
 plain_line text = codes "mdprof: " ++ (text ++ 10 ∷ [])
+
+-- the line that tells of an exception, with its bytes as they are
+abbrev pub uncaught_line : List ℕ → List ℕ
+uncaught_line error = codes "mdprof: uncaught exception: " ++ (error ++ 10 ∷ [])
 
 abbrev pub file_line : List ℕ → List ℕ → List ℕ
 file_line file text = codes "mdprof: " ++ (file ++ (codes ": " ++ (text ++ 10 ∷ [])))
@@ -63,7 +67,7 @@ fault_line Usage file = plain_line (codes "usage: see the table of commands")
 fault_line Read file = file_line file (codes "read fault")
 fault_line TooLong file = file_line file (codes "longer than 1048576 bytes")
 fault_line (Refused line w) file = place_line file line (text_of w)
-fault_line NotBuilt file = file_line file (codes "not built")
 fault_line OutOfSteps file = plain_line (codes "out of steps")
+fault_line (Thrown error) file = uncaught_line error.items
 fault_line Write file = plain_line (codes "write fault")
 fault_line NoMemory file = plain_line (codes "want of memory")

@@ -1,7 +1,10 @@
 pub mod Form
 pub mod Words
 pub mod Fault
+pub mod Procs
 pub mod Accepted
+pub mod Ends
+pub mod Ran
 pub mod Due
 pub mod Told
 pub mod Meaning

@@ -7,7 +7,8 @@ ghost use Rattle.md_tool.specs.Due.{CheckEnds, WriteEnds, check_output};
 
 use crate::accept::{accept, read_text};
 use crate::fault::Fault;
-use md_base::{Sink, Store, WriteFault, write_whole};
+use crate::write::write;
+use md_base::{Sink, Store};
 use md_hlds::Program;
 use md_printer::print;
 use std::alloc::Global;
@@ -49,16 +50,5 @@ fn show_program<O: Sink>(alloc: Global, program: &Program, out: &mut O) -> Resul
     match print(alloc, program) {
         Ok(text) => write(out, &text),
         Err(_) => Err(Fault::NoMemory),
-    }
-}
-
-/// Writes bytes.
-fn write<O: Sink>(out: &mut O, bytes: &[u8]) -> Result<(), Fault>
-    ensures { WriteEnds bytes.now (O.held out.old) (O.held out.new) (Rose (O.write_faults out.old) (O.write_faults out.new)) result }
-{
-    match write_whole(out, bytes) {
-        Ok(()) => Ok(()),
-        Err(WriteFault::Write) => Err(Fault::Write),
-        Err(WriteFault::NoMemory) => Err(Fault::NoMemory),
     }
 }

@@ -1,5 +1,5 @@
 // The commands, with what each does to the store, the streams and the net.
-ghost use Rattle.std.specs.Prelude.{◌≡◌, ◌⊎◌, None, Some, MatchOption};
+ghost use Rattle.std.specs.Prelude.{◌≡◌, ◌≤◌};
 ghost use Rattle.md_base.specs.Outside.{Rose};
 ghost use Rattle.md_tool.specs.Form.{words_of, form};
 ghost use Rattle.md_tool.specs.Told.{Tells, EndIsTold, TopEnds};
@@ -8,6 +8,7 @@ ghost use Rattle.md_tool.specs.Meaning.{Means};
 use crate::check::check_file;
 use crate::fault::Fault;
 use crate::form::{Command, command_of};
+use crate::report::report_file;
 use crate::run::run_file;
 use md_base::{Net, Sink, Store, WriteFault, write_whole};
 use std::alloc::Global;
@@ -18,11 +19,13 @@ pub struct Status(pub u8);
 
 /// Does what the words of a command line ask for.
 ///
-/// `run FILE` reads the program of the file, runs it within 1,000,000 steps and writes what it writes to `out`. `check
-/// FILE` writes that the file's program is accepted, and `check FILE --print` its printed text. A fault is told by a line
-/// on `err` and by the status: 1 where the words are no command, 2 where the file can't be read, 3 where its text isn't
-/// accepted as a program or can't be run yet, 4 where the run isn't finished, 7 where something can't be written, and 8
-/// where memory was refused.
+/// `run FILE` reads the program of the file, runs it within 1,000,000 steps, or as many as `--steps` gives, and writes what
+/// it writes to `out`. `check FILE` writes that the file's program is accepted, and `check FILE --print` its printed text.
+/// `report FILE procs` runs the program as `run` does, but writes what it writes to `err`, with a line that ends it, and
+/// then to `out` how often each procedure was called, left and entered again, and what it allocated. A fault is told by a
+/// line on `err` and by the status: 1 where the words are no command, 2 where the file can't be read, 3 where its text isn't
+/// accepted as a program, 4 where the run isn't finished, 7 where something can't be written, 8 where memory was refused,
+/// and 10 where an exception left the program's `main`.
 pub fn top<S: Store, O: Sink, E: Sink, N: Net>(
     alloc: Global,
     words: &[String],
@@ -31,8 +34,9 @@ pub fn top<S: Store, O: Sink, E: Sink, N: Net>(
     err: &mut E,
     net: &mut N,
 ) -> Status
-    ensures status { Means (form (words_of words.now)) (S.held store.old) (O.held out.old) (O.held out.new)
-        (Rose (S.read_faults store.old) (S.read_faults store.new)) (Rose (O.write_faults out.old) (O.write_faults out.new)) result.0 }
+    ensures status { Means (form (words_of words.now)) (S.held store.old) (O.held out.old) (O.held out.new) (E.held err.old) (E.held err.new)
+        (Rose (S.read_faults store.old) (S.read_faults store.new)) (Rose (O.write_faults out.old) (O.write_faults out.new))
+        (Rose (E.write_faults err.old) (E.write_faults err.new)) result.0 }
     ensures ends { TopEnds (form (words_of words.now)) (S.held store.old) (O.held out.old) (O.held out.new) (E.held err.old) (E.held err.new)
         (Rose (S.read_faults store.old) (S.read_faults store.new)) (Rose (O.write_faults out.old) (O.write_faults out.new))
         (Rose (E.write_faults err.old) (E.write_faults err.new)) result.0 }
@@ -57,22 +61,27 @@ fn run_command<S: Store, O: Sink, E: Sink>(
     ensures store { S.held store.new ≡ S.held store.old }
 {
     match command_of(alloc, words) {
-        Err(_) => tell(alloc, Fault::NoMemory, "", err),
-        Ok(None) => tell(alloc, Fault::Usage, "", err),
-        Ok(Some(Command::Run { file })) => {
-            let end = run_file(alloc, file, store, out);
-            tell_end(alloc, end, file, err)
+        Err(_) => tell(alloc, &Fault::NoMemory, "", err),
+        Ok(None) => tell(alloc, &Fault::Usage, "", err),
+        Ok(Some(Command::Run { file, steps })) => {
+            let end = run_file(alloc, file, steps, store, out);
+            tell_end(alloc, &end, file, err)
         }
         Ok(Some(Command::Check { file, print })) => {
             let end = check_file(alloc, file, print, store, out);
-            tell_end(alloc, end, file, err)
+            tell_end(alloc, &end, file, err)
+        }
+        Ok(Some(Command::Report { file, steps })) => {
+            let end = report_file(alloc, file, steps, store, out, err);
+            tell_end(alloc, &end, file, err)
         }
     }
 }
 
 /// Tells how a command ended, and gives the status.
-fn tell_end<E: Sink>(alloc: Global, end: Result<(), Fault>, file: &str, err: &mut E) -> u8
-    ensures { EndIsTold end file.now (E.held err.old) (E.held err.new) (Rose (E.write_faults err.old) (E.write_faults err.new)) result }
+fn tell_end<E: Sink>(alloc: Global, end: &Result<(), Fault>, file: &str, err: &mut E) -> u8
+    ensures told { EndIsTold end.now file.now (E.held err.old) (E.held err.new) (Rose (E.write_faults err.old) (E.write_faults err.new)) result }
+    ensures later { E.write_faults err.old ≤ E.write_faults err.new }
 {
     match end {
         Ok(()) => 0,
@@ -81,13 +90,14 @@ fn tell_end<E: Sink>(alloc: Global, end: Result<(), Fault>, file: &str, err: &mu
 }
 
 /// Writes the line that tells of a fault, and gives its status.
-fn tell<E: Sink>(alloc: Global, fault: Fault, file: &str, err: &mut E) -> u8
-    ensures { Tells fault file.now (E.held err.old) (E.held err.new) (Rose (E.write_faults err.old) (E.write_faults err.new)) result }
+fn tell<E: Sink>(alloc: Global, fault: &Fault, file: &str, err: &mut E) -> u8
+    ensures told { Tells fault.now file.now (E.held err.old) (E.held err.new) (Rose (E.write_faults err.old) (E.write_faults err.new)) result }
+    ensures later { E.write_faults err.old ≤ E.write_faults err.new }
 {
     let Ok(line) = fault.line(alloc, file) else {
         return Fault::NoMemory.status();
     };
-    match write_whole(err, line.as_str().as_bytes()) {
+    match write_whole(err, &line) {
         Err(WriteFault::NoMemory) => Fault::NoMemory.status(),
         _ => fault.status(),
     }

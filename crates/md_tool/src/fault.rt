@@ -1,13 +1,13 @@
 // Why a command ended without all that it was asked for, and the line that says so.
 ghost use Rattle.std.specs.Prelude.{◌≡◌, IfOk, string_bytes};
-ghost use Rattle.md_tool.specs.Fault.{status_of, fault_line, plain_line, file_line, place_line, text_of, word_of, declared_text};
+ghost use Rattle.md_tool.specs.Fault.{status_of, fault_line, plain_line, uncaught_line, file_line, place_line, text_of, word_of, declared_text};
 ghost use Rattle.md_tool.specs.declared.fault.Why.TheVariants as why;
 
 use md_hlds::Det;
 use std::alloc::{AllocError, Global};
 
 /// Why a command ended without all that it was asked for.
-#[derive(Clone, Copy, Debug, PartialEq, Eq)]
+#[derive(Debug, Drop)]
 pub enum Fault {
     /// The words are no command.
     Usage,
@@ -17,10 +17,10 @@ pub enum Fault {
     TooLong,
     /// The text isn't accepted as a program.
     Refused { line: u32, why: Why },
-    /// The program is of a form that can't be run yet.
-    NotBuilt,
     /// The run isn't finished within its budget.
     OutOfSteps,
+    /// An exception with these bytes left the program's `main`.
+    Thrown(Vec<u8>),
     /// Something can't be written.
     Write,
     /// Memory was refused.
@@ -53,32 +53,32 @@ pub enum Why {
 
 impl Fault {
     /// The exit status that tells of it.
-    pub fn status(self) -> u8
-        ensures { result ≡ status_of self }
+    pub fn status(&self) -> u8
+        ensures { result ≡ status_of self.now }
     {
         match self {
             Fault::Usage => 1,
             Fault::Read => 2,
             Fault::TooLong => 3,
             Fault::Refused { .. } => 3,
-            Fault::NotBuilt => 3,
             Fault::OutOfSteps => 4,
+            Fault::Thrown(_) => 10,
             Fault::Write => 7,
             Fault::NoMemory => 8,
         }
     }
 
     /// The line that tells of it, with the name of the command's file.
-    pub fn line(self, alloc: Global, file: &str) -> Result<String, AllocError>
-        ensures { IfOk result (λ line. string_bytes line ≡ fault_line self file.now) }
+    pub fn line(&self, alloc: Global, file: &str) -> Result<Vec<u8>, AllocError>
+        ensures { IfOk result (λ line. line.items ≡ fault_line self.now file.now) }
     {
         match self {
             Fault::Usage => plain(alloc, "usage: see the table of commands"),
             Fault::Read => of_file(alloc, file, "read fault"),
             Fault::TooLong => of_file(alloc, file, "longer than 1048576 bytes"),
-            Fault::Refused { line, why } => refused(alloc, file, line, why),
-            Fault::NotBuilt => of_file(alloc, file, "not built"),
+            Fault::Refused { line, why } => refused(alloc, file, *line, *why),
             Fault::OutOfSteps => plain(alloc, "out of steps"),
+            Fault::Thrown(error) => uncaught(alloc, error),
             Fault::Write => plain(alloc, "write fault"),
             Fault::NoMemory => plain(alloc, "want of memory"),
         }
@@ -86,8 +86,8 @@ impl Fault {
 }
 
 /// The line that tells why a text isn't accepted.
-fn refused(alloc: Global, file: &str, line: u32, why: Why) -> Result<String, AllocError>
-    ensures { IfOk result (λ told. string_bytes told ≡ place_line file.now line (text_of why)) }
+fn refused(alloc: Global, file: &str, line: u32, why: Why) -> Result<Vec<u8>, AllocError>
+    ensures { IfOk result (λ told. told.items ≡ place_line file.now line (text_of why)) }
 {
     match why {
         Why::Syntax => of_line(alloc, file, line, "syntax"),
@@ -115,8 +115,8 @@ fn otherwise(
     line: u32,
     declared: Det,
     inferred: Det,
-) -> Result<String, AllocError>
-    ensures { IfOk result (λ told. string_bytes told ≡ place_line file.now line (text_of (why.Declared declared inferred))) }
+) -> Result<Vec<u8>, AllocError>
+    ensures { IfOk result (λ told. told.items ≡ place_line file.now line (text_of (why.Declared declared inferred))) }
 {
     let text = declared_text(alloc, word_of(declared), word_of(inferred))?;
     of_line(alloc, file, line, text.as_str())
@@ -141,20 +141,33 @@ fn word_of(det: Det) -> &'static str
     }
 }
 
-fn plain(alloc: Global, text: &str) -> Result<String, AllocError>
-    ensures { IfOk result (λ line. string_bytes line ≡ plain_line text.now) }
+fn plain(alloc: Global, text: &str) -> Result<Vec<u8>, AllocError>
+    ensures { IfOk result (λ line. line.items ≡ plain_line text.now) }
 {
-    format!(in alloc; "mdprof: {text}\n")
+    let line = format!(in alloc; "mdprof: {text}\n")?;
+    Ok(line.into_bytes())
 }
 
-fn of_file(alloc: Global, file: &str, text: &str) -> Result<String, AllocError>
-    ensures { IfOk result (λ line. string_bytes line ≡ file_line file.now text.now) }
+/// The line that tells of an exception, with its bytes as they are.
+fn uncaught(alloc: Global, error: &[u8]) -> Result<Vec<u8>, AllocError>
+    ensures { IfOk result (λ line. line.items ≡ uncaught_line error.now) }
 {
-    format!(in alloc; "mdprof: {file}: {text}\n")
+    let mut line = Vec::from_slice(alloc, b"mdprof: uncaught exception: ")?;
+    line.extend_from_slice(error)?;
+    line.push(b'\n')?;
+    Ok(line)
 }
 
-fn of_line(alloc: Global, file: &str, line: u32, text: &str) -> Result<String, AllocError>
-    ensures { IfOk result (λ told. string_bytes told ≡ place_line file.now line text.now) }
+fn of_file(alloc: Global, file: &str, text: &str) -> Result<Vec<u8>, AllocError>
+    ensures { IfOk result (λ line. line.items ≡ file_line file.now text.now) }
 {
-    format!(in alloc; "mdprof: {file}:{line}: {text}\n")
+    let line = format!(in alloc; "mdprof: {file}: {text}\n")?;
+    Ok(line.into_bytes())
+}
+
+fn of_line(alloc: Global, file: &str, line: u32, text: &str) -> Result<Vec<u8>, AllocError>
+    ensures { IfOk result (λ told. told.items ≡ place_line file.now line text.now) }
+{
+    let told = format!(in alloc; "mdprof: {file}:{line}: {text}\n")?;
+    Ok(told.into_bytes())
 }

@@ -7,8 +7,12 @@ mod check;
 mod command;
 mod fault;
 mod form;
+mod procs;
+mod profile;
+mod report;
 mod run;
 #[cfg(test)]
 mod tests;
+mod write;
 
 pub use command::{Status, top};

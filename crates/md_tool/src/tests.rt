@@ -2,20 +2,20 @@
 ghost use Rattle.std.specs.Prelude.{◌≤◌, ◌≡◌};
 
 mod checks;
+mod reports;
+mod runs;
 
 use crate::{Status, top};
 use md_base::{MemSink, MemStore, SureNet};
 use std::alloc::Global;
+use std::process::Abort;
 use std::test::Fail;
 
 const HELLO: &str =
     ":- module t.\n:- pred main(io::di, io::uo) is det.\nmain(IO0, IO) :- S = \"hello\", io.write_string(S, IO0, IO1), io.nl(IO1, IO).\n";
 
-const TWO: &str =
-    ":- module t.\n:- pred main(io::di, io::uo) is det.\nmain(IO0, IO) :- p(IO0, IO1), p(IO1, IO).\n:- pred p(io::di, io::uo) is det.\np(IO0, IO) :- q, io.nl(IO0, IO).\n:- pred q is det.\nq :- true.\n";
-
-const COUNT: &str =
-    ":- module t.\n:- pred main(io::di, io::uo) is det.\nmain(IO0, IO) :- N = 3, count(N), IO = IO0.\n:- pred count(int::in) is det.\ncount(N) :- Z = 0, ( N =< Z -> true ; D = 1, M = N - D, count(M) ).\n";
+const ERR: &str =
+    ":- module t.\n:- pred main(io::di, io::uo) is det.\nmain(IO0, IO) :- N = 2, f(N), IO = IO0.\n:- pred f(int::in) is det.\nf(N) :- Z = 0, ( N =< Z -> S = \"bad\", require.error(S) ; D = 1, M = N - D, f(M) ).\n";
 
 /// The most bytes that one call takes or gives, and the numbers of the calls that are to fail, for the store, for `out`
 /// and for `err`.
@@ -79,54 +79,93 @@ fn calm<'a>(most: usize) -> Outside<'a>
     }
 }
 
-#[test]
-fn programs_write_what_they_say(rt: HostRuntime) -> Result<(), Fail> {
-    for (text, out, err, status) in [
-        (HELLO, "hello\n", "", 0),
-        (TWO, "\n\n", "", 0),
-        (COUNT, "", "mdprof: a.m: not built\n", 3),
-        ("", "", "mdprof: a.m:1: syntax\n", 3),
-    ] {
-        for most in 1..4usize {
-            let came = run(rt.alloc(), &["run", "a.m"], text, &calm(most))?;
-            assert_eq!(rt; came.out.as_slice(), out.as_bytes());
-            assert_eq!(rt; came.err.as_slice(), err.as_bytes());
-            assert_eq!(rt; came.status, status);
-        }
-    }
+const USAGE: &str = "mdprof: usage: see the table of commands\n";
+
+const GONE: &str = "mdprof: gone.m: read fault\n";
+
+/// The words are no command, or their file can't be read.
+fn comes_to(rt: &(impl Abort + AllocGlobal), words: &[&str], err: &str) -> Result<(), Fail> {
+    let came = run(rt.alloc(), words, HELLO, &calm(7))?;
+    assert_eq!(rt; came.err.as_slice(), err.as_bytes());
+    assert_eq!(rt; came.status, if err == USAGE { 1 } else { 2 });
+    assert_eq!(rt; came.out.is_empty(), true);
     Ok(())
 }
 
 #[test]
 fn words_are_a_command_or_a_usage_fault(rt: HostRuntime) -> Result<(), Fail> {
-    const USAGE: &str = "mdprof: usage: see the table of commands\n";
-    for (words, err, status) in [
-        (["run", "a.m"].as_slice(), "", 0),
-        (["run", "--", "a.m"].as_slice(), "", 0),
-        (["run", "a.m", "--"].as_slice(), "", 0),
-        (
-            ["run", "gone.m"].as_slice(),
-            "mdprof: gone.m: read fault\n",
-            2,
-        ),
-        (["run", "-"].as_slice(), "mdprof: -: read fault\n", 2),
-        (
-            ["run", "--", "-x"].as_slice(),
-            "mdprof: -x: read fault\n",
-            2,
-        ),
-        ([].as_slice(), USAGE, 1),
-        (["run"].as_slice(), USAGE, 1),
-        (["run", "--"].as_slice(), USAGE, 1),
-        (["run", "-x"].as_slice(), USAGE, 1),
-        (["run", "a.m", "b.m"].as_slice(), USAGE, 1),
-        (["walk", "a.m"].as_slice(), USAGE, 1),
-        (["--", "run", "a.m"].as_slice(), USAGE, 1),
+    for (words, err) in [
+        ([].as_slice(), USAGE),
+        (["run"].as_slice(), USAGE),
+        (["run", "--"].as_slice(), USAGE),
+        (["run", "-x"].as_slice(), USAGE),
+        (["run", "gone.m", "b.m"].as_slice(), USAGE),
+        (["walk", "gone.m"].as_slice(), USAGE),
+        (["--", "run", "gone.m"].as_slice(), USAGE),
+        (["check", "gone.m"].as_slice(), GONE),
+        (["run", "gone.m"].as_slice(), GONE),
+        (["run", "gone.m", "--"].as_slice(), GONE),
+        (["run", "--", "gone.m"].as_slice(), GONE),
+        (["run", "-"].as_slice(), "mdprof: -: read fault\n"),
+        (["run", "--", "-x"].as_slice(), "mdprof: -x: read fault\n"),
     ] {
-        let came = run(rt.alloc(), words, HELLO, &calm(7))?;
-        assert_eq!(rt; came.err.as_slice(), err.as_bytes());
-        assert_eq!(rt; came.status, status);
-        assert_eq!(rt; came.out.is_empty(), status != 0);
+        comes_to(&rt, words, err)?;
+    }
+    Ok(())
+}
+
+#[test]
+fn steps_are_a_number_up_to_a_limit_and_come_once(rt: HostRuntime) -> Result<(), Fail> {
+    for (words, err) in [
+        (["run", "gone.m", "--steps", "1"].as_slice(), GONE),
+        (["run", "--steps=16777216", "gone.m"].as_slice(), GONE),
+        (["run", "--steps", "007", "--", "gone.m"].as_slice(), GONE),
+        (["run", "gone.m", "--steps"].as_slice(), USAGE),
+        (["run", "gone.m", "--steps", "0"].as_slice(), USAGE),
+        (["run", "gone.m", "--steps=0"].as_slice(), USAGE),
+        (["run", "gone.m", "--steps="].as_slice(), USAGE),
+        (["run", "gone.m", "--steps", "+5"].as_slice(), USAGE),
+        (["run", "gone.m", "--steps", "-5"].as_slice(), USAGE),
+        (["run", "gone.m", "--steps", "--", "5"].as_slice(), USAGE),
+        (["run", "gone.m", "--steps=16777217"].as_slice(), USAGE),
+        (["run", "gone.m", "--steps=4294967297"].as_slice(), USAGE),
+        (
+            ["run", "gone.m", "--steps=99999999999999999999"].as_slice(),
+            USAGE,
+        ),
+        (
+            ["run", "gone.m", "--steps=5", "--steps", "5"].as_slice(),
+            USAGE,
+        ),
+        (["run", "gone.m", "--", "--steps=5"].as_slice(), USAGE),
+        (["check", "gone.m", "--steps=5"].as_slice(), USAGE),
+    ] {
+        comes_to(&rt, words, err)?;
+    }
+    Ok(())
+}
+
+#[test]
+fn a_report_has_a_file_and_a_query(rt: HostRuntime) -> Result<(), Fail> {
+    for (words, err) in [
+        (["report", "gone.m", "procs"].as_slice(), GONE),
+        (["report", "gone.m", "/procs"].as_slice(), GONE),
+        (
+            ["report", "gone.m", "--steps", "9", "procs"].as_slice(),
+            GONE,
+        ),
+        (
+            ["report", "--steps=9", "--", "gone.m", "procs"].as_slice(),
+            GONE,
+        ),
+        (["report", "gone.m"].as_slice(), USAGE),
+        (["report", "procs"].as_slice(), USAGE),
+        (["report", "procs", "gone.m"].as_slice(), USAGE),
+        (["report", "gone.m", "//procs"].as_slice(), USAGE),
+        (["report", "gone.m", "procs", "procs"].as_slice(), USAGE),
+        (["report", "gone.m", "procs", "--print"].as_slice(), USAGE),
+    ] {
+        comes_to(&rt, words, err)?;
     }
     Ok(())
 }
@@ -141,47 +180,6 @@ fn a_text_of_one_byte_too_many_is_too_long(rt: HostRuntime) -> Result<(), Fail> 
         long.err.as_slice(),
         b"mdprof: a.m: longer than 1048576 bytes\n".as_slice()
     );
-    Ok(())
-}
-
-#[test]
-fn a_run_that_is_too_long_is_out_of_steps(rt: HostRuntime) -> Result<(), Fail> {
-    // Sixteen writes of 62,500 bytes, of which fifteen fit in the budget.
-    let alloc = rt.alloc();
-    let mut text = String::from_str(
-        alloc,
-        ":- module t.\n:- pred main(io::di, io::uo) is det.\nmain(A, Q) :- S = \"",
-    )?;
-    text.push_str("x".repeat(alloc, 62_500)?.as_str())?;
-    text.push_str("\"")?;
-    for (before, after) in [
-        ("A", "B"),
-        ("B", "C"),
-        ("C", "D"),
-        ("D", "E"),
-        ("E", "F"),
-        ("F", "G"),
-        ("G", "H"),
-        ("H", "I"),
-        ("I", "J"),
-        ("J", "K"),
-        ("K", "L"),
-        ("L", "M"),
-        ("M", "N"),
-        ("N", "O"),
-        ("O", "P"),
-        ("P", "Q"),
-    ] {
-        for piece in [", io.write_string(S, ", before, ", ", after, ")"] {
-            text.push_str(piece)?;
-        }
-    }
-    text.push_str(".\n")?;
-    let came = run(alloc, &["run", "a.m"], text.as_str(), &calm(65_536))?;
-    assert_eq!(rt; came.status, 4);
-    assert_eq!(rt; came.err.as_slice(), b"mdprof: out of steps\n".as_slice());
-    assert_eq!(rt; came.out.len(), 937_500);
-    assert_eq!(rt; came.out.iter().all(|byte| *byte == b'x'), true);
     Ok(())
 }
 
@@ -206,41 +204,27 @@ fn each_read_that_fails_is_a_read_fault(rt: HostRuntime) -> Result<(), Fail> {
 }
 
 #[test]
-fn each_write_that_fails_leaves_a_front_of_the_output(rt: HostRuntime) -> Result<(), Fail> {
-    // Six bytes, two a call.
-    for call in 1..4u64 {
-        let outside = Outside {
-            most: 2,
-            store: &[],
-            out: &[call],
-            err: &[],
-        };
-        let came = run(rt.alloc(), &["run", "a.m"], HELLO, &outside)?;
-        assert_eq!(rt; came.status, 7, "call {call}");
-        assert_eq!(rt; came.out.len() as u64, 2 * (call - 1));
-        assert_eq!(rt; b"hello\n".starts_with(came.out.as_slice()), true);
-        assert_eq!(rt; came.err.as_slice(), b"mdprof: write fault\n".as_slice());
-    }
-    Ok(())
-}
-
-#[test]
 fn a_line_that_cannot_be_told_does_not_change_the_status(rt: HostRuntime) -> Result<(), Fail> {
-    // The line has 23 bytes, five a call.
-    for call in 1..6u64 {
-        let outside = Outside {
-            most: 5,
-            store: &[],
-            out: &[],
-            err: &[call],
-        };
-        let came = run(rt.alloc(), &["run", "a.m"], COUNT, &outside)?;
-        assert_eq!(rt; came.status, 3, "call {call}");
-        assert_eq!(rt; came.err.len() as u64, 5 * (call - 1));
-        assert_eq!(rt;
-            b"mdprof: a.m: not built\n".starts_with(came.err.as_slice()),
-            true
-        );
+    // The line has 22 bytes, five a call.
+    for words in [
+        ["run", "a.m"].as_slice(),
+        ["report", "a.m", "procs"].as_slice(),
+    ] {
+        for call in 1..6u64 {
+            let outside = Outside {
+                most: 5,
+                store: &[],
+                out: &[],
+                err: &[call],
+            };
+            let came = run(rt.alloc(), words, "", &outside)?;
+            assert_eq!(rt; came.status, 3, "call {call}");
+            assert_eq!(rt; came.err.len() as u64, 5 * (call - 1));
+            assert_eq!(rt;
+                b"mdprof: a.m:1: syntax\n".starts_with(came.err.as_slice()),
+                true
+            );
+        }
     }
     Ok(())
 }

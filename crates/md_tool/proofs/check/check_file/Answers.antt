@@ -3,7 +3,7 @@ use Rattle.md_base.specs.Outside.{Rose}
 use Rattle.md_hlds.specs.declared.program.Program.{Program}
 use Rattle.md_hlds.specs.Hlds.{hlds_of}
 use Rattle.md_tool.specs.Accepted.{Accepts}
-use Rattle.md_tool.proofs.EndLemmas.{check_shown}
+use Rattle.md_tool.proofs.CheckLemmas.{check_shown}
 use Rattle.md_tool.proofs.check.check_file.Goals as goal
 
 pub returns-clause-ends : goal.returns-clause-ends
