@@ -1,7 +1,6 @@
 -- An answer goes by choices.
-use Rattle.std.proofs.Common.{◌≡◌, refl, ap, ◌∙◌, sym, subst, ℕ, List, [], ◌∷◌, Option, Some, None}
+use Rattle.std.proofs.Common.{◌≡◌, refl, ap, ◌∙◌, sym, subst, ℕ, List, [], ◌∷◌, Option, None}
 use Rattle.md_hlds.specs.Value.{Env}
-use Rattle.md_hlds.specs.Trace as trace
 use Rattle.md_steps.specs.State as machine
 use Rattle.md_steps.specs.Steps.{answered}
 use Rattle.md_steps.specs.Steps as steps
@@ -12,7 +11,7 @@ use Rattle.md_machine.specs.declared.frame.Frame.{Frame}
 use Rattle.md_machine.specs.declared.frame.Chain.{Chain}
 use Rattle.md_machine.specs.declared.wait.Choice.{Choice}
 use Rattle.md_machine.specs.declared.wait.Wait.{Wait}
-use Rattle.md_machine.specs.declared.wait.Wait.TheVariants.{Others, Again, Over, Condition, Negation, Single, Returning}
+use Rattle.md_machine.specs.declared.wait.Wait.TheVariants.{Others, Again, Over, Negation, Single}
 use Rattle.md_machine.specs.declared.step.Doing.TheVariants.{Goes, Fails}
 use Rattle.md_machine.specs.declared.step.Step.{Step}
 use Rattle.md_machine.specs.declared.step.Step.TheVariants.{On}

@@ -1,23 +1,21 @@
 -- Where a run begins.
-use Rattle.std.proofs.Common.{◌≡◌, refl, ap, ◌∙◌, sym, subst, arith, ℕ, zero, suc, ◌+◌, ◌-◌, ◌<◌, ◌≤◌, Bool, true, false, cond, List, [], ◌∷◌, ◌++◌, length, slice_get, append-nil, Option, Some, None, is_some, unwrap_or, inl, inr}
+use Rattle.std.proofs.Common.{◌≡◌, refl, ap, ◌∙◌, sym, subst, arith, ℕ, zero, suc, ◌+◌, ◌-◌, ◌<◌, ◌≤◌, Bool, true, false, cond, List, [], ◌∷◌, ◌++◌, length, slice_get, Option, Some, None, is_some, unwrap_or, inl, inr}
 use Rattle.md_hlds.specs.declared.goal.PredName.{PredName}
 use Rattle.md_hlds.specs.Hlds.{Hlds, Procedure, is_called, find_procedure, procedure_called}
-use Rattle.md_hlds.specs.Trace as trace
-use Rattle.md_hlds.specs.Trace.{Turn, Call, Items, call_weight}
+use Rattle.md_hlds.specs.Trace.{Items, call_weight}
 use Rattle.md_hlds.specs.Run.{run, run_main, output, is_finished, error, main_name, main_frame}
 use Rattle.md_steps.specs.State as machine
 use Rattle.md_steps.specs.Makes.{beginning, with_main}
 use Rattle.md_steps.specs.Standing.{StandsIn}
 use Rattle.md_steps.proofs.MakesLemmas.{begins_there, no_budget_for_main, front_of}
-use Rattle.md_trace.specs.declared.event.Event.{Event}
 use Rattle.md_trace.specs.declared.event.Event.TheVariants as event
 use Rattle.md_trace.specs.PortHistory.{SiteTable, MayFollow, IsPortHistory}
-use Rattle.md_trace.specs.Sinks.{CanTake, Takes, MarksNewest, next_call, StandsAsBefore}
-use Rattle.md_events.specs.History.{told, history}
+use Rattle.md_trace.specs.Sinks.{CanTake, Takes, MarksNewest, next_call}
+use Rattle.md_events.specs.History.{history}
 use Rattle.md_events.specs.Table.{site_table}
 use Rattle.md_events.specs.Laws.{IsWithinBounds}
 use Rattle.md_code.specs.declared.code.Routine.{Routine}
-use Rattle.md_code.specs.Told.{routine_told, routines_told}
+use Rattle.md_code.specs.Told.{routine_told}
 use Rattle.md_code.specs.IsCode.{IsRoutine}
 use Rattle.md_value.specs.Outcomes.{bytes_told}
 use Rattle.md_machine.specs.declared.frame.Activation.{Activation}
@@ -31,11 +29,9 @@ use Rattle.md_machine.specs.Frames.{frame_of, IsIn}
 use Rattle.md_machine.specs.Waits.{stack_of, AreWaits}
 use Rattle.md_machine.specs.Ran.{end_by, IsEnd, IsRunOf, StandsForFront}
 use Rattle.md_machine.specs.Turns.{ways}
-use Rattle.md_machine.specs.Begins.{IsMain}
-use Rattle.md_machine.specs.Running.{cells_in, routines_in, IsOf, Standing}
+use Rattle.md_machine.specs.Running.{cells_in, IsOf, Standing}
 use Rattle.md_machine.proofs.CallLemmas.{get_told, length_told}
 use Rattle.md_machine.proofs.MadeLemmas.{Stands, Belongs, next_follows}
-use Rattle.md_machine.proofs.TakenLemmas.{call_is_next}
 
 -- ---- the procedure of main's number
 
@@ -74,9 +70,9 @@ main_there s n p is =
 get_inside : {X : Type 0} → (xs : List X) (i : ℕ) (x : X) → slice_get xs i ≡ Some x → i < length xs
 get_inside [] i x is = absurd (subst some_there (sym is) tt)
   where
-  some_there : {X : Type 0} → Option X → Type 0
-  some_there None = ⊥
-  some_there (Some x) = Unit {0}
+    some_there : {X : Type 0} → Option X → Type 0
+    some_there None = ⊥
+    some_there (Some x) = Unit {0}
 get_inside (y ∷ xs) zero x is = omega arith
 get_inside (y ∷ xs) (suc i) x is = omega (arith, get_inside xs i x is)
 
@@ -186,4 +182,3 @@ begun s x b n q weight r old new belongs mark frame m i its is weighs light stoo
     thrown = no-error;
   };
 }
-

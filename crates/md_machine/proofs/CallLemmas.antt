@@ -1,8 +1,8 @@
 -- Calls of the machine as calls of the abstract machine.
-use Rattle.std.proofs.Common.{◌≡◌, refl, ap, ◌∙◌, sym, subst, arith, ℕ, zero, suc, ◌+◌, ◌<◌, ◌≤◌, Bool, true, false, nat_eq, List, [], ◌∷◌, length, slice_get, Option, Some, None, Bor, Result, Ok, Err, IfOk, inl, inr}
+use Rattle.std.proofs.Common.{◌≡◌, refl, ap, ◌∙◌, sym, subst, arith, ℕ, zero, suc, ◌+◌, ◌≤◌, Bool, true, false, nat_eq, List, [], ◌∷◌, length, slice_get, Option, Some, None, Bor, Result, Ok, Err, IfOk, inl, inr}
 use Rattle.std.specs.declared.rc.Rc.{Rc}
 use Rattle.std.specs.declared.alloc.Global.{Global}
-use Rattle.md_hlds.specs.HldsGoal.{HldsGoal, Numbered, numbered_goal}
+use Rattle.md_hlds.specs.HldsGoal.{HldsGoal, Numbered}
 use Rattle.md_hlds.specs.Hlds.{Hlds, Procedure, nth_procedure, numbered, procedure_called}
 use Rattle.md_hlds.specs.Value.{Env, value_at, Values, Closure, listed_values}
 use Rattle.md_hlds.specs.Value.{Value as Meant}
@@ -25,7 +25,7 @@ use Rattle.md_machine.specs.declared.wait.Wait.{Wait}
 use Rattle.md_machine.specs.declared.wait.Wait.TheVariants.{Others, Again, Over, Condition, Negation, Single, Returning}
 use Rattle.md_machine.specs.declared.wait.Cut.{Cut}
 use Rattle.md_machine.specs.declared.step.Doing.TheVariants.{Goes}
-use Rattle.md_machine.specs.Frames.{Ways, frame_of, frames_of, callers_of, IsIn, IsKnown, AreKnown, AreKnownAbove}
+use Rattle.md_machine.specs.Frames.{Ways, frame_of, frames_of, callers_of, IsKnown, AreKnown, AreKnownAbove}
 use Rattle.md_machine.specs.Waits.{BothKnown, IsWait, AreWaits}
 use Rattle.md_machine.specs.States.{IsState}
 use Rattle.md_machine.specs.Turns.{ways, IsAt}
@@ -85,16 +85,19 @@ closes known from xs ys ws callee caller d js c stack callee-is head-is argument
     let w : machine.Wait = machine.Returning callee.activation.number (trace.pairs_of callee.head.now callee.arguments.now) (frame_of from caller) (callers_of from js) in
     record {
       does = (ap (λ (f : trace.Frame). machine.Goes f []) (sym told), (subst (IsKnown (x ∷ known)) (sym act) (inl refl), tt));
-      wait = subst (λ (zs : List (Wait _)). AreWaits (x ∷ known) from zs (w ∷ ws)) (sym stack) (record {
-        is =
-            ap (λ (a : Activation _). machine.Returning a.number (trace.pairs_of callee.head.now callee.arguments.now) (frame_of from caller) (callers_of from js)) (sym callee-is)
-            ∙ (ap (λ (h : Bor (List ℕ)). machine.Returning c.callee.number (trace.pairs_of h.now callee.arguments.now) (frame_of from caller) (callers_of from js)) (sym head-is)
-            ∙ (ap (λ (h : Bor (List ℕ)). machine.Returning c.callee.number (trace.pairs_of c.head.now h.now) (frame_of from caller) (callers_of from js)) (sym arguments-is)
-            ∙ (ap (λ (f : Frame _). machine.Returning c.callee.number (trace.pairs_of c.head.now c.arguments.now) (frame_of from f) (callers_of from js)) (sym frame-is)
-            ∙ ap (λ (cs : Option (Rc (Chain _) Global)). machine.Returning c.callee.number (trace.pairs_of c.head.now c.arguments.now) (frame_of from c.frame) (callers_of from cs)) (sym callers-is))));
-        callee = subst (IsKnown (x ∷ known)) (sym callee-is) (inl refl);
-        both = (subst (λ (f : Frame _). IsKnown (x ∷ known) f.activation) (sym frame-is) (inr both.0), subst (AreKnownAbove (x ∷ known)) (sym callers-is) (above_more x known js both.1));
-      }, waits_more x known from xs ws wait);
+      wait = subst (λ (zs : List (Wait _)). AreWaits (x ∷ known) from zs (w ∷ ws)) (sym stack) (
+        record {
+          is =
+              ap (λ (a : Activation _). machine.Returning a.number (trace.pairs_of callee.head.now callee.arguments.now) (frame_of from caller) (callers_of from js)) (sym callee-is)
+              ∙ (ap (λ (h : Bor (List ℕ)). machine.Returning c.callee.number (trace.pairs_of h.now callee.arguments.now) (frame_of from caller) (callers_of from js)) (sym head-is)
+              ∙ (ap (λ (h : Bor (List ℕ)). machine.Returning c.callee.number (trace.pairs_of c.head.now h.now) (frame_of from caller) (callers_of from js)) (sym arguments-is)
+              ∙ (ap (λ (f : Frame _). machine.Returning c.callee.number (trace.pairs_of c.head.now c.arguments.now) (frame_of from f) (callers_of from js)) (sym frame-is)
+              ∙ ap (λ (cs : Option (Rc (Chain _) Global)). machine.Returning c.callee.number (trace.pairs_of c.head.now c.arguments.now) (frame_of from c.frame) (callers_of from cs)) (sym callers-is))));
+          callee = subst (IsKnown (x ∷ known)) (sym callee-is) (inl refl);
+          both = (subst (λ (f : Frame _). IsKnown (x ∷ known) f.activation) (sym frame-is) (inr both.0), subst (AreKnownAbove (x ∷ known)) (sym callers-is) (above_more x known js both.1));
+        },
+        waits_more x known from xs ws wait,
+      );
       number = refl;
     }
 
@@ -222,9 +225,9 @@ closure_calls s cells routines n g site p q vs ys next env v found at is closure
 
 pub plain_ok : {E : Type 0} → (code : Code) (site q : ℕ) (ys none : List ℕ) (vs : List Meant) (callee : Option ℕ) (r : Result (Option Call) E) → callee ≡ Some q
     → IfOk r (λ found. (s : Hlds) (next : Option ℕ) (env : Env) → IsCodeOf s code
-      → Calls s (cells_of code.entries.items) (λ f js ws k. steps.calls s f (ways s (cells_of code.entries.items) next) js ws k site (nth_procedure s q) vs ys) env (ways s (cells_of code.entries.items)) next found)
+    → Calls s (cells_of code.entries.items) (λ f js ws k. steps.calls s f (ways s (cells_of code.entries.items) next) js ws k site (nth_procedure s q) vs ys) env (ways s (cells_of code.entries.items)) next found)
     → IfOk r (λ found. (s : Hlds) (n : ℕ) (g : HldsGoal) (next : Option ℕ) (env : Env) → vs ≡ [] → IsAt s (cells_of code.entries.items) (routines_told code.routines.items) n g (layout.Calls site callee ys) next
-      → Calls s (cells_of code.entries.items) (λ f js ws k. steps.unfolds s f n (ways s (cells_of code.entries.items) next) js ws k g) env (ways s (cells_of code.entries.items)) next found)
+    → Calls s (cells_of code.entries.items) (λ f js ws k. steps.unfolds s f n (ways s (cells_of code.entries.items) next) js ws k g) env (ways s (cells_of code.entries.items)) next found)
 plain_ok code site q ys none vs callee (Err e) is here = tt
 plain_ok code site q ys none vs callee (Ok found) is here = λ s n g next env nothing at.
     plain_calls s (cells_of code.entries.items) (routines_told code.routines.items) n g site q ys next callee env found at is
@@ -232,9 +235,9 @@ plain_ok code site q ys none vs callee (Ok found) is here = λ s n g next env no
 
 pub closure_ok : {E : Type 0} → (code : Code) (site q : ℕ) (vs : Values) (ys : List ℕ) (v : Option Meant) (r : Result (Option Call) E) → v ≡ Some (Closure q vs)
     → IfOk r (λ found. (s : Hlds) (next : Option ℕ) (env : Env) → IsCodeOf s code
-      → Calls s (cells_of code.entries.items) (λ f js ws k. steps.calls s f (ways s (cells_of code.entries.items) next) js ws k site (nth_procedure s q) (listed_values vs) ys) env (ways s (cells_of code.entries.items)) next found)
+    → Calls s (cells_of code.entries.items) (λ f js ws k. steps.calls s f (ways s (cells_of code.entries.items) next) js ws k site (nth_procedure s q) (listed_values vs) ys) env (ways s (cells_of code.entries.items)) next found)
     → IfOk r (λ found. (s : Hlds) (n p : ℕ) (g : HldsGoal) (next : Option ℕ) (env : Env) → IsAt s (cells_of code.entries.items) (routines_told code.routines.items) n g (layout.Applies site p ys) next → v ≡ value_at env p
-      → Calls s (cells_of code.entries.items) (λ f js ws k. steps.unfolds s f n (ways s (cells_of code.entries.items) next) js ws k g) env (ways s (cells_of code.entries.items)) next found)
+    → Calls s (cells_of code.entries.items) (λ f js ws k. steps.unfolds s f n (ways s (cells_of code.entries.items) next) js ws k g) env (ways s (cells_of code.entries.items)) next found)
 closure_ok code site q vs ys v (Err e) closure here = tt
 closure_ok code site q vs ys v (Ok found) closure here = λ s n p g next env at is.
     closure_calls s (cells_of code.entries.items) (routines_told code.routines.items) n g site p q vs ys next env v found at is closure (here s next env at.table)

@@ -1,10 +1,10 @@
 -- Frames one before the other.
-use Rattle.std.proofs.Common.{◌≡◌, refl, ap, ◌∙◌, sym, subst, ℕ, List, [], ◌∷◌, Option, Some, None}
+use Rattle.std.proofs.Common.{◌≡◌, ap, ◌∙◌, sym, subst, ℕ, List, ◌∷◌, Option, Some}
 use Rattle.std.specs.declared.rc.Rc.{Rc}
 use Rattle.std.specs.declared.alloc.Global.{Global}
 use Rattle.md_hlds.specs.Trace as trace
 use Rattle.md_machine.specs.declared.frame.Frame.{Frame}
-use Rattle.md_machine.specs.declared.frame.Chain.{Chain, End, Link}
+use Rattle.md_machine.specs.declared.frame.Chain.{Chain, Link}
 use Rattle.md_machine.specs.Frames.{Ways, frame_of, frames_of, AreKnown, AreKnownAbove, NearestKnown}
 
 pub link_told : {M : Type 0} → (from : Ways) (chain : Chain M) (f g : Frame M) (rest other : Rc (Chain M) Global) → chain ≡ Link f rest → frame_of from g ≡ frame_of from f → other.value ≡ rest.value

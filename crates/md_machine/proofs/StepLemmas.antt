@@ -1,5 +1,5 @@
 -- Steps of the machine as steps of the abstract machine.
-use Rattle.std.proofs.Common.{◌≡◌, refl, ap, ◌∙◌, sym, subst, arith, ℕ, ◌<◌, ◌≤◌, List, [], ◌∷◌, length, take, drop, ◌-◌, Option, Some, None, Bor, slice_index_or, take_all, Result, Ok, Err, IfOk, Vec}
+use Rattle.std.proofs.Common.{◌≡◌, refl, ap, ◌∙◌, sym, subst, arith, ℕ, ◌≤◌, List, [], ◌∷◌, length, take, drop, ◌-◌, Option, Some, None, slice_index_or, take_all, Result, Ok, Err, IfOk, Vec}
 use Rattle.std.specs.Vec.{with_items}
 use Rattle.std.proofs.lemmas.List.{with_items_is}
 use Rattle.md_value.specs.declared.value.Value.{Value}
@@ -12,7 +12,6 @@ use Rattle.md_hlds.specs.Trace as trace
 use Rattle.md_steps.specs.State as machine
 use Rattle.md_steps.specs.Steps.{returned, answered, retried, unwound}
 use Rattle.md_code.specs.IsCode.{LeadOn}
-use Rattle.md_machine.specs.declared.frame.Activation.{Activation}
 use Rattle.md_machine.specs.declared.frame.Frame.{Frame}
 use Rattle.md_machine.specs.declared.frame.Chain.{Chain}
 use Rattle.md_machine.specs.declared.wait.Choice.{Choice}
@@ -97,16 +96,18 @@ tries_by known from next xs zs ws w c e d shared first is act same same-known st
   state = record {
     does = (
       ap (λ (g : List Numbered). machine.Goes (trace.doing (frame_of from c.frame) g) (callers_of from c.callers)) (sym arms.leads)
-      ∙ (ap (λ (g : trace.Frame). machine.Goes g (callers_of from c.callers)) (sym is) ∙ ap (λ (cs : List trace.Frame). machine.Goes (frame_of from d) cs) (sym same)),
+          ∙ (ap (λ (g : trace.Frame). machine.Goes g (callers_of from c.callers)) (sym is) ∙ ap (λ (cs : List trace.Frame). machine.Goes (frame_of from d) cs) (sym same)),
       (subst (IsKnown known) (sym act) arms.both.0, same-known),
     );
-    wait = subst (λ (ys : List (Wait _)). AreWaits known from ys (machine.Others (frame_of from c.frame) (callers_of from c.callers) arms.arms ∷ ws)) (sym stack)
-      (record {
+    wait = subst (λ (ys : List (Wait _)). AreWaits known from ys (machine.Others (frame_of from c.frame) (callers_of from c.callers) arms.arms ∷ ws)) (sym stack) (
+      record {
         arms = arms.arms;
         is = ap (λ (g : Frame _). machine.Others (frame_of from g) (callers_of from c.callers) arms.arms) (sym frame) ∙ ap (λ (js : Option (Rc (Chain _) Global)). machine.Others (frame_of from e.frame) (callers_of from js) arms.arms) (sym callers);
         lead = subst (λ (g : Frame _). LeadOn from g.place e.arms.now arms.arms) (sym frame) arms.lead;
         both = (subst (λ (g : Frame _). IsKnown known g.activation) (sym frame) arms.both.0, subst (AreKnownAbove known) (sym callers) arms.both.1);
-      }, wait);
+      },
+      wait,
+    );
     number = refl;
   };
 }
@@ -128,9 +129,9 @@ tries_next known from next xs zs ws w c e d shared some split is act same same-k
 pub returns_to : {M E : Type 0} → (f caller : Frame M) (others : Rc (Chain M) Global) (found : Option (Frame M × Rc (Chain M) Global)) (js : Option (Rc (Chain M) Global)) (old new : List (Wait M)) (r : Result (Step M) E)
     → found ≡ Some (caller, others) → ((from : Ways) → nearest_told from found ≡ callers_of from js) → ((known : List (M × ℕ)) → AreKnownAbove known js → NearestKnown known found)
     → IfOk r (λ step. (known : List (M × ℕ)) (from : Ways) (next : ℕ) (ws : List machine.Wait) → IsKnown known f.activation → IsKnown known caller.activation → AreKnown known others.value → AreWaits known from old ws
-        → IsStep known from step new next (returned (frame_of from f) (frame_of from caller ∷ frames_of from others.value) ws next))
+    → IsStep known from step new next (returned (frame_of from f) (frame_of from caller ∷ frames_of from others.value) ws next))
     → IfOk r (λ step. (known : List (M × ℕ)) (from : Ways) (next : ℕ) (ws : List machine.Wait) → BothKnown known f js → AreWaits known from old ws
-        → IsStep known from step new next (returned (frame_of from f) (callers_of from js) ws next))
+    → IsStep known from step new next (returned (frame_of from f) (callers_of from js) ws next))
 returns_to f caller others found js old new (Err e) is told marks here = tt
 returns_to f caller others found js old new (Ok step) is told marks here = λ known from next ws both wait.
     let near : NearestKnown known (Some (caller, others)) = subst (NearestKnown known) is (marks known both.1) in

@@ -1,12 +1,12 @@
 -- Turns of the machine as turns of the abstract machine.
-use Rattle.std.proofs.Common.{◌≡◌, refl, ap, ◌∙◌, sym, subst, arith, ℕ, zero, suc, slice_get, Bool, true, false, ◌+◌, ◌<◌, ◌≤◌, ◌-◌, List, [], ◌∷◌, ◌++◌, Option, Some, None, is_some, Bor, Result, Ok, Err, IfOk}
+use Rattle.std.proofs.Common.{◌≡◌, refl, ap, ◌∙◌, sym, subst, arith, ℕ, zero, suc, slice_get, Bool, true, false, ◌+◌, ◌≤◌, ◌-◌, List, [], ◌∷◌, ◌++◌, Option, Some, None, is_some, Bor, Result, Ok, Err, IfOk}
 use Rattle.std.specs.declared.rc.Rc.{Rc}
 use Rattle.std.specs.declared.alloc.Global.{Global}
 use Rattle.md_hlds.specs.HldsGoal.{Simple, HldsGoal, GoalExpr, SimpleGoal, Numbered, numbered_goal, numbered_from, goal_size}
 use Rattle.md_hlds.specs.Hlds.{Hlds}
 use Rattle.md_hlds.specs.Value.{value_at}
 use Rattle.md_hlds.specs.Value.{Value as Meant}
-use Rattle.md_hlds.specs.Switch.{Key, switch_shape, arm_for}
+use Rattle.md_hlds.specs.Switch.{Key, arm_for}
 use Rattle.md_value.specs.Arms.{arm_at}
 use Rattle.md_hlds.specs.Simple as simples
 use Rattle.md_hlds.specs.Simple.{simple}
@@ -16,7 +16,7 @@ use Rattle.md_steps.specs.State as machine
 use Rattle.md_steps.specs.Steps as steps
 use Rattle.md_steps.specs.Steps.{unfolds, goes_simply, chooses}
 use Rattle.md_code.specs.declared.code.Named.{Named}
-use Rattle.md_code.specs.Layout.{Cell, Begun, Does, Conjoins, Chooses, Tests, Negates, Quantifies, named_in}
+use Rattle.md_code.specs.Layout.{Cell, Does, Conjoins, Chooses, Tests, Negates, Quantifies, named_in}
 use Rattle.md_code.specs.IsCode.{IsSimple, IsConjunction, IsDisjunction, IsTest, IsNegation, IsQuantified, LeadOn}
 use Rattle.md_value.specs.declared.value.Value.{Value}
 use Rattle.md_value.specs.Values.{env_of}
@@ -29,12 +29,12 @@ use Rattle.md_machine.specs.declared.frame.Frame.{Frame}
 use Rattle.md_machine.specs.declared.frame.Chain.{Chain}
 use Rattle.md_machine.specs.declared.wait.Wait.{Wait}
 use Rattle.md_machine.specs.declared.wait.Wait.TheVariants.{Condition, Negation, Single}
-use Rattle.md_machine.specs.declared.step.Doing.TheVariants.{Goes as Going, Fails as Failing, Throws as Throwing}
+use Rattle.md_machine.specs.declared.step.Doing.TheVariants.{Goes as Going, Fails as Failing}
 use Rattle.md_machine.specs.declared.unfold.Turn.{Turn}
 use Rattle.md_machine.specs.declared.unfold.Turn.TheVariants.{Goes, Throws, Sticks, TooHeavy}
 use Rattle.md_machine.specs.Frames.{Ways, frame_of, frames_of, callers_of, IsKnown, AreKnown, AreKnownAbove}
 use Rattle.md_machine.specs.Waits.{BothKnown, AreWaits}
-use Rattle.md_machine.specs.Turns.{ways, place_at, IsAt, IsTurn, IsTaken, IsTooHeavy, Unfolds}
+use Rattle.md_machine.specs.Turns.{ways, place_at, IsTurn, IsTaken, IsTooHeavy, Unfolds}
 
 -- a frame at another place
 pub record IsMoved {M : Type 0} (f d : Frame M) (place : Option ℕ) : Type 0 where
@@ -66,7 +66,7 @@ conjoins first next f d js left xs some moved s cells routines n g known number 
       state = record {
         does = (
           ap (λ (gs : List Numbered). machine.Goes (trace.doing (frame_of (ways s cells) f) gs) (callers_of (ways s cells) js)) (sym c.leads)
-          ∙ ap (λ (h : trace.Frame). machine.Goes h (callers_of (ways s cells) js)) (sym (moved.frame (ways s cells))),
+              ∙ ap (λ (h : trace.Frame). machine.Goes h (callers_of (ways s cells) js)) (sym (moved.frame (ways s cells))),
           both_moved known f d first js moved both,
         );
         wait = wait;
@@ -86,14 +86,17 @@ tests c t e next f d r js left xs ys some moved alone stack s cells routines n g
       light = some;
       state = record {
         does = (ap (λ (h : trace.Frame). machine.Goes h []) (sym (alone.frame (ways s cells) (numbered_goal (suc n) q.condition) q.tries)), (subst (IsKnown known) (sym alone.activation) both.0, tt));
-        wait = subst (λ zs. AreWaits known (ways s cells) zs (w ∷ ws)) (sym stack) (record {
-          met = numbered_goal (suc n + goal_size q.condition) q.met;
-          otherwise = numbered_goal (suc n + goal_size q.condition + goal_size q.met) q.otherwise;
-          is = ap (λ (h : trace.Frame). machine.Condition h (callers_of (ways s cells) js) (numbered_goal (suc n + goal_size q.condition) q.met) (numbered_goal (suc n + goal_size q.condition + goal_size q.met) q.otherwise)) (sym (moved.frame (ways s cells)));
-          goes = q.goes ∙ ap (λ (pl : Option ℕ). numbered_goal (suc n + goal_size q.condition) q.met ∷ ways s cells pl) (sym moved.place_is);
-          turns = q.turns ∙ ap (λ (pl : Option ℕ). numbered_goal (suc n + goal_size q.condition + goal_size q.met) q.otherwise ∷ ways s cells pl) (sym moved.place_is);
-          both = both_moved known f d next js moved both;
-        }, wait);
+        wait = subst (λ zs. AreWaits known (ways s cells) zs (w ∷ ws)) (sym stack) (
+          record {
+            met = numbered_goal (suc n + goal_size q.condition) q.met;
+            otherwise = numbered_goal (suc n + goal_size q.condition + goal_size q.met) q.otherwise;
+            is = ap (λ (h : trace.Frame). machine.Condition h (callers_of (ways s cells) js) (numbered_goal (suc n + goal_size q.condition) q.met) (numbered_goal (suc n + goal_size q.condition + goal_size q.met) q.otherwise)) (sym (moved.frame (ways s cells)));
+            goes = q.goes ∙ ap (λ (pl : Option ℕ). numbered_goal (suc n + goal_size q.condition) q.met ∷ ways s cells pl) (sym moved.place_is);
+            turns = q.turns ∙ ap (λ (pl : Option ℕ). numbered_goal (suc n + goal_size q.condition + goal_size q.met) q.otherwise ∷ ways s cells pl) (sym moved.place_is);
+            both = both_moved known f d next js moved both;
+          },
+          wait,
+        );
         number = refl;
       };
     }
@@ -110,10 +113,13 @@ negates c next f d r js left xs ys some moved alone stack s cells routines n g k
       light = some;
       state = record {
         does = (ap (λ (h : trace.Frame). machine.Goes h []) (sym (alone.frame (ways s cells) (numbered_goal (suc n) q.condition) q.tries)), (subst (IsKnown known) (sym alone.activation) both.0, tt));
-        wait = subst (λ zs. AreWaits known (ways s cells) zs (w ∷ ws)) (sym stack) (record {
-          is = ap (λ (h : trace.Frame). machine.Negation h (callers_of (ways s cells) js)) (sym (moved.frame (ways s cells)));
-          both = both_moved known f d next js moved both;
-        }, wait);
+        wait = subst (λ zs. AreWaits known (ways s cells) zs (w ∷ ws)) (sym stack) (
+          record {
+            is = ap (λ (h : trace.Frame). machine.Negation h (callers_of (ways s cells) js)) (sym (moved.frame (ways s cells)));
+            both = both_moved known f d next js moved both;
+          },
+          wait,
+        );
         number = refl;
       };
     }
@@ -130,10 +136,13 @@ quantifies c next f d r js left xs ys some moved alone stack s cells routines n 
       light = some;
       state = record {
         does = (ap (λ (h : trace.Frame). machine.Goes h []) (sym (alone.frame (ways s cells) (numbered_goal (suc n) q.condition) q.tries)), (subst (IsKnown known) (sym alone.activation) both.0, tt));
-        wait = subst (λ zs. AreWaits known (ways s cells) zs (w ∷ ws)) (sym stack) (record {
-          is = ap (λ (h : trace.Frame). machine.Single h (callers_of (ways s cells) js)) (sym (moved.frame (ways s cells)));
-          both = both_moved known f d next js moved both;
-        }, wait);
+        wait = subst (λ zs. AreWaits known (ways s cells) zs (w ∷ ws)) (sym stack) (
+          record {
+            is = ap (λ (h : trace.Frame). machine.Single h (callers_of (ways s cells) js)) (sym (moved.frame (ways s cells)));
+            both = both_moved known f d next js moved both;
+          },
+          wait,
+        );
         number = refl;
       };
     }
@@ -297,22 +306,22 @@ pub tries_unbound : {M E : Type 0} → (arms : List ℕ) (shape : Option (ℕ ×
 tries_unbound arms shape x keys next f js old new r is unbound tried =
     disjoins_all arms shape next f js old new r
     (tried_on arms shape next f js old new r (λ from ws number ps.
-      ap (chooses (frame_of from f) (from next) (callers_of from js) ws number ps) is
-      ∙ ap (λ (v : Option Meant). steps.switches (frame_of from f) (from next) (callers_of from js) ws number ps keys v) unbound) tried)
+    ap (chooses (frame_of from f) (from next) (callers_of from js) ws number ps) is
+    ∙ ap (λ (v : Option Meant). steps.switches (frame_of from f) (from next) (callers_of from js) ws number ps keys v) unbound) tried)
 
 pub takes_one : {M : Type 0} → (arms : List ℕ) (shape : Option (ℕ × List Key)) (x : ℕ) (keys : List Key) (v : Meant) (place : Option ℕ) (next : Option ℕ) (f : Frame M) (js : Option (Rc (Chain M) Global)) (xs : List (Wait M)) (turn : Turn M) (left : ℕ)
     → 1 ≤ left → shape ≡ Some (x, keys) → value_at (env_of f.slots.items) x ≡ Some v → ((ps : List Numbered) → arm_for v keys ps ≡ arm_at place ps)
     → ((known : List (M × ℕ)) (from : Ways) (a left number : ℕ) (next : Option ℕ) (xs : List (Wait M)) (ws : List machine.Wait) (ps : List Numbered) → 1 ≤ left → LeadOn from next arms ps → BothKnown known f js → AreWaits known from xs ws
-      → IsTurn known from a left turn xs number (steps.takes_arm (frame_of from f) (from next) (callers_of from js) ws number (arm_at place ps)))
+    → IsTurn known from a left turn xs number (steps.takes_arm (frame_of from f) (from next) (callers_of from js) ws number (arm_at place ps)))
     → Unfolds (Chooses arms shape) next f js left turn xs xs
 takes_one arms shape x keys v place next f js xs turn left some is bound arm takes =
     disjoins arms shape next f js left turn xs xs (λ known from number ws ps lead both wait.
-      subst (λ (u : steps.Unfolded). IsTurn known from f.activation.number left turn xs number u)
-      (sym (
-        ap (chooses (frame_of from f) (from next) (callers_of from js) ws number ps) is
-        ∙ (ap (λ (w : Option Meant). steps.switches (frame_of from f) (from next) (callers_of from js) ws number ps keys w) bound
-        ∙ ap (λ (p : Option Numbered). steps.takes_arm (frame_of from f) (from next) (callers_of from js) ws number p) (arm ps))))
-      (takes known from f.activation.number left number next xs ws ps some lead both wait))
+    subst (λ (u : steps.Unfolded). IsTurn known from f.activation.number left turn xs number u)
+    (sym (
+    ap (chooses (frame_of from f) (from next) (callers_of from js) ws number ps) is
+    ∙ (ap (λ (w : Option Meant). steps.switches (frame_of from f) (from next) (callers_of from js) ws number ps keys w) bound
+    ∙ ap (λ (p : Option Numbered). steps.takes_arm (frame_of from f) (from next) (callers_of from js) ws number p) (arm ps))))
+    (takes known from f.activation.number left number next xs ws ps some lead both wait))
 
 -- the arm at a place among those to which these places lead
 record Reached (from : Ways) (next : Option ℕ) (chosen place : Option ℕ) (ps : List Numbered) : Type 0 where
@@ -388,7 +397,7 @@ takes_some known from left number next f d js xs ws places ps chosen place some 
       state = record {
         does = (
           ap (λ (gs : List Numbered). machine.Goes (trace.doing (frame_of from f) gs) (callers_of from js)) (sym r.leads ∙ ap from (sym a.1))
-          ∙ ap (λ (h : trace.Frame). machine.Goes h (callers_of from js)) (sym (moved.frame from)),
+              ∙ ap (λ (h : trace.Frame). machine.Goes h (callers_of from js)) (sym (moved.frame from)),
           both_moved known f d place js moved both,
         );
         wait = wait;

@@ -1,8 +1,7 @@
 -- Goals of the table unfold as their entries say, and each turn weighs something.
-use Rattle.std.proofs.Common.{◌≡◌, refl, ap, ◌∙◌, sym, subst, arith, ℕ, suc, ◌+◌, ◌<◌, ◌≤◌, nat_eq, length, Bool, true, false, List, [], ◌∷◌, Option, Some, None, Result, Ok, Err, IfOk}
+use Rattle.std.proofs.Common.{◌≡◌, sym, subst, arith, ℕ, suc, ◌+◌, ◌≤◌, nat_eq, length, Bool, true, false, List, [], Option, Some, None, Result, Ok, Err, IfOk}
 use Rattle.std.specs.declared.rc.Rc.{Rc}
 use Rattle.std.specs.declared.alloc.Global.{Global}
-use Rattle.md_hlds.specs.declared.types.Det.{Det}
 use Rattle.md_hlds.specs.HldsGoal.{HldsGoal, At, GoalExpr, SimpleGoal, CallGoal, HoCallGoal, ConjGoal, DisjGoal, IfGoal, NotGoal, SomeGoal, Numbered, numbered_from}
 use Rattle.md_hlds.specs.Hlds.{Hlds, Procedure, procedure_called, nth_procedure}
 use Rattle.md_hlds.specs.Value.{Value, Number, Literal, Built, Closure, listed_values, value_at}
@@ -100,7 +99,7 @@ goal_weighs s f n goals js ws k (At l t) = expr_weighs s f n goals js ws k t
 
 pub calls_by : (x : Context) (e : Entry) (env : Env) (found : Option Call) (planned : Planned) → step_told e.step ≡ planned
     → ((s : Hlds) (n : ℕ) (g : HldsGoal) → parts_of x.nothing.now ≡ [] → IsAt s (cells_in x) (routines_in x) n g planned e.next
-      → Calls s (cells_in x) (λ f js ws k. unfolds s f n (ways s (cells_in x) e.next) js ws k g) env (ways s (cells_in x)) e.next found)
+    → Calls s (cells_in x) (λ f js ws k. unfolds s f n (ways s (cells_in x) e.next) js ws k g) env (ways s (cells_in x)) e.next found)
     → CallsBy x e env found
 calls_by x e env found planned is here s n g nothing at = here s n g nothing (subst (λ (p : Planned). IsAt s (cells_in x) (routines_in x) n g p e.next) is at)
 

@@ -1,14 +1,10 @@
 -- States and steps of the machine as those of the abstract machine.
 use Rattle.std.specs.Prelude.{ℕ, ◌≡◌, List, [], ◌∷◌, Option, Some, None}
-use Rattle.std.specs.declared.rc.Rc.{Rc}
-use Rattle.std.specs.declared.alloc.Global.{Global}
 use Rattle.md_hlds.specs.Value.{Env}
 use Rattle.md_hlds.specs.Trace as trace
 use Rattle.md_hlds.specs.Trace.{Items}
 use Rattle.md_steps.specs.State as machine
 use Rattle.md_steps.specs.Steps as machine'
-use Rattle.md_machine.specs.declared.frame.Frame.{Frame}
-use Rattle.md_machine.specs.declared.frame.Chain.{Chain}
 use Rattle.md_machine.specs.declared.wait.Wait.{Wait}
 use Rattle.md_machine.specs.declared.step.Doing.{Doing}
 use Rattle.md_machine.specs.declared.step.Doing.TheVariants.{Goes, Fails, Throws}

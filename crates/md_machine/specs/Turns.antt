@@ -1,10 +1,9 @@
 -- Turns of the machine as those of the abstract machine.
 use Rattle.std.specs.Prelude.{ℕ, ◌≡◌, ◌<◌, ◌≤◌, List, [], ◌∷◌, ◌++◌, Option, Some, None, slice_get}
-use denote.Ref.{Bor}
 use Rattle.std.specs.declared.rc.Rc.{Rc}
 use Rattle.std.specs.declared.alloc.Global.{Global}
 use Rattle.md_hlds.specs.HldsGoal.{HldsGoal}
-use Rattle.md_hlds.specs.Hlds.{Hlds, goal_at}
+use Rattle.md_hlds.specs.Hlds.{Hlds}
 use Rattle.md_hlds.specs.Trace as trace
 use Rattle.md_hlds.specs.Trace.{Items, allocated, written}
 use Rattle.md_steps.specs.State as machine

@@ -6,7 +6,6 @@ use Rattle.md_hlds.specs.HldsGoal.{Numbered}
 use Rattle.md_hlds.specs.Trace.{pairs_of}
 use Rattle.md_steps.specs.State as machine
 use Rattle.md_code.specs.IsCode.{LeadOn}
-use Rattle.md_machine.specs.declared.frame.Activation.{Activation}
 use Rattle.md_machine.specs.declared.frame.Frame.{Frame}
 use Rattle.md_machine.specs.declared.frame.Chain.{Chain}
 use Rattle.md_machine.specs.declared.wait.Choice.{Choice}

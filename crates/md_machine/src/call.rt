@@ -70,9 +70,7 @@ pub fn closure_call<'a, 'p>(
         return Ok(None);
     };
     match value {
-        Value::Closure(number, held) => {
-            fitting(code, site, number, held, arguments)
-        }
+        Value::Closure(number, held) => { fitting(code, site, number, held, arguments) }
         Value::Number(_) => Ok(None),
         Value::Literal(_) => Ok(None),
         Value::Built(..) => Ok(None),

@@ -45,7 +45,6 @@ impl<'a, M: Copy + Drop> Drop for Chain<'a, M> {
     }
 }
 
-
 impl<'a, M: Copy + Drop> Chain<'a, M> {
     ghost use Rattle.std.specs.Prelude.{ℕ, ◌≡◌, List};
     ghost use Rattle.md_machine.specs.Frames.{Ways, frames_of, nearest_told, AreKnown, NearestKnown};
@@ -62,10 +61,7 @@ impl<'a, M: Copy + Drop> Chain<'a, M> {
     }
 
     /// A copy of the nearest frame, and those behind it, or none.
-    fn copied(
-        &self,
-        alloc: Global,
-    ) -> Result<Option<(Frame<'a, M>, Rc<Chain<'a, M>>)>, NoMemory>
+    fn copied(&self, alloc: Global) -> Result<Option<(Frame<'a, M>, Rc<Chain<'a, M>>)>, NoMemory>
         ensures told { IfOk result (λ found. (from : Ways) → nearest_told from found ≡ frames_of from self.now) }
         ensures known { IfOk result (λ found. (known : List (M × ℕ)) → AreKnown known self.now → NearestKnown known found) }
     {

@@ -75,12 +75,7 @@ fn exit_to<'a, M: Copy + Drop>(
     ensures { IfOk result (λ step. (known : List (M × ℕ)) (from : Ways) (next : ℕ) (ws : List machine.Wait) → IsKnown known frame.entry.activation → IsKnown known caller.entry.activation → AreKnown known callers.entry.value → AreWaits known from (stack_of waits.old) ws
         → IsStep known from step (stack_of waits.new) next (returned (frame_of from frame.entry) (frame_of from caller.entry ∷ frames_of from callers.entry.value) ws next)) }
 {
-    give_back(
-        frame.head,
-        frame.arguments,
-        &frame.slots,
-        &mut caller.slots,
-    );
+    give_back(frame.head, frame.arguments, &frame.slots, &mut caller.slots);
     waits.push(Wait::Again(frame.activation))?;
     let port = Port::Exit(frame.activation);
     Ok(Step::On(Some(port), Doing::Goes(caller, Some(callers))))
@@ -130,10 +125,7 @@ fn met<'a, M: Copy + Drop>(
 }
 
 /// A call is cut at its first answer, and returns to its caller.
-fn cut<'a, M: Copy + Drop>(
-    slots: Vec<Option<Value<'a>>>,
-    call: Cut<'a, M>,
-) -> Step<'a, M>
+fn cut<'a, M: Copy + Drop>(slots: Vec<Option<Value<'a>>>, call: Cut<'a, M>) -> Step<'a, M>
     ensures { (known : List (M × ℕ)) (from : Ways) (next : ℕ) (w : machine.Wait) (xs : List (Wait M)) (ws : List machine.Wait)
         → IsReturning known from call.entry w → AreWaits known from xs ws
         → IsStep known from result xs next (answered (env_of slots.entry.items) (w ∷ ws) next) }

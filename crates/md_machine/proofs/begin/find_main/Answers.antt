@@ -1,6 +1,5 @@
-use Rattle.std.proofs.Common.{rules, ◌≡◌, Some}
-use Rattle.md_hlds.specs.Hlds.{hlds_of, procedure_of, procedure_called}
-use Rattle.md_hlds.specs.Run.{main_name}
+use Rattle.std.proofs.Common.{rules}
+use Rattle.md_hlds.specs.Hlds.{procedure_of}
 use Rattle.md_machine.proofs.begin.find_main.Goals as goal
 
 pub returns : goal.returns

@@ -1,5 +1,4 @@
-use Rattle.std.proofs.Common.{refl, ap, ◌∙◌, sym, ℕ, Option, Some}
-use Rattle.md_hlds.specs.Value.{Closure}
+use Rattle.std.proofs.Common.{ap, Option}
 use Rattle.md_hlds.specs.Value.{Value as Meant}
 use Rattle.md_steps.specs.Steps as steps
 use Rattle.md_value.specs.Values.{values_of, option_value}

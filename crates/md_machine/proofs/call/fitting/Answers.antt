@@ -1,4 +1,4 @@
-use Rattle.std.proofs.Common.{rules, ◌≡◌, refl, ap, ◌∙◌, sym, arith, ◌+◌, ◌<◌, ◌≤◌, get_or, length, slice_get, Some}
+use Rattle.std.proofs.Common.{rules, ◌≡◌, refl, ap, ◌∙◌, sym, ◌+◌, ◌<◌, ◌≤◌, get_or, length, slice_get, Some}
 use Rattle.std.proofs.lemmas.Bool.{eq-eqb, ne_eqb}
 use Rattle.std.proofs.lemmas.Option.{slice_get-get_or}
 use Rattle.md_value.specs.Values.{parts_of}

@@ -1,4 +1,4 @@
-use Rattle.std.proofs.Common.{rules, ◌≡◌, ap, ◌∙◌, ◌≤◌, length}
+use Rattle.std.proofs.Common.{rules, ap, ◌∙◌, ◌≤◌, length}
 use Rattle.md_code.specs.IsCode.{goals_from}
 use Rattle.md_machine.specs.Running.{cells_in}
 use Rattle.md_machine.proofs.RoundLemmas.{past_entries}

@@ -39,32 +39,32 @@ returns-in-Returning g c known from next ws wait =
 pub choices-preserved-after-wait : goal.choices-preserved-after-wait
 choices-preserved-after-wait g c = record {
   on = goes_by (env_of c.args.slots.items) (stack_of c.args.waits.now) (stack_of c.choices.waits) (stack_of c.pop.new.self) c.in-Some.wait c.in-Some.ensures
-    (elim c.match-wait.branch [
-      in-Others w ↦ is_passed (env_of c.args.slots.items) c.in-Some.wait _ w.in-Others.is (passes_others (env_of c.args.slots.items) _)
-      | in-Again w ↦ is_passed (env_of c.args.slots.items) c.in-Some.wait _ w.in-Again.is (passes_again (env_of c.args.slots.items) _)
-      | in-Over w ↦ is_passed (env_of c.args.slots.items) c.in-Some.wait _ w.in-Over.is (passes_over (env_of c.args.slots.items) _)
-    ])
-    c.choices.invariant.on;
+      (elim c.match-wait.branch [
+        | in-Others w ↦ is_passed (env_of c.args.slots.items) c.in-Some.wait _ w.in-Others.is (passes_others (env_of c.args.slots.items) _)
+        | in-Again w ↦ is_passed (env_of c.args.slots.items) c.in-Some.wait _ w.in-Again.is (passes_again (env_of c.args.slots.items) _)
+        | in-Over w ↦ is_passed (env_of c.args.slots.items) c.in-Some.wait _ w.in-Over.is (passes_over (env_of c.args.slots.items) _)
+      ])
+      c.choices.invariant.on;
 }
 
 pub choices-preserved-after-wait-2 : goal.choices-preserved-after-wait-2
 choices-preserved-after-wait-2 g c = record {
   on = goes_by (env_of c.args.slots.items) (stack_of c.args.waits.now) (stack_of c.choices.waits) (stack_of c.pop.new.self) c.in-Some.wait c.in-Some.ensures
-    (elim c.match-wait.branch [
-      in-Others w ↦ is_passed (env_of c.args.slots.items) c.in-Some.wait _ w.in-Others.is (passes_others (env_of c.args.slots.items) _)
-      | in-Again w ↦ is_passed (env_of c.args.slots.items) c.in-Some.wait _ w.in-Again.is (passes_again (env_of c.args.slots.items) _)
-      | in-Over w ↦ is_passed (env_of c.args.slots.items) c.in-Some.wait _ w.in-Over.is (passes_over (env_of c.args.slots.items) _)
-    ])
-    c.choices.invariant.on;
+      (elim c.match-wait.branch [
+        | in-Others w ↦ is_passed (env_of c.args.slots.items) c.in-Some.wait _ w.in-Others.is (passes_others (env_of c.args.slots.items) _)
+        | in-Again w ↦ is_passed (env_of c.args.slots.items) c.in-Some.wait _ w.in-Again.is (passes_again (env_of c.args.slots.items) _)
+        | in-Over w ↦ is_passed (env_of c.args.slots.items) c.in-Some.wait _ w.in-Over.is (passes_over (env_of c.args.slots.items) _)
+      ])
+      c.choices.invariant.on;
 }
 
 pub choices-preserved : goal.choices-preserved
 choices-preserved g c = record {
   on = goes_by (env_of c.args.slots.items) (stack_of c.args.waits.now) (stack_of c.choices.waits) (stack_of c.pop.new.self) c.in-Some.wait c.in-Some.ensures
-    (elim c.match-wait.branch [
-      in-Others w ↦ is_passed (env_of c.args.slots.items) c.in-Some.wait _ w.in-Others.is (passes_others (env_of c.args.slots.items) _)
-      | in-Again w ↦ is_passed (env_of c.args.slots.items) c.in-Some.wait _ w.in-Again.is (passes_again (env_of c.args.slots.items) _)
-      | in-Over w ↦ is_passed (env_of c.args.slots.items) c.in-Some.wait _ w.in-Over.is (passes_over (env_of c.args.slots.items) _)
-    ])
-    c.choices.invariant.on;
+      (elim c.match-wait.branch [
+        | in-Others w ↦ is_passed (env_of c.args.slots.items) c.in-Some.wait _ w.in-Others.is (passes_others (env_of c.args.slots.items) _)
+        | in-Again w ↦ is_passed (env_of c.args.slots.items) c.in-Some.wait _ w.in-Again.is (passes_again (env_of c.args.slots.items) _)
+        | in-Over w ↦ is_passed (env_of c.args.slots.items) c.in-Some.wait _ w.in-Over.is (passes_over (env_of c.args.slots.items) _)
+      ])
+      c.choices.invariant.on;
 }

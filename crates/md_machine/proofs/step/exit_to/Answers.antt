@@ -2,7 +2,6 @@ use Rattle.std.proofs.Common.{◌∙◌, refl, ap}
 use Rattle.std.specs.Vec.{with_items}
 use Rattle.md_hlds.specs.Value.{Env}
 use Rattle.md_hlds.specs.Trace as trace
-use Rattle.md_value.specs.Values.{env_of}
 use Rattle.md_machine.specs.Frames.{frame_of}
 use Rattle.md_machine.specs.Waits.{stack_of}
 use Rattle.md_machine.proofs.StepLemmas.{exits, filled}

@@ -1,4 +1,4 @@
-use Rattle.std.proofs.Common.{◌≡◌, refl, ap, Some, slice_index_or}
+use Rattle.std.proofs.Common.{refl, ap, Some, slice_index_or}
 use Rattle.md_hlds.specs.Trace as trace
 use Rattle.md_machine.specs.Waits.{stack_of}
 use Rattle.md_machine.proofs.StepLemmas.{tries_next}

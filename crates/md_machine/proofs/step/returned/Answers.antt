@@ -1,10 +1,4 @@
-use Rattle.std.proofs.Common.{◌≡◌, ap, ◌∙◌, sym, subst, List, IfOk}
-use Rattle.md_hlds.specs.Trace as trace
-use Rattle.md_steps.specs.Steps as steps
-use Rattle.md_steps.specs.Steps.{returned}
-use Rattle.md_machine.specs.Frames.{frame_of, frames_of, callers_of, nearest_told, NearestKnown}
 use Rattle.md_machine.specs.Waits.{stack_of}
-use Rattle.md_machine.specs.States.{IsStep}
 use Rattle.md_machine.proofs.StepLemmas.{returns_to}
 use Rattle.md_machine.proofs.step.returned.Goals as goal
 

@@ -1,4 +1,4 @@
-use Rattle.std.proofs.Common.{ap, ◌∙◌, sym, Some}
+use Rattle.std.proofs.Common.{ap, ◌∙◌, sym}
 use Rattle.md_hlds.specs.Value.{value_at}
 use Rattle.md_value.specs.Values.{value_of, option_value, env_of}
 use Rattle.md_code.specs.Keys.{keys_told}

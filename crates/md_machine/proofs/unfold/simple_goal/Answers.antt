@@ -1,4 +1,4 @@
-use Rattle.std.proofs.Common.{refl, ap, ◌∙◌, sym}
+use Rattle.std.proofs.Common.{refl, ap, ◌∙◌}
 use Rattle.std.specs.Vec.{with_items}
 use Rattle.md_hlds.specs.HldsGoal.{expr_of}
 use Rattle.md_hlds.specs.Value.{Env}
