@@ -5,12 +5,12 @@ ghost use Rattle.md_events.specs.Laws.{IsWithinBounds};
 
 use super::order::Order;
 use crate::{End, Ran, interpret};
+use bumpalo::Bump;
 use md_base::{Counts, Measure, ProcId};
 use md_det::Checked;
 use md_events::programs_have_tables;
 use md_plain::{Item, run};
 use md_trace::{Counter, Silent};
-use bumpalo::Bump;
 use std::alloc::Global;
 use std::test::Fail;
 

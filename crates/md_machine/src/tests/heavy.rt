@@ -30,7 +30,10 @@ fn a_million_calls_nest(rt: HostRuntime) -> Result<(), Fail> {
     // Each number weighs as much as the next.
     let (_, three) = by_plain(alloc, &checked(alloc, COUNT.as_bytes())?, 1000)?;
     let (_, four) = by_plain(alloc, &checked(alloc, FOUR.as_bytes())?, 1000)?;
-    let weight = four.wrapping_sub(three).wrapping_mul(999_997).wrapping_add(three);
+    let weight = four
+        .wrapping_sub(three)
+        .wrapping_mul(999_997)
+        .wrapping_add(three);
     assert!(rt; weight < MOST as u64);
     let checked = checked(alloc, MILLION.as_bytes())?;
     let ran = silent(alloc, &checked, weight as u32)?;

@@ -4,7 +4,7 @@ use super::plain::agrees_within;
 use std::alloc::Global;
 use std::test::Fail;
 
-/// Goals that read the variable `@` and bind `#`; names that end in `~` are their own, and `^` is some predicate.
+/// Goals that read the variable `@` and bind `#`; names that end in `~` are their own, and `^` is a predicate.
 const GOALS: [&str; 16] = [
     "# = @",
     "D~ = 1, # = @ + D~",
@@ -20,23 +20,31 @@ const GOALS: [&str; 16] = [
     "C~ = ^(@), call(C~, #)",
     "C~ = ^, call(C~, @, #)",
     "L~ = 6, @ < L~, # = @",
-    "L~ = 5, ( @ > L~ -> E~ = \"large\", require.error(E~), # = @ ; # = @ )",
+    "L~ = 4, ( @ > L~ -> E~ = \"large\", require.error(E~), # = @ ; # = @ )",
     "D~ = 1, T~ = box(D~, @), ( T~ = dot, # = 0 ; T~ = box(A~, #), A~ =< # )",
 ];
 
 const HEAD: &str =
     ":- module t.\n:- type shape ---> dot ; box(int, int).\n:- pred main(io::di, io::uo) is det.\nmain(IO0, IO) :- N = 1, L = 6, ( some [X] ( p0(N, X), X > L ) -> S = \"y\" ; S = \"n\" ), io.write_string(S, IO0, IO).\n";
 
-/// A text in the making, and a number that looks random.
+/// The last predicate, which calls none.
+const LAST: &str =
+    ":- pred p4(int::in, int::out) is multi.\np4(A, B) :- ( B = A ; B = 6 ; D = 3, B = A + D ).\n";
+
+/// A text in the making, the number of its last predicate, and a number that looks random.
 #[derive(Drop)]
 struct Maker {
     text: Vec<u8>,
+    owner: u8,
     state: u32,
 }
 
 /// A number below this many.
 fn pick(maker: &mut Maker, many: u32) -> u32 {
-    maker.state = maker.state.wrapping_mul(1_664_525).wrapping_add(1_013_904_223);
+    maker.state = maker
+        .state
+        .wrapping_mul(1_664_525)
+        .wrapping_add(1_013_904_223);
     (maker.state >> 16).checked_rem(many).unwrap_or(0)
 }
 
@@ -66,14 +74,23 @@ fn put_byte(maker: &mut Maker, byte: u8, place: u8) -> Result<(), Fail> {
         b'#' => put_name(maker, b'V', place.wrapping_add(1)),
         b'~' => put_name(maker, b'_', place),
         b'^' => {
-            let number = pick(maker, 4) as u8;
-            put_name(maker, b'p', number)
+            let callee = pick_callee(maker);
+            put_name(maker, b'p', callee)
         }
         _ => {
             maker.text.push(byte)?;
             Ok(())
         }
     }
+}
+
+/// One of the predicates that come after the one in the making, or now and then any.
+fn pick_callee(maker: &mut Maker) -> u8 {
+    if pick(maker, 20) == 0 {
+        return pick(maker, 5) as u8;
+    }
+    let beyond = pick(maker, 3) as u8;
+    maker.owner.wrapping_add(1).wrapping_add(beyond).min(4)
 }
 
 /// A predicate whose body is a conjunction of so many goals.
@@ -101,17 +118,20 @@ fn put_goals(maker: &mut Maker, goals: u8) -> Result<(), Fail> {
     Ok(())
 }
 
-/// The text of a program of four predicates, which looks random.
+/// The text of a program of four predicates and the last one, which looks random.
 fn made(alloc: Global, state: u32) -> Result<Vec<u8>, Fail> {
     let mut maker = Maker {
         text: Vec::new(alloc),
+        owner: 0,
         state,
     };
     put(&mut maker, HEAD)?;
     for number in 0..4u8 {
         let goals = (pick(&mut maker, 4) as u8).wrapping_add(1);
+        maker.owner = number;
         put_predicate(&mut maker, number, goals)?;
     }
+    put(&mut maker, LAST)?;
     Ok(maker.text)
 }
 
