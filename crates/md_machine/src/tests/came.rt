@@ -37,11 +37,18 @@ pub fn silent(alloc: Global, checked: &Checked, budget: u32) -> Result<Ran, Fail
 pub fn counted(alloc: Global, checked: &Checked, budget: u32) -> Result<(Ran, Counts), Fail>
     requires { (b : ℕ) → b < 2 ^ 32 → IsWithinBounds (hlds_of checked.now) b }
 {
-    let procs = checked.program().preds.len() as u32;
+    let procs = procedures(checked);
     let mut counter = Counter::new(alloc, procs)?;
     programs_have_tables();
     let ran = interpret(alloc, checked, budget, &mut counter)?;
     Ok((ran, sums(&counter, procs)))
+}
+
+/// How many procedures a program has.
+fn procedures(checked: &Checked) -> u32
+    ensures { result ≡ length (hlds_of checked.now).procedures }
+{
+    checked.program().preds.len() as u32
 }
 
 /// The counts of so many procedures together.
