@@ -6,4 +6,4 @@ use Rattle.md_hlds.proofs.ProcedureLemmas.{length-procedures_of}
 use Rattle.md_machine.proofs.tests.came.procedures.Goals as goal
 
 pub returns : goal.returns
-returns c = sym (length-procedures_of c.program.result.now.preds.items) ∙ ap (λ (p : Program). length (hlds_of p).procedures) c.program.ensures.program
+returns c = c.len.ensures ∙ sym (length-procedures_of c.program.result.now.preds.items) ∙ ap (λ (p : Program). length (hlds_of p).procedures) c.program.ensures.program
