@@ -48,7 +48,7 @@ pub fn counted(alloc: Global, checked: &Checked, budget: u32) -> Result<(Ran, Co
 fn procedures(checked: &Checked) -> u32
     ensures { result ≡ length (hlds_of checked.now).procedures }
 {
-    checked.program().preds.len() as u32
+    checked.program().preds.as_slice().len() as u32
 }
 
 /// The counts of so many procedures together.

@@ -1,4 +1,4 @@
-use Rattle.std.proofs.Common.{sym, arith, omega}
+use Rattle.std.proofs.Common.{sym, arith}
 use Rattle.md_hlds.specs.Hlds.{hlds_of}
 use Rattle.md_events.specs.Table.{site_table}
 use Rattle.md_machine.proofs.tests.came.counted.Goals as goal
