@@ -12,6 +12,8 @@ mod program;
 mod ran;
 mod run;
 mod step;
+#[cfg(test)]
+mod tests;
 mod unfold;
 mod wait;
 

@@ -1,0 +1,67 @@
+// Long runs and deep ones.
+use super::came::{by_plain, counted, silent};
+use super::checked;
+use super::programs::COUNT;
+use crate::End;
+use std::test::Fail;
+
+/// The most steps that a run may be given.
+const MOST: u32 = 16_777_216;
+
+/// The same as `COUNT` from 4.
+const FOUR: &str =
+    ":- module t.\n:- pred main(io::di, io::uo) is det.\nmain(IO0, IO) :- N = 4, count(N), IO = IO0.\n:- pred count(int::in) is det.\ncount(N) :- Z = 0, ( N =< Z -> true ; D = 1, M = N - D, count(M) ).\n";
+
+/// The same from a million.
+const MILLION: &str =
+    ":- module t.\n:- pred main(io::di, io::uo) is det.\nmain(IO0, IO) :- N = 1000000, count(N), IO = IO0.\n:- pred count(int::in) is det.\ncount(N) :- Z = 0, ( N =< Z -> true ; D = 1, M = N - D, count(M) ).\n";
+
+/// The same from ten millions.
+const TEN_MILLIONS: &str =
+    ":- module t.\n:- pred main(io::di, io::uo) is det.\nmain(IO0, IO) :- N = 10000000, count(N), IO = IO0.\n:- pred count(int::in) is det.\ncount(N) :- Z = 0, ( N =< Z -> true ; D = 1, M = N - D, count(M) ).\n";
+
+/// All choices of eighteen bits.
+const BITS: &str =
+    ":- module t.\n:- pred main(io::di, io::uo) is det.\nmain(IO0, IO) :- ( bits -> S = \"y\" ; S = \"n\" ), io.write_string(S, IO0, IO).\n:- pred bits is failure.\nbits :- bit(A), bit(B), bit(C), bit(D), bit(E), bit(F), bit(G), bit(H), bit(I), bit(J), bit(K), bit(L), bit(M), bit(N), bit(O), bit(P), bit(Q), bit(R), fail.\n:- pred bit(int::out) is multi.\nbit(X) :- ( X = 0 ; X = 1 ).\n";
+
+#[test]
+fn a_million_calls_nest(rt: HostRuntime) -> Result<(), Fail> {
+    let alloc = rt.alloc();
+    // Each number weighs as much as the next.
+    let (_, three) = by_plain(alloc, &checked(alloc, COUNT.as_bytes())?, 1000)?;
+    let (_, four) = by_plain(alloc, &checked(alloc, FOUR.as_bytes())?, 1000)?;
+    let weight = four
+        .wrapping_sub(three)
+        .wrapping_mul(999_997)
+        .wrapping_add(three);
+    assert!(rt; weight < MOST as u64);
+    let checked = checked(alloc, MILLION.as_bytes())?;
+    let ran = silent(alloc, &checked, weight as u32)?;
+    assert_eq!(rt; ran.end, End::Finished);
+    let ran = silent(alloc, &checked, (weight as u32).wrapping_sub(1))?;
+    assert_eq!(rt; ran.end, End::OutOfSteps);
+    Ok(())
+}
+
+#[test]
+fn a_run_has_all_the_steps_that_there_are(rt: HostRuntime) -> Result<(), Fail> {
+    let alloc = rt.alloc();
+    let checked = checked(alloc, TEN_MILLIONS.as_bytes())?;
+    let ran = silent(alloc, &checked, MOST)?;
+    assert_eq!(rt; ran.end, End::OutOfSteps);
+    assert!(rt; ran.output.is_empty());
+    Ok(())
+}
+
+#[test]
+fn all_choices_are_tried(rt: HostRuntime) -> Result<(), Fail> {
+    // The call of a bit at each of 2^0 + .. + 2^17 places exits twice, and then fails.
+    let alloc = rt.alloc();
+    let checked = checked(alloc, BITS.as_bytes())?;
+    let (ran, counts) = counted(alloc, &checked, MOST)?;
+    assert_eq!(rt; ran.end, End::Finished);
+    assert_eq!(rt; ran.output.as_slice(), b"n".as_slice());
+    assert_eq!(rt; (counts.calls, counts.exits), (262_145, 524_287));
+    assert_eq!(rt; (counts.redos, counts.fails), (524_286, 262_144));
+    Ok(())
+}
