@@ -12,8 +12,6 @@ mod program;
 mod ran;
 mod run;
 mod step;
-#[cfg(test)]
-mod tests;
 mod unfold;
 mod wait;
 

@@ -138,7 +138,7 @@ fn made(alloc: Global, state: u32) -> Result<Vec<u8>, Fail> {
 #[test]
 fn made_programs_run_as_the_plain_program_runs_them(rt: HostRuntime) -> Result<(), Fail> {
     let alloc = rt.alloc();
-    for seed in 0..200u32 {
+    for seed in 0..60u32 {
         let text = made(alloc, seed.wrapping_mul(7_919))?;
         let checked = checked(alloc, &text)?;
         agrees_within(&rt, &checked, 600)?;

@@ -4,7 +4,7 @@ ghost use Rattle.md_hlds.specs.Hlds.{hlds_of};
 ghost use Rattle.md_events.specs.Laws.{IsWithinBounds};
 
 use super::order::Order;
-use crate::{End, Ran, interpret};
+use md_machine::{End, Ran, interpret};
 use bumpalo::Bump;
 use md_base::{Counts, Measure, ProcId};
 use md_det::Checked;

@@ -2,7 +2,7 @@
 use super::came::{counted, silent};
 use super::checked;
 use super::programs::{COUNT, ERR, HELLO, NONE, SOME};
-use crate::End;
+use md_machine::End;
 use std::test::Fail;
 
 #[test]

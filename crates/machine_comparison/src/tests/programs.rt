@@ -1,5 +1,5 @@
 // Texts of programs.
-use crate::End;
+use md_machine::End;
 
 /// Two writes.
 pub const HELLO: &str =

@@ -6,7 +6,7 @@ ghost use Rattle.md_events.specs.Laws.{IsWithinBounds};
 use super::came::{by_machine, by_plain};
 use super::checked;
 use super::programs::TABLE;
-use crate::End;
+use md_machine::End;
 use md_det::Checked;
 use std::alloc::Global;
 use std::process::Abort;

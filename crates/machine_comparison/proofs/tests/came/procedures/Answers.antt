@@ -3,7 +3,7 @@ use Rattle.md_hlds.specs.declared.program.Pred.{Pred}
 use Rattle.md_hlds.specs.declared.program.Program.{Program}
 use Rattle.md_hlds.specs.Hlds.{hlds_of}
 use Rattle.md_hlds.proofs.ProcedureLemmas.{length-procedures_of}
-use Rattle.md_machine.proofs.tests.came.procedures.Goals as goal
+use Rattle.machine_comparison.proofs.tests.came.procedures.Goals as goal
 
 pub returns : goal.returns
 returns c =

@@ -1,24 +1,23 @@
 // Long runs and deep ones.
-use super::came::{by_plain, counted, silent};
+use super::came::{counted, silent};
 use super::checked;
-use super::programs::COUNT;
-use crate::End;
+use md_machine::End;
 use std::test::Fail;
 
 /// The most steps that a run may be given.
 const MOST: u32 = 16_777_216;
 
-/// The same as `COUNT` from 4.
-const FOUR: &str =
-    ":- module t.\n:- pred main(io::di, io::uo) is det.\nmain(IO0, IO) :- N = 4, count(N), IO = IO0.\n:- pred count(int::in) is det.\ncount(N) :- Z = 0, ( N =< Z -> true ; D = 1, M = N - D, count(M) ).\n";
-
-/// The same from a million.
+/// Counts down from a million: 13 steps for each number.
 const MILLION: &str =
     ":- module t.\n:- pred main(io::di, io::uo) is det.\nmain(IO0, IO) :- N = 1000000, count(N), IO = IO0.\n:- pred count(int::in) is det.\ncount(N) :- Z = 0, ( N =< Z -> true ; D = 1, M = N - D, count(M) ).\n";
 
-/// The same from ten millions.
+/// Counts down from ten millions.
 const TEN_MILLIONS: &str =
     ":- module t.\n:- pred main(io::di, io::uo) is det.\nmain(IO0, IO) :- N = 10000000, count(N), IO = IO0.\n:- pred count(int::in) is det.\ncount(N) :- Z = 0, ( N =< Z -> true ; D = 1, M = N - D, count(M) ).\n";
+
+/// Goes down from a million, and leaves a choice open at each number, 13 steps for each: the first answer is that of 0, and will do.
+const CHOICES: &str =
+    ":- module t.\n:- pred main(io::di, io::uo) is det.\nmain(IO0, IO) :- N = 1000000, ( some [X] ( deep(N, X), X < N ) -> S = \"y\" ; S = \"n\" ), io.write_string(S, IO0, IO).\n:- pred deep(int::in, int::out) is nondet.\ndeep(N, X) :- ( Z = 0, N > Z, D = 1, M = N - D, deep(M, X) ; X = N ).\n";
 
 /// All choices of eighteen bits.
 const BITS: &str =
@@ -27,18 +26,22 @@ const BITS: &str =
 #[test]
 fn a_million_calls_nest(rt: HostRuntime) -> Result<(), Fail> {
     let alloc = rt.alloc();
-    // Each number weighs as much as the next.
-    let (_, three) = by_plain(alloc, &checked(alloc, COUNT.as_bytes())?, 1000)?;
-    let (_, four) = by_plain(alloc, &checked(alloc, FOUR.as_bytes())?, 1000)?;
-    let weight = four
-        .wrapping_sub(three)
-        .wrapping_mul(999_997)
-        .wrapping_add(three);
-    assert!(rt; weight < MOST as u64);
     let checked = checked(alloc, MILLION.as_bytes())?;
-    let ran = silent(alloc, &checked, weight as u32)?;
+    let ran = silent(alloc, &checked, 13_000_019)?;
     assert_eq!(rt; ran.end, End::Finished);
-    let ran = silent(alloc, &checked, (weight as u32).wrapping_sub(1))?;
+    let ran = silent(alloc, &checked, 13_000_018)?;
+    assert_eq!(rt; ran.end, End::OutOfSteps);
+    Ok(())
+}
+
+#[test]
+fn a_million_choices_are_open(rt: HostRuntime) -> Result<(), Fail> {
+    let alloc = rt.alloc();
+    let checked = checked(alloc, CHOICES.as_bytes())?;
+    let ran = silent(alloc, &checked, 13_000_028)?;
+    assert_eq!(rt; ran.end, End::Finished);
+    assert_eq!(rt; ran.output.as_slice(), b"y".as_slice());
+    let ran = silent(alloc, &checked, 13_000_027)?;
     assert_eq!(rt; ran.end, End::OutOfSteps);
     Ok(())
 }

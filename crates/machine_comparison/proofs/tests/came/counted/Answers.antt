@@ -1,7 +1,7 @@
 use Rattle.std.proofs.Common.{sym, arith}
 use Rattle.md_hlds.specs.Hlds.{hlds_of}
 use Rattle.md_events.specs.Table.{site_table}
-use Rattle.md_machine.proofs.tests.came.counted.Goals as goal
+use Rattle.machine_comparison.proofs.tests.came.counted.Goals as goal
 
 pub interpret-requires-clause-begins : goal.interpret-requires-clause-begins
 interpret-requires-clause-begins c =
