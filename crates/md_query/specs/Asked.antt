@@ -50,7 +50,11 @@ query_of path pairs =
     (cond (bytes_eq path (codes "modules")) (Some Modules)
     (cond (bytes_eq path (codes "module")) (module_of (value_of (codes "name") pairs)) None)))))))
 
+-- the path is that of a module, whose name is one of the pairs
+abbrev pub asks_module : (path : List ℕ) → Bool
+asks_module path = bytes_eq path (codes "module")
+
 -- the path is one whose query takes pairs
 abbrev pub takes_pairs : (path : List ℕ) → Bool
 takes_pairs path =
-    bytes_eq path (codes "clique") || bytes_eq path (codes "top") || bytes_eq path (codes "proc") || bytes_eq path (codes "module")
+    bytes_eq path (codes "clique") || bytes_eq path (codes "top") || bytes_eq path (codes "proc") || asks_module path

@@ -1,10 +1,10 @@
 -- The pairs behind a path, and what their values are.
-use Rattle.std.specs.Prelude.{ℕ, Bool, not, ◌&&◌, ◌==◌, nat_le, List, [], ◌∷◌, length, Option, Some, None, codes, cond}
+use Rattle.std.specs.Prelude.{ℕ, Bool, not, ◌&&◌, ◌==◌, nat_le, List, [], ◌∷◌, length, Option, Some, None, codes, cond, All}
 use Rattle.std.specs.Str.{bytes_eq}
 use Rattle.std.specs.Str.Lossy.{utf8_lossy}
 use Rattle.std.specs.List.{list_all}
 use Rattle.std.specs.Char.{is_ascii_digit}
-use Rattle.form_urlencoded.specs.Form.{raw_pairs, decode}
+use Rattle.form_urlencoded.specs.Form.{raw_pairs, decode, IsPlainText}
 use Rattle.md_base.specs.declared.measure.Measure.{Measure}
 use Rattle.md_base.specs.declared.measure.Measure.TheVariants.{Calls, Exits, Fails, Redos, Allocs, Words, Excps}
 use Rattle.md_token.specs.Literal.{number_of}
@@ -23,6 +23,13 @@ first_value name ((key, value) ∷ pairs) = cond (bytes_eq (text_of key) name) (
 -- the pairs stand between `&`, name and value on the two sides of the first `=`
 abbrev pub value_of : (name pairs : List ℕ) → Option (List ℕ)
 value_of name pairs = first_value name (raw_pairs pairs)
+
+-- nothing of the pairs is to be decoded: neither `+` nor `%` is in them, and names and values are UTF-8
+abbrev pub IsPlainPair : List ℕ × List ℕ → Type 0
+IsPlainPair (name, value) = IsPlainText name × IsPlainText value
+
+abbrev pub ArePlain : (pairs : List ℕ) → Type 0
+ArePlain pairs = All IsPlainPair (raw_pairs pairs)
 
 -- ---- numbers
 

@@ -1,8 +1,8 @@
 // The values of pairs: texts, numbers and measures.
-ghost use Rattle.std.specs.Prelude.{◌≡◌, ℕ, IfOk};
+ghost use Rattle.std.specs.Prelude.{◌≡◌, ℕ, IfOk, IsOk};
 ghost use Rattle.std.specs.List.{list_all};
 ghost use Rattle.std.specs.Char.{is_ascii_digit};
-ghost use Rattle.md_query.specs.Pair.{value_of, number_in, number_within, within, is_number, measure_in, measure_named};
+ghost use Rattle.md_query.specs.Pair.{ArePlain, value_of, number_in, number_within, within, is_number, measure_in, measure_named};
 ghost use Rattle.md_query.specs.Told.{text_told};
 
 use form_urlencoded::{decode, raw_pairs};
@@ -11,9 +11,10 @@ use md_token::number_of;
 use std::alloc::Global;
 use std::borrow::CowStr;
 
-/// The value of the first pair with this name.
+/// The value of the first pair with this name. Memory is asked for only where something is to be decoded.
 pub(crate) fn value_of<'a>(alloc: Global, name: &str, pairs: &'a [u8]) -> Result<Option<CowStr<'a>>, NoMemory>
-    ensures { IfOk result (λ found. text_told found ≡ value_of name.now pairs.now) }
+    ensures value { IfOk result (λ found. text_told found ≡ value_of name.now pairs.now) }
+    ensures plain { ArePlain pairs.now → IsOk result }
 {
     for (key, value) in raw_pairs(pairs) {
         let key = decode(alloc, key)?;
@@ -27,7 +28,8 @@ pub(crate) fn value_of<'a>(alloc: Global, name: &str, pairs: &'a [u8]) -> Result
 
 /// The number of the first pair with this name, where it is one from `least` to `most`.
 pub(crate) fn number_in(alloc: Global, name: &str, least: u32, most: u32, pairs: &[u8]) -> Result<Option<u32>, NoMemory>
-    ensures { IfOk result (λ found. found ≡ number_in name.now least most pairs.now) }
+    ensures number { IfOk result (λ found. found ≡ number_in name.now least most pairs.now) }
+    ensures plain { ArePlain pairs.now → IsOk result }
 {
     match value_of(alloc, name, pairs)? {
         Some(text) => Ok(number_within(least, most, text.as_bytes())),
@@ -75,7 +77,8 @@ fn are_digits(bytes: &[u8]) -> bool
 
 /// The measure that the first pair `by` names.
 pub(crate) fn measure_in(alloc: Global, pairs: &[u8]) -> Result<Option<Measure>, NoMemory>
-    ensures { IfOk result (λ found. found ≡ measure_in pairs.now) }
+    ensures measure { IfOk result (λ found. found ≡ measure_in pairs.now) }
+    ensures plain { ArePlain pairs.now → IsOk result }
 {
     match value_of(alloc, "by", pairs)? {
         Some(name) => Ok(measure_named(name.as_str())),

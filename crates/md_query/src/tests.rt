@@ -27,6 +27,14 @@ fn rank(alloc: Global, pairs: &[u8]) -> Option<u32> {
     }
 }
 
+/// Whether path and pairs ask for the module of this name.
+fn is_module(alloc: Global, pairs: &[u8], name: &[u8]) -> bool {
+    match read_query(alloc, b"module", pairs) {
+        Ok(Query::Module(found)) => found.as_bytes() == name,
+        _ => false,
+    }
+}
+
 #[test]
 fn each_path_is_a_query(rt: HostRuntime) -> Result<(), Fail> {
     let alloc = rt.alloc();
@@ -38,10 +46,7 @@ fn each_path_is_a_query(rt: HostRuntime) -> Result<(), Fail> {
     assert!(rt; matches!(read_query(alloc, b"top", b"by=excps&n=10"), Ok(Query::Top { by: Measure::Excps, n: 10 })));
     assert!(rt; matches!(read_query(alloc, b"proc", b"id=3"), Ok(Query::Proc(3))));
     assert!(rt; matches!(read_query(alloc, b"modules", b""), Ok(Query::Modules)));
-    let Query::Module(name) = read_query(alloc, b"module", b"name=queens")? else {
-        return Ok(());
-    };
-    assert_eq!(rt; name.as_bytes(), b"queens".as_slice());
+    assert!(rt; is_module(alloc, b"name=queens", b"queens"));
     Ok(())
 }
 
@@ -108,10 +113,9 @@ fn numbers_have_bounds(rt: HostRuntime) -> Result<(), Fail> {
 #[test]
 fn the_name_of_a_module_is_decoded(rt: HostRuntime) -> Result<(), Fail> {
     let alloc = rt.alloc();
-    let Query::Module(name) = read_query(alloc, b"module", b"name=a+b%2Bc%26%3D%ff=d")? else {
-        return Ok(());
-    };
+    assert!(rt; is_module(alloc, b"name=a+b%2Bc%26%3D=d", b"a b+c&==d"));
     // bytes that aren't UTF-8 are U+FFFD
-    assert_eq!(rt; name.as_bytes(), "a b+c&=\u{FFFD}=d".as_bytes());
+    assert!(rt; is_module(alloc, b"name=%ff%", b"\xef\xbf\xbd%"));
+    assert!(rt; is_module(alloc, b"name", b""));
     Ok(())
 }
