@@ -12,7 +12,11 @@ use std::alloc::Global;
 use std::borrow::CowStr;
 
 /// The value of the first pair with this name. Memory is asked for only where something is to be decoded.
-pub(crate) fn value_of<'a>(alloc: Global, name: &str, pairs: &'a [u8]) -> Result<Option<CowStr<'a>>, NoMemory>
+pub(crate) fn value_of<'a>(
+    alloc: Global,
+    name: &str,
+    pairs: &'a [u8],
+) -> Result<Option<CowStr<'a>>, NoMemory>
     ensures value { IfOk result (λ found. text_told found ≡ value_of name.now pairs.now) }
     ensures plain { ArePlain pairs.now → IsOk result }
 {
@@ -27,7 +31,13 @@ pub(crate) fn value_of<'a>(alloc: Global, name: &str, pairs: &'a [u8]) -> Result
 }
 
 /// The number of the first pair with this name, where it is one from `least` to `most`.
-pub(crate) fn number_in(alloc: Global, name: &str, least: u32, most: u32, pairs: &[u8]) -> Result<Option<u32>, NoMemory>
+pub(crate) fn number_in(
+    alloc: Global,
+    name: &str,
+    least: u32,
+    most: u32,
+    pairs: &[u8],
+) -> Result<Option<u32>, NoMemory>
     ensures number { IfOk result (λ found. found ≡ number_in name.now least most pairs.now) }
     ensures plain { ArePlain pairs.now → IsOk result }
 {

@@ -19,10 +19,12 @@ fn procedure(alloc: Global, path: &[u8], pairs: &[u8]) -> Option<u32> {
 /// How many procedures path and pairs ask for, by their calls.
 fn rank(alloc: Global, pairs: &[u8]) -> Option<u32> {
     match read_query(alloc, b"top", pairs) {
-        Ok(Query::Top {
-            by: Measure::Calls,
-            n,
-        }) => Some(n),
+        Ok(
+            Query::Top {
+                by: Measure::Calls,
+                n,
+            },
+        ) => Some(n),
         _ => None,
     }
 }
@@ -43,7 +45,15 @@ fn each_path_is_a_query(rt: HostRuntime) -> Result<(), Fail> {
     assert!(rt; matches!(read_query(alloc, b"root", b""), Ok(Query::Root)));
     assert!(rt; matches!(read_query(alloc, b"clique", b"id=7"), Ok(Query::Clique(7))));
     assert!(rt; matches!(read_query(alloc, b"procs", b""), Ok(Query::Procs)));
-    assert!(rt; matches!(read_query(alloc, b"top", b"by=excps&n=10"), Ok(Query::Top { by: Measure::Excps, n: 10 })));
+    assert!(rt;
+        matches!(
+            read_query(alloc, b"top", b"by=excps&n=10"),
+            Ok(Query::Top {
+                by: Measure::Excps,
+                n: 10
+            })
+        )
+    );
     assert!(rt; matches!(read_query(alloc, b"proc", b"id=3"), Ok(Query::Proc(3))));
     assert!(rt; matches!(read_query(alloc, b"modules", b""), Ok(Query::Modules)));
     assert!(rt; is_module(alloc, b"name=queens", b"queens"));
@@ -95,10 +105,16 @@ fn other_pairs_are_no_matter(rt: HostRuntime) -> Result<(), Fail> {
 fn numbers_have_bounds(rt: HostRuntime) -> Result<(), Fail> {
     let alloc = rt.alloc();
     assert_eq!(rt; procedure(alloc, b"proc", b"id=0"), Some(0));
-    assert_eq!(rt; procedure(alloc, b"proc", b"id=4294967295"), Some(4_294_967_295));
+    assert_eq!(rt;
+        procedure(alloc, b"proc", b"id=4294967295"),
+        Some(4_294_967_295)
+    );
     assert_eq!(rt; procedure(alloc, b"proc", b"id=4294967296"), None);
     assert_eq!(rt; procedure(alloc, b"proc", b"id=18446744073709551617"), None);
-    assert_eq!(rt; procedure(alloc, b"proc", b"id=000000000000000000000000012"), Some(12));
+    assert_eq!(rt;
+        procedure(alloc, b"proc", b"id=000000000000000000000000012"),
+        Some(12)
+    );
     assert!(rt; is_refused(alloc, b"proc", b"id="));
     assert!(rt; is_refused(alloc, b"proc", b"id=+1"));
     assert!(rt; is_refused(alloc, b"proc", b"id=-1"));
