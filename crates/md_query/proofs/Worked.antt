@@ -11,14 +11,16 @@ use Rattle.md_query.specs.Asked.{query_of, Menu, Clique, Top, Proc, Module}
 
 -- what is unfolded to compute a query on a literal
 unfoldable on_literals : ⊤
-unfolding form_urlencoded_on_literals utf8_lossy utf8_valid_len utf8_error_len is_utf8 chars encode number_of
+unfolding query_of form_urlencoded_on_literals utf8_lossy utf8_valid_len utf8_error_len is_utf8 chars encode number_of
 on_literals = tt
 
 -- a path alone
 nothing-asks-for-the-menu : query_of [] [] ≡ Some Menu
+unfolding on_literals
 nothing-asks-for-the-menu = refl
 
 other-paths-are-none : query_of (codes "cliques") (codes "id=1") ≡ None
+unfolding on_literals
 other-paths-are-none = refl
 
 -- a path with pairs

@@ -2,7 +2,7 @@
 use Rattle.std.specs.Prelude.{ℕ, Bool, ◌||◌, List, [], Option, Some, None, codes, cond}
 use Rattle.std.specs.Str.{bytes_eq}
 use Rattle.md_base.specs.declared.measure.Measure.{Measure}
-use Rattle.md_query.specs.Pair.{value_of, id_in, rank_in, measure_in}
+use Rattle.md_query.specs.Pair.{value_of, id_in, count_in, measure_in}
 
 pub data Asked : Type 0 where
   -- what the profile is of, and how much it holds
@@ -39,13 +39,13 @@ module_of None = None
 module_of (Some name) = Some (Module name)
 
 -- what path and pairs ask for, where they are a query: a pair that its path doesn't take is no matter, and one that is missing makes no query
-abbrev pub query_of : (path pairs : List ℕ) → Option Asked
+unfoldable pub query_of : (path pairs : List ℕ) → Option Asked
 query_of path pairs =
     cond (bytes_eq path [] || bytes_eq path (codes "menu")) (Some Menu)
     (cond (bytes_eq path (codes "root")) (Some Root)
     (cond (bytes_eq path (codes "clique")) (clique_of (id_in pairs))
     (cond (bytes_eq path (codes "procs")) (Some Procs)
-    (cond (bytes_eq path (codes "top")) (top_of (measure_in pairs) (rank_in pairs))
+    (cond (bytes_eq path (codes "top")) (top_of (measure_in pairs) (count_in pairs))
     (cond (bytes_eq path (codes "proc")) (proc_of (id_in pairs))
     (cond (bytes_eq path (codes "modules")) (Some Modules)
     (cond (bytes_eq path (codes "module")) (module_of (value_of (codes "name") pairs)) None)))))))

@@ -20,7 +20,7 @@ abbrev pub first_value : (name : List ℕ) → List (List ℕ × List ℕ) → O
 first_value name [] = None
 first_value name ((key, value) ∷ pairs) = cond (bytes_eq (text_of key) name) (Some (text_of value)) (first_value name pairs)
 
--- the pairs stand between `&`, name and value on the two sides of the first `=`
+-- the pairs stand between `&`, name and value on the two sides of the first `=`; without one there is a name, and its value is empty
 abbrev pub value_of : (name pairs : List ℕ) → Option (List ℕ)
 value_of name pairs = first_value name (raw_pairs pairs)
 
@@ -56,8 +56,8 @@ abbrev pub id_in : (pairs : List ℕ) → Option ℕ
 id_in pairs = number_in (codes "id") 0 4294967295 pairs
 
 -- how many procedures are to be listed
-abbrev pub rank_in : (pairs : List ℕ) → Option ℕ
-rank_in pairs = number_in (codes "n") 1 1000 pairs
+abbrev pub count_in : (pairs : List ℕ) → Option ℕ
+count_in pairs = number_in (codes "n") 1 1000 pairs
 
 -- ---- measures
 

@@ -1,6 +1,5 @@
 // What can be asked for.
 use md_base::{Measure, NoMemory, Text};
-use std::fmt;
 
 /// What is asked for.
 #[derive(Debug, Drop)]
@@ -29,15 +28,6 @@ pub enum QueryFault {
     /// Path and pairs are no query.
     BadQuery,
     NoMemory,
-}
-
-impl fmt::Display for QueryFault {
-    fn fmt<W: fmt::Write>(&self, f: &mut fmt::Formatter<W>) -> fmt::Result {
-        match self {
-            QueryFault::BadQuery => write!(f, "no query"),
-            QueryFault::NoMemory => write!(f, "want of memory"),
-        }
-    }
 }
 
 impl From<NoMemory> for QueryFault {

@@ -2,7 +2,7 @@
 ghost use Rattle.std.specs.Prelude.{◌≡◌, Some, None, true, codes, IfOk, IfErr, IsOk, Err};
 ghost use Rattle.md_query.specs.declared.query.QueryFault.TheVariants as fault;
 ghost use Rattle.md_query.specs.Asked.{query_of, takes_pairs, asks_module, clique_of, top_of, proc_of, module_of};
-ghost use Rattle.md_query.specs.Pair.{ArePlain, value_of, id_in, measure_in, rank_in};
+ghost use Rattle.md_query.specs.Pair.{ArePlain, value_of, id_in, measure_in, count_in};
 ghost use Rattle.md_query.specs.Told.{asked, asked_told};
 
 use crate::pair::{measure_in, number_in, value_of};
@@ -28,6 +28,7 @@ pub fn read_query(alloc: Global, path: &[u8], pairs: &[u8]) -> Result<Query, Que
 }
 
 /// The query that path and pairs spell, or `None` exactly where they are none.
+#[tactic(auto, unfolding(crate::specs::Asked::query_of))]
 fn found(alloc: Global, path: &[u8], pairs: &[u8]) -> Result<Option<Query>, NoMemory>
     ensures query { IfOk result (λ found. asked_told found ≡ query_of path.now pairs.now) }
     ensures memory { IfErr result (λ _. takes_pairs path.now ≡ true) }
@@ -67,7 +68,7 @@ fn clique_query(alloc: Global, pairs: &[u8]) -> Result<Option<Query>, NoMemory>
 
 /// The query for the first procedures, by its pairs.
 fn top_query(alloc: Global, pairs: &[u8]) -> Result<Option<Query>, NoMemory>
-    ensures query { IfOk result (λ found. asked_told found ≡ top_of (measure_in pairs.now) (rank_in pairs.now)) }
+    ensures query { IfOk result (λ found. asked_told found ≡ top_of (measure_in pairs.now) (count_in pairs.now)) }
     ensures plain { ArePlain pairs.now → IsOk result }
 {
     let Some(by) = measure_in(alloc, pairs)? else {

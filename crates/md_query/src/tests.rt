@@ -17,7 +17,7 @@ fn procedure(alloc: Global, path: &[u8], pairs: &[u8]) -> Option<u32> {
 }
 
 /// How many procedures path and pairs ask for, by their calls.
-fn rank(alloc: Global, pairs: &[u8]) -> Option<u32> {
+fn listed(alloc: Global, pairs: &[u8]) -> Option<u32> {
     match read_query(alloc, b"top", pairs) {
         Ok(
             Query::Top {
@@ -118,10 +118,10 @@ fn numbers_have_bounds(rt: HostRuntime) -> Result<(), Fail> {
     assert!(rt; is_refused(alloc, b"proc", b"id="));
     assert!(rt; is_refused(alloc, b"proc", b"id=+1"));
     assert!(rt; is_refused(alloc, b"proc", b"id=-1"));
-    assert_eq!(rt; rank(alloc, b"by=calls&n=0"), None);
-    assert_eq!(rt; rank(alloc, b"by=calls&n=1"), Some(1));
-    assert_eq!(rt; rank(alloc, b"n=1000&by=calls"), Some(1000));
-    assert_eq!(rt; rank(alloc, b"by=calls&n=1001"), None);
+    assert_eq!(rt; listed(alloc, b"by=calls&n=0"), None);
+    assert_eq!(rt; listed(alloc, b"by=calls&n=1"), Some(1));
+    assert_eq!(rt; listed(alloc, b"n=1000&by=calls"), Some(1000));
+    assert_eq!(rt; listed(alloc, b"by=calls&n=1001"), None);
     assert!(rt; is_refused(alloc, b"top", b"by=Calls&n=1"));
     Ok(())
 }
