@@ -1,0 +1,11 @@
+//! What a page is asked for by: a path and pairs of names and values, as in the address `clique?id=1`.
+#![tactic(auto)]
+
+mod pair;
+mod query;
+mod read;
+#[cfg(test)]
+mod tests;
+
+pub use query::{Query, QueryFault};
+pub use read::read_query;

@@ -1,0 +1,42 @@
+// What can be asked for.
+use md_base::{Measure, NoMemory, Text};
+
+/// What is asked for.
+#[derive(Debug, Drop)]
+pub enum Query {
+    /// What the profile is of, and how much it holds.
+    Menu,
+    /// The clique where the run began.
+    Root,
+    /// A clique, by its number.
+    Clique(u32),
+    /// Each procedure.
+    Procs,
+    /// The first `n` procedures by their own count of a measure.
+    Top { by: Measure, n: u32 },
+    /// A procedure, by its number.
+    Proc(u32),
+    /// Each module.
+    Modules,
+    /// A module, by its name.
+    Module(Text),
+}
+
+/// Why there is no query.
+#[derive(Clone, Copy, Debug, PartialEq, Eq)]
+pub enum QueryFault {
+    /// Path and pairs are no query.
+    BadQuery,
+    NoMemory,
+}
+
+impl From<NoMemory> for QueryFault {
+    ghost use Rattle.std.specs.Prelude.{◌≡◌};
+    ghost use Rattle.md_query.specs.declared.query.QueryFault.TheVariants as fault;
+
+    ghost from_gives = { λ _ e. e ≡ fault.NoMemory };
+
+    fn from(_: NoMemory) -> QueryFault {
+        QueryFault::NoMemory
+    }
+}
