@@ -11,6 +11,6 @@ returns c = λ budget small.
     subst (λ (p : Program). IsWithinBounds (hlds_of p) budget)
     (sym (c.in_ok-checked.ensures.same ∙ c.in_ok-moded.ensures.answer))
     (c.accepted_texts_are_within_bounds.ensures c.args.text.now (hlds_of c.in_ok-program.program) budget
-        c.in_ok-program.ensures.spelled
-        (subst (λ (p : Program). mode_fault (hlds_of p) ≡ None) c.in_ok-moded.ensures.answer c.in_ok-moded.ensures.accepted)
-        small)
+    c.in_ok-program.ensures.spelled
+    (subst (λ (p : Program). mode_fault (hlds_of p) ≡ None) c.in_ok-moded.ensures.answer c.in_ok-moded.ensures.accepted)
+    small)
