@@ -4,11 +4,11 @@ ghost use Rattle.md_hlds.specs.Hlds.{hlds_of};
 ghost use Rattle.md_events.specs.Laws.{IsWithinBounds};
 
 use super::order::Order;
-use md_machine::{End, Ran, interpret};
 use bumpalo::Bump;
 use md_base::{Counts, Measure, ProcId};
 use md_det::Checked;
 use md_events::programs_have_tables;
+use md_machine::{End, Ran, interpret};
 use md_plain::{Item, run};
 use md_trace::{Counter, Silent};
 use std::alloc::Global;

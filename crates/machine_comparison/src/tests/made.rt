@@ -31,11 +31,14 @@ const HEAD: &str =
 const LAST: &str =
     ":- pred p4(int::in, int::out) is multi.\np4(A, B) :- ( B = A ; B = 6 ; D = 3, B = A + D ).\n";
 
+/// The digits.
+const DIGITS: &str = "0123456789";
+
 /// A text in the making, the number of its last predicate, and a number that looks random.
 #[derive(Drop)]
 struct Maker {
     text: Vec<u8>,
-    owner: u8,
+    owner: u32,
     state: u32,
 }
 
@@ -54,21 +57,22 @@ fn put(maker: &mut Maker, text: &str) -> Result<(), Fail> {
 }
 
 /// A letter and a number of one digit.
-fn put_name(maker: &mut Maker, letter: u8, number: u8) -> Result<(), Fail> {
+fn put_name(maker: &mut Maker, letter: u8, number: u32) -> Result<(), Fail> {
+    let digit = DIGITS.as_bytes().get(number as usize).ok_or("a digit")?;
     maker.text.push(letter)?;
-    maker.text.push(b'0'.wrapping_add(number))?;
+    maker.text.push(*digit)?;
     Ok(())
 }
 
 /// A goal between the variables of this place and of the next.
-fn put_goal(maker: &mut Maker, goal: &str, place: u8) -> Result<(), Fail> {
+fn put_goal(maker: &mut Maker, goal: &str, place: u32) -> Result<(), Fail> {
     for byte in goal.as_bytes() {
         put_byte(maker, *byte, place)?;
     }
     Ok(())
 }
 
-fn put_byte(maker: &mut Maker, byte: u8, place: u8) -> Result<(), Fail> {
+fn put_byte(maker: &mut Maker, byte: u8, place: u32) -> Result<(), Fail> {
     match byte {
         b'@' => put_name(maker, b'V', place),
         b'#' => put_name(maker, b'V', place.wrapping_add(1)),
@@ -85,16 +89,16 @@ fn put_byte(maker: &mut Maker, byte: u8, place: u8) -> Result<(), Fail> {
 }
 
 /// One of the predicates that come after the one in the making, or now and then any.
-fn pick_callee(maker: &mut Maker) -> u8 {
+fn pick_callee(maker: &mut Maker) -> u32 {
     if pick(maker, 20) == 0 {
-        return pick(maker, 5) as u8;
+        return pick(maker, 5);
     }
-    let beyond = pick(maker, 3) as u8;
+    let beyond = pick(maker, 3);
     maker.owner.wrapping_add(1).wrapping_add(beyond).min(4)
 }
 
 /// A predicate whose body is a conjunction of so many goals.
-fn put_predicate(maker: &mut Maker, number: u8, goals: u8) -> Result<(), Fail> {
+fn put_predicate(maker: &mut Maker, number: u32, goals: u32) -> Result<(), Fail> {
     put(maker, ":- pred ")?;
     put_name(maker, b'p', number)?;
     put(maker, "(int::in, int::out) is nondet.\n")?;
@@ -106,7 +110,7 @@ fn put_predicate(maker: &mut Maker, number: u8, goals: u8) -> Result<(), Fail> {
     put(maker, ".\n")
 }
 
-fn put_goals(maker: &mut Maker, goals: u8) -> Result<(), Fail> {
+fn put_goals(maker: &mut Maker, goals: u32) -> Result<(), Fail> {
     for place in 0..goals {
         if place > 0 {
             put(maker, ", ")?;
@@ -126,8 +130,8 @@ fn made(alloc: Global, state: u32) -> Result<Vec<u8>, Fail> {
         state,
     };
     put(&mut maker, HEAD)?;
-    for number in 0..4u8 {
-        let goals = (pick(&mut maker, 4) as u8).wrapping_add(1);
+    for number in 0..4u32 {
+        let goals = pick(&mut maker, 4).wrapping_add(1);
         maker.owner = number;
         put_predicate(&mut maker, number, goals)?;
     }
