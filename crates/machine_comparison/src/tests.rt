@@ -4,6 +4,7 @@ ghost use Rattle.md_hlds.specs.Hlds.{hlds_of};
 ghost use Rattle.md_events.specs.Laws.{IsWithinBounds};
 
 mod came;
+mod examples;
 mod heavy;
 mod made;
 mod order;

@@ -5,6 +5,7 @@ ghost use Rattle.md_events.specs.Laws.{IsWithinBounds};
 
 use super::came::{by_machine, by_plain};
 use super::checked;
+use super::examples::EXAMPLES;
 use super::programs::TABLE;
 use md_det::Checked;
 use md_machine::End;
@@ -54,6 +55,18 @@ fn the_machine_agrees_with_the_plain_program(rt: HostRuntime) -> Result<(), Fail
         let checked = checked(alloc, text.as_bytes())?;
         assert_eq!(rt; agrees_within(&rt, &checked, ENOUGH)?, end, "{text}");
         let (plain, _) = by_plain(alloc, &checked, ENOUGH)?;
+        assert_eq!(rt; plain.output.as_slice(), output.as_bytes(), "{text}");
+    }
+    Ok(())
+}
+
+#[test]
+fn examples_run_as_the_plain_program_runs_them(rt: HostRuntime) -> Result<(), Fail> {
+    let alloc = rt.alloc();
+    for (text, output, end) in EXAMPLES {
+        let checked = checked(alloc, text.as_bytes())?;
+        assert_eq!(rt; agrees_within(&rt, &checked, 2_000)?, end, "{text}");
+        let (plain, _) = by_plain(alloc, &checked, 2_000)?;
         assert_eq!(rt; plain.output.as_slice(), output.as_bytes(), "{text}");
     }
     Ok(())
