@@ -23,8 +23,9 @@ use std::alloc::Global;
 /// Runs a program within a budget of steps (a turn costs its weight), and hands each port and each allocation to the
 /// sink. The output and the end are those of the definition of the run, and the sink, which stood for the empty history
 /// over the program's call sites, stands then for that of the run's events; after want of memory, for that of a front of
-/// them. Time is in proportion to the weight of the run and the ports; memory grows with the depth of calls, the open
-/// choices and the values built, and not with turns or events. `NoMemory` also comes where a run makes 2^64 - 1 steps.
+/// them. Time grows with the weight of the run and its ports, and a condition, a negation or a choice costs as many
+/// variables as its clause has; memory grows with the depth of calls, the open choices and the values built, and not with
+/// turns or events. `NoMemory` also comes where a run makes 2^64 - 1 steps.
 pub fn interpret<S: PortSink>(
     alloc: Global,
     checked: &Checked,
