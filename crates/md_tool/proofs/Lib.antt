@@ -1,3 +1,4 @@
+mod Worked
 pub mod WordLemmas
 pub mod AcceptLemmas
 pub mod StreamLemmas
