@@ -1,3 +1,5 @@
 pub mod Pair
 pub mod Asked
 pub mod Told
+pub mod Page
+pub mod PageOf

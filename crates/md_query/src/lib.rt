@@ -4,8 +4,10 @@
 mod pair;
 mod query;
 mod read;
+mod row;
 #[cfg(test)]
 mod tests;
 
 pub use query::{Query, QueryFault};
 pub use read::read_query;
+pub use row::{Page, Row, Title, What};

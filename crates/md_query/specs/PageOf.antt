@@ -1,0 +1,162 @@
+-- The page that a query asks for, by a view: what it is of, and which rows it has, in which order.
+use Rattle.std.specs.Prelude.{ℕ, Bool, ◌==◌, nat_lt, List, [], ◌∷◌, ◌++◌, length, map, take, Option, Some, None, slice_get, slice_index, if◌then◌else◌, unwrap_or}
+use Rattle.std.specs.Str.{bytes_eq}
+use Rattle.std.specs.List.{range_with_len, position, flat_map}
+use Rattle.std.specs.Option.{option_map}
+use Rattle.md_base.specs.declared.measure.Measure.{Measure}
+use Rattle.md_base.specs.declared.measure.Measure.TheVariants.{Calls, Exits, Fails, Redos, Allocs, Words, Excps}
+use Rattle.md_trace.specs.Context.{same_option}
+use Rattle.md_trace.specs.Cliques.{leaves}
+use Rattle.md_clique.specs.Cliques.{clique_count, members_of}
+use Rattle.md_clique.specs.Places.{places}
+use Rattle.md_cost.specs.declared.sums.Sums.{Sums}
+use Rattle.md_cost.specs.View.{View, Join, OfLink, OfContext, OfClique, OfProcedure, OfSite, OfModule}
+use Rattle.md_cost.specs.View.{Row as Counted}
+use Rattle.md_query.specs.declared.row.Row.{Row}
+use Rattle.md_query.specs.declared.row.Row.TheVariants as row
+use Rattle.md_query.specs.declared.row.Title.TheVariants as title
+use Rattle.md_query.specs.declared.row.What.TheVariants as what
+use Rattle.md_query.specs.Asked.{Asked, Menu, Root, Clique, Procs, Top, Proc, Modules, Module}
+use Rattle.md_query.specs.Page.{PageRows}
+
+-- ---- the numbers of a row of the view
+
+-- the seven numbers, by measure
+abbrev pub sums_by : (Measure → Option ℕ) → Sums
+sums_by n = record {
+  calls = unwrap_or (n Calls) 0;
+  exits = unwrap_or (n Exits) 0;
+  fails = unwrap_or (n Fails) 0;
+  redos = unwrap_or (n Redos) 0;
+  allocs = unwrap_or (n Allocs) 0;
+  words = unwrap_or (n Words) 0;
+  excps = unwrap_or (n Excps) 0;
+}
+
+abbrev pub own_of : View → Counted → Sums
+own_of v r = sums_by (v.own r)
+
+abbrev pub total_of : View → Counted → Sums
+total_of v r = sums_by (v.total r)
+
+-- ---- the menu
+
+abbrev pub measure_row : View → what.What → Measure → Row
+measure_row v w m = row.Number w (unwrap_or (v.total (OfClique 0) m) 0)
+
+-- exceptions are told where there are any
+abbrev pub excps_rows : ℕ → List Row
+excps_rows n = if n == 0 then [] else row.Number what.Excps n ∷ []
+
+abbrev pub menu_rows : View → List Row
+menu_rows v =
+    row.Main 0
+    ∷ row.Finished v.finished
+    ∷ row.Number what.Contexts (length v.nodes)
+    ∷ row.Number what.Links (length v.links)
+    ∷ row.Number what.Cliques (clique_count v.cliques)
+    ∷ measure_row v what.Calls Calls
+    ∷ measure_row v what.Exits Exits
+    ∷ measure_row v what.Fails Fails
+    ∷ measure_row v what.Redos Redos
+    ∷ measure_row v what.Allocs Allocs
+    ∷ measure_row v what.Words Words
+    ∷ excps_rows (unwrap_or (v.total (OfClique 0) Excps) 0)
+
+-- ---- a clique
+
+-- the links that start in a context, in rising order
+abbrev pub links_from : View → ℕ → List ℕ
+links_from v c = places (λ x. same_option x.caller (Some c)) v.links
+
+-- a link leaves its clique or stays inside
+abbrev pub link_row_at : View → ℕ → Option Join → Row
+link_row_at v p None = row.Inside p (own_of v (OfLink p))
+link_row_at v p (Some x) =
+    if leaves v.cliques x.caller x.callee then row.Leaving p (own_of v (OfLink p)) (total_of v (OfLink p)) else row.Inside p (own_of v (OfLink p))
+
+abbrev pub link_row : View → ℕ → Row
+link_row v p = link_row_at v p (slice_get v.links p)
+
+-- a context, and the links that start there
+abbrev pub context_rows : View → ℕ → List Row
+context_rows v c = row.Context c (own_of v (OfContext c)) (total_of v (OfContext c)) ∷ map (link_row v) (links_from v c)
+
+-- the link that enters it, its total, and its contexts in rising order
+abbrev pub clique_rows : View → ℕ → List Row
+clique_rows v k =
+    row.Entered (slice_index v.entries k) (own_of v (OfLink (slice_index v.entries k)))
+    ∷ row.Total (total_of v (OfClique k))
+    ∷ flat_map (context_rows v) (members_of v.cliques k)
+
+-- ---- procedures
+
+abbrev pub proc_row : View → ℕ → Row
+proc_row v q = row.Proc q (own_of v (OfProcedure q)) (total_of v (OfProcedure q))
+
+abbrev pub all_procs : View → List ℕ
+all_procs v = range_with_len 0 (length v.statics.procs)
+
+-- a procedure put behind those that have at least as many
+abbrev pub ranked_with : (count : ℕ → ℕ) → ℕ → List ℕ → List ℕ
+ranked_with count q [] = q ∷ []
+ranked_with count q (r ∷ rs) = if nat_lt (count r) (count q) then q ∷ r ∷ rs else r ∷ ranked_with count q rs
+
+-- so many of these procedures after those that are ranked: the greatest count comes first, and of equal ones the lower number
+abbrev pub ranked_after : (count : ℕ → ℕ) → (ranked procs : List ℕ) → List ℕ
+ranked_after count ranked [] = ranked
+ranked_after count ranked (q ∷ qs) = ranked_after count (ranked_with count q ranked) qs
+
+-- the first n procedures by their own count of a measure
+abbrev pub top_procs : View → Measure → ℕ → List ℕ
+top_procs v by n = take n (ranked_after (λ q. unwrap_or (v.own (OfProcedure q) by) 0) [] (all_procs v))
+
+-- a context of the procedure
+abbrev pub of_row : View → ℕ → Row
+of_row v c = row.Of c (own_of v (OfContext c)) (total_of v (OfContext c))
+
+abbrev pub site_row : View → ℕ → Row
+site_row v s = row.Site s (own_of v (OfSite s)) (total_of v (OfSite s))
+
+abbrev pub proc_rows : View → ℕ → List Row
+proc_rows v q =
+    row.Own (own_of v (OfProcedure q))
+    ∷ row.Total (total_of v (OfProcedure q))
+    ∷ (map (of_row v) (places (λ p. p == q) v.nodes) ++ map (site_row v) (places (λ s. s.owner == q) v.statics.sites))
+
+-- ---- modules
+
+abbrev pub procs_of_module : View → ℕ → List ℕ
+procs_of_module v k = places (λ p. p.«module» == k) v.statics.procs
+
+abbrev pub module_row : View → ℕ → Row
+module_row v k = row.Module k (length (procs_of_module v k)) (own_of v (OfModule k)) (total_of v (OfModule k))
+
+abbrev pub module_rows : View → ℕ → List Row
+module_rows v k = row.Own (own_of v (OfModule k)) ∷ row.Total (total_of v (OfModule k)) ∷ map (proc_row v) (procs_of_module v k)
+
+-- ---- the page
+
+abbrev pub page_with : title.Title → List Row → PageRows
+page_with t rows = record { title = t; rows = rows }
+
+abbrev pub clique_page : View → ℕ → PageRows
+clique_page v k = page_with (title.Clique k) (clique_rows v k)
+
+abbrev pub module_page : View → ℕ → PageRows
+module_page v k = page_with (title.Module k) (module_rows v k)
+
+-- the number of the module of a name
+abbrev pub module_named : View → List ℕ → Option ℕ
+module_named v name = position (λ m. bytes_eq m name) v.statics.modules
+
+-- there is none where the query's clique, procedure or module isn't in the view
+unfoldable pub page_of : View → Asked → Option PageRows
+page_of v Menu = Some (page_with title.Menu (menu_rows v))
+page_of v Root = Some (clique_page v 0)
+page_of v (Clique k) = if nat_lt k (clique_count v.cliques) then Some (clique_page v k) else None
+page_of v Procs = Some (page_with title.Procs (map (proc_row v) (all_procs v)))
+page_of v (Top by n) = Some (page_with (title.Top by n) (map (proc_row v) (top_procs v by n)))
+page_of v (Proc q) = if nat_lt q (length v.statics.procs) then Some (page_with (title.Proc q) (proc_rows v q)) else None
+page_of v Modules = Some (page_with title.Modules (map (module_row v) (range_with_len 0 (length v.statics.modules))))
+page_of v (Module name) = option_map (module_page v) (module_named v name)
