@@ -8,6 +8,7 @@ mod row;
 #[cfg(test)]
 mod tests;
 
+pub use pair::number_within;
 pub use query::{Query, QueryFault};
 pub use read::read_query;
 pub use row::{Page, Row, Title, What};

@@ -48,7 +48,7 @@ pub(crate) fn number_in(
 }
 
 /// The number that a text is, where it is one from `least` to `most`.
-fn number_within(least: u32, most: u32, text: &[u8]) -> Option<u32>
+pub fn number_within(least: u32, most: u32, text: &[u8]) -> Option<u32>
     ensures { result ≡ number_within least most text.now }
 {
     if !is_number(text) {

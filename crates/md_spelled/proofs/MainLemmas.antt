@@ -52,22 +52,22 @@ same_as_none None is = refl
 same_as_none (Some m) is = absurd (cc)
 
 -- the predicate's name is `main`
-record IsNamedMain (p : Procedure) : Type 0 where
-  qualifier : p.qualifier ≡ None
-  name : p.name ≡ codes "main"
+pub record IsNamedMain (p : Procedure) : Type 0 where
+  pub qualifier : p.qualifier ≡ None
+  pub name : p.name ≡ codes "main"
 
 named_by_call : (p : Procedure) → is_called main_name p ≡ true → IsNamedMain p
 named_by_call p is =
     let b = both (same_qualifier None p.qualifier) (bytes_eq main_name.name p.name) is in
     record { qualifier = same_as_none p.qualifier b.0; name = sym ((bytes_eq-Decides main_name.name p.name).0 b.1) }
 
-named_by_main : (p : Procedure) → is_main p ≡ true → IsNamedMain p
+pub named_by_main : (p : Procedure) → is_main p ≡ true → IsNamedMain p
 named_by_main p is =
     let b = both (is_none p.qualifier && bytes_eq p.name (codes "main")) _ is in
     let c = both (is_none p.qualifier) (bytes_eq p.name (codes "main")) b.0 in
     record { qualifier = no_qualifier p.qualifier c.0; name = (bytes_eq-Decides p.name (codes "main")).0 c.1 }
 
-called_by_name : (p : Procedure) → IsNamedMain p → is_called main_name p ≡ true
+pub called_by_name : (p : Procedure) → IsNamedMain p → is_called main_name p ≡ true
 called_by_name p n = rw (n.qualifier, n.name) refl
 
 args_by_main : (p : Procedure) → is_main p ≡ true → are_main_args p.args ≡ true

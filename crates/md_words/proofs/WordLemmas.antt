@@ -1,0 +1,31 @@
+-- Words, one after the other.
+use Rattle.std.proofs.lemmas.List.{append_assoc}
+use Rattle.std.proofs.Common.{◌≡◌, refl, ap, ◌∙◌, ℕ, List, [], ◌∷◌, ◌++◌, length, None, Bor}
+use Rattle.md_words.specs.Settings.{Setting}
+use Rattle.md_words.specs.Split.{Split, with_other}
+use Rattle.md_words.specs.Form.{only, two}
+use Rattle.md_words.specs.Told.{texts, before}
+
+texts-append : (ws : List (Bor (List ℕ))) (w : Bor (List ℕ)) → texts (ws ++ w ∷ []) ≡ texts ws ++ w.now ∷ []
+texts-append [] w = refl
+texts-append (v ∷ ws) w = ap (λ (ts : List (List ℕ)). v.now ∷ ts) (texts-append ws w)
+
+-- a word that is no option goes to the others
+pub other_taken : (o : List Setting) (ws vs : List (Bor (List ℕ))) (w : Bor (List ℕ)) (s : Split) → vs ≡ ws ++ w ∷ []
+    → before o (texts vs) s ≡ before o (texts ws) (with_other w.now s)
+other_taken o ws vs w s is =
+    ap (λ (ts : List (List ℕ)). before o ts s) (ap texts is ∙ texts-append ws w)
+    ∙ ap (λ (ts : List (List ℕ)). record { options = o ++ s.options; others = ts }) (append_assoc (texts ws) (w.now ∷ []) s.others)
+
+-- words that are not one
+pub not_only : (ws : List (Bor (List ℕ))) → (length ws ≡ 1 → ⊥) → only (texts ws) ≡ None
+not_only [] many = refl
+not_only (v ∷ []) many = absurd (many refl)
+not_only (v ∷ u ∷ ws) many = refl
+
+-- words that are not two
+pub not_two : (ws : List (Bor (List ℕ))) → (length ws ≡ 2 → ⊥) → two (texts ws) ≡ None
+not_two [] other = refl
+not_two (v ∷ []) other = refl
+not_two (v ∷ u ∷ []) other = absurd (other refl)
+not_two (v ∷ u ∷ w ∷ ws) other = refl

@@ -1,0 +1,4 @@
+pub mod Settings
+pub mod Split
+pub mod Form
+pub mod Told

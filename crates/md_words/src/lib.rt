@@ -1,0 +1,8 @@
+//! The words of the command line: which command they are, with which values.
+#![tactic(auto)]
+
+mod command;
+mod option;
+mod split;
+
+pub use command::{Command, command_of};
