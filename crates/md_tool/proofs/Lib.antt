@@ -1,9 +1,11 @@
 mod Worked
-pub mod WordLemmas
 pub mod AcceptLemmas
 pub mod StreamLemmas
 pub mod CheckLemmas
 pub mod RunLemmas
+pub mod KeepLemmas
 pub mod ReportLemmas
+pub mod StoredLemmas
+pub mod GenLemmas
 pub mod TopLemmas
 pub mod StatusLemmas

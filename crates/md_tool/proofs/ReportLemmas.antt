@@ -1,105 +1,191 @@
--- From the counts of a run to a report on its file.
-use Rattle.std.proofs.Common.{◌≡◌, ◌∙◌, refl, ap, sym, subst, inl, inr, ℕ, suc, ◌+◌, ◌<◌, ◌≤◌, List, [], ◌∷◌, ◌++◌, length, arith, Option, Some}
-use Rattle.std.proofs.lemmas.List.{length-map}
-use Rattle.std.specs.Prelude.{Result, Ok, Err, codes, slice_get, unwrap_or}
+-- From the profile of a run to a report on its file.
+use Rattle.std.proofs.Common.{◌≡◌, ◌∙◌, refl, ap, sym, subst, inl, inr, ℕ, List, ◌++◌, Option, Some}
+use Rattle.std.specs.Prelude.{Result, Ok, Err, codes}
+use Rattle.md_base.specs.Outside.{added, PartAdded}
 use Rattle.md_base.specs.Files.{Files}
-use Rattle.md_base.specs.declared.measure.Counts.{Counts}
+use Rattle.md_cost.specs.FileView.{IsFileView}
+use Rattle.md_cost.specs.View.{View}
+use Rattle.md_dynamic.specs.Profile.{ProfileRows}
+use Rattle.md_events.specs.Laws.{IsWithinBounds}
 use Rattle.md_hlds.specs.Hlds.{Hlds}
-use Rattle.md_hlds.specs.Run.{run}
-use Rattle.md_static.specs.declared.entry.Proc.{Proc}
-use Rattle.md_static.specs.Tables.{Static}
-use Rattle.md_trace.specs.Counted.{procedure_counts}
-use Rattle.md_events.specs.History.{history}
-use Rattle.md_events.specs.Table.{site_table}
-use Rattle.md_ports.specs.Ports.{statics_of, proc_of}
+use Rattle.md_hlds.specs.Run.{run, output}
+use Rattle.md_machine.specs.declared.ran.Ran.{Ran}
+use Rattle.md_profile.specs.OfRun.{IsProfiled, IsViewOfRun}
+use Rattle.md_profile.specs.declared.profiled.Profiled.{Profiled}
+use Rattle.md_query.specs.Asked.{Asked}
+use Rattle.md_query.specs.Page.{PageRows}
+use Rattle.md_query.specs.PageOf.{page_of}
+use Rattle.md_render.specs.Text.{text_of}
 use Rattle.md_tool.specs.declared.fault.Fault.{Fault}
-use Rattle.md_tool.specs.declared.fault.Fault.TheVariants.{Usage, Read, TooLong, Refused, OutOfSteps, Thrown, Write, NoMemory}
-use Rattle.md_tool.specs.declared.profile.Profile.{Profile}
+use Rattle.md_tool.specs.declared.fault.Fault.TheVariants.{Usage, Read, TooLong, Refused, OutOfSteps, Thrown, Damaged, TooLarge, TwoEntries, NoSuchPage, Write, NoMemory}
 use Rattle.md_tool.specs.Accepted.{Accepts}
-use Rattle.md_tool.specs.Ends.{RunEnd, Finished, Threw, RanOut, end_of, ran_end}
-use Rattle.md_tool.specs.Procs.{proc_line, proc_lines, name_at, procs_page, counts_at}
-use Rattle.md_tool.specs.Ran.{ProgramCounts, TextCounts}
-use Rattle.md_tool.specs.Due.{IsText, IsWhole, PageEnds, HasReported, ReportEnds, reported_output, reported_page}
+use Rattle.md_tool.specs.Due.{IsText, WriteEnds}
+use Rattle.md_tool.specs.Ends.{RunEnd, Finished, Threw, RanOut, TellsEnd, end_of, ran_end}
+use Rattle.md_tool.specs.Paged.{IsPaged, IsPagedInPart, LacksPage, PageEnds, PageFails}
+use Rattle.md_tool.specs.Ran.{IsProfiledText}
+use Rattle.md_tool.specs.Reported.{reported_output, IsReported, IsPageless, IsOutputPart, IsPagePart, ShowEnds, HasReported, ReportEnds}
 use Rattle.md_tool.proofs.RunLemmas.{end_is}
+use Rattle.md_tool.proofs.StreamLemmas.{all_added}
 
--- ---- what is asked of an accepted text
+-- ---- pages
 
-pub text_counts : (text : List ℕ) (program : Hlds) (steps : ℕ) (profile : Profile) → Accepts text program → ProgramCounts program steps profile → TextCounts text steps profile
-text_counts text program steps profile a h = record {
-  accepted = a.accepted;
-  counted = subst (λ (p : Hlds). ProgramCounts p steps profile) (sym a.is_program) h;
-}
+-- the page of a profile, written as far as it was
+pub page_written : (f : ProfileRows) (query : Asked) (page : PageRows) (before now : Option (List ℕ)) (writes : Type 0) (r : Result (Unit {0}) Fault)
+    → (v : View) → IsFileView f v → page_of v query ≡ Some page → WriteEnds (text_of v page) before now writes r → PageEnds (IsFileView f) query before now writes r
+page_written f query page before now writes (Ok done) v is paged h = record { view = v; is_meant = is; page = page; is_page = paged; written = h }
+page_written f query page before now writes (Err Write) v is paged h = (h.0, record { view = v; is_meant = is; page = page; is_page = paged; written = h.1 })
+page_written f query page before now writes (Err NoMemory) v is paged h = inr (record { view = v; is_meant = is; page = page; is_page = paged; written = h })
+page_written f query page before now writes (Err Usage) v is paged h = absurd h
+page_written f query page before now writes (Err (Damaged at kind)) v is paged h = absurd h
+page_written f query page before now writes (Err (TooLarge most)) v is paged h = absurd h
+page_written f query page before now writes (Err (TwoEntries clique x y)) v is paged h = absurd h
+page_written f query page before now writes (Err Read) v is paged h = absurd h
+page_written f query page before now writes (Err TooLong) v is paged h = absurd h
+page_written f query page before now writes (Err (Refused line w)) v is paged h = absurd h
+page_written f query page before now writes (Err OutOfSteps) v is paged h = absurd h
+page_written f query page before now writes (Err (Thrown bytes)) v is paged h = absurd h
+page_written f query page before now writes (Err NoSuchPage) v is paged h = absurd h
 
--- the tables have a procedure for each of the program's
-pub length_procs : (program : Hlds) (tables : Static) → tables ≡ statics_of program → length tables.procs ≡ length program.procedures
-length_procs program tables is = ap (λ (t : Static). length t.procs) is ∙ length-map program.procedures (proc_of program)
+-- there is none, and nothing was written
+pub page_failed : (f : ProfileRows) (query : Asked) (before : Option (List ℕ)) (writes : Type 0) (fault : Fault) → (v : View) → IsFileView f v → PageFails f query fault
+    → PageEnds (IsFileView f) query before before writes (Err fault)
+page_failed f query before writes NoSuchPage v is h = record { view = v; is_meant = is; none = h v is; untouched = refl }
+page_failed f query before writes NoMemory v is h = inl refl
+page_failed f query before writes Usage v is h = absurd h
+page_failed f query before writes (Damaged at kind) v is h = absurd h
+page_failed f query before writes (TooLarge most) v is h = absurd h
+page_failed f query before writes (TwoEntries clique x y) v is h = absurd h
+page_failed f query before writes Read v is h = absurd h
+page_failed f query before writes TooLong v is h = absurd h
+page_failed f query before writes (Refused line w) v is h = absurd h
+page_failed f query before writes OutOfSteps v is h = absurd h
+page_failed f query before writes (Thrown bytes) v is h = absurd h
+page_failed f query before writes Write v is h = absurd h
 
--- ---- the page
+-- what is meant may be told in other words
+pub page_meant : (IsA IsB : View → Type 0) (query : Asked) (before now : Option (List ℕ)) (writes : Type 0) (r : Result (Unit {0}) Fault) → ((v : View) → IsA v → IsB v)
+    → PageEnds IsA query before now writes r → PageEnds IsB query before now writes r
+page_meant IsA IsB query before now writes (Ok done) so h = record { view = h.view; is_meant = so h.view h.is_meant; page = h.page; is_page = h.is_page; written = h.written }
+page_meant IsA IsB query before now writes (Err NoSuchPage) so h = record { view = h.view; is_meant = so h.view h.is_meant; none = h.none; untouched = h.untouched }
+page_meant IsA IsB query before now writes (Err Write) so h =
+    (h.0, record { view = h.1.view; is_meant = so h.1.view h.1.is_meant; page = h.1.page; is_page = h.1.is_page; written = h.1.written })
+page_meant IsA IsB query before now writes (Err NoMemory) so (inl h) = inl h
+page_meant IsA IsB query before now writes (Err NoMemory) so (inr h) =
+    inr (record { view = h.view; is_meant = so h.view h.is_meant; page = h.page; is_page = h.is_page; written = h.written })
+page_meant IsA IsB query before now writes (Err Usage) so h = absurd h
+page_meant IsA IsB query before now writes (Err (Damaged at kind)) so h = absurd h
+page_meant IsA IsB query before now writes (Err (TooLarge most)) so h = absurd h
+page_meant IsA IsB query before now writes (Err (TwoEntries clique x y)) so h = absurd h
+page_meant IsA IsB query before now writes (Err Read) so h = absurd h
+page_meant IsA IsB query before now writes (Err TooLong) so h = absurd h
+page_meant IsA IsB query before now writes (Err (Refused line w)) so h = absurd h
+page_meant IsA IsB query before now writes (Err OutOfSteps) so h = absurd h
+page_meant IsA IsB query before now writes (Err (Thrown bytes)) so h = absurd h
 
--- lines with the same counts are the same
-lines_alike : (modules : List (List ℕ)) (f g : ℕ → Counts) (n : ℕ) (ps : List Proc) → ((q : ℕ) → n ≤ q → q < n + length ps → f q ≡ g q)
-    → proc_lines modules f n ps ≡ proc_lines modules g n ps
-lines_alike modules f g n [] same = refl
-lines_alike modules f g n (p ∷ ps) same =
-    ap (λ (own : Counts). proc_line n (name_at modules p.«module») p own ++ proc_lines modules f (suc n) ps) (same n (omega arith) (omega arith))
-    ∙ ap (λ (rest : List ℕ). proc_line n (name_at modules p.«module») p (g n) ++ rest)
-    (lines_alike modules f g (suc n) ps (λ (q : ℕ) (above : suc n ≤ q) (below : q < suc n + length ps). same q (omega (arith, above)) (omega (arith, below))))
+-- ---- a report on a run
 
-counts_there : (own : List Counts) (q : ℕ) (c : Counts) → slice_get own q ≡ Some c → counts_at own q ≡ c
-counts_there own q c is = ap (λ (found : Option Counts). unwrap_or found (record { calls = 0; exits = 0; fails = 0; redos = 0; allocs = 0; words = 0; excps = 0 })) is
+-- the page was written, and the end was told
+pub shown : (program : Hlds) (steps : ℕ) (query : Asked) (profiled : Profiled) (out out' err err' : Option (List ℕ)) (outs errs : Type 0) (r : Result (Unit {0}) Fault)
+    → IsProfiled program steps profiled → err' ≡ added (profiled.ran.output.items ++ codes "-- end of output\n") err
+    → IsPaged (IsViewOfRun program steps) query out out' → TellsEnd (ran_end profiled.ran) r → ShowEnds program steps query out out' err err' outs errs r
+shown program steps query profiled out out' err err' outs errs r p written paged told = by r told
+  where
+    reported : IsReported program steps query out out' err err'
+    reported = record { output_is = written ∙ ap (λ (bytes : List ℕ). added (bytes ++ codes "-- end of output\n") err) p.is_run.output; paged = paged }
 
--- the page of the tables and the counts is that of the run
-page_is : (program : Hlds) (steps : ℕ) (profile : Profile) → ProgramCounts program steps profile → procs_page profile.tables (counts_at profile.counter.own) ≡ reported_page program steps
-page_is program steps profile h =
-    ap (λ (t : Static). procs_page t (counts_at profile.counter.own)) h.tables
-    ∙ ap (λ (lines : List ℕ). codes "mdprof procs\n" ++ lines)
-    (lines_alike (statics_of program).modules (counts_at profile.counter.own) (procedure_counts (site_table program).main (history (run program steps))) 0 (statics_of program).procs
-    (λ (q : ℕ) (above : 0 ≤ q) (below : q < 0 + length (statics_of program).procs).
-    counts_there profile.counter.own q (procedure_counts (site_table program).main (history (run program steps)) q)
-    (h.own_are q (omega (arith, below, length_procs program (statics_of program) refl)))))
+    same : end_of (run program steps) ≡ ran_end profiled.ran
+    same = sym (end_is program steps profiled.ran p.is_run)
+
+    by : (r : Result (Unit {0}) Fault) → TellsEnd (ran_end profiled.ran) r → ShowEnds program steps query out out' err err' outs errs r
+    by (Ok done) told = (reported, same ∙ told)
+    by (Err OutOfSteps) told = (reported, same ∙ told)
+    by (Err (Thrown bytes)) told = (reported, same ∙ told)
+    by (Err Usage) told = absurd told
+    by (Err (Damaged at kind)) told = absurd told
+    by (Err (TooLarge most)) told = absurd told
+    by (Err (TwoEntries clique x y)) told = absurd told
+    by (Err Read) told = absurd told
+    by (Err TooLong) told = absurd told
+    by (Err (Refused line w)) told = absurd told
+    by (Err NoSuchPage) told = absurd told
+    by (Err Write) told = absurd told
+    by (Err NoMemory) told = absurd told
+
+-- the output was written, and the page wasn't
+pub unpaged : (program : Hlds) (steps : ℕ) (query : Asked) (profiled : Profiled) (out out' err err' : Option (List ℕ)) (outs errs : Type 0) (fault : Fault)
+    → IsProfiled program steps profiled → err' ≡ added (profiled.ran.output.items ++ codes "-- end of output\n") err
+    → PageEnds (IsViewOfRun program steps) query out out' outs (Err fault) → ShowEnds program steps query out out' err err' outs errs (Err fault)
+unpaged program steps query profiled out out' err err' outs errs fault p written ends = by fault ends
+  where
+    all : err' ≡ added (reported_output program steps) err
+    all = written ∙ ap (λ (bytes : List ℕ). added (bytes ++ codes "-- end of output\n") err) p.is_run.output
+
+    by : (fault : Fault) → PageEnds (IsViewOfRun program steps) query out out' outs (Err fault) → ShowEnds program steps query out out' err err' outs errs (Err fault)
+    by NoSuchPage h = record { output_is = all; lacks = h }
+    by Write h = inr (h.0, record { output_is = all; paged = h.1 })
+    by NoMemory (inl h) = inl (record { output_is = all_added (reported_output program steps) err err' all; no_page = h })
+    by NoMemory (inr h) = inr (record { output_is = all; paged = h })
+    by Usage h = absurd h
+    by (Damaged at kind) h = absurd h
+    by (TooLarge most) h = absurd h
+    by (TwoEntries clique x y) h = absurd h
+    by Read h = absurd h
+    by TooLong h = absurd h
+    by (Refused line w) h = absurd h
+    by OutOfSteps h = absurd h
+    by (Thrown bytes) h = absurd h
+
+-- the output wasn't written whole
+pub unwritten : (program : Hlds) (steps : ℕ) (query : Asked) (profiled : Profiled) (out err err' : Option (List ℕ)) (outs errs : Type 0) (fault : Fault)
+    → IsProfiled program steps profiled → WriteEnds (profiled.ran.output.items ++ codes "-- end of output\n") err err' errs (Err fault)
+    → ShowEnds program steps query out out err err' outs errs (Err fault)
+unwritten program steps query profiled out err err' outs errs fault p ends = by fault (subst (λ (bytes : List ℕ). WriteEnds (bytes ++ codes "-- end of output\n") err err' errs (Err fault)) p.is_run.output ends)
+  where
+    by : (fault : Fault) → WriteEnds (reported_output program steps) err err' errs (Err fault) → ShowEnds program steps query out out err err' outs errs (Err fault)
+    by Write h = inl (h.0, record { output_is = h.1; no_page = refl })
+    by NoMemory h = inl (record { output_is = h; no_page = refl })
+    by NoSuchPage h = absurd h
+    by Usage h = absurd h
+    by (Damaged at kind) h = absurd h
+    by (TooLarge most) h = absurd h
+    by (TwoEntries clique x y) h = absurd h
+    by Read h = absurd h
+    by TooLong h = absurd h
+    by (Refused line w) h = absurd h
+    by OutOfSteps h = absurd h
+    by (Thrown bytes) h = absurd h
 
 -- ---- a report on a file
 
--- what was written, in the words of the definitions
-as_due : (program : Hlds) (steps : ℕ) (profile : Profile) (out out' err err' : Option (List ℕ)) (outs errs : Type 0) (r : Result (Unit {0}) Fault) → ProgramCounts program steps profile
-    → PageEnds (profile.ran.output.items ++ codes "-- end of output\n") (procs_page profile.tables (counts_at profile.counter.own)) (ran_end profile.ran) out out' err err' outs errs r
-    → PageEnds (reported_output program steps) (reported_page program steps) (end_of (run program steps)) out out' err err' outs errs r
-as_due program steps profile out out' err err' outs errs r c h =
-    subst (λ (bytes : List ℕ). PageEnds (bytes ++ codes "-- end of output\n") (reported_page program steps) (end_of (run program steps)) out out' err err' outs errs r) c.is_run.output
-    (subst (λ (page : List ℕ). PageEnds (profile.ran.output.items ++ codes "-- end of output\n") page (end_of (run program steps)) out out' err err' outs errs r) (page_is program steps profile c)
-    (subst (λ (end : RunEnd). PageEnds (profile.ran.output.items ++ codes "-- end of output\n") (procs_page profile.tables (counts_at profile.counter.own)) end out out' err err' outs errs r)
-    (end_is program steps profile.ran c.is_run) h))
-
-whole : (held : Option Files) (file text : List ℕ) (steps : ℕ) (out out' err err' : Option (List ℕ)) (profile : Profile) (end : RunEnd) → IsText held file text → (c : TextCounts text steps profile)
-    → IsWhole (reported_output c.accepted.program steps) (reported_page c.accepted.program steps) out out' err err' → end_of (run c.accepted.program steps) ≡ end
-    → HasReported held file steps out out' err err' end
-whole held file text steps out out' err err' profile end is_text c written ended = record { text = text; is_text = is_text; accepted = c.accepted; written = written; ended = ended }
-
-ends_due : (held : Option Files) (file text : List ℕ) (steps : ℕ) (out out' err err' : Option (List ℕ)) (reads outs errs : Type 0) (profile : Profile) (r : Result (Unit {0}) Fault)
-    → IsText held file text → (c : TextCounts text steps profile)
-    → PageEnds (reported_output c.accepted.program steps) (reported_page c.accepted.program steps) (end_of (run c.accepted.program steps)) out out' err err' outs errs r
-    → ReportEnds held file steps out out' err err' reads outs errs r
-ends_due held file text steps out out' err err' reads outs errs profile (Ok done) is_text c h = whole held file text steps out out' err err' profile Finished is_text c h.0 h.1
-ends_due held file text steps out out' err err' reads outs errs profile (Err OutOfSteps) is_text c h = whole held file text steps out out' err err' profile RanOut is_text c h.0 h.1
-ends_due held file text steps out out' err err' reads outs errs profile (Err (Thrown bytes)) is_text c h =
-    whole held file text steps out out' err err' profile (Threw bytes.items) is_text c h.0 h.1
-ends_due held file text steps out out' err err' reads outs errs profile (Err Write) is_text c (inl h) =
-    inl (h.0, record { text = text; is_text = is_text; accepted = c.accepted; written = h.1 })
-ends_due held file text steps out out' err err' reads outs errs profile (Err Write) is_text c (inr h) =
-    inr (h.0, record { text = text; is_text = is_text; accepted = c.accepted; written = h.1 })
-ends_due held file text steps out out' err err' reads outs errs profile (Err NoMemory) is_text c (inl h) =
-    inr (inl (record { text = text; is_text = is_text; accepted = c.accepted; written = h }))
-ends_due held file text steps out out' err err' reads outs errs profile (Err NoMemory) is_text c (inr h) =
-    inr (inr (record { text = text; is_text = is_text; accepted = c.accepted; written = h }))
-ends_due held file text steps out out' err err' reads outs errs profile (Err Usage) is_text c h = absurd h
-ends_due held file text steps out out' err err' reads outs errs profile (Err Read) is_text c h = absurd h
-ends_due held file text steps out out' err err' reads outs errs profile (Err TooLong) is_text c h = absurd h
-ends_due held file text steps out out' err err' reads outs errs profile (Err (Refused line w)) is_text c h = absurd h
+pub profiled_text : (text : List ℕ) (program : Hlds) (steps : ℕ) (profiled : Profiled) → Accepts text program → IsWithinBounds program steps → IsProfiled program steps profiled
+    → IsProfiledText text steps profiled
+profiled_text text program steps profiled a bounds h = record {
+  accepted = a.accepted;
+  bounds = subst (λ (p : Hlds). IsWithinBounds p steps) (sym a.is_program) bounds;
+  is_profiled = subst (λ (p : Hlds). IsProfiled p steps profiled) (sym a.is_program) h;
+}
 
 -- what was written of a run of a text, as far as it was
-pub reported : (held : Option Files) (file text : List ℕ) (steps : ℕ) (out out' err err' : Option (List ℕ)) (reads outs errs : Type 0) (profile : Profile) (r : Result (Unit {0}) Fault)
-    → IsText held file text → TextCounts text steps profile
-    → PageEnds (profile.ran.output.items ++ codes "-- end of output\n") (procs_page profile.tables (counts_at profile.counter.own)) (ran_end profile.ran) out out' err err' outs errs r
-    → ReportEnds held file steps out out' err err' reads outs errs r
-reported held file text steps out out' err err' reads outs errs profile r is_text c h =
-    ends_due held file text steps out out' err err' reads outs errs profile r is_text c (as_due c.accepted.program steps profile out out' err err' outs errs r c.counted h)
+pub reported : (held : Option Files) (file text : List ℕ) (query : Asked) (steps : ℕ) (out out' err err' : Option (List ℕ)) (reads outs errs : Type 0) (profiled : Profiled) (r : Result (Unit {0}) Fault)
+    → IsText held file text → (c : IsProfiledText text steps profiled) → ShowEnds c.accepted.program steps query out out' err err' outs errs r
+    → ReportEnds held file query steps out out' err err' reads outs errs r
+reported held file text query steps out out' err err' reads outs errs profiled (Ok done) is_text c h = record { text = text; is_text = is_text; accepted = c.accepted; reported = h.0; ended = h.1 }
+reported held file text query steps out out' err err' reads outs errs profiled (Err OutOfSteps) is_text c h = record { text = text; is_text = is_text; accepted = c.accepted; reported = h.0; ended = h.1 }
+reported held file text query steps out out' err err' reads outs errs profiled (Err (Thrown bytes)) is_text c h =
+    record { text = text; is_text = is_text; accepted = c.accepted; reported = h.0; ended = h.1 }
+reported held file text query steps out out' err err' reads outs errs profiled (Err NoSuchPage) is_text c h = record { text = text; is_text = is_text; accepted = c.accepted; pageless = h }
+reported held file text query steps out out' err err' reads outs errs profiled (Err Write) is_text c (inl h) =
+    inl (h.0, record { text = text; is_text = is_text; accepted = c.accepted; written = h.1 })
+reported held file text query steps out out' err err' reads outs errs profiled (Err Write) is_text c (inr h) =
+    inr (h.0, record { text = text; is_text = is_text; accepted = c.accepted; written = h.1 })
+reported held file text query steps out out' err err' reads outs errs profiled (Err NoMemory) is_text c (inl h) =
+    inr (inl (record { text = text; is_text = is_text; accepted = c.accepted; written = h }))
+reported held file text query steps out out' err err' reads outs errs profiled (Err NoMemory) is_text c (inr h) =
+    inr (inr (record { text = text; is_text = is_text; accepted = c.accepted; written = h }))
+reported held file text query steps out out' err err' reads outs errs profiled (Err Usage) is_text c h = absurd h
+reported held file text query steps out out' err err' reads outs errs profiled (Err (Damaged at kind)) is_text c h = absurd h
+reported held file text query steps out out' err err' reads outs errs profiled (Err (TooLarge most)) is_text c h = absurd h
+reported held file text query steps out out' err err' reads outs errs profiled (Err (TwoEntries clique x y)) is_text c h = absurd h
+reported held file text query steps out out' err err' reads outs errs profiled (Err Read) is_text c h = absurd h
+reported held file text query steps out out' err err' reads outs errs profiled (Err TooLong) is_text c h = absurd h
+reported held file text query steps out out' err err' reads outs errs profiled (Err (Refused line w)) is_text c h = absurd h

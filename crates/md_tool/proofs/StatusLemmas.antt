@@ -1,59 +1,79 @@
 -- What a status says, from what a whole call came to.
-use Rattle.std.proofs.Common.{◌≡◌, sym, subst, inl, inr, ◌⊎◌, ℕ, List, Bool, Option, None, Some}
+use Rattle.std.proofs.Common.{◌≡◌, refl, sym, subst, inl, inr, ◌⊎◌, ℕ, List, Bool, true, Option, None, Some}
 use Rattle.std.specs.Prelude.{Result, Ok, Err}
 use Rattle.md_base.specs.Outside.{PartAdded}
 use Rattle.md_base.specs.Files.{Files}
-use Rattle.md_hlds.specs.Run.{run, output}
+use Rattle.md_deepfile.specs.Bytes.{file_bytes}
+use Rattle.md_query.specs.Asked.{Asked}
+use Rattle.md_render.specs.Text.{text_of}
+use Rattle.md_words.specs.Form.{Form, Check, Run, Report, Page, Gen, Migrate}
 use Rattle.md_tool.specs.declared.fault.Fault.{Fault}
-use Rattle.md_tool.specs.declared.fault.Fault.TheVariants.{Usage, Read, TooLong, Refused, OutOfSteps, Thrown, Write, NoMemory}
+use Rattle.md_tool.specs.declared.fault.Fault.TheVariants.{Usage, Read, TooLong, Refused, OutOfSteps, Thrown, Damaged, TooLarge, TwoEntries, NoSuchPage, Write, NoMemory}
 use Rattle.md_tool.specs.Ends.{RunEnd, Finished, Threw, RanOut}
-use Rattle.md_tool.specs.Form.{Asked, Run, Check, Report}
-use Rattle.md_tool.specs.Due.{HasRun, HasRunInPart, HasReported, HasPageInPart, HasOutputInPart, RunEnds, CheckEnds, ReportEnds, reported_page}
+use Rattle.md_tool.specs.Due.{CheckEnds}
+use Rattle.md_tool.specs.Profiled.{HasRun, HasProfileInPart, RunEnds}
+use Rattle.md_tool.specs.Reported.{HasReported, HasPageInPart, ReportEnds}
+use Rattle.md_tool.specs.Stored.{StoredEnds, MigrateEnds}
+use Rattle.md_tool.specs.Generated.{GenEnds}
 use Rattle.md_tool.specs.Fault.{status_of, fault_line}
-use Rattle.md_tool.specs.Told.{CommandEnds, EndIsTold, TopEnds, named}
-use Rattle.md_tool.specs.Meaning.{LongerText, AtLine, HasFrontOfPage, MeansUsage, MeansRun, MeansCheck, MeansReport, Means}
-use Rattle.md_tool.proofs.StreamLemmas.{all_added, none_added}
+use Rattle.md_tool.specs.Told.{CommandEnds, EndIsTold, TopEnds, named, file_of}
+use Rattle.md_tool.specs.Meaning.{LongerText, AtLine, HasFrontOfPage, MeansUsage, MeansRun, MeansCheck, MeansReport, MeansEnd, Means, keeps_store}
+use Rattle.md_tool.proofs.KeepLemmas.{all_held}
+use Rattle.md_tool.proofs.StreamLemmas.{all_added}
 
 -- ---- a run of a file
 
-run_in_part : (held : Option Files) (file : List ℕ) (steps : ℕ) (before now : Option (List ℕ)) (end : RunEnd) → HasRun held file steps before now end → HasRunInPart held file steps before now
-run_in_part held file steps before now end h = record {
+-- all of it is a part of it
+whole_profile : (held held' : Option Files) (file : List ℕ) (steps : ℕ) (name : List ℕ) (out out' : Option (List ℕ)) (end : RunEnd) → HasRun held held' file steps name out out' end
+    → HasProfileInPart held held' file steps name out out'
+whole_profile held held' file steps name out out' end h = record {
   text = h.text;
   is_text = h.is_text;
   accepted = h.accepted;
-  written = all_added (output (run h.accepted.program steps)) before now h.written;
+  kept = record {
+    output_is = h.kept.output_is;
+    profile = h.kept.profile;
+    is_profile = h.kept.is_profile;
+    valid = h.kept.valid;
+    stored = all_held name (file_bytes h.kept.profile) held held' h.kept.stored;
+  };
 }
 
 -- its end was told
-run_told : (held : Option Files) (file : List ℕ) (steps : ℕ) (before now : Option (List ℕ)) (reads writes : Type 0) (fault : Fault)
-    → RunEnds held file steps before now reads writes (Err fault) → MeansRun held file steps before now reads writes (status_of fault)
-run_told held file steps before now reads writes Usage h = absurd h
-run_told held file steps before now reads writes Read h = h
-run_told held file steps before now reads writes TooLong h = LongerText h.0 h.1
-run_told held file steps before now reads writes (Refused line w) h = AtLine line w h
-run_told held file steps before now reads writes OutOfSteps h = h
-run_told held file steps before now reads writes (Thrown bytes) h = (bytes.items, h)
-run_told held file steps before now reads writes Write h = h
-run_told held file steps before now reads writes NoMemory h = h
+run_told : (held held' : Option Files) (file : List ℕ) (steps : ℕ) (name : List ℕ) (out out' : Option (List ℕ)) (reads writes outs : Type 0) (fault : Fault) → RunEnds held held' file steps name out out' reads writes outs (Err fault) → MeansRun held held' file steps name out out' reads writes outs (status_of fault)
+run_told held held' file steps name out out' reads writes outs Usage h = absurd h
+run_told held held' file steps name out out' reads writes outs Read h = h
+run_told held held' file steps name out out' reads writes outs TooLong h = (LongerText h.0 h.1.out_is, h.1.held_is)
+run_told held held' file steps name out out' reads writes outs (Refused line w) h = (AtLine line w h.0, h.1)
+run_told held held' file steps name out out' reads writes outs OutOfSteps h = h
+run_told held held' file steps name out out' reads writes outs (Thrown bytes) h = (bytes.items, h)
+run_told held held' file steps name out out' reads writes outs (Damaged at kind) h = absurd h
+run_told held held' file steps name out out' reads writes outs (TooLarge most) h = absurd h
+run_told held held' file steps name out out' reads writes outs (TwoEntries clique x y) h = absurd h
+run_told held held' file steps name out out' reads writes outs NoSuchPage h = absurd h
+run_told held held' file steps name out out' reads writes outs Write h = h
+run_told held held' file steps name out out' reads writes outs NoMemory h = h
 
 -- its end could not be told for want of memory
-run_untold : (held : Option Files) (file : List ℕ) (steps : ℕ) (before now : Option (List ℕ)) (reads writes : Type 0) (fault : Fault)
-    → RunEnds held file steps before now reads writes (Err fault) → MeansRun held file steps before now reads writes 8
-run_untold held file steps before now reads writes Usage h = absurd h
-run_untold held file steps before now reads writes Read h = inl h.1
-run_untold held file steps before now reads writes TooLong h = inl h.1
-run_untold held file steps before now reads writes (Refused line w) h = inl h.untouched
-run_untold held file steps before now reads writes OutOfSteps h = inr (run_in_part held file steps before now RanOut h)
-run_untold held file steps before now reads writes (Thrown bytes) h = inr (run_in_part held file steps before now (Threw bytes.items) h)
-run_untold held file steps before now reads writes Write h = inr h.1
-run_untold held file steps before now reads writes NoMemory h = h
+run_untold : (held held' : Option Files) (file : List ℕ) (steps : ℕ) (name : List ℕ) (out out' : Option (List ℕ)) (reads writes outs : Type 0) (fault : Fault) → RunEnds held held' file steps name out out' reads writes outs (Err fault) → MeansRun held held' file steps name out out' reads writes outs 8
+run_untold held held' file steps name out out' reads writes outs Usage h = absurd h
+run_untold held held' file steps name out out' reads writes outs Read h = inl h.1
+run_untold held held' file steps name out out' reads writes outs TooLong h = inl h.1
+run_untold held held' file steps name out out' reads writes outs (Refused line w) h = inl (record { held_is = h.1; out_is = h.0.untouched })
+run_untold held held' file steps name out out' reads writes outs OutOfSteps h = inr (inr (whole_profile held held' file steps name out out' RanOut h))
+run_untold held held' file steps name out out' reads writes outs (Thrown bytes) h = inr (inr (whole_profile held held' file steps name out out' (Threw bytes.items) h))
+run_untold held held' file steps name out out' reads writes outs (Damaged at kind) h = absurd h
+run_untold held held' file steps name out out' reads writes outs (TooLarge most) h = absurd h
+run_untold held held' file steps name out out' reads writes outs (TwoEntries clique x y) h = absurd h
+run_untold held held' file steps name out out' reads writes outs NoSuchPage h = absurd h
+run_untold held held' file steps name out out' reads writes outs Write (inl h) = inr (inl h.1)
+run_untold held held' file steps name out out' reads writes outs Write (inr h) = inr (inr h.1)
+run_untold held held' file steps name out out' reads writes outs NoMemory h = h
 
-run_fault : (held : Option Files) (file : List ℕ) (steps : ℕ) (before now : Option (List ℕ)) (reads writes : Type 0) (fault : Fault) (status : ℕ)
-    → RunEnds held file steps before now reads writes (Err fault) → (status ≡ status_of fault) ⊎ (status ≡ 8) → MeansRun held file steps before now reads writes status
-run_fault held file steps before now reads writes fault status h (inl same) =
-    subst (MeansRun held file steps before now reads writes) (sym same) (run_told held file steps before now reads writes fault h)
-run_fault held file steps before now reads writes fault status h (inr same) =
-    subst (MeansRun held file steps before now reads writes) (sym same) (run_untold held file steps before now reads writes fault h)
+run_fault : (held held' : Option Files) (file : List ℕ) (steps : ℕ) (name : List ℕ) (out out' : Option (List ℕ)) (reads writes outs : Type 0) (fault : Fault) (status : ℕ) → RunEnds held held' file steps name out out' reads writes outs (Err fault)
+    → (status ≡ status_of fault) ⊎ (status ≡ 8) → MeansRun held held' file steps name out out' reads writes outs status
+run_fault held held' file steps name out out' reads writes outs fault status h (inl same) = subst (MeansRun held held' file steps name out out' reads writes outs) (sym same) (run_told held held' file steps name out out' reads writes outs fault h)
+run_fault held held' file steps name out out' reads writes outs fault status h (inr same) = subst (MeansRun held held' file steps name out out' reads writes outs) (sym same) (run_untold held held' file steps name out out' reads writes outs fault h)
 
 -- ---- a check of a file
 
@@ -61,6 +81,10 @@ run_fault held file steps before now reads writes fault status h (inr same) =
 check_told : (held : Option Files) (file : List ℕ) (print : Bool) (before now : Option (List ℕ)) (reads writes : Type 0) (fault : Fault)
     → CheckEnds held file print before now reads writes (Err fault) → MeansCheck held file print before now reads writes (status_of fault)
 check_told held file print before now reads writes Usage h = absurd h
+check_told held file print before now reads writes (Damaged at kind) h = absurd h
+check_told held file print before now reads writes (TooLarge most) h = absurd h
+check_told held file print before now reads writes (TwoEntries clique x y) h = absurd h
+check_told held file print before now reads writes NoSuchPage h = absurd h
 check_told held file print before now reads writes Read h = h
 check_told held file print before now reads writes TooLong h = LongerText h.0 h.1
 check_told held file print before now reads writes (Refused line w) h = AtLine line w h
@@ -73,6 +97,10 @@ check_told held file print before now reads writes NoMemory h = h
 check_untold : (held : Option Files) (file : List ℕ) (print : Bool) (before now : Option (List ℕ)) (reads writes : Type 0) (fault : Fault)
     → CheckEnds held file print before now reads writes (Err fault) → MeansCheck held file print before now reads writes 8
 check_untold held file print before now reads writes Usage h = absurd h
+check_untold held file print before now reads writes (Damaged at kind) h = absurd h
+check_untold held file print before now reads writes (TooLarge most) h = absurd h
+check_untold held file print before now reads writes (TwoEntries clique x y) h = absurd h
+check_untold held file print before now reads writes NoSuchPage h = absurd h
 check_untold held file print before now reads writes Read h = inl h.1
 check_untold held file print before now reads writes TooLong h = inl h.1
 check_untold held file print before now reads writes (Refused line w) h = inl h.untouched
@@ -91,70 +119,82 @@ check_fault held file print before now reads writes fault status h (inr same) =
 -- ---- a report on a file
 
 -- the page, as far as it was written
-all_of_page : (held : Option Files) (file : List ℕ) (steps : ℕ) (out out' err err' : Option (List ℕ)) (end : RunEnd) → HasReported held file steps out out' err err' end → HasFrontOfPage held file steps out out'
-all_of_page held file steps out out' err err' end h = record {
+all_of_page : (held : Option Files) (file : List ℕ) (query : Asked) (steps : ℕ) (out out' err err' : Option (List ℕ)) (end : RunEnd) → HasReported held file query steps out out' err err' end
+    → HasFrontOfPage held file query steps out out'
+all_of_page held file query steps out out' err err' end h = record {
   text = h.text;
   is_text = h.is_text;
   accepted = h.accepted;
-  page = all_added (reported_page h.accepted.program steps) out out' h.written.page_is;
+  page = record {
+    view = h.reported.paged.view;
+    is_meant = h.reported.paged.is_meant;
+    page = h.reported.paged.page;
+    is_page = h.reported.paged.is_page;
+    written = all_added (text_of h.reported.paged.view h.reported.paged.page) out out' h.reported.paged.written;
+  };
 }
 
-part_of_page : (held : Option Files) (file : List ℕ) (steps : ℕ) (out out' err err' : Option (List ℕ)) → HasPageInPart held file steps out out' err err' → HasFrontOfPage held file steps out out'
-part_of_page held file steps out out' err err' h = record { text = h.text; is_text = h.is_text; accepted = h.accepted; page = h.written.page_is }
-
-none_of_page : (held : Option Files) (file : List ℕ) (steps : ℕ) (out out' err err' : Option (List ℕ)) → HasOutputInPart held file steps out out' err err' → HasFrontOfPage held file steps out out'
-none_of_page held file steps out out' err err' h = record {
-  text = h.text;
-  is_text = h.is_text;
-  accepted = h.accepted;
-  page = subst (PartAdded (reported_page h.accepted.program steps) out) (sym h.written.no_page) (none_added (reported_page h.accepted.program steps) out);
-}
+part_of_page : (held : Option Files) (file : List ℕ) (query : Asked) (steps : ℕ) (out out' err err' : Option (List ℕ)) → HasPageInPart held file query steps out out' err err'
+    → HasFrontOfPage held file query steps out out'
+part_of_page held file query steps out out' err err' h = record { text = h.text; is_text = h.is_text; accepted = h.accepted; page = h.written.paged }
 
 -- its end was told, by this line or a front of it
-report_told : (held : Option Files) (file : List ℕ) (steps : ℕ) (out out' err between err' : Option (List ℕ)) (reads outs errs : Type 0) (fault : Fault)
-    → ReportEnds held file steps out out' err between reads outs errs (Err fault) → PartAdded (fault_line fault file) between err'
-    → MeansReport held file steps out out' err err' reads outs errs (status_of fault)
-report_told held file steps out out' err between err' reads outs errs Usage h line = absurd h
-report_told held file steps out out' err between err' reads outs errs Read h line = (h.0, h.1.out_is)
-report_told held file steps out out' err between err' reads outs errs TooLong h line = LongerText h.0 h.1.out_is
-report_told held file steps out out' err between err' reads outs errs (Refused at w) h line = AtLine at w h.0
-report_told held file steps out out' err between err' reads outs errs OutOfSteps h line = record { between = between; reported = h; line_is = line }
-report_told held file steps out out' err between err' reads outs errs (Thrown bytes) h line = (bytes.items, record { between = between; reported = h; line_is = line })
-report_told held file steps out out' err between err' reads outs errs Write (inl h) line = (inl h.0, none_of_page held file steps out out' err between h.1)
-report_told held file steps out out' err between err' reads outs errs Write (inr h) line = (inr h.0, part_of_page held file steps out out' err between h.1)
-report_told held file steps out out' err between err' reads outs errs NoMemory (inl h) line = inl h.out_is
-report_told held file steps out out' err between err' reads outs errs NoMemory (inr (inl h)) line = inr (none_of_page held file steps out out' err between h)
-report_told held file steps out out' err between err' reads outs errs NoMemory (inr (inr h)) line = inr (part_of_page held file steps out out' err between h)
+report_told : (held : Option Files) (file : List ℕ) (query : Asked) (steps : ℕ) (out out' err between err' : Option (List ℕ)) (reads outs errs : Type 0) (fault : Fault)
+    → ReportEnds held file query steps out out' err between reads outs errs (Err fault) → PartAdded (fault_line fault file) between err' → MeansReport held file query steps out out' err err' reads outs errs (status_of fault)
+report_told held file query steps out out' err between err' reads outs errs Usage h line = absurd h
+report_told held file query steps out out' err between err' reads outs errs Read h line = (h.0, h.1.out_is)
+report_told held file query steps out out' err between err' reads outs errs TooLong h line = LongerText h.0 h.1.out_is
+report_told held file query steps out out' err between err' reads outs errs (Refused line w) h at_line = AtLine line w h.0
+report_told held file query steps out out' err between err' reads outs errs OutOfSteps h line = record { between = between; reported = h; line_is = line }
+report_told held file query steps out out' err between err' reads outs errs (Thrown bytes) h line = (bytes.items, record { between = between; reported = h; line_is = line })
+report_told held file query steps out out' err between err' reads outs errs (Damaged at kind) h line = absurd h
+report_told held file query steps out out' err between err' reads outs errs (TooLarge most) h line = absurd h
+report_told held file query steps out out' err between err' reads outs errs (TwoEntries clique x y) h line = absurd h
+report_told held file query steps out out' err between err' reads outs errs NoSuchPage h line = record { between = between; pageless = h; line_is = line }
+report_told held file query steps out out' err between err' reads outs errs Write (inl h) line = inl (h.0, record { text = h.1.text; is_text = h.1.is_text; accepted = h.1.accepted }, h.1.written.no_page)
+report_told held file query steps out out' err between err' reads outs errs Write (inr h) line = inr (h.0, part_of_page held file query steps out out' err between h.1)
+report_told held file query steps out out' err between err' reads outs errs NoMemory (inl h) line = inl h.out_is
+report_told held file query steps out out' err between err' reads outs errs NoMemory (inr (inl h)) line = inl h.written.no_page
+report_told held file query steps out out' err between err' reads outs errs NoMemory (inr (inr h)) line = inr (part_of_page held file query steps out out' err between h)
 
 -- its end could not be told for want of memory
-report_untold : (held : Option Files) (file : List ℕ) (steps : ℕ) (out out' err between err' : Option (List ℕ)) (reads outs errs : Type 0) (fault : Fault)
-    → ReportEnds held file steps out out' err between reads outs errs (Err fault) → MeansReport held file steps out out' err err' reads outs errs 8
-report_untold held file steps out out' err between err' reads outs errs Usage h = absurd h
-report_untold held file steps out out' err between err' reads outs errs Read h = inl h.1.out_is
-report_untold held file steps out out' err between err' reads outs errs TooLong h = inl h.1.out_is
-report_untold held file steps out out' err between err' reads outs errs (Refused at w) h = inl h.0.untouched
-report_untold held file steps out out' err between err' reads outs errs OutOfSteps h = inr (all_of_page held file steps out out' err between RanOut h)
-report_untold held file steps out out' err between err' reads outs errs (Thrown bytes) h = inr (all_of_page held file steps out out' err between (Threw bytes.items) h)
-report_untold held file steps out out' err between err' reads outs errs Write (inl h) = inr (none_of_page held file steps out out' err between h.1)
-report_untold held file steps out out' err between err' reads outs errs Write (inr h) = inr (part_of_page held file steps out out' err between h.1)
-report_untold held file steps out out' err between err' reads outs errs NoMemory (inl h) = inl h.out_is
-report_untold held file steps out out' err between err' reads outs errs NoMemory (inr (inl h)) = inr (none_of_page held file steps out out' err between h)
-report_untold held file steps out out' err between err' reads outs errs NoMemory (inr (inr h)) = inr (part_of_page held file steps out out' err between h)
+report_untold : (held : Option Files) (file : List ℕ) (query : Asked) (steps : ℕ) (out out' err between err' : Option (List ℕ)) (reads outs errs : Type 0) (fault : Fault) → ReportEnds held file query steps out out' err between reads outs errs (Err fault) → MeansReport held file query steps out out' err err' reads outs errs 8
+report_untold held file query steps out out' err between err' reads outs errs Usage h = absurd h
+report_untold held file query steps out out' err between err' reads outs errs Read h = inl h.1.out_is
+report_untold held file query steps out out' err between err' reads outs errs TooLong h = inl h.1.out_is
+report_untold held file query steps out out' err between err' reads outs errs (Refused line w) h = inl h.0.untouched
+report_untold held file query steps out out' err between err' reads outs errs OutOfSteps h = inr (all_of_page held file query steps out out' err between RanOut h)
+report_untold held file query steps out out' err between err' reads outs errs (Thrown bytes) h = inr (all_of_page held file query steps out out' err between (Threw bytes.items) h)
+report_untold held file query steps out out' err between err' reads outs errs (Damaged at kind) h = absurd h
+report_untold held file query steps out out' err between err' reads outs errs (TooLarge most) h = absurd h
+report_untold held file query steps out out' err between err' reads outs errs (TwoEntries clique x y) h = absurd h
+report_untold held file query steps out out' err between err' reads outs errs NoSuchPage h = inl h.pageless.lacks.untouched
+report_untold held file query steps out out' err between err' reads outs errs Write (inl h) = inl h.1.written.no_page
+report_untold held file query steps out out' err between err' reads outs errs Write (inr h) = inr (part_of_page held file query steps out out' err between h.1)
+report_untold held file query steps out out' err between err' reads outs errs NoMemory (inl h) = inl h.out_is
+report_untold held file query steps out out' err between err' reads outs errs NoMemory (inr (inl h)) = inl h.written.no_page
+report_untold held file query steps out out' err between err' reads outs errs NoMemory (inr (inr h)) = inr (part_of_page held file query steps out out' err between h)
 
-report_fault : (held : Option Files) (file : List ℕ) (steps : ℕ) (out out' err between err' : Option (List ℕ)) (reads outs errs : Type 0) (fault : Fault) (status : ℕ)
-    → ReportEnds held file steps out out' err between reads outs errs (Err fault) → PartAdded (fault_line fault file) between err' → (status ≡ status_of fault) ⊎ (status ≡ 8)
-    → MeansReport held file steps out out' err err' reads outs errs status
-report_fault held file steps out out' err between err' reads outs errs fault status h line (inl same) =
-    subst (MeansReport held file steps out out' err err' reads outs errs) (sym same) (report_told held file steps out out' err between err' reads outs errs fault h line)
-report_fault held file steps out out' err between err' reads outs errs fault status h line (inr same) =
-    subst (MeansReport held file steps out out' err err' reads outs errs) (sym same) (report_untold held file steps out out' err between err' reads outs errs fault h)
+report_fault : (held : Option Files) (file : List ℕ) (query : Asked) (steps : ℕ) (out out' err between err' : Option (List ℕ)) (reads outs errs : Type 0) (fault : Fault) (status : ℕ)
+    → ReportEnds held file query steps out out' err between reads outs errs (Err fault) → PartAdded (fault_line fault file) between err' → (status ≡ status_of fault) ⊎ (status ≡ 8) → MeansReport held file query steps out out' err err' reads outs errs status
+report_fault held file query steps out out' err between err' reads outs errs fault status h line (inl same) =
+    subst (MeansReport held file query steps out out' err err' reads outs errs) (sym same) (report_told held file query steps out out' err between err' reads outs errs fault h line)
+report_fault held file query steps out out' err between err' reads outs errs fault status h line (inr same) =
+    subst (MeansReport held file query steps out out' err err' reads outs errs) (sym same) (report_untold held file query steps out out' err between err' reads outs errs fault h)
 
 -- it is done, and nothing was told
-report_done : (held : Option Files) (file : List ℕ) (steps : ℕ) (out out' err between err' : Option (List ℕ)) (reads outs errs : Type 0) (status : ℕ)
-    → HasReported held file steps out out' err between Finished → (status ≡ 0) × (err' ≡ between) → MeansReport held file steps out out' err err' reads outs errs status
-report_done held file steps out out' err between err' reads outs errs status h told =
-    subst (MeansReport held file steps out out' err err' reads outs errs) (sym told.0)
-    (subst (λ (e : Option (List ℕ)). HasReported held file steps out out' err e Finished) (sym told.1) h)
+report_done : (held : Option Files) (file : List ℕ) (query : Asked) (steps : ℕ) (out out' err between err' : Option (List ℕ)) (reads outs errs : Type 0) (status : ℕ)
+    → HasReported held file query steps out out' err between Finished → (status ≡ 0) × (err' ≡ between) → MeansReport held file query steps out out' err err' reads outs errs status
+report_done held file query steps out out' err between err' reads outs errs status h told =
+    subst (MeansReport held file query steps out out' err err' reads outs errs) (sym told.0)
+    (subst (λ (e : Option (List ℕ)). HasReported held file query steps out out' err e Finished) (sym told.1) h)
+
+-- ---- any other command
+
+ended : (Ends : Result (Unit {0}) Fault → Type 0) (r : Result (Unit {0}) Fault) (file : List ℕ) (between err' : Option (List ℕ)) (errs : Type 0) (status : ℕ)
+    → Ends r → EndIsTold r file between err' errs status → MeansEnd Ends status
+ended Ends (Ok done) file between err' errs status h told = inl (told.0, h)
+ended Ends (Err fault) file between err' errs status h told = inr (fault, told.told, h)
 
 -- ---- words that are no command
 
@@ -178,6 +218,10 @@ usage_fault before now status fault same why (inr is) = subst (MeansUsage before
 usage_fault before now status Usage same why (inl is) = subst (MeansUsage before now) (sym is) same
 usage_fault before now status NoMemory same why (inl is) = subst (MeansUsage before now) (sym is) same
 usage_fault before now status Read same why (inl is) = absurd why
+usage_fault before now status (Damaged at kind) same why (inl is) = absurd why
+usage_fault before now status (TooLarge most) same why (inl is) = absurd why
+usage_fault before now status (TwoEntries clique x y) same why (inl is) = absurd why
+usage_fault before now status NoSuchPage same why (inl is) = absurd why
 usage_fault before now status TooLong same why (inl is) = absurd why
 usage_fault before now status (Refused line w) same why (inl is) = absurd why
 usage_fault before now status OutOfSteps same why (inl is) = absurd why
@@ -186,24 +230,36 @@ usage_fault before now status Write same why (inl is) = absurd why
 
 -- ---- a whole call
 
-end_means : (asked : Option Asked) (held : Option Files) (out out' err between err' : Option (List ℕ)) (reads outs errs : Type 0) (status : ℕ) (end : Result (Unit {0}) Fault)
-    → CommandEnds asked held out out' err between reads outs errs end → EndIsTold end (named asked) between err' errs status → Means asked held out out' err err' reads outs errs status
-end_means None held out out' err between err' reads outs errs status (Ok done) command told = absurd (usage_end (Ok done) command.0)
-end_means None held out out' err between err' reads outs errs status (Err fault) command told =
-    usage_fault out out' status fault command.1.out_is (usage_end (Err fault) command.0) told.told
-end_means (Some (Run file steps)) held out out' err between err' reads outs errs status (Ok done) command told =
-    subst (MeansRun held file steps out out' reads outs) (sym told.0) command.0
-end_means (Some (Run file steps)) held out out' err between err' reads outs errs status (Err fault) command told =
-    run_fault held file steps out out' reads outs fault status command.0 told.told
-end_means (Some (Check file print)) held out out' err between err' reads outs errs status (Ok done) command told =
-    subst (MeansCheck held file print out out' reads outs) (sym told.0) command.0
-end_means (Some (Check file print)) held out out' err between err' reads outs errs status (Err fault) command told =
-    check_fault held file print out out' reads outs fault status command.0 told.told
-end_means (Some (Report file steps)) held out out' err between err' reads outs errs status (Ok done) command told =
-    report_done held file steps out out' err between err' reads outs errs status command told
-end_means (Some (Report file steps)) held out out' err between err' reads outs errs status (Err fault) command told =
-    report_fault held file steps out out' err between err' reads outs errs fault status command told.part told.told
+end_means : (form : Option Form) (held held' : Option Files) (out out' err between err' : Option (List ℕ)) (reads writes outs errs : Type 0) (status : ℕ) (end : Result (Unit {0}) Fault)
+    → CommandEnds form held held' out out' err between reads writes outs errs end → EndIsTold end (named form) between err' errs status → Means form held held' out out' err err' reads writes outs errs status
+end_means None held held' out out' err between err' reads writes outs errs status (Ok done) command told = absurd (usage_end (Ok done) command.0)
+end_means None held held' out out' err between err' reads writes outs errs status (Err fault) command told = usage_fault out out' status fault command.1.out_is (usage_end (Err fault) command.0) told.told
+end_means (Some (Run file steps name)) held held' out out' err between err' reads writes outs errs status (Ok done) command told = subst (MeansRun held held' file steps name out out' reads writes outs) (sym told.0) command.0
+end_means (Some (Run file steps name)) held held' out out' err between err' reads writes outs errs status (Err fault) command told = run_fault held held' file steps name out out' reads writes outs fault status command.0 told.told
+end_means (Some (Check file print)) held held' out out' err between err' reads writes outs errs status (Ok done) command told = subst (MeansCheck held file print out out' reads outs) (sym told.0) command.0
+end_means (Some (Check file print)) held held' out out' err between err' reads writes outs errs status (Err fault) command told = check_fault held file print out out' reads outs fault status command.0 told.told
+end_means (Some (Report file query steps)) held held' out out' err between err' reads writes outs errs status (Ok done) command told = report_done held file query steps out out' err between err' reads outs errs status command.0 told
+end_means (Some (Report file query steps)) held held' out out' err between err' reads writes outs errs status (Err fault) command told = report_fault held file query steps out out' err between err' reads outs errs fault status command.0 told.part told.told
+end_means (Some (Page name query)) held held' out out' err between err' reads writes outs errs status end command told = ended (StoredEnds held name query out out' reads outs) end name between err' errs status command.0 told
+end_means (Some (Gen n summary)) held held' out out' err between err' reads writes outs errs status end command told = ended (GenEnds n summary out out' outs) end (file_of (Gen n summary)) between err' errs status command.0 told
+end_means (Some (Migrate name new)) held held' out out' err between err' reads writes outs errs status end command told = ended (MigrateEnds held held' name new out out' reads writes outs) end name between err' errs status command.0 told
 
-pub top_means : (asked : Option Asked) (held : Option Files) (out out' err err' : Option (List ℕ)) (reads outs errs : Type 0) (status : ℕ)
-    → TopEnds asked held out out' err err' reads outs errs status → Means asked held out out' err err' reads outs errs status
-top_means asked held out out' err err' reads outs errs status h = end_means asked held out out' err h.between err' reads outs errs status h.end h.command h.told
+pub top_means : (form : Option Form) (held held' : Option Files) (out out' err err' : Option (List ℕ)) (reads writes outs errs : Type 0) (status : ℕ)
+    → TopEnds form held held' out out' err err' reads writes outs errs status → Means form held held' out out' err err' reads writes outs errs status
+top_means form held held' out out' err err' reads writes outs errs status h = end_means form held held' out out' err h.between err' reads writes outs errs status h.end h.command h.told
+
+-- ---- what is kept
+
+keeps : (form : Option Form) (held held' : Option Files) (out out' err err' : Option (List ℕ)) (reads writes outs errs : Type 0) (r : Result (Unit {0}) Fault)
+    → CommandEnds form held held' out out' err err' reads writes outs errs r → keeps_store form ≡ true → held' ≡ held
+keeps None held held' out out' err err' reads writes outs errs r h so = h.1.held_is
+keeps (Some (Check file print)) held held' out out' err err' reads writes outs errs r h so = h.1.0
+keeps (Some (Run file steps name)) held held' out out' err err' reads writes outs errs r h so = absurd (cc)
+keeps (Some (Report file query steps)) held held' out out' err err' reads writes outs errs r h so = h.1
+keeps (Some (Page name query)) held held' out out' err err' reads writes outs errs r h so = h.1.0
+keeps (Some (Gen n summary)) held held' out out' err err' reads writes outs errs r h so = h.1.0
+keeps (Some (Migrate name new)) held held' out out' err err' reads writes outs errs r h so = absurd (cc)
+
+pub store_kept : (form : Option Form) (held held' : Option Files) (out out' err err' : Option (List ℕ)) (reads writes outs errs : Type 0) (status : ℕ)
+    → TopEnds form held held' out out' err err' reads writes outs errs status → keeps_store form ≡ true → held' ≡ held
+store_kept form held held' out out' err err' reads writes outs errs status h so = keeps form held held' out out' err h.between reads writes outs errs h.end h.command so

@@ -13,7 +13,7 @@ use Rattle.md_det.specs.declared.fault.DetFault.{DetFault}
 use Rattle.md_det.specs.declared.fault.DetFault.TheVariants as determinism
 use Rattle.md_det.specs.Faults.{det_fault}
 use Rattle.md_tool.specs.declared.fault.Fault.{Fault}
-use Rattle.md_tool.specs.declared.fault.Fault.TheVariants.{Usage, Read, TooLong, OutOfSteps, Thrown, Write, NoMemory}
+use Rattle.md_tool.specs.declared.fault.Fault.TheVariants.{NoMemory}
 use Rattle.md_tool.specs.declared.fault.Fault.TheVariants.{Refused as RefusedAt}
 use Rattle.md_tool.specs.declared.fault.Why.TheVariants as why
 
@@ -88,12 +88,7 @@ NotAccepted text fault = IsUnread text fault ⊎ (HasModeFault text fault ⊎ Ha
 abbrev pub TextFault : List ℕ → Fault → Type 0
 TextFault text (RefusedAt line w) = NotAccepted text (RefusedAt line w)
 TextFault text NoMemory = Unit {0}
-TextFault text Usage = ⊥
-TextFault text Read = ⊥
-TextFault text TooLong = ⊥
-TextFault text OutOfSteps = ⊥
-TextFault text (Thrown bytes) = ⊥
-TextFault text Write = ⊥
+TextFault text fault = ⊥
 
 -- the text is accepted as this program
 pub record Accepts (text : List ℕ) (program : Hlds) : Type 0 where

@@ -1,10 +1,12 @@
 -- Faults, with their exit statuses and the lines that tell of them.
 use Rattle.std.specs.Prelude.{ℕ, List, [], ◌∷◌, ◌++◌, codes}
 use Rattle.std.specs.Fmt.{decimal}
+use Rattle.md_deepfile.specs.declared.kind.Kind.{Kind}
+use Rattle.md_deepfile.specs.declared.kind.Kind.TheVariants as kind
 use Rattle.md_hlds.specs.declared.types.Det.{Det}
 use Rattle.md_hlds.specs.declared.types.Det.TheVariants as det
 use Rattle.md_tool.specs.declared.fault.Fault.{Fault}
-use Rattle.md_tool.specs.declared.fault.Fault.TheVariants.{Usage, Read, TooLong, Refused, OutOfSteps, Thrown, Write, NoMemory}
+use Rattle.md_tool.specs.declared.fault.Fault.TheVariants.{Usage, Read, TooLong, Refused, OutOfSteps, Thrown, Damaged, TooLarge, TwoEntries, NoSuchPage, Write, NoMemory}
 use Rattle.md_tool.specs.declared.fault.Why.{Why}
 use Rattle.md_tool.specs.declared.fault.Why.TheVariants as why
 
@@ -15,6 +17,10 @@ status_of TooLong = 3
 status_of (Refused line w) = 3
 status_of OutOfSteps = 4
 status_of (Thrown error) = 10
+status_of (Damaged at kind) = 5
+status_of (TooLarge most) = 5
+status_of (TwoEntries clique a b) = 5
+status_of NoSuchPage = 6
 status_of Write = 7
 status_of NoMemory = 8
 
@@ -61,6 +67,27 @@ text_of (why.Declared declared inferred) = declared_text (word_of declared) (wor
 text_of why.ManyInCondition = codes "condition with many solutions binds"
 text_of why.IoInBacktracking = codes "io in backtracking"
 
+-- what is wrong with a profile file, in words
+abbrev pub word_of_kind : Kind → List ℕ
+word_of_kind kind.Magic = codes "magic"
+word_of_kind kind.Short = codes "short"
+word_of_kind kind.Trailing = codes "trailing"
+word_of_kind kind.Range = codes "range"
+word_of_kind kind.Text = codes "text"
+word_of_kind kind.SiteMismatch = codes "site mismatch"
+word_of_kind kind.DoubleLink = codes "double link"
+word_of_kind kind.Orphan = codes "orphan"
+word_of_kind kind.Flag = codes "flag"
+
+abbrev pub damage_text : ℕ → Kind → List ℕ
+damage_text at kind = codes "damaged at " ++ (decimal at ++ (codes ": " ++ word_of_kind kind))
+
+abbrev pub size_text : ℕ → List ℕ
+size_text most = codes "longer than " ++ (decimal most ++ codes " bytes")
+
+abbrev pub entries_text : ℕ → ℕ → ℕ → List ℕ
+entries_text clique a b = codes "clique " ++ (decimal clique ++ (codes " is entered by links " ++ (decimal a ++ (codes " and " ++ decimal b))))
+
 -- the line that tells of a fault in a command on this file
 abbrev pub fault_line : Fault → List ℕ → List ℕ
 fault_line Usage file = plain_line (codes "usage: see the table of commands")
@@ -69,5 +96,9 @@ fault_line TooLong file = file_line file (codes "longer than 1048576 bytes")
 fault_line (Refused line w) file = place_line file line (text_of w)
 fault_line OutOfSteps file = plain_line (codes "out of steps")
 fault_line (Thrown error) file = uncaught_line error.items
+fault_line (Damaged at kind) file = file_line file (damage_text at kind)
+fault_line (TooLarge most) file = file_line file (size_text most)
+fault_line (TwoEntries clique a b) file = file_line file (entries_text clique a b)
+fault_line NoSuchPage file = plain_line (codes "no such page")
 fault_line Write file = plain_line (codes "write fault")
 fault_line NoMemory file = plain_line (codes "want of memory")

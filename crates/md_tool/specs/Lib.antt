@@ -1,10 +1,12 @@
-pub mod Form
-pub mod Words
 pub mod Fault
-pub mod Procs
 pub mod Accepted
 pub mod Ends
 pub mod Ran
 pub mod Due
+pub mod Paged
+pub mod Profiled
+pub mod Reported
+pub mod Stored
+pub mod Generated
 pub mod Told
 pub mod Meaning

@@ -1,14 +1,22 @@
 -- What each exit status says.
-use Rattle.std.specs.Prelude.{ℕ, ◌≡◌, ◌⊎◌, Bool, true, false, ◌||◌, ◌==◌, List, Option, None, Some, codes}
+use Rattle.std.specs.Prelude.{ℕ, ◌≡◌, ◌⊎◌, Bool, true, false, ◌||◌, ◌==◌, List, Option, None, Some, Result, Ok, Err, codes}
 use Rattle.md_base.specs.Outside.{PartAdded}
 use Rattle.md_base.specs.Files.{Files, FileIsLonger}
+use Rattle.md_profile.specs.OfRun.{IsViewOfRun}
+use Rattle.md_query.specs.Asked.{Asked}
+use Rattle.md_words.specs.Form.{Form, Check, Run, Report, Page, Gen, Migrate}
+use Rattle.md_tool.specs.declared.fault.Fault.{Fault}
 use Rattle.md_tool.specs.declared.fault.Fault.TheVariants.{Refused}
 use Rattle.md_tool.specs.declared.fault.Why.{Why}
 use Rattle.md_tool.specs.Accepted.{Accepted}
+use Rattle.md_tool.specs.Due.{IsText, HasChecked, HasCheckedInPart, IsRefused, longest}
 use Rattle.md_tool.specs.Ends.{RunEnd, Finished, Threw, RanOut}
-use Rattle.md_tool.specs.Fault.{plain_line, uncaught_line}
-use Rattle.md_tool.specs.Form.{Asked, Run, Check, Report}
-use Rattle.md_tool.specs.Due.{IsText, HasRun, HasRunInPart, HasChecked, HasCheckedInPart, HasReported, IsRefused, longest, reported_page}
+use Rattle.md_tool.specs.Fault.{status_of, plain_line, uncaught_line}
+use Rattle.md_tool.specs.Generated.{GenEnds}
+use Rattle.md_tool.specs.Paged.{IsPagedInPart}
+use Rattle.md_tool.specs.Profiled.{AreUntouched, HasRun, HasRunInPart, HasProfileInPart}
+use Rattle.md_tool.specs.Reported.{HasReported, HasNoPage}
+use Rattle.md_tool.specs.Stored.{StoredEnds, MigrateEnds}
 
 -- a file's text isn't accepted as a program: it is too long, or has a fault at a line
 pub data RefusedText (held : Option Files) (file : List ℕ) (before now : Option (List ℕ)) : Type 0 where
@@ -23,16 +31,17 @@ choose false a b = b
 abbrev pub MeansUsage : Option (List ℕ) → Option (List ℕ) → ℕ → Type 0
 MeansUsage before now status = choose (status == 1 || status == 8) (now ≡ before) ⊥
 
--- What a status says of a run of a file. The two facts are that the store's count of faults in a read rose, and that of `out`.
-abbrev pub MeansRun : Option Files → List ℕ → (steps : ℕ) → Option (List ℕ) → Option (List ℕ) → Type 0 → Type 0 → ℕ → Type 0
-MeansRun held file steps before now reads writes status =
-    choose (status == 0) (HasRun held file steps before now Finished)
-    (choose (status == 2) (reads × (now ≡ before))
-    (choose (status == 3) (RefusedText held file before now)
-    (choose (status == 4) (HasRun held file steps before now RanOut)
-    (choose (status == 7) (writes × HasRunInPart held file steps before now)
-    (choose (status == 8) ((now ≡ before) ⊎ HasRunInPart held file steps before now)
-    (choose (status == 10) ((bytes : List ℕ) × HasRun held file steps before now (Threw bytes))
+-- What a status says of a run of a file. The three facts are that the store's count of faults in a read rose, that in a
+-- write, and that of `out`.
+abbrev pub MeansRun : (held held' : Option Files) → List ℕ → (steps : ℕ) → (name : List ℕ) → (out out' : Option (List ℕ)) → (reads writes outs : Type 0) → ℕ → Type 0
+MeansRun held held' file steps name out out' reads writes outs status =
+    choose (status == 0) (HasRun held held' file steps name out out' Finished)
+    (choose (status == 2) (reads × AreUntouched held held' out out')
+    (choose (status == 3) (RefusedText held file out out' × (held' ≡ held))
+    (choose (status == 4) (HasRun held held' file steps name out out' RanOut)
+    (choose (status == 7) ((outs × HasRunInPart held held' file steps out out') ⊎ (writes × HasProfileInPart held held' file steps name out out'))
+    (choose (status == 8) (AreUntouched held held' out out' ⊎ (HasRunInPart held held' file steps out out' ⊎ HasProfileInPart held held' file steps name out out'))
+    (choose (status == 10) ((bytes : List ℕ) × HasRun held held' file steps name out out' (Threw bytes))
     ⊥))))))
 
 -- What a status says of a check of a file.
@@ -45,36 +54,67 @@ MeansCheck held file print before now reads writes status =
     (choose (status == 8) ((now ≡ before) ⊎ HasCheckedInPart held file print before now)
     ⊥))))
 
--- the file's program was run, and `out` got a front of the page
-pub record HasFrontOfPage (held : Option Files) (file : List ℕ) (steps : ℕ) (out out' : Option (List ℕ)) : Type 0 where
+-- the file's program was run, and `out` got a front of the page that the query asks for
+pub record HasFrontOfPage (held : Option Files) (file : List ℕ) (query : Asked) (steps : ℕ) (out out' : Option (List ℕ)) : Type 0 where
   pub text : List ℕ
   pub is_text : IsText held file text
   pub accepted : Accepted text
-  pub page : PartAdded (reported_page accepted.program steps) out out'
+  pub page : IsPagedInPart (IsViewOfRun accepted.program steps) query out out'
+
+-- the file's text is accepted
+pub record IsAcceptedFile (held : Option Files) (file : List ℕ) : Type 0 where
+  pub text : List ℕ
+  pub is_text : IsText held file text
+  pub accepted : Accepted text
 
 -- a report was written whole, and then `err` got this line or a front of it
-pub record HasReportedThen (held : Option Files) (file : List ℕ) (steps : ℕ) (out out' err err' : Option (List ℕ)) (end : RunEnd) (line : List ℕ) : Type 0 where
+pub record HasReportedThen (held : Option Files) (file : List ℕ) (query : Asked) (steps : ℕ) (out out' err err' : Option (List ℕ)) (end : RunEnd) (line : List ℕ) : Type 0 where
   pub between : Option (List ℕ)
-  pub reported : HasReported held file steps out out' err between end
+  pub reported : HasReported held file query steps out out' err between end
+  pub line_is : PartAdded line between err'
+
+-- the output was written, there is no such page, and then `err` got this line or a front of it
+pub record HasNoPageThen (held : Option Files) (file : List ℕ) (query : Asked) (steps : ℕ) (out out' err err' : Option (List ℕ)) (line : List ℕ) : Type 0 where
+  pub between : Option (List ℕ)
+  pub pageless : HasNoPage held file query steps out out' err between
   pub line_is : PartAdded line between err'
 
 -- What a status says of a report on a file. The three facts are that the store's count of faults in a read rose, and those of
 -- `out` and `err`.
-abbrev pub MeansReport : Option Files → List ℕ → (steps : ℕ) → (out out' err err' : Option (List ℕ)) → (reads outs errs : Type 0) → ℕ → Type 0
-MeansReport held file steps out out' err err' reads outs errs status =
-    choose (status == 0) (HasReported held file steps out out' err err' Finished)
+abbrev pub MeansReport : Option Files → List ℕ → Asked → (steps : ℕ) → (out out' err err' : Option (List ℕ)) → (reads outs errs : Type 0) → ℕ → Type 0
+MeansReport held file query steps out out' err err' reads outs errs status =
+    choose (status == 0) (HasReported held file query steps out out' err err' Finished)
     (choose (status == 2) (reads × (out' ≡ out))
     (choose (status == 3) (RefusedText held file out out')
-    (choose (status == 4) (HasReportedThen held file steps out out' err err' RanOut (plain_line (codes "out of steps")))
-    (choose (status == 7) ((errs ⊎ outs) × HasFrontOfPage held file steps out out')
-    (choose (status == 8) ((out' ≡ out) ⊎ HasFrontOfPage held file steps out out')
-    (choose (status == 10) ((bytes : List ℕ) × HasReportedThen held file steps out out' err err' (Threw bytes) (uncaught_line bytes))
-    ⊥))))))
+    (choose (status == 4) (HasReportedThen held file query steps out out' err err' RanOut (plain_line (codes "out of steps")))
+    (choose (status == 6) (HasNoPageThen held file query steps out out' err err' (plain_line (codes "no such page")))
+    (choose (status == 7) ((errs × IsAcceptedFile held file × (out' ≡ out)) ⊎ (outs × HasFrontOfPage held file query steps out out'))
+    (choose (status == 8) ((out' ≡ out) ⊎ HasFrontOfPage held file query steps out out')
+    (choose (status == 10) ((bytes : List ℕ) × HasReportedThen held file query steps out out' err err' (Threw bytes) (uncaught_line bytes))
+    ⊥)))))))
 
--- What a status says of what the words ask for. The three facts are that the store's count of faults in a read rose, and those
--- of `out` and `err`.
-abbrev pub Means : Option Asked → Option Files → (out out' err err' : Option (List ℕ)) → (reads outs errs : Type 0) → ℕ → Type 0
-Means None held out out' err err' reads outs errs status = MeansUsage out out' status
-Means (Some (Run file steps)) held out out' err err' reads outs errs status = MeansRun held file steps out out' reads outs status
-Means (Some (Check file print)) held out out' err err' reads outs errs status = MeansCheck held file print out out' reads outs status
-Means (Some (Report file steps)) held out out' err err' reads outs errs status = MeansReport held file steps out out' err err' reads outs errs status
+-- What a status says of a command that may come to these ends: 0 that all was done; another one is that of the fault that
+-- it came to, or 8 where memory was refused as that was to be told.
+abbrev pub MeansEnd : (Result (Unit {0}) Fault → Type 0) → ℕ → Type 0
+MeansEnd Ends status = ((status ≡ 0) × Ends (Ok tt)) ⊎ ((fault : Fault) × ((status ≡ status_of fault) ⊎ (status ≡ 8)) × Ends (Err fault))
+
+-- What a status says of what the words ask for. The four facts are that the store's count of faults in a read rose, that in
+-- a write, and those of `out` and `err`.
+abbrev pub Means : Option Form → (held held' : Option Files) → (out out' err err' : Option (List ℕ)) → (reads writes outs errs : Type 0) → ℕ → Type 0
+Means None held held' out out' err err' reads writes outs errs status = MeansUsage out out' status
+Means (Some (Check file print)) held held' out out' err err' reads writes outs errs status = MeansCheck held file print out out' reads outs status
+Means (Some (Run file steps name)) held held' out out' err err' reads writes outs errs status = MeansRun held held' file steps name out out' reads writes outs status
+Means (Some (Report file query steps)) held held' out out' err err' reads writes outs errs status = MeansReport held file query steps out out' err err' reads outs errs status
+Means (Some (Page name query)) held held' out out' err err' reads writes outs errs status = MeansEnd (StoredEnds held name query out out' reads outs) status
+Means (Some (Gen n summary)) held held' out out' err err' reads writes outs errs status = MeansEnd (GenEnds n summary out out' outs) status
+Means (Some (Migrate name new)) held held' out out' err err' reads writes outs errs status = MeansEnd (MigrateEnds held held' name new out out' reads writes outs) status
+
+-- whether a command leaves the store as it was
+abbrev pub keeps_store : Option Form → Bool
+keeps_store (Some (Run file steps name)) = false
+keeps_store (Some (Migrate name new)) = false
+keeps_store (Some (Check file print)) = true
+keeps_store (Some (Report file query steps)) = true
+keeps_store (Some (Page name query)) = true
+keeps_store (Some (Gen n summary)) = true
+keeps_store None = true

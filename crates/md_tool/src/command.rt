@@ -1,16 +1,19 @@
 // The commands, with what each does to the store, the streams and the net.
-ghost use Rattle.std.specs.Prelude.{◌≡◌, ◌≤◌};
+ghost use Rattle.std.specs.Prelude.{◌≡◌, ◌≤◌, Some, true};
 ghost use Rattle.md_base.specs.Outside.{Rose};
-ghost use Rattle.md_tool.specs.Form.{words_of, form};
+ghost use Rattle.md_words.specs.Form.{words_of, form};
+ghost use Rattle.md_words.specs.Told.{told};
 ghost use Rattle.md_tool.specs.Told.{Tells, EndIsTold, TopEnds};
-ghost use Rattle.md_tool.specs.Meaning.{Means};
+ghost use Rattle.md_tool.specs.Meaning.{Means, keeps_store};
 
 use crate::check::check_file;
 use crate::fault::Fault;
-use crate::form::{Command, command_of};
+use crate::generate::generate;
 use crate::report::report_file;
 use crate::run::run_file;
+use crate::stored::{migrate_file, page_of_file};
 use md_base::{Net, Sink, Store, WriteFault, write_whole};
+use md_words::{Command, command_of};
 use std::alloc::Global;
 
 /// An exit status: 0 where all was done and a run was finished, and else the status of a fault.
@@ -19,13 +22,15 @@ pub struct Status(pub u8);
 
 /// Does what the words of a command line ask for.
 ///
-/// `run FILE` reads the program of the file, runs it within 1,000,000 steps, or as many as `--steps` gives, and writes what
-/// it writes to `out`. `check FILE` writes that the file's program is accepted, and `check FILE --print` its printed text.
-/// `report FILE procs` runs the program as `run` does, but writes what it writes to `err`, with a line that ends it, and
-/// then to `out` how often each procedure was called, left and entered again, and what it allocated. A fault is told by a
-/// line on `err` and by the status: 1 where the words are no command, 2 where the file can't be read, 3 where its text isn't
-/// accepted as a program, 4 where the run isn't finished, 7 where something can't be written, 8 where memory was refused,
-/// and 10 where an exception left the program's `main`.
+/// `check FILE` writes that the file's program is accepted, and `check FILE --print` its printed text. `run FILE` runs the
+/// program within 1,000,000 steps, or as many as `--steps` gives, writes what it writes to `out`, and stores the profile of
+/// the run in `mdprof.data`, or under the name that `--profile` gives. `report FILE QUERY` runs the program as `run` does,
+/// but writes what it writes to `err`, with a line that ends it, and then to `out` the page of the run that is asked for.
+/// `page NAME QUERY` writes the page of a stored profile, and `migrate NAME NEW` stores it in the newer form. `gen N` writes a
+/// generated program, and `gen N --summary` the menu of its run. A fault is told by a line on `err` and by the status: 1
+/// where the words are no command, 2 where a file can't be read, 3 where a text isn't accepted as a program, 4 where the run
+/// isn't finished, 5 where a file isn't a profile, 6 where a profile has no such page, 7 where something can't be written,
+/// 8 where memory was refused, and 10 where an exception left the program's `main`.
 pub fn top<S: Store, O: Sink, E: Sink, N: Net>(
     alloc: Global,
     words: &[String],
@@ -34,13 +39,13 @@ pub fn top<S: Store, O: Sink, E: Sink, N: Net>(
     err: &mut E,
     net: &mut N,
 ) -> Status
-    ensures status { Means (form (words_of words.now)) (S.held store.old) (O.held out.old) (O.held out.new) (E.held err.old) (E.held err.new)
-        (Rose (S.read_faults store.old) (S.read_faults store.new)) (Rose (O.write_faults out.old) (O.write_faults out.new))
-        (Rose (E.write_faults err.old) (E.write_faults err.new)) result.0 }
-    ensures ends { TopEnds (form (words_of words.now)) (S.held store.old) (O.held out.old) (O.held out.new) (E.held err.old) (E.held err.new)
-        (Rose (S.read_faults store.old) (S.read_faults store.new)) (Rose (O.write_faults out.old) (O.write_faults out.new))
-        (Rose (E.write_faults err.old) (E.write_faults err.new)) result.0 }
-    ensures store { S.held store.new ≡ S.held store.old }
+    ensures status { Means (form (words_of words.now)) (S.held store.old) (S.held store.new) (O.held out.old) (O.held out.new) (E.held err.old) (E.held err.new)
+        (Rose (S.read_faults store.old) (S.read_faults store.new)) (Rose (S.write_faults store.old) (S.write_faults store.new))
+        (Rose (O.write_faults out.old) (O.write_faults out.new)) (Rose (E.write_faults err.old) (E.write_faults err.new)) result.0 }
+    ensures ends { TopEnds (form (words_of words.now)) (S.held store.old) (S.held store.new) (O.held out.old) (O.held out.new) (E.held err.old) (E.held err.new)
+        (Rose (S.read_faults store.old) (S.read_faults store.new)) (Rose (S.write_faults store.old) (S.write_faults store.new))
+        (Rose (O.write_faults out.old) (O.write_faults out.new)) (Rose (E.write_faults err.old) (E.write_faults err.new)) result.0 }
+    ensures store { keeps_store (form (words_of words.now)) ≡ true → S.held store.new ≡ S.held store.old }
     ensures net { net.new ≡ net.old }
 {
     let _ = net;
@@ -55,25 +60,57 @@ fn run_command<S: Store, O: Sink, E: Sink>(
     out: &mut O,
     err: &mut E,
 ) -> u8
-    ensures ends { TopEnds (form (words_of words.now)) (S.held store.old) (O.held out.old) (O.held out.new) (E.held err.old) (E.held err.new)
-        (Rose (S.read_faults store.old) (S.read_faults store.new)) (Rose (O.write_faults out.old) (O.write_faults out.new))
-        (Rose (E.write_faults err.old) (E.write_faults err.new)) result }
-    ensures store { S.held store.new ≡ S.held store.old }
+    ensures ends { TopEnds (form (words_of words.now)) (S.held store.old) (S.held store.new) (O.held out.old) (O.held out.new) (E.held err.old) (E.held err.new)
+        (Rose (S.read_faults store.old) (S.read_faults store.new)) (Rose (S.write_faults store.old) (S.write_faults store.new))
+        (Rose (O.write_faults out.old) (O.write_faults out.new)) (Rose (E.write_faults err.old) (E.write_faults err.new)) result }
 {
     match command_of(alloc, words) {
         Err(_) => tell(alloc, &Fault::NoMemory, "", err),
         Ok(None) => tell(alloc, &Fault::Usage, "", err),
-        Ok(Some(Command::Run { file, steps })) => {
-            let end = run_file(alloc, file, steps, store, out);
-            tell_end(alloc, &end, file, err)
+        Ok(Some(command)) => do_command(alloc, &command, store, out, err),
+    }
+}
+
+/// Does a command, tells a fault, and gives the status.
+fn do_command<S: Store, O: Sink, E: Sink>(
+    alloc: Global,
+    command: &Command<'_>,
+    store: &mut S,
+    out: &mut O,
+    err: &mut E,
+) -> u8
+    ensures ends { TopEnds (Some (told command.now)) (S.held store.old) (S.held store.new) (O.held out.old) (O.held out.new) (E.held err.old) (E.held err.new)
+        (Rose (S.read_faults store.old) (S.read_faults store.new)) (Rose (S.write_faults store.old) (S.write_faults store.new))
+        (Rose (O.write_faults out.old) (O.write_faults out.new)) (Rose (E.write_faults err.old) (E.write_faults err.new)) result }
+{
+    match command {
+        Command::Check { file, print } => {
+            let end = check_file(alloc, *file, *print, store, out);
+            tell_end(alloc, &end, *file, err)
         }
-        Ok(Some(Command::Check { file, print })) => {
-            let end = check_file(alloc, file, print, store, out);
-            tell_end(alloc, &end, file, err)
+        Command::Run {
+            file,
+            steps,
+            profile,
+        } => {
+            let end = run_file(alloc, *file, *steps, *profile, store, out);
+            tell_end(alloc, &end, *file, err)
         }
-        Ok(Some(Command::Report { file, steps })) => {
-            let end = report_file(alloc, file, steps, store, out, err);
-            tell_end(alloc, &end, file, err)
+        Command::Report { file, query, steps } => {
+            let end = report_file(alloc, *file, query, *steps, store, out, err);
+            tell_end(alloc, &end, *file, err)
+        }
+        Command::Page { name, query } => {
+            let end = page_of_file(alloc, *name, query, store, out);
+            tell_end(alloc, &end, *name, err)
+        }
+        Command::Gen { n, summary } => {
+            let end = generate(alloc, *n, *summary, out);
+            tell_end(alloc, &end, "gen", err)
+        }
+        Command::Migrate { name, new } => {
+            let end = migrate_file(alloc, *name, *new, store, out);
+            tell_end(alloc, &end, *name, err)
         }
     }
 }

@@ -1,8 +1,9 @@
 // Why a command ended without all that it was asked for, and the line that says so.
 ghost use Rattle.std.specs.Prelude.{◌≡◌, IfOk, string_bytes};
-ghost use Rattle.md_tool.specs.Fault.{status_of, fault_line, plain_line, uncaught_line, file_line, place_line, text_of, word_of, declared_text};
+ghost use Rattle.md_tool.specs.Fault.{status_of, fault_line, plain_line, uncaught_line, file_line, place_line, text_of, word_of, word_of_kind, declared_text, damage_text, size_text, entries_text};
 ghost use Rattle.md_tool.specs.declared.fault.Why.TheVariants as why;
 
+use md_deepfile::Kind;
 use md_hlds::Det;
 use std::alloc::{AllocError, Global};
 
@@ -21,6 +22,14 @@ pub enum Fault {
     OutOfSteps,
     /// An exception with these bytes left the program's `main`.
     Thrown(Vec<u8>),
+    /// The profile file breaks a rule at this place.
+    Damaged { at: u64, kind: Kind },
+    /// The profile file is longer than so many bytes.
+    TooLarge(u64),
+    /// A clique of the profile is entered by two links.
+    TwoEntries { clique: u32, a: u32, b: u32 },
+    /// The profile has no such page.
+    NoSuchPage,
     /// Something can't be written.
     Write,
     /// Memory was refused.
@@ -30,7 +39,7 @@ pub enum Fault {
 /// Why a text isn't accepted as a program.
 #[derive(Clone, Copy, Debug, PartialEq, Eq)]
 pub enum Why {
-    /// It can't go on so.
+    /// A token with which no program goes on.
     Syntax,
     /// It passes a limit.
     Limit,
@@ -62,6 +71,10 @@ impl Fault {
             Fault::TooLong => 3,
             Fault::Refused { .. } => 3,
             Fault::OutOfSteps => 4,
+            Fault::Damaged { .. } => 5,
+            Fault::TooLarge(_) => 5,
+            Fault::TwoEntries { .. } => 5,
+            Fault::NoSuchPage => 6,
             Fault::Thrown(_) => 10,
             Fault::Write => 7,
             Fault::NoMemory => 8,
@@ -79,10 +92,62 @@ impl Fault {
             Fault::Refused { line, why } => refused(alloc, file, *line, *why),
             Fault::OutOfSteps => plain(alloc, "out of steps"),
             Fault::Thrown(error) => uncaught(alloc, error),
+            Fault::Damaged { at, kind } => damaged(alloc, file, *at, *kind),
+            Fault::TooLarge(most) => too_large(alloc, file, *most),
+            Fault::TwoEntries { clique, a, b } => two_entries(alloc, file, *clique, *a, *b),
+            Fault::NoSuchPage => plain(alloc, "no such page"),
             Fault::Write => plain(alloc, "write fault"),
             Fault::NoMemory => plain(alloc, "want of memory"),
         }
     }
+}
+
+/// The line that tells of damage to a profile file.
+fn damaged(alloc: Global, file: &str, at: u64, kind: Kind) -> Result<Vec<u8>, AllocError>
+    ensures { IfOk result (λ told. told.items ≡ file_line file.now (damage_text at kind)) }
+{
+    let kind = word_of_kind(kind);
+    let text = format!(in alloc; "damaged at {at}: {kind}")?;
+    of_file(alloc, file, text.as_str())
+}
+
+/// The word for a kind of damage.
+fn word_of_kind(kind: Kind) -> &'static str
+    ensures { result.now ≡ word_of_kind kind }
+{
+    match kind {
+        Kind::Magic => "magic",
+        Kind::Short => "short",
+        Kind::Trailing => "trailing",
+        Kind::Range => "range",
+        Kind::Text => "text",
+        Kind::SiteMismatch => "site mismatch",
+        Kind::DoubleLink => "double link",
+        Kind::Orphan => "orphan",
+        Kind::Flag => "flag",
+    }
+}
+
+/// The line that tells of a profile file that is too long.
+fn too_large(alloc: Global, file: &str, most: u64) -> Result<Vec<u8>, AllocError>
+    ensures { IfOk result (λ told. told.items ≡ file_line file.now (size_text most)) }
+{
+    let text = format!(in alloc; "longer than {most} bytes")?;
+    of_file(alloc, file, text.as_str())
+}
+
+/// The line that tells of a clique that two links enter.
+fn two_entries(
+    alloc: Global,
+    file: &str,
+    clique: u32,
+    a: u32,
+    b: u32,
+) -> Result<Vec<u8>, AllocError>
+    ensures { IfOk result (λ told. told.items ≡ file_line file.now (entries_text clique a b)) }
+{
+    let text = format!(in alloc; "clique {clique} is entered by links {a} and {b}")?;
+    of_file(alloc, file, text.as_str())
 }
 
 /// The line that tells why a text isn't accepted.

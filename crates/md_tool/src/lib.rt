@@ -1,16 +1,15 @@
-//! The command line of the profiler: which words are a command, what the command does to files and streams, and what it
-//! tells of a fault.
+//! The commands of the profiler: what each does to files and streams, and what it tells of a fault.
 #![tactic(auto)]
 
 mod accept;
 mod check;
 mod command;
 mod fault;
-mod form;
-mod procs;
-mod profile;
+mod generate;
+mod paged;
 mod report;
 mod run;
+mod stored;
 #[cfg(test)]
 mod tests;
 mod write;

@@ -1,96 +1,85 @@
 // The command `report`.
-ghost use Rattle.std.specs.Prelude.{◌≡◌, ◌≤◌, ◌<◌, ◌^◌, ◌++◌, length, codes, IfOk, MatchResult};
+ghost use Rattle.std.specs.Prelude.{ℕ, ◌≡◌, ◌≤◌, ◌++◌, length, codes, MatchResult};
 ghost use Rattle.md_base.specs.Outside.{Rose};
-ghost use Rattle.md_hlds.specs.Hlds.{hlds_of};
+ghost use Rattle.md_dynamic.specs.Valid.{IsValid};
 ghost use Rattle.md_events.specs.Laws.{IsWithinBounds};
+ghost use Rattle.md_hlds.specs.Hlds.{Hlds};
+ghost use Rattle.md_profile.specs.OfRun.{IsOfRun, IsProfiled, IsProfileOfRun, IsViewOfRun};
+ghost use Rattle.md_query.specs.Told.{asked};
 ghost use Rattle.md_tool.specs.Accepted.{TextFault};
-ghost use Rattle.md_tool.specs.Due.{ReportEnds, PageEnds, WriteEnds};
-ghost use Rattle.md_tool.specs.Ends.{ran_end};
-ghost use Rattle.md_tool.specs.Procs.{procs_page, counts_at};
-ghost use Rattle.md_tool.specs.Ran.{ProgramCounts, TextCounts};
+ghost use Rattle.md_tool.specs.Due.{WriteEnds};
+ghost use Rattle.md_tool.specs.Paged.{PageEnds};
+ghost use Rattle.md_tool.specs.Ran.{IsProfiledText};
+ghost use Rattle.md_tool.specs.Reported.{ReportEnds, ShowEnds};
 
 use crate::accept::{accept, read_text};
 use crate::fault::Fault;
-use crate::procs::procs_page;
-use crate::profile::Profile;
+use crate::paged::write_page;
 use crate::run::ended;
 use crate::write::write;
-use md_base::{NoMemory, Sink, Store};
-use md_det::Checked;
-use md_events::programs_have_tables;
-use md_machine::interpret;
-use md_ports::statics;
-use md_spelled::{accepted_texts_are_within_bounds, texts_have_few_parts};
-use md_trace::Counter;
+use md_base::{Sink, Store};
+use md_dynamic::Profile;
+use md_ports::tables_of_a_text_are_sound;
+use md_profile::{Profiled, load_run, profile_run};
+use md_query::Query;
+use md_spelled::{accepted_texts_are_within_bounds, accepted_texts_have_mains};
 use std::alloc::Global;
 
-/// Runs the program of a file within so many steps, writes what it writes to `err`, and then the page of its procedures to
-/// `out`.
+/// Runs the program of a file within so many steps, writes what it writes to `err`, and then the page that is asked for
+/// to `out`.
 pub fn report_file<S: Store, O: Sink, E: Sink>(
     alloc: Global,
     file: &str,
+    query: &Query,
     steps: u32,
     store: &mut S,
     out: &mut O,
     err: &mut E,
 ) -> Result<(), Fault>
-    ensures ends { ReportEnds (S.held store.old) file.now steps (O.held out.old) (O.held out.new) (E.held err.old) (E.held err.new)
+    ensures ends { ReportEnds (S.held store.old) file.now (asked query.now) steps (O.held out.old) (O.held out.new) (E.held err.old) (E.held err.new)
         (Rose (S.read_faults store.old) (S.read_faults store.new)) (Rose (O.write_faults out.old) (O.write_faults out.new))
         (Rose (E.write_faults err.old) (E.write_faults err.new)) result }
     ensures kept { S.held store.new ≡ S.held store.old }
     ensures later { E.write_faults err.old ≤ E.write_faults err.new }
 {
     let text = read_text(alloc, file, store)?;
-    let profile = profile_text(alloc, &text, steps)?;
-    show(alloc, profile, out, err)
+    let profiled = profile_text(alloc, &text, steps)?;
+    show(alloc, profiled, query, out, err)
 }
 
-/// Runs the program of a text, and keeps its counts.
-fn profile_text(alloc: Global, text: &[u8], steps: u32) -> Result<Profile, Fault>
+/// Runs the program of a text within so many steps, and records its profile.
+pub fn profile_text(alloc: Global, text: &[u8], steps: u32) -> Result<Profiled, Fault>
     requires { length text.now ≤ 1048576 }
-    ensures { MatchResult result (TextCounts text.now steps) (TextFault text.now) }
+    ensures { MatchResult result (IsProfiledText text.now steps) (TextFault text.now) }
 {
     let checked = accept(alloc, text)?;
     accepted_texts_are_within_bounds();
-    texts_have_few_parts();
-    match run_profiled(alloc, &checked, steps) {
-        Ok(profile) => Ok(profile),
+    accepted_texts_have_mains();
+    tables_of_a_text_are_sound();
+    match profile_run(alloc, &checked, steps) {
+        Ok(profiled) => Ok(profiled),
         Err(_) => Err(Fault::NoMemory),
     }
-}
-
-/// Runs a program, and keeps its counts.
-fn run_profiled(alloc: Global, checked: &Checked, steps: u32) -> Result<Profile, NoMemory>
-    requires bounds { IsWithinBounds (hlds_of checked.now) steps }
-    requires few { length (hlds_of checked.now).procedures < 2 ^ 32 }
-    ensures { IfOk result (ProgramCounts (hlds_of checked.now) steps) }
-{
-    let tables = statics(alloc, checked.program())?;
-    let mut counter = Counter::new(alloc, tables.procs().len() as u32)?;
-    programs_have_tables();
-    let ran = interpret(alloc, checked, steps, &mut counter)?;
-    Ok(Profile {
-        ran,
-        tables,
-        counter,
-    })
 }
 
 /// Writes a run's output to `err` and its page to `out`, and answers how it ended.
 fn show<O: Sink, E: Sink>(
     alloc: Global,
-    profile: Profile,
+    profiled: Profiled,
+    query: &Query,
     out: &mut O,
     err: &mut E,
 ) -> Result<(), Fault>
-    ensures ends { PageEnds (profile.ran.output.items ++ codes "-- end of output\n") (procs_page profile.tables (counts_at profile.counter.own)) (ran_end profile.ran)
-        (O.held out.old) (O.held out.new) (E.held err.old) (E.held err.new)
+    requires { (program : Hlds) × (steps : ℕ) × IsWithinBounds program steps × IsProfiled program steps profiled }
+    ensures ends { (program : Hlds) (steps : ℕ) → IsWithinBounds program steps → IsProfiled program steps profiled
+        → ShowEnds program steps (asked query.now) (O.held out.old) (O.held out.new) (E.held err.old) (E.held err.new)
         (Rose (O.write_faults out.old) (O.write_faults out.new)) (Rose (E.write_faults err.old) (E.write_faults err.new)) result }
     ensures later { E.write_faults err.old ≤ E.write_faults err.new }
 {
-    show_output(err, &profile.ran.output)?;
-    show_page(alloc, &profile, out)?;
-    ended(profile.ran)
+    let Profiled { ran, profile } = profiled;
+    show_output(err, &ran.output)?;
+    show_page(alloc, profile, query, out)?;
+    ended(ran)
 }
 
 /// Writes a run's output, and the line that ends it.
@@ -102,13 +91,20 @@ fn show_output<E: Sink>(err: &mut E, output: &[u8]) -> Result<(), Fault>
     write(err, b"-- end of output\n")
 }
 
-/// Writes the page of a run.
-fn show_page<O: Sink>(alloc: Global, profile: &Profile, out: &mut O) -> Result<(), Fault>
-    ensures { WriteEnds (procs_page profile.now.tables (counts_at profile.now.counter.own)) (O.held out.old) (O.held out.new)
-        (Rose (O.write_faults out.old) (O.write_faults out.new)) result }
+/// Writes the page that is asked for of a run's profile.
+pub fn show_page<O: Sink>(
+    alloc: Global,
+    profile: Profile,
+    query: &Query,
+    out: &mut O,
+) -> Result<(), Fault>
+    requires valid { IsValid profile }
+    requires of_run { IsOfRun profile }
+    ensures { (program : Hlds) (steps : ℕ) → IsWithinBounds program steps → IsProfileOfRun program steps profile
+        → PageEnds (IsViewOfRun program steps) (asked query.now) (O.held out.old) (O.held out.new) (Rose (O.write_faults out.old) (O.write_faults out.new)) result }
 {
-    match procs_page(alloc, &profile.tables, &profile.counter) {
-        Ok(page) => write(out, &page),
+    match load_run(alloc, profile) {
+        Ok(loaded) => write_page(alloc, &loaded, query, out),
         Err(_) => Err(Fault::NoMemory),
     }
 }

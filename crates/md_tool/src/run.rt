@@ -1,61 +1,81 @@
 // The command `run`.
-ghost use Rattle.std.specs.Prelude.{◌≡◌, ◌≤◌, length, MatchResult};
+ghost use Rattle.std.specs.Prelude.{ℕ, ◌≡◌};
 ghost use Rattle.md_base.specs.Outside.{Rose};
-ghost use Rattle.md_tool.specs.Accepted.{TextFault};
-ghost use Rattle.md_tool.specs.Due.{RunEnds, ShowEnds};
+ghost use Rattle.md_dynamic.specs.Valid.{IsValid};
+ghost use Rattle.md_hlds.specs.Hlds.{Hlds};
+ghost use Rattle.md_profile.specs.OfRun.{IsProfiled};
+ghost use Rattle.md_tool.specs.Due.{StoreEnds};
 ghost use Rattle.md_tool.specs.Ends.{TellsEnd, ran_end};
-ghost use Rattle.md_tool.specs.Ran.{TextRuns};
+ghost use Rattle.md_tool.specs.Profiled.{RunEnds, KeepEnds};
 
-use crate::accept::{accept, read_text};
+use crate::accept::read_text;
 use crate::fault::Fault;
+use crate::report::profile_text;
 use crate::write::write;
-use md_base::{Sink, Store};
-use md_events::programs_have_tables;
-use md_machine::{End, Ran, interpret};
-use md_spelled::accepted_texts_are_within_bounds;
-use md_trace::Silent;
+use md_base::{Sink, Store, WriteFault};
+use md_deepfile::write_profile;
+use md_dynamic::Profile;
+use md_machine::{End, Ran};
+use md_profile::Profiled;
 use std::alloc::Global;
 
-/// Runs the program of a file within so many steps, and writes what it writes.
+/// Runs the program of a file within so many steps, writes what it writes, and stores its profile under a name.
 pub fn run_file<S: Store, O: Sink>(
     alloc: Global,
     file: &str,
     steps: u32,
+    name: &str,
     store: &mut S,
     out: &mut O,
 ) -> Result<(), Fault>
-    ensures ends { RunEnds (S.held store.old) file.now steps (O.held out.old) (O.held out.new)
-        (Rose (S.read_faults store.old) (S.read_faults store.new)) (Rose (O.write_faults out.old) (O.write_faults out.new)) result }
-    ensures kept { S.held store.new ≡ S.held store.old }
+    ensures ends { RunEnds (S.held store.old) (S.held store.new) file.now steps name.now (O.held out.old) (O.held out.new)
+        (Rose (S.read_faults store.old) (S.read_faults store.new)) (Rose (S.write_faults store.old) (S.write_faults store.new))
+        (Rose (O.write_faults out.old) (O.write_faults out.new)) result }
 {
     let text = read_text(alloc, file, store)?;
-    let ran = run_text(alloc, &text, steps)?;
-    show(out, ran)
+    let profiled = profile_text(alloc, &text, steps)?;
+    keep(alloc, profiled, name, store, out)
 }
 
-/// Runs the program of a text.
-fn run_text(alloc: Global, text: &[u8], steps: u32) -> Result<Ran, Fault>
-    requires { length text.now ≤ 1048576 }
-    ensures { MatchResult result (TextRuns text.now steps) (TextFault text.now) }
+/// Writes a run's output, stores its profile, and answers how it ended.
+fn keep<S: Store, O: Sink>(
+    alloc: Global,
+    profiled: Profiled,
+    name: &str,
+    store: &mut S,
+    out: &mut O,
+) -> Result<(), Fault>
+    requires { IsValid profiled.profile }
+    ensures ends { (program : Hlds) (steps : ℕ) → IsProfiled program steps profiled
+        → KeepEnds program steps name.now (S.held store.old) (S.held store.new) (O.held out.old) (O.held out.new)
+        (Rose (S.write_faults store.old) (S.write_faults store.new)) (Rose (O.write_faults out.old) (O.write_faults out.new)) result }
+    ensures reads { S.read_faults store.new ≡ S.read_faults store.old }
 {
-    let checked = accept(alloc, text)?;
-    accepted_texts_are_within_bounds();
-    programs_have_tables();
-    match interpret(alloc, &checked, steps, &mut Silent) {
-        Ok(ran) => Ok(ran),
-        Err(_) => Err(Fault::NoMemory),
-    }
-}
-
-/// Writes what a run wrote, and answers how it ended.
-fn show<O: Sink>(out: &mut O, ran: Ran) -> Result<(), Fault>
-    ensures { ShowEnds ran.output.items (ran_end ran) (O.held out.old) (O.held out.new) (Rose (O.write_faults out.old) (O.write_faults out.new)) result }
-{
+    let Profiled { ran, profile } = profiled;
     write(out, &ran.output)?;
+    store_profile(alloc, &profile, name, store)?;
     ended(ran)
 }
 
-/// What the end of a run tells.
+/// Stores a profile under a name.
+pub fn store_profile<S: Store>(
+    alloc: Global,
+    profile: &Profile,
+    name: &str,
+    store: &mut S,
+) -> Result<(), Fault>
+    requires { IsValid profile.now }
+    ensures ends { StoreEnds name.now profile.now (S.held store.old) (S.held store.new) (Rose (S.write_faults store.old) (S.write_faults store.new)) result }
+    ensures reads { S.read_faults store.new ≡ S.read_faults store.old }
+{
+    match write_profile(alloc, profile, store, name) {
+        Ok(()) => Ok(()),
+        Err(WriteFault::Write) => Err(Fault::Write),
+        Err(WriteFault::NoMemory) => Err(Fault::NoMemory),
+    }
+}
+
+/// The answer that tells how a run ended.
 pub fn ended(ran: Ran) -> Result<(), Fault>
     ensures { TellsEnd (ran_end ran) result }
 {

@@ -1,9 +1,10 @@
 -- Words, one after the other.
 use Rattle.std.proofs.lemmas.List.{append_assoc}
-use Rattle.std.proofs.Common.{◌≡◌, refl, ap, ◌∙◌, ℕ, List, [], ◌∷◌, ◌++◌, length, None, Bor}
+use Rattle.std.proofs.Common.{◌≡◌, ◌≢◌, ◌==◌, refl, ap, ◌∙◌, ℕ, Bool, true, false, List, [], ◌∷◌, ◌++◌, length, None, Bor, arith}
+use Rattle.std.proofs.lemmas.Bool.Decides.{nat_tests}
 use Rattle.md_words.specs.Settings.{Setting}
 use Rattle.md_words.specs.Split.{Split, with_other}
-use Rattle.md_words.specs.Form.{only, two}
+use Rattle.md_words.specs.Form.{only, two, without_slash}
 use Rattle.md_words.specs.Told.{texts, before}
 
 texts-append : (ws : List (Bor (List ℕ))) (w : Bor (List ℕ)) → texts (ws ++ w ∷ []) ≡ texts ws ++ w.now ∷ []
@@ -29,3 +30,12 @@ not_two [] other = refl
 not_two (v ∷ []) other = refl
 not_two (v ∷ u ∷ []) other = absurd (other refl)
 not_two (v ∷ u ∷ w ∷ ws) other = refl
+
+-- a word without the slash in front is whole
+pub no_slash : (w : List ℕ) → ((rest : List ℕ) → w ≢ 47 ∷ rest) → without_slash w ≡ w
+no_slash [] other = refl
+no_slash (b ∷ bytes) other = go (b == 47) refl
+  where
+    go : (t : Bool) → (b == 47) ≡ t → without_slash (b ∷ bytes) ≡ b ∷ bytes
+    go true e = absurd (other bytes (ap (λ n. n ∷ bytes) (grind (arith, nat_tests))))
+    go false e = rw e refl

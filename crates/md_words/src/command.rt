@@ -2,7 +2,7 @@
 ghost use Rattle.std.specs.Prelude.{◌≡◌, ◌==◌, IfOk};
 ghost use Rattle.std.specs.List.{before_first, after_first};
 ghost use Rattle.md_query.specs.Told.{asked_told};
-ghost use Rattle.md_words.specs.Form.{words_of, form, form_of, check_of, run_of, report_of, page_of, serve_of, gen_of, migrate_of, print_of, summary_of, steps_of, running_of, serving_of, are_none, without_slash, query_in, query_at, only, two};
+ghost use Rattle.md_words.specs.Form.{words_of, form, form_of, check_of, run_of, report_of, page_of, gen_of, migrate_of, print_of, summary_of, steps_of, running_of, are_none, without_slash, query_in, query_at, only, two};
 ghost use Rattle.md_words.specs.Told.{settings_told, split_told, command_told, texts, text_told, pair_told, running_told};
 
 use crate::option::Setting;
@@ -39,12 +39,6 @@ pub enum Command<'a> {
     },
     /// `page NAME QUERY`.
     Page { name: &'a str, query: Query },
-    /// `serve NAME --port P --requests N`.
-    Serve {
-        name: &'a str,
-        port: u32,
-        requests: u32,
-    },
     /// `gen N [--summary]`.
     Gen { n: u32, summary: bool },
     /// `migrate NAME NEW`.
@@ -53,6 +47,7 @@ pub enum Command<'a> {
 
 /// The command that the words are, or `None` exactly where they are none. Options and other words come in any order; the
 /// word `--` ends the options.
+#[tactic(auto, unfolding(crate::specs::Form::form))]
 pub fn command_of<'a>(alloc: Global, words: &'a [String]) -> Result<Option<Command<'a>>, NoMemory>
     ensures { IfOk result (λ found. command_told found ≡ form (words_of words.now)) }
 {
@@ -78,13 +73,11 @@ fn command_by<'a>(
     } else if command == "report" {
         report_command(alloc, steps(&words.options), two(&words.others))
     } else if command == "page" {
-        page_command(alloc, words.options.is_empty(), two(&words.others))
-    } else if command == "serve" {
-        Ok(serve_command(serving(&words.options), only(&words.others)))
+        page_command(alloc, bare(&words.options), two(&words.others))
     } else if command == "gen" {
         Ok(gen_command(summing(&words.options), only(&words.others)))
     } else if command == "migrate" {
-        Ok(migrate_command(words.options.is_empty(), two(&words.others)))
+        Ok(migrate_command(bare(&words.options), two(&words.others)))
     } else {
         Ok(None)
     }
@@ -92,7 +85,7 @@ fn command_by<'a>(
 
 /// `check FILE [--print]`.
 fn check_command<'a>(print: Option<bool>, file: Option<&'a str>) -> Option<Command<'a>>
-    ensures { command_told result ≡ check_of print (text_told file) }
+    ensures { command_told result ≡ check_of print (text_told file.entry) }
 {
     let print = print?;
     let file = file?;
@@ -101,7 +94,7 @@ fn check_command<'a>(print: Option<bool>, file: Option<&'a str>) -> Option<Comma
 
 /// `run FILE [--steps N] [--profile NAME]`, where the profile isn't written over the program.
 fn run_command<'a>(running: Option<(u32, &'a str)>, file: Option<&'a str>) -> Option<Command<'a>>
-    ensures { command_told result ≡ run_of (running_told running) (text_told file) }
+    ensures { command_told result ≡ run_of (running_told running.entry) (text_told file.entry) }
 {
     let (steps, profile) = running?;
     let file = file?;
@@ -121,7 +114,7 @@ fn report_command<'a>(
     steps: Option<u32>,
     words: Option<(&'a str, &'a str)>,
 ) -> Result<Option<Command<'a>>, NoMemory>
-    ensures { IfOk result (λ found. command_told found ≡ report_of steps (pair_told words)) }
+    ensures { IfOk result (λ found. command_told found ≡ report_of steps (pair_told words.entry)) }
 {
     let Some(steps) = steps else {
         return Ok(None);
@@ -141,7 +134,7 @@ fn page_command<'a>(
     bare: bool,
     words: Option<(&'a str, &'a str)>,
 ) -> Result<Option<Command<'a>>, NoMemory>
-    ensures { IfOk result (λ found. command_told found ≡ page_of bare (pair_told words)) }
+    ensures { IfOk result (λ found. command_told found ≡ page_of bare (pair_told words.entry)) }
 {
     if !bare {
         return Ok(None);
@@ -155,22 +148,9 @@ fn page_command<'a>(
     }
 }
 
-/// `serve NAME --port P --requests N`.
-fn serve_command<'a>(serving: Option<(u32, u32)>, name: Option<&'a str>) -> Option<Command<'a>>
-    ensures { command_told result ≡ serve_of serving (text_told name) }
-{
-    let (port, requests) = serving?;
-    let name = name?;
-    Some(Command::Serve {
-        name,
-        port,
-        requests,
-    })
-}
-
 /// `gen N [--summary]`.
 fn gen_command<'a>(summary: Option<bool>, word: Option<&str>) -> Option<Command<'a>>
-    ensures { command_told result ≡ gen_of summary (text_told word) }
+    ensures { command_told result ≡ gen_of summary (text_told word.entry) }
 {
     let summary = summary?;
     let word = word?;
@@ -180,7 +160,7 @@ fn gen_command<'a>(summary: Option<bool>, word: Option<&str>) -> Option<Command<
 
 /// `migrate NAME NEW`, where a file isn't written over itself.
 fn migrate_command<'a>(bare: bool, words: Option<(&'a str, &'a str)>) -> Option<Command<'a>>
-    ensures { command_told result ≡ migrate_of bare (pair_told words) }
+    ensures { command_told result ≡ migrate_of bare (pair_told words.entry) }
 {
     if !bare {
         return None;
@@ -276,6 +256,13 @@ fn summing(options: &[Setting]) -> Option<bool>
     }
 }
 
+/// Whether there are no options.
+fn bare(options: &[Setting]) -> bool
+    ensures { result ≡ are_none (settings_told options.now) }
+{
+    options.is_empty()
+}
+
 /// The steps of a run, by the options: `--steps`, which comes at most once, or none; `None` where there are others.
 fn steps(options: &[Setting]) -> Option<u32>
     ensures { result ≡ steps_of (settings_told options.now) }
@@ -297,17 +284,6 @@ fn running<'a>(options: &[Setting<'a>]) -> Option<(u32, &'a str)>
         [Setting::Profile(name)] => Some((USUAL_STEPS, *name)),
         [Setting::Steps(steps), Setting::Profile(name)] => Some((*steps, *name)),
         [Setting::Profile(name), Setting::Steps(steps)] => Some((*steps, *name)),
-        _ => None,
-    }
-}
-
-/// The port and the number of connections, neither of which is left out; `None` where there are others.
-fn serving(options: &[Setting]) -> Option<(u32, u32)>
-    ensures { result ≡ serving_of (settings_told options.now) }
-{
-    match options {
-        [Setting::Port(port), Setting::Requests(requests)] => Some((*port, *requests)),
-        [Setting::Requests(requests), Setting::Port(port)] => Some((*port, *requests)),
         _ => None,
     }
 }

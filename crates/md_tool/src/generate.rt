@@ -1,0 +1,92 @@
+// The command `gen`.
+ghost use Rattle.std.specs.Prelude.{◌≡◌, ◌≤◌, ◌<◌, ◌++◌, IfOk, length, string_bytes};
+ghost use Rattle.md_base.specs.Outside.{Rose};
+ghost use Rattle.md_tool.specs.Generated.{GenEnds, SummaryEnds, gen_text, level, level_body};
+
+use crate::fault::Fault;
+use crate::report::{profile_text, show_page};
+use crate::run::ended;
+use crate::write::write;
+use md_base::{NoMemory, Sink};
+use md_profile::Profiled;
+use md_query::Query;
+use std::alloc::{AllocError, Global};
+
+/// The most steps that a run may be given.
+const MOST_STEPS: u32 = 16_777_216;
+
+/// Writes a generated program, or the menu of its run.
+pub fn generate<O: Sink>(
+    alloc: Global,
+    n: u32,
+    summary: bool,
+    out: &mut O,
+) -> Result<(), Fault>
+    requires { 1 ≤ n }
+    requires few { n ≤ 20 }
+    ensures { GenEnds n summary (O.held out.old) (O.held out.new) (Rose (O.write_faults out.old) (O.write_faults out.new)) result }
+{
+    let Ok(text) = gen_text(alloc, n) else {
+        return Err(Fault::NoMemory);
+    };
+    if summary {
+        summarize(alloc, n, &text, out)
+    } else {
+        write(out, &text)
+    }
+}
+
+/// Runs a generated program, and writes the menu of its run.
+fn summarize<O: Sink>(
+    alloc: Global,
+    n: u32,
+    text: &[u8],
+    out: &mut O,
+) -> Result<(), Fault>
+    requires text { text.now ≡ gen_text n }
+    requires short { length text.now ≤ 1048576 }
+    ensures { SummaryEnds n (O.held out.old) (O.held out.new) (Rose (O.write_faults out.old) (O.write_faults out.new)) result }
+{
+    let Profiled { ran, profile } = profile_text(alloc, text, MOST_STEPS)?;
+    show_page(alloc, profile, &Query::Menu, out)?;
+    ended(ran)
+}
+
+/// The program of `n` procedures below `main`: the last one does nothing, and each other one calls the next one twice.
+fn gen_text(alloc: Global, n: u32) -> Result<Vec<u8>, NoMemory>
+    requires { 1 ≤ n }
+    requires few { n ≤ 20 }
+    ensures { IfOk result (λ text. text.items ≡ gen_text n) }
+{
+    let mut text = Vec::from_slice(
+        alloc,
+        b":- module gen.\n:- pred main(io::di, io::uo) is det.\nmain(IO0, IO) :- p1, IO = IO0.\n",
+    )?;
+    for i in 1..=n {
+        let level = level(alloc, n, i)?;
+        text.extend_from_slice(level.as_str().as_bytes())?;
+    }
+    Ok(text)
+}
+
+/// Procedure `i` of `n`.
+fn level(alloc: Global, n: u32, i: u32) -> Result<String, AllocError>
+    requires { i < 4294967295 }
+    ensures { IfOk result (λ text. string_bytes text ≡ level n i) }
+{
+    let body = level_body(alloc, n, i)?;
+    let body = body.as_str();
+    format!(in alloc; ":- pred p{i} is det.\np{i} :- {body}.\n")
+}
+
+/// The body of procedure `i` of `n`.
+fn level_body(alloc: Global, n: u32, i: u32) -> Result<String, AllocError>
+    requires { i < 4294967295 }
+    ensures { IfOk result (λ text. string_bytes text ≡ level_body n i) }
+{
+    if i == n {
+        return String::from_str(alloc, "true");
+    }
+    let next = i + 1;
+    format!(in alloc; "p{next}, p{next}")
+}

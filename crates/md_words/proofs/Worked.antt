@@ -1,0 +1,93 @@
+-- Words, worked out by hand.
+use Rattle.std.proofs.Common.{◌≡◌, [], ◌∷◌, Some, None, codes, refl, true, false}
+use Rattle.std.specs.Prelude.{⊤}
+use Rattle.std.specs.Str.{is_utf8, chars}
+use Rattle.std.specs.Str.Lossy.{utf8_lossy, utf8_valid_len, utf8_error_len}
+use lib.Utf8.{encode}
+use Rattle.form_urlencoded.proofs.OnLiterals.{form_urlencoded_on_literals}
+use Rattle.md_base.specs.declared.measure.Measure.TheVariants.{Words}
+use Rattle.md_token.specs.Literal.{number_of}
+use Rattle.md_query.specs.Asked as query
+use Rattle.md_query.specs.Asked.{query_of}
+use Rattle.md_words.specs.Form.{form, Check, Run, Report, Page, Gen, Migrate}
+
+-- what is unfolded to compute a command on literals
+unfoldable on_words : ⊤
+unfolding form query_of form_urlencoded_on_literals utf8_lossy utf8_valid_len utf8_error_len is_utf8 chars encode number_of
+on_words = tt
+
+-- ---- options
+
+no-steps-are-a-million : form (codes "run" ∷ codes "a.m" ∷ []) ≡ Some (Run (codes "a.m") 1000000 (codes "mdprof.data"))
+unfolding on_words
+no-steps-are-a-million = refl
+
+options-stand-before-the-file-or-behind-it : form (codes "run" ∷ codes "--steps" ∷ codes "5" ∷ codes "a.m" ∷ codes "--profile=p" ∷ []) ≡ Some (Run (codes "a.m") 5 (codes "p"))
+unfolding on_words
+options-stand-before-the-file-or-behind-it = refl
+
+no-more-steps-than-these : form (codes "run" ∷ codes "a.m" ∷ codes "--steps=16777217" ∷ []) ≡ None
+unfolding on_words
+no-more-steps-than-these = refl
+
+zeros-in-front-don't-count : form (codes "run" ∷ codes "a.m" ∷ codes "--steps=016777216" ∷ []) ≡ Some (Run (codes "a.m") 16777216 (codes "mdprof.data"))
+unfolding on_words
+zeros-in-front-don't-count = refl
+
+an-option-comes-once : form (codes "run" ∷ codes "a.m" ∷ codes "--steps=5" ∷ codes "--steps=5" ∷ []) ≡ None
+unfolding on_words
+an-option-comes-once = refl
+
+an-option-is-no-value : form (codes "run" ∷ codes "a.m" ∷ codes "--profile" ∷ codes "-p" ∷ []) ≡ None
+unfolding on_words
+an-option-is-no-value = refl
+
+a-dash-alone-may-name-files : form (codes "run" ∷ codes "-" ∷ codes "--profile=" ∷ []) ≡ Some (Run (codes "-") 1000000 [])
+unfolding on_words
+a-dash-alone-may-name-files = refl
+
+no-option-behind-two-dashes : form (codes "run" ∷ codes "--" ∷ codes "--steps" ∷ []) ≡ Some (Run (codes "--steps") 1000000 (codes "mdprof.data"))
+unfolding on_words
+no-option-behind-two-dashes = refl
+
+run-has-no-print : form (codes "run" ∷ codes "a.m" ∷ codes "--print" ∷ []) ≡ None
+unfolding on_words
+run-has-no-print = refl
+
+check-has-print : form (codes "check" ∷ codes "--print" ∷ codes "a.m" ∷ []) ≡ Some (Check (codes "a.m") true)
+unfolding on_words
+check-has-print = refl
+
+-- ---- commands
+
+a-program-is-not-written-over : form (codes "run" ∷ codes "mdprof.data" ∷ []) ≡ None
+unfolding on_words
+a-program-is-not-written-over = refl
+
+a-query-has-pairs-behind-a-mark : form (codes "report" ∷ codes "a.m" ∷ codes "/top?by=words&n=3" ∷ []) ≡ Some (Report (codes "a.m") (query.Top Words 3) 1000000)
+unfolding on_words
+a-query-has-pairs-behind-a-mark = refl
+
+one-slash-is-dropped : form (codes "page" ∷ codes "p" ∷ codes "//menu" ∷ []) ≡ None
+unfolding on_words
+one-slash-is-dropped = refl
+
+a-page-of-a-stored-profile : form (codes "page" ∷ codes "p" ∷ codes "root" ∷ []) ≡ Some (Page (codes "p") query.Root)
+unfolding on_words
+a-page-of-a-stored-profile = refl
+
+twenty-procedures-at-most : form (codes "gen" ∷ codes "21" ∷ []) ≡ None
+unfolding on_words
+twenty-procedures-at-most = refl
+
+the-summary-of-twenty : form (codes "gen" ∷ codes "20" ∷ codes "--summary" ∷ []) ≡ Some (Gen 20 true)
+unfolding on_words
+the-summary-of-twenty = refl
+
+a-profile-is-not-written-over-itself : form (codes "migrate" ∷ codes "p" ∷ codes "p" ∷ []) ≡ None
+unfolding on_words
+a-profile-is-not-written-over-itself = refl
+
+an-old-profile-and-a-new-one : form (codes "migrate" ∷ codes "p" ∷ codes "q" ∷ []) ≡ Some (Migrate (codes "p") (codes "q"))
+unfolding on_words
+an-old-profile-and-a-new-one = refl
