@@ -1,1 +1,4 @@
 mod Worked
+pub mod ListSteps
+pub mod ViewLists
+pub mod Orders
