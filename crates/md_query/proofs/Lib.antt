@@ -2,3 +2,4 @@ mod Worked
 pub mod ListSteps
 pub mod ViewLists
 pub mod Orders
+pub mod Within
