@@ -1,13 +1,22 @@
-//! What a page is asked for by: a path and pairs of names and values, as in the address `clique?id=1`.
+//! What a page is asked for by, a path and pairs of names and values as in the address `clique?id=1`, and what is on the
+//! page: rows with the numbers of a profile.
 #![tactic(auto)]
 
+mod answer;
+mod listing;
+mod lists;
+mod pages;
 mod pair;
 mod query;
+mod ranking;
 mod read;
 mod row;
+mod rows;
 #[cfg(test)]
 mod tests;
+mod threads;
 
+pub use answer::{PageFault, page};
 pub use pair::number_within;
 pub use query::{Query, QueryFault};
 pub use read::read_query;

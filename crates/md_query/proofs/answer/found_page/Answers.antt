@@ -1,0 +1,21 @@
+use Rattle.std.proofs.Common.{Some, ap}
+use Rattle.md_query.specs.Page.{PageRows}
+use Rattle.md_query.specs.PageOf.{page_of}
+use Rattle.md_query.specs.Told.{asked}
+use Rattle.md_query.proofs.answer.found_page.Goals as goal
+
+pub returns-in_ok-menu_page-in-Menu : goal.returns-in_ok-menu_page-in-Menu
+unfolding page_of
+returns-in_ok-menu_page-in-Menu c = λ v is. rw c.in-Menu.is (ap (λ (p : PageRows). Some p) (c.in_ok-menu_page-in-Menu.ensures v is))
+
+pub returns-in_ok-procs_page-in-Procs : goal.returns-in_ok-procs_page-in-Procs
+unfolding page_of
+returns-in_ok-procs_page-in-Procs c = λ v is. rw c.in-Procs.is (ap (λ (p : PageRows). Some p) (c.in_ok-procs_page-in-Procs.ensures v is))
+
+pub returns-in_ok-top_page-in-Top : goal.returns-in_ok-top_page-in-Top
+unfolding page_of
+returns-in_ok-top_page-in-Top c = λ v is. rw c.in-Top.is (ap (λ (p : PageRows). Some p) (c.in_ok-top_page-in-Top.ensures v is))
+
+pub returns-in_ok-modules_page-in-Modules : goal.returns-in_ok-modules_page-in-Modules
+unfolding page_of
+returns-in_ok-modules_page-in-Modules c = λ v is. rw c.in-Modules.is (ap (λ (p : PageRows). Some p) (c.in_ok-modules_page-in-Modules.ensures v is))

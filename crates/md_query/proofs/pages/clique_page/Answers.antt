@@ -1,0 +1,48 @@
+use Rattle.std.proofs.Common.{◌≡◌, ℕ, ◌+◌, ◌<◌, List, ◌++◌, ◌∷◌, [], eqb, length, get_or, take, Option, Some, None, refl, sym, ap, ◌∙◌, arith}
+use Rattle.std.specs.Prelude.{IfSome, All}
+use Rattle.std.specs.List.{slice_get, flat_map}
+use Rattle.std.proofs.lemmas.List.{take_more, take_all, flat_map_more}
+use Rattle.std.proofs.lemmas.Option.{slice_get-get_or}
+use Rattle.md_dynamic.specs.declared.link.LinkRow.{LinkRow}
+use Rattle.md_cost.proofs.ValidSteps.{caller_there}
+use Rattle.md_cost.specs.View.{OfClique}
+use Rattle.md_query.specs.declared.row.Row.{Row}
+use Rattle.md_query.specs.declared.row.Row.TheVariants as row
+use Rattle.md_query.specs.declared.row.Title.TheVariants as title
+use Rattle.md_query.specs.PageOf.{context_rows, entered_row, page_with, total_of}
+use Rattle.md_query.proofs.ListSteps.{places_there}
+use Rattle.md_query.proofs.pages.clique_page.Goals as goal
+
+if_some : {P : ℕ → Type 0} (o : Option ℕ) → ((c : ℕ) → o ≡ Some c → P c) → IfSome o P
+if_some None h = tt
+if_some (Some c) h = h c refl
+
+pub thread_links-requires-clause-callers : goal.thread_links-requires-clause-callers
+thread_links-requires-clause-callers c =
+    let f = c.args.loaded.now.profile in
+    let links : c.links.result.now ≡ f.links = cc in
+    let nodes : c.nodes.result.now ≡ f.nodes = cc in
+    rw (links, nodes) (λ k d lt. if_some (get_or f.links k d).caller (λ from called. caller_there f c.profile-profile.ensures.valid k from (get_or f.links k d) (slice_get-get_or f.links k d lt) called))
+
+pub push_context-requires-clause-there : goal.push_context-requires-clause-there
+push_context-requires-clause-there c =
+    let cliques = c.args.loaded.now.cliques in
+    let size = c.profile-profile.ensures.loaded.tree.cliques_are.each in
+    let all : All (λ (q : ℕ). q < length cliques) c.members-node-items.result.now = rw c.members-node-items.ensures.members (places_there (λ (k : ℕ). eqb k c.args.id) cliques) in
+    let lt = all c.loop-node.node-index 0 c.loop-node-test.true in
+    omega arith
+
+pub loop-node-preserved : goal.loop-node-preserved
+loop-node-preserved c = λ v is.
+    let before : List Row = entered_row v c.args.id ∷ row.Total (total_of v (OfClique c.args.id)) ∷ [] in
+    let members = c.members-node-items.result.now in
+    let i = c.loop-node.node-index in
+    let more : take (i + 1) members ≡ take i members ++ get_or members i 0 ∷ [] = take_more members i 0 c.loop-node-test.true in
+    c.in_ok-push_context.ensures v is ∙ ap (λ (rs : List Row). rs ++ context_rows v (get_or members i 0)) (c.loop-node.invariant v is)
+    ∙ flat_map_more (context_rows v) before (take i members) (get_or members i 0) ∙ ap (λ (ids : List ℕ). before ++ flat_map (context_rows v) ids) (sym more)
+
+pub returns : goal.returns
+returns c = λ v is.
+    let members = c.members-node-items.result.now in
+    c.from_parts.ensures
+    ∙ ap (λ (rs : List Row). page_with (title.Clique c.args.id) rs) (c.loop-node.invariant v is ∙ ap (λ (ids : List ℕ). entered_row v c.args.id ∷ row.Total (total_of v (OfClique c.args.id)) ∷ flat_map (context_rows v) ids) (take_all c.loop-node.node-index members (omega arith) ∙ c.members-node-items.ensures.view v is))

@@ -1,0 +1,122 @@
+// The page that a query asks for.
+ghost use Rattle.std.specs.Prelude.{◌≡◌, Err, Some, None, IfOk};
+ghost use Rattle.md_cost.specs.FileView.{IsFileView};
+ghost use Rattle.md_cost.specs.View.{View};
+ghost use Rattle.md_query.specs.declared.answer.PageFault.TheVariants as fault;
+ghost use Rattle.md_query.specs.Asked.{Root, Clique, Proc, Module};
+ghost use Rattle.md_query.specs.Page.{IsWithin};
+ghost use Rattle.md_query.specs.PageOf.{page_of};
+ghost use Rattle.md_query.specs.Told.{asked};
+
+use crate::lists::module_named;
+use crate::pages::{
+    clique_page, menu_page, module_page, modules_page, proc_page, procs_page, top_page,
+};
+use crate::query::Query;
+use crate::row::Page;
+use md_base::{NoMemory, ProcId};
+use md_cost::Loaded;
+use std::alloc::Global;
+use std::error::Error;
+use std::fmt;
+
+/// Why there is no page.
+#[derive(Clone, Copy, Debug, PartialEq, Eq)]
+pub enum PageFault {
+    /// The clique, the procedure or the module isn't in the profile.
+    NoSuchPage,
+    NoMemory,
+}
+
+impl fmt::Display for PageFault {
+    fn fmt<W: fmt::Write>(&self, f: &mut fmt::Formatter<W>) -> fmt::Result {
+        match self {
+            PageFault::NoSuchPage => write!(f, "no such page"),
+            PageFault::NoMemory => write!(f, "want of memory"),
+        }
+    }
+}
+
+impl Error for PageFault {}
+
+impl From<NoMemory> for PageFault {
+    ghost from_gives = { λ _ e. e ≡ fault.NoMemory };
+
+    fn from(_: NoMemory) -> PageFault {
+        PageFault::NoMemory
+    }
+}
+
+/// The page that a query asks for, whose numbers are those of the view of the profile. `NoSuchPage` exactly where the
+/// query's clique, procedure or module isn't in the profile.
+pub fn page(alloc: Global, loaded: &Loaded, query: &Query) -> Result<Page, PageFault>
+    ensures page { (v : View) → IsFileView loaded.now.profile v → IfOk result (λ page. page_of v (asked query.now) ≡ Some page) }
+    ensures none { result ≡ Err fault.NoSuchPage → (v : View) → IsFileView loaded.now.profile v → page_of v (asked query.now) ≡ None }
+    ensures within { IfOk result (λ page. IsWithin loaded.now.profile page) }
+{
+    let _profile = loaded.profile();
+    match found_page(alloc, loaded, query)? {
+        Some(page) => Ok(page),
+        None => Err(PageFault::NoSuchPage),
+    }
+}
+
+/// The page that a query asks for, or `None` exactly where there is none.
+fn found_page(alloc: Global, loaded: &Loaded, query: &Query) -> Result<Option<Page>, NoMemory>
+    ensures { IfOk result (λ found. (v : View) → IsFileView loaded.now.profile v → found ≡ page_of v (asked query.now)) }
+{
+    match query {
+        Query::Menu => Ok(Some(menu_page(alloc, loaded)?)),
+        Query::Root => root_page(alloc, loaded),
+        Query::Clique(id) => find_clique(alloc, loaded, *id),
+        Query::Procs => Ok(Some(procs_page(alloc, loaded)?)),
+        Query::Top { by, n } => Ok(Some(top_page(alloc, loaded, *by, *n)?)),
+        Query::Proc(id) => find_proc(alloc, loaded, *id),
+        Query::Modules => Ok(Some(modules_page(alloc, loaded)?)),
+        Query::Module(name) => find_module(alloc, loaded, name.as_bytes()),
+    }
+}
+
+/// The page of the clique where the run began.
+fn root_page(alloc: Global, loaded: &Loaded) -> Result<Option<Page>, NoMemory>
+    ensures { IfOk result (λ found. (v : View) → IsFileView loaded.now.profile v → found ≡ page_of v Root) }
+{
+    let _profile = loaded.profile();
+    let page = clique_page(alloc, loaded, 0)?;
+    Ok(Some(page))
+}
+
+/// The page of a clique, if it is there.
+fn find_clique(alloc: Global, loaded: &Loaded, id: u32) -> Result<Option<Page>, NoMemory>
+    ensures { IfOk result (λ found. (v : View) → IsFileView loaded.now.profile v → found ≡ page_of v (Clique id)) }
+{
+    if id >= loaded.clique_count() {
+        return Ok(None);
+    }
+    let page = clique_page(alloc, loaded, id)?;
+    Ok(Some(page))
+}
+
+/// The page of a procedure, if it is there.
+fn find_proc(alloc: Global, loaded: &Loaded, id: u32) -> Result<Option<Page>, NoMemory>
+    ensures { IfOk result (λ found. (v : View) → IsFileView loaded.now.profile v → found ≡ page_of v (Proc id)) }
+{
+    if id as usize >= loaded.profile().statics().procs().len() {
+        return Ok(None);
+    }
+    let page = proc_page(alloc, loaded, ProcId::new(id))?;
+    Ok(Some(page))
+}
+
+/// The page of the module of a name, if it is there.
+fn find_module(alloc: Global, loaded: &Loaded, name: &[u8]) -> Result<Option<Page>, NoMemory>
+    ensures { IfOk result (λ found. (v : View) → IsFileView loaded.now.profile v → found ≡ page_of v (Module name.now)) }
+{
+    match module_named(loaded.profile().statics().modules(), name) {
+        Some(id) => {
+            let page = module_page(alloc, loaded, id)?;
+            Ok(Some(page))
+        }
+        None => Ok(None),
+    }
+}
