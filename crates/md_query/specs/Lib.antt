@@ -3,3 +3,4 @@ pub mod Asked
 pub mod Told
 pub mod Page
 pub mod PageOf
+pub mod Threads

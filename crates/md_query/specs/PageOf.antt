@@ -1,20 +1,22 @@
 -- The page that a query asks for, by a view: what it is of, and which rows it has, in which order.
-use Rattle.std.specs.Prelude.{ℕ, Bool, ◌==◌, nat_lt, List, [], ◌∷◌, ◌++◌, length, map, take, Option, Some, None, slice_get, slice_index, if◌then◌else◌, unwrap_or}
+use Rattle.std.specs.Prelude.{ℕ, Bool, ◌==◌, ◌&&◌, ◌||◌, nat_lt, List, [], ◌∷◌, ◌++◌, length, map, take, Option, Some, None, slice_get, slice_index, if◌then◌else◌, unwrap_or}
 use Rattle.std.specs.Str.{bytes_eq}
 use Rattle.std.specs.List.{range_with_len, position, flat_map}
 use Rattle.std.specs.Option.{option_map}
 use Rattle.md_base.specs.declared.measure.Measure.{Measure}
 use Rattle.md_base.specs.declared.measure.Measure.TheVariants.{Calls, Exits, Fails, Redos, Allocs, Words, Excps}
 use Rattle.md_trace.specs.Context.{same_option}
-use Rattle.md_trace.specs.Cliques.{leaves}
 use Rattle.md_clique.specs.Cliques.{clique_count, members_of}
+use Rattle.md_clique.specs.Entries.{is_outside}
 use Rattle.md_clique.specs.Places.{places}
 use Rattle.md_cost.specs.declared.sums.Sums.{Sums}
 use Rattle.md_cost.specs.View.{View, Join, OfLink, OfContext, OfClique, OfProcedure, OfSite, OfModule}
 use Rattle.md_cost.specs.View.{Row as Counted}
 use Rattle.md_query.specs.declared.row.Row.{Row}
 use Rattle.md_query.specs.declared.row.Row.TheVariants as row
+use Rattle.md_query.specs.declared.row.Title.{Title}
 use Rattle.md_query.specs.declared.row.Title.TheVariants as title
+use Rattle.md_query.specs.declared.row.What.{What}
 use Rattle.md_query.specs.declared.row.What.TheVariants as what
 use Rattle.md_query.specs.Asked.{Asked, Menu, Root, Clique, Procs, Top, Proc, Modules, Module}
 use Rattle.md_query.specs.Page.{PageRows}
@@ -41,7 +43,7 @@ total_of v r = sums_by (v.total r)
 
 -- ---- the menu
 
-abbrev pub measure_row : View → what.What → Measure → Row
+abbrev pub measure_row : View → What → Measure → Row
 measure_row v w m = row.Number w (unwrap_or (v.total (OfClique 0) m) 0)
 
 -- exceptions are told where there are any
@@ -69,25 +71,31 @@ menu_rows v =
 abbrev pub links_from : View → ℕ → List ℕ
 links_from v c = places (λ x. same_option x.caller (Some c)) v.links
 
--- a link leaves its clique or stays inside
+-- a link that starts outside the clique where it ends leaves its own, with the total of what it enters; others stay inside
 abbrev pub link_row_at : View → ℕ → Option Join → Row
 link_row_at v p None = row.Inside p (own_of v (OfLink p))
 link_row_at v p (Some x) =
-    if leaves v.cliques x.caller x.callee then row.Leaving p (own_of v (OfLink p)) (total_of v (OfLink p)) else row.Inside p (own_of v (OfLink p))
+    if is_outside v.cliques (slice_index v.cliques x.callee) x.caller
+    then row.Leaving p (own_of v (OfLink p)) (total_of v (OfLink p))
+    else row.Inside p (own_of v (OfLink p))
 
 abbrev pub link_row : View → ℕ → Row
 link_row v p = link_row_at v p (slice_get v.links p)
 
+abbrev pub context_row : View → ℕ → Row
+context_row v c = row.Context c (own_of v (OfContext c)) (total_of v (OfContext c))
+
 -- a context, and the links that start there
 abbrev pub context_rows : View → ℕ → List Row
-context_rows v c = row.Context c (own_of v (OfContext c)) (total_of v (OfContext c)) ∷ map (link_row v) (links_from v c)
+context_rows v c = context_row v c ∷ map (link_row v) (links_from v c)
+
+-- the link that enters the clique
+abbrev pub entered_row : View → ℕ → Row
+entered_row v k = row.Entered (slice_index v.entries k) (own_of v (OfLink (slice_index v.entries k)))
 
 -- the link that enters it, its total, and its contexts in rising order
 abbrev pub clique_rows : View → ℕ → List Row
-clique_rows v k =
-    row.Entered (slice_index v.entries k) (own_of v (OfLink (slice_index v.entries k)))
-    ∷ row.Total (total_of v (OfClique k))
-    ∷ flat_map (context_rows v) (members_of v.cliques k)
+clique_rows v k = entered_row v k ∷ row.Total (total_of v (OfClique k)) ∷ flat_map (context_rows v) (members_of v.cliques k)
 
 -- ---- procedures
 
@@ -97,19 +105,27 @@ proc_row v q = row.Proc q (own_of v (OfProcedure q)) (total_of v (OfProcedure q)
 abbrev pub all_procs : View → List ℕ
 all_procs v = range_with_len 0 (length v.statics.procs)
 
--- a procedure put behind those that have at least as many
+-- a procedure comes before another: it has more, or as many and the lower number
+abbrev pub comes_before : (count : ℕ → ℕ) → ℕ → ℕ → Bool
+comes_before count q r = nat_lt (count r) (count q) || (count q == count r && nat_lt q r)
+
+-- a procedure put before the first of these that it comes before
 abbrev pub ranked_with : (count : ℕ → ℕ) → ℕ → List ℕ → List ℕ
 ranked_with count q [] = q ∷ []
-ranked_with count q (r ∷ rs) = if nat_lt (count r) (count q) then q ∷ r ∷ rs else r ∷ ranked_with count q rs
+ranked_with count q (r ∷ rs) = if comes_before count q r then q ∷ r ∷ rs else r ∷ ranked_with count q rs
 
--- so many of these procedures after those that are ranked: the greatest count comes first, and of equal ones the lower number
-abbrev pub ranked_after : (count : ℕ → ℕ) → (ranked procs : List ℕ) → List ℕ
-ranked_after count ranked [] = ranked
-ranked_after count ranked (q ∷ qs) = ranked_after count (ranked_with count q ranked) qs
+-- procedures by their counts: the greatest comes first, and of equal ones the lower number
+abbrev pub ranked : (count : ℕ → ℕ) → (procs : List ℕ) → List ℕ
+ranked count [] = []
+ranked count (q ∷ qs) = ranked_with count q (ranked count qs)
+
+-- the own count of a procedure
+abbrev pub count_in_proc : View → Measure → ℕ → ℕ
+count_in_proc v by q = unwrap_or (v.own (OfProcedure q) by) 0
 
 -- the first n procedures by their own count of a measure
 abbrev pub top_procs : View → Measure → ℕ → List ℕ
-top_procs v by n = take n (ranked_after (λ q. unwrap_or (v.own (OfProcedure q) by) 0) [] (all_procs v))
+top_procs v by n = take n (ranked (count_in_proc v by) (all_procs v))
 
 -- a context of the procedure
 abbrev pub of_row : View → ℕ → Row
@@ -118,14 +134,20 @@ of_row v c = row.Of c (own_of v (OfContext c)) (total_of v (OfContext c))
 abbrev pub site_row : View → ℕ → Row
 site_row v s = row.Site s (own_of v (OfSite s)) (total_of v (OfSite s))
 
+-- the contexts of a procedure, and its call sites, in rising order
+abbrev pub contexts_of : View → ℕ → List ℕ
+contexts_of v q = places (λ p. p == q) v.nodes
+
+abbrev pub sites_of : View → ℕ → List ℕ
+sites_of v q = places (λ s. s.owner == q) v.statics.sites
+
 abbrev pub proc_rows : View → ℕ → List Row
 proc_rows v q =
-    row.Own (own_of v (OfProcedure q))
-    ∷ row.Total (total_of v (OfProcedure q))
-    ∷ (map (of_row v) (places (λ p. p == q) v.nodes) ++ map (site_row v) (places (λ s. s.owner == q) v.statics.sites))
+    row.Own (own_of v (OfProcedure q)) ∷ row.Total (total_of v (OfProcedure q)) ∷ (map (of_row v) (contexts_of v q) ++ map (site_row v) (sites_of v q))
 
 -- ---- modules
 
+-- the procedures of a module, in rising order
 abbrev pub procs_of_module : View → ℕ → List ℕ
 procs_of_module v k = places (λ p. p.«module» == k) v.statics.procs
 
@@ -137,7 +159,7 @@ module_rows v k = row.Own (own_of v (OfModule k)) ∷ row.Total (total_of v (OfM
 
 -- ---- the page
 
-abbrev pub page_with : title.Title → List Row → PageRows
+abbrev pub page_with : Title → List Row → PageRows
 page_with t rows = record { title = t; rows = rows }
 
 abbrev pub clique_page : View → ℕ → PageRows
@@ -145,6 +167,9 @@ clique_page v k = page_with (title.Clique k) (clique_rows v k)
 
 abbrev pub module_page : View → ℕ → PageRows
 module_page v k = page_with (title.Module k) (module_rows v k)
+
+abbrev pub all_modules : View → List ℕ
+all_modules v = range_with_len 0 (length v.statics.modules)
 
 -- the number of the module of a name
 abbrev pub module_named : View → List ℕ → Option ℕ
@@ -158,5 +183,5 @@ page_of v (Clique k) = if nat_lt k (clique_count v.cliques) then Some (clique_pa
 page_of v Procs = Some (page_with title.Procs (map (proc_row v) (all_procs v)))
 page_of v (Top by n) = Some (page_with (title.Top by n) (map (proc_row v) (top_procs v by n)))
 page_of v (Proc q) = if nat_lt q (length v.statics.procs) then Some (page_with (title.Proc q) (proc_rows v q)) else None
-page_of v Modules = Some (page_with title.Modules (map (module_row v) (range_with_len 0 (length v.statics.modules))))
+page_of v Modules = Some (page_with title.Modules (map (module_row v) (all_modules v)))
 page_of v (Module name) = option_map (module_page v) (module_named v name)

@@ -41,31 +41,67 @@ pub enum What {
 #[derive(Debug, PartialEq, Eq, Drop)]
 pub enum Row {
     /// The module of which the profile is.
-    Main { module: u32 },
+    Main {
+        module: u32,
+    },
     /// Whether the run was finished.
     Finished(bool),
     /// How much there is of something.
-    Number { what: What, n: u64 },
+    Number {
+        what: What,
+        n: u64,
+    },
     /// The link that enters the clique of the page.
-    Entered { link: CsdId, own: Sums },
+    Entered {
+        link: CsdId,
+        own: Sums,
+    },
     /// The own counts of what the page is of.
     Own(Sums),
     /// The total of what the page is of.
     Total(Sums),
     /// A context of the clique.
-    Context { node: PdId, own: Sums, total: Sums },
+    Context {
+        node: PdId,
+        own: Sums,
+        total: Sums,
+    },
     /// A link from the context above to another clique.
-    Leaving { link: CsdId, own: Sums, total: Sums },
+    Leaving {
+        link: CsdId,
+        own: Sums,
+        total: Sums,
+    },
     /// A link from the context above within the clique.
-    Inside { link: CsdId, own: Sums },
+    Inside {
+        link: CsdId,
+        own: Sums,
+    },
     /// A procedure.
-    Proc { id: ProcId, own: Sums, total: Sums },
+    Proc {
+        id: ProcId,
+        own: Sums,
+        total: Sums,
+    },
     /// A context of the procedure.
-    Of { node: PdId, own: Sums, total: Sums },
+    Of {
+        node: PdId,
+        own: Sums,
+        total: Sums,
+    },
     /// A call site of the procedure.
-    Site { id: SiteId, own: Sums, total: Sums },
+    Site {
+        id: SiteId,
+        own: Sums,
+        total: Sums,
+    },
     /// A module, with how many procedures it has.
-    Module { id: u32, procs: u32, own: Sums, total: Sums },
+    Module {
+        id: u32,
+        procs: u32,
+        own: Sums,
+        total: Sums,
+    },
 }
 
 /// A page: what it is of, and its rows from top to bottom.
