@@ -5,7 +5,7 @@ ghost use Rattle.md_render.specs.Lines.{finished_words, entered_words, leaving_w
 ghost use Rattle.md_render.specs.Names.{caller_at};
 
 use crate::form::{Form, add_clique, add_module, add_proc};
-use crate::lookup::{callee_at, caller_at, clique_at, module_name};
+use crate::lookup::{callee_at, caller_at, clique_at, module_name, site_of};
 use crate::number::{add, add_both, add_counts, add_number, add_own};
 use crate::place::{add_context, add_full_name, add_link, add_placed};
 use crate::title::what_word;
@@ -200,7 +200,7 @@ fn add_site(
     ensures { OnOk result (out.new.items ≡ out.old.items ++ site_words form statics.now id) }
 {
     add_number(out, b"site ", id.number() as u64)?;
-    match statics.sites().get(id.number() as usize) {
+    match site_of(statics, id) {
         Some(site) => add_line_of(out, form, statics, site.line, site.kind),
         None => Ok(()),
     }

@@ -1,12 +1,11 @@
 // Where the words on a page are looked up. A number that isn't there stands for 0 or for no name.
-ghost use Rattle.std.specs.Prelude.{◌≡◌};
+ghost use Rattle.std.specs.Prelude.{◌≡◌, slice_get};
 ghost use Rattle.md_render.specs.Kept.{names_in};
 ghost use Rattle.md_render.specs.Names.{module_name, proc_at, clique_at, caller_at, site_at, callee_at};
 
 use md_base::{CsdId, PdId, SiteId};
 use md_cost::Loaded;
-use md_dynamic::LinkRow;
-use md_static::Statics;
+use md_static::{Site, Statics};
 
 /// The name of a module.
 pub(crate) fn module_name(statics: &Statics, id: u32) -> &[u8]
@@ -15,6 +14,16 @@ pub(crate) fn module_name(statics: &Statics, id: u32) -> &[u8]
     match statics.modules().get(id as usize) {
         Some(name) => name.as_bytes(),
         None => b"",
+    }
+}
+
+/// A call site.
+pub(crate) fn site_of(statics: &Statics, id: SiteId) -> Option<Site>
+    ensures { result ≡ slice_get statics.now.sites id }
+{
+    match statics.sites().get(id.number() as usize) {
+        Some(site) => Some(*site),
+        None => None,
     }
 }
 
