@@ -156,8 +156,8 @@ menu : PageRows
 menu = record {
   title = title.Menu;
   rows =
-    row.Main 0 ∷ row.Finished true ∷ row.Number what.Contexts 1 ∷ row.Number what.Links 1 ∷ row.Number what.Cliques 1 ∷ row.Number what.Calls 1
-    ∷ row.Number what.Exits 1 ∷ row.Number what.Fails 0 ∷ row.Number what.Redos 0 ∷ row.Number what.Allocs 0 ∷ row.Number what.Words 0 ∷ [];
+      row.Main 0 ∷ row.Finished true ∷ row.Number what.Contexts 1 ∷ row.Number what.Links 1 ∷ row.Number what.Cliques 1 ∷ row.Number what.Calls 1
+      ∷ row.Number what.Exits 1 ∷ row.Number what.Fails 0 ∷ row.Number what.Redos 0 ∷ row.Number what.Allocs 0 ∷ row.Number what.Words 0 ∷ [];
 }
 
 a-menu : text_of view menu

@@ -6,10 +6,9 @@ mod line;
 mod lookup;
 mod number;
 mod place;
-mod title;
-mod whole;
-
 #[cfg(test)]
 mod tests;
+mod title;
+mod whole;
 
 pub use whole::{html, text};

@@ -31,12 +31,7 @@ pub(crate) fn add_lines(
     Ok(())
 }
 
-fn add_row(
-    out: &mut Vec<u8>,
-    form: Form,
-    loaded: &Loaded,
-    row: &Row,
-) -> Result<(), AllocError>
+fn add_row(out: &mut Vec<u8>, form: Form, loaded: &Loaded, row: &Row) -> Result<(), AllocError>
     ensures { OnOk result (out.new.items ≡ out.old.items ++ row_words form (names_in loaded.now) row.now) }
 {
     let statics = loaded.profile().statics();
@@ -107,12 +102,7 @@ fn add_finished(out: &mut Vec<u8>, finished: bool) -> Result<(), AllocError>
 }
 
 /// Adds by which link, from where, a clique is entered.
-fn add_entry(
-    out: &mut Vec<u8>,
-    form: Form,
-    loaded: &Loaded,
-    link: CsdId,
-) -> Result<(), AllocError>
+fn add_entry(out: &mut Vec<u8>, form: Form, loaded: &Loaded, link: CsdId) -> Result<(), AllocError>
     ensures { OnOk result (out.new.items ≡ out.old.items ++ entered_words form (names_in loaded.now) link (caller_at (names_in loaded.now) link)) }
 {
     let Some(caller) = caller_at(loaded, link) else {
@@ -164,12 +154,7 @@ fn add_context_of(
 }
 
 /// Adds a module, with how many procedures it has.
-fn add_module_size(
-    out: &mut Vec<u8>,
-    form: Form,
-    name: &[u8],
-    procs: u32,
-) -> Result<(), AllocError>
+fn add_module_size(out: &mut Vec<u8>, form: Form, name: &[u8], procs: u32) -> Result<(), AllocError>
     ensures { OnOk result (out.new.items ≡ out.old.items ++ module_size_words form name.now procs) }
 {
     add_module(out, form, name)?;
@@ -177,12 +162,7 @@ fn add_module_size(
 }
 
 /// Adds a procedure, with its full name.
-fn add_named(
-    out: &mut Vec<u8>,
-    form: Form,
-    statics: &Statics,
-    id: u32,
-) -> Result<(), AllocError>
+fn add_named(out: &mut Vec<u8>, form: Form, statics: &Statics, id: u32) -> Result<(), AllocError>
     ensures { OnOk result (out.new.items ≡ out.old.items ++ named_words form statics.now id) }
 {
     add_proc(out, form, id)?;
@@ -191,12 +171,7 @@ fn add_named(
 }
 
 /// Adds a call site, with its line and what it calls.
-fn add_site(
-    out: &mut Vec<u8>,
-    form: Form,
-    statics: &Statics,
-    id: SiteId,
-) -> Result<(), AllocError>
+fn add_site(out: &mut Vec<u8>, form: Form, statics: &Statics, id: SiteId) -> Result<(), AllocError>
     ensures { OnOk result (out.new.items ≡ out.old.items ++ site_words form statics.now id) }
 {
     add_number(out, b"site ", id.number() as u64)?;

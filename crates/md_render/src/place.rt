@@ -13,11 +13,7 @@ use md_static::Statics;
 use std::alloc::AllocError;
 
 /// Adds a procedure's module, name and number of arguments.
-pub(crate) fn add_full_name(
-    out: &mut Vec<u8>,
-    statics: &Statics,
-    id: u32,
-) -> Result<(), AllocError>
+pub(crate) fn add_full_name(out: &mut Vec<u8>, statics: &Statics, id: u32) -> Result<(), AllocError>
     ensures { OnOk result (out.new.items ≡ out.old.items ++ full_name statics.now id) }
 {
     let Some(proc) = statics.procs().get(id as usize) else {
@@ -30,11 +26,7 @@ pub(crate) fn add_full_name(
 }
 
 /// Adds a context, with the full name of its procedure.
-pub(crate) fn add_context(
-    out: &mut Vec<u8>,
-    loaded: &Loaded,
-    node: PdId,
-) -> Result<(), AllocError>
+pub(crate) fn add_context(out: &mut Vec<u8>, loaded: &Loaded, node: PdId) -> Result<(), AllocError>
     ensures { OnOk result (out.new.items ≡ out.old.items ++ context_words (names_in loaded.now) node) }
 {
     add_number(out, b"context ", node.number() as u64)?;
@@ -57,11 +49,7 @@ pub(crate) fn add_placed(
 }
 
 /// Adds a link, with its call site.
-pub(crate) fn add_link(
-    out: &mut Vec<u8>,
-    loaded: &Loaded,
-    link: CsdId,
-) -> Result<(), AllocError>
+pub(crate) fn add_link(out: &mut Vec<u8>, loaded: &Loaded, link: CsdId) -> Result<(), AllocError>
     ensures { OnOk result (out.new.items ≡ out.old.items ++ link_words (names_in loaded.now) link) }
 {
     add_number(out, b"link ", link.number() as u64)?;
