@@ -1,5 +1,5 @@
 -- Rows and pages, worked out by hand.
-use Rattle.std.proofs.Common.{◌≡◌, List, [], ◌∷◌, ℕ, Some, None, codes, length, refl, true, false}
+use Rattle.std.proofs.Common.{◌≡◌, [], ◌∷◌, Some, None, codes, length, refl, true, false}
 use Rattle.std.specs.Prelude.{⊤}
 use Rattle.std.specs.Fmt.{digits}
 use Rattle.percent_encoding.specs.Percent.{percent_encode, percent_encode_byte}
@@ -8,7 +8,6 @@ use Rattle.md_base.specs.declared.measure.Measure.TheVariants as measure
 use Rattle.md_static.specs.declared.entry.SiteKind.TheVariants.{Plain, HigherOrder}
 use Rattle.md_cost.specs.declared.sums.Sums.{Sums}
 use Rattle.md_cost.specs.View.{View}
-use Rattle.md_query.specs.declared.row.Row.{Row}
 use Rattle.md_query.specs.declared.row.Row.TheVariants as row
 use Rattle.md_query.specs.declared.row.Title.TheVariants as title
 use Rattle.md_query.specs.declared.row.What.TheVariants as what
