@@ -1,0 +1,3 @@
+mod Worked
+pub mod Chains
+pub mod Same

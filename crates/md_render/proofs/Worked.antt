@@ -1,0 +1,174 @@
+-- Rows and pages, worked out by hand.
+use Rattle.std.proofs.Common.{◌≡◌, [], ◌∷◌, Some, None, codes, length, refl, true, false}
+use Rattle.std.specs.Prelude.{⊤}
+use Rattle.std.specs.Fmt.{digits}
+use Rattle.percent_encoding.specs.Percent.{percent_encode, percent_encode_byte}
+use Rattle.percent_encoding.specs.AsciiSet.{should_percent_encode}
+use Rattle.md_base.specs.declared.measure.Measure.TheVariants as measure
+use Rattle.md_static.specs.declared.entry.SiteKind.TheVariants.{Plain, HigherOrder}
+use Rattle.md_cost.specs.declared.sums.Sums.{Sums}
+use Rattle.md_cost.specs.View.{View}
+use Rattle.md_query.specs.declared.row.Row.TheVariants as row
+use Rattle.md_query.specs.declared.row.Title.TheVariants as title
+use Rattle.md_query.specs.declared.row.What.TheVariants as what
+use Rattle.md_query.specs.Page.{PageRows}
+use Rattle.md_render.specs.declared.form.Form.TheVariants.{Text, Html}
+use Rattle.md_render.specs.Lines.{row_words, title_words}
+use Rattle.md_render.specs.Names.{Names, names_of}
+use Rattle.md_render.specs.Text.{text_of}
+use Rattle.md_render.specs.Html.{html_of}
+
+unfoldable on_pages : ⊤
+unfolding digits percent_encode percent_encode_byte should_percent_encode
+on_pages = tt
+
+-- t.main/2, which calls a_b.step/0, which calls itself by a closure
+view : View
+view = record {
+  statics = record {
+    modules = codes "t" ∷ codes "a_b" ∷ [];
+    procs = record { «module» = 0; name = codes "main"; arity = 2 } ∷ record { «module» = 1; name = codes "step"; arity = 0 } ∷ [];
+    sites = record { owner = 0; line = 3; kind = Plain 1 } ∷ record { owner = 1; line = 70; kind = HigherOrder } ∷ [];
+  };
+  nodes = 0 ∷ 1 ∷ 1 ∷ [];
+  links = record { caller = None; site = None; callee = 0 } ∷ record { caller = Some 0; site = Some 0; callee = 1 } ∷ record { caller = Some 1; site = Some 1; callee = 2 } ∷ [];
+  finished = true;
+  cliques = 0 ∷ 1 ∷ 1 ∷ [];
+  entries = 0 ∷ 1 ∷ [];
+  own = λ _ _. None;
+  total = λ _ _. None;
+}
+
+names : Names
+names = names_of view
+
+-- no exceptions
+few : Sums
+few = record { calls = 1; exits = 2; fails = 3; redos = 4; allocs = 5; words = 6; excps = 0 }
+
+-- and as many as a sum can hold
+most : Sums
+most = record { calls = 18446744073709551615; exits = 0; fails = 0; redos = 0; allocs = 0; words = 0; excps = 7 }
+
+-- ---- rows
+
+the-module-of-the-profile : row_words Text names (row.Main 1) ≡ codes "module a_b"
+unfolding on_pages view names few most
+the-module-of-the-profile = refl
+
+a-run-that-ended : row_words Text names (row.Finished true) ≡ codes "finished yes"
+unfolding on_pages view names few most
+a-run-that-ended = refl
+
+a-run-that-did-not-end : row_words Text names (row.Finished false) ≡ codes "finished no"
+unfolding on_pages view names few most
+a-run-that-did-not-end = refl
+
+a-great-number : row_words Text names (row.Number what.Words 18446744073709551615) ≡ codes "words 18446744073709551615"
+unfolding on_pages view names few most
+a-great-number = refl
+
+the-root-enters : row_words Text names (row.Entered 0 few) ≡ codes "entered by root own 1 2 3 4 5 6"
+unfolding on_pages view names few most
+the-root-enters = refl
+
+a-link-enters : row_words Text names (row.Entered 1 few) ≡ codes "entered by link 1 site 0 from context 0 t.main/2 clique 0 own 1 2 3 4 5 6"
+unfolding on_pages view names few most
+a-link-enters = refl
+
+own-counts : row_words Text names (row.Own most) ≡ codes "own 18446744073709551615 0 0 0 0 0 excps 7"
+unfolding on_pages view names few most
+own-counts = refl
+
+a-total : row_words Text names (row.Total few) ≡ codes "total 1 2 3 4 5 6"
+unfolding on_pages view names few most
+a-total = refl
+
+a-context : row_words Text names (row.Context 2 few most) ≡ codes "context 2 a_b.step/0 own 1 2 3 4 5 6 total 18446744073709551615 0 0 0 0 0 excps 7"
+unfolding on_pages view names few most
+a-context = refl
+
+a-link-that-leaves : row_words Text names (row.Leaving 1 most few) ≡ codes "  link 1 site 0 to context 1 a_b.step/0 clique 1 own 18446744073709551615 0 0 0 0 0 excps 7 total 1 2 3 4 5 6"
+unfolding on_pages view names few most
+a-link-that-leaves = refl
+
+a-link-inside : row_words Text names (row.Inside 2 few) ≡ codes "  link 2 site 1 to context 2 a_b.step/0 own 1 2 3 4 5 6"
+unfolding on_pages view names few most
+a-link-inside = refl
+
+a-procedure : row_words Text names (row.Proc 1 few few) ≡ codes "proc 1 a_b.step/0 own 1 2 3 4 5 6 total 1 2 3 4 5 6"
+unfolding on_pages view names few most
+a-procedure = refl
+
+a-context-of-a-procedure : row_words Text names (row.Of 2 few few) ≡ codes "context 2 clique 1 own 1 2 3 4 5 6 total 1 2 3 4 5 6"
+unfolding on_pages view names few most
+a-context-of-a-procedure = refl
+
+a-plain-site : row_words Text names (row.Site 0 few few) ≡ codes "site 0 line 3 to proc 1 a_b.step/0 own 1 2 3 4 5 6 total 1 2 3 4 5 6"
+unfolding on_pages view names few most
+a-plain-site = refl
+
+a-higher-order-site : row_words Text names (row.Site 1 few few) ≡ codes "site 1 line 70 higher-order own 1 2 3 4 5 6 total 1 2 3 4 5 6"
+unfolding on_pages view names few most
+a-higher-order-site = refl
+
+a-module : row_words Text names (row.Module 1 12 few few) ≡ codes "module a_b procs 12 own 1 2 3 4 5 6 total 1 2 3 4 5 6"
+unfolding on_pages view names few most
+a-module = refl
+
+-- ---- anchors
+
+a-clique-is-an-anchor : row_words Html names (row.Of 2 few few) ≡ codes "context 2 <a href=\"/clique?id=1\">clique 1</a> own 1 2 3 4 5 6 total 1 2 3 4 5 6"
+unfolding on_pages view names few most
+a-clique-is-an-anchor = refl
+
+a-procedure-is-an-anchor : row_words Html names (row.Site 0 few few) ≡ codes "site 0 line 3 to <a href=\"/proc?id=1\">proc 1</a> a_b.step/0 own 1 2 3 4 5 6 total 1 2 3 4 5 6"
+unfolding on_pages view names few most
+a-procedure-is-an-anchor = refl
+
+a-module-is-an-anchor : row_words Html names (row.Module 1 2 few few) ≡ codes "<a href=\"/module?name=a%5Fb\">module a_b</a> procs 2 own 1 2 3 4 5 6 total 1 2 3 4 5 6"
+unfolding on_pages view names few most
+a-module-is-an-anchor = refl
+
+the-number-of-cliques-is-none : row_words Html names (row.Number what.Cliques 2) ≡ codes "cliques 2"
+unfolding on_pages view names few most
+the-number-of-cliques-is-none = refl
+
+-- ---- titles
+
+a-title-of-the-first : title_words view.statics (title.Top measure.Excps 10) ≡ codes "mdprof top excps 10"
+unfolding on_pages view names few most
+a-title-of-the-first = refl
+
+a-title-of-a-procedure : title_words view.statics (title.Proc 1) ≡ codes "mdprof proc 1 a_b.step/0"
+unfolding on_pages view names few most
+a-title-of-a-procedure = refl
+
+a-title-of-a-module : title_words view.statics (title.Module 1) ≡ codes "mdprof module a_b"
+unfolding on_pages view names few most
+a-title-of-a-module = refl
+
+-- ---- whole pages
+
+-- the menu of a run of one call
+menu : PageRows
+menu = record {
+  title = title.Menu;
+  rows =
+      row.Main 0 ∷ row.Finished true ∷ row.Number what.Contexts 1 ∷ row.Number what.Links 1 ∷ row.Number what.Cliques 1 ∷ row.Number what.Calls 1
+      ∷ row.Number what.Exits 1 ∷ row.Number what.Fails 0 ∷ row.Number what.Redos 0 ∷ row.Number what.Allocs 0 ∷ row.Number what.Words 0 ∷ [];
+}
+
+a-menu : text_of view menu
+    ≡ codes "mdprof menu\nmodule t\nfinished yes\ncontexts 1\nlinks 1\ncliques 1\ncalls 1\nexits 1\nfails 0\nredos 0\nallocs 0\nwords 0\n"
+unfolding on_pages view menu
+a-menu = refl
+
+a-menu-in-html : html_of view menu
+    ≡ codes "<!DOCTYPE html>\n<html><head><meta charset=\"utf-8\"><title>mdprof menu</title></head><body>\n<h1>mdprof menu</h1>\n<pre>\n<a href=\"/module?name=t\">module t</a>\nfinished yes\ncontexts 1\nlinks 1\ncliques 1\ncalls 1\nexits 1\nfails 0\nredos 0\nallocs 0\nwords 0\n</pre>\n<p><a href=\"/\">menu</a> <a href=\"/root\">root</a> <a href=\"/procs\">procs</a> <a href=\"/modules\">modules</a></p>\n</body></html>\n"
+unfolding on_pages view menu
+a-menu-in-html = refl
+
+its-length : length (html_of view menu) ≡ 379
+unfolding on_pages view menu
+its-length = refl

@@ -1,0 +1,5 @@
+use Rattle.md_render.proofs.Chains.{three-added}
+use Rattle.md_render.proofs.title.add_proc_title.Goals as goal
+
+pub returns : goal.returns
+returns c = three-added _ c.args.out.now.items _ _ _ _ _ _ c.in_ok-add_number.ensures c.in_ok-add.ensures c.add_full_name.ensures

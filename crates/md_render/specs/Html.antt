@@ -1,0 +1,22 @@
+-- The HTML of a page: its title in two places, a line for each row with its anchors, and where to go on.
+use Rattle.std.specs.Prelude.{ℕ, List, ◌++◌, codes}
+use Rattle.md_cost.specs.View.{View}
+use Rattle.md_query.specs.Page.{PageRows}
+use Rattle.md_render.specs.declared.form.Form.TheVariants.{Html}
+use Rattle.md_render.specs.Names.{Names, names_of}
+use Rattle.md_render.specs.Lines.{title_words, row_lines}
+
+abbrev pub head_words : (title : List ℕ) → List ℕ
+head_words title =
+    codes "<!DOCTYPE html>\n<html><head><meta charset=\"utf-8\"><title>"
+    ++ (title ++ (codes "</title></head><body>\n<h1>" ++ (title ++ codes "</h1>\n<pre>\n")))
+
+abbrev pub foot_words : List ℕ
+foot_words =
+    codes "</pre>\n<p><a href=\"/\">menu</a> <a href=\"/root\">root</a> <a href=\"/procs\">procs</a> <a href=\"/modules\">modules</a></p>\n</body></html>\n"
+
+abbrev pub html_with : Names → PageRows → List ℕ
+html_with n page = head_words (title_words n.statics page.title) ++ (row_lines Html n page.rows ++ foot_words)
+
+abbrev pub html_of : View → PageRows → List ℕ
+html_of v page = html_with (names_of v) page

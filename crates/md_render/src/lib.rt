@@ -1,0 +1,14 @@
+//! Pages as bytes: as plain text, and as HTML with anchors.
+#![tactic(auto)]
+
+mod form;
+mod line;
+mod lookup;
+mod number;
+mod place;
+#[cfg(test)]
+mod tests;
+mod title;
+mod whole;
+
+pub use whole::{html, text};

@@ -1,0 +1,76 @@
+// Whole pages.
+ghost use Rattle.std.specs.Prelude.{◌≡◌, ◌++◌, OnOk, IfOk};
+ghost use Rattle.md_cost.specs.FileView.{IsFileView};
+ghost use Rattle.md_cost.specs.View.{View};
+ghost use Rattle.md_render.specs.Html.{html_of, head_words, foot_words};
+ghost use Rattle.md_render.specs.Lines.{title_words};
+ghost use Rattle.md_render.specs.Text.{text_of};
+
+use crate::form::Form;
+use crate::line::add_lines;
+use crate::number::add;
+use crate::title::add_title;
+use md_base::NoMemory;
+use md_cost::Loaded;
+use md_query::{Page, Title};
+use md_static::Statics;
+use std::alloc::{AllocError, Global};
+
+/// The page as a text: its title, and a line for each row, each ended by a line feed. A number on the page that isn't in
+/// the profile stands for 0 or for no name where something is looked up by it.
+pub fn text(alloc: Global, loaded: &Loaded, page: &Page) -> Result<Vec<u8>, NoMemory>
+    ensures { (v : View) → IsFileView loaded.now.profile v → IfOk result (λ text. text.items ≡ text_of v page.now) }
+{
+    let mut out = Vec::new(alloc);
+    add_text(&mut out, loaded, page)?;
+    Ok(out)
+}
+
+/// The page as HTML: the same title and lines, in which cliques, procedures and modules are anchors.
+pub fn html(alloc: Global, loaded: &Loaded, page: &Page) -> Result<Vec<u8>, NoMemory>
+    ensures { (v : View) → IsFileView loaded.now.profile v → IfOk result (λ html. html.items ≡ html_of v page.now) }
+{
+    let mut out = Vec::new(alloc);
+    add_html(&mut out, loaded, page)?;
+    Ok(out)
+}
+
+fn add_text(out: &mut Vec<u8>, loaded: &Loaded, page: &Page) -> Result<(), AllocError>
+    ensures { (v : View) → IsFileView loaded.now.profile v → OnOk result (out.new.items ≡ out.old.items ++ text_of v page.now) }
+{
+    add_title(out, loaded.profile().statics(), page.title())?;
+    add(out, b"\n")?;
+    add_lines(out, Form::Text, loaded, page.rows())
+}
+
+fn add_html(out: &mut Vec<u8>, loaded: &Loaded, page: &Page) -> Result<(), AllocError>
+    ensures { (v : View) → IsFileView loaded.now.profile v → OnOk result (out.new.items ≡ out.old.items ++ html_of v page.now) }
+{
+    add_head(out, loaded.profile().statics(), page.title())?;
+    add_lines(out, Form::Html, loaded, page.rows())?;
+    add_foot(out)
+}
+
+/// Adds what comes before the lines, with the title in two places.
+fn add_head(out: &mut Vec<u8>, statics: &Statics, title: Title) -> Result<(), AllocError>
+    ensures { OnOk result (out.new.items ≡ out.old.items ++ head_words (title_words statics.now title)) }
+{
+    add(
+        out,
+        b"<!DOCTYPE html>\n<html><head><meta charset=\"utf-8\"><title>",
+    )?;
+    add_title(out, statics, title)?;
+    add(out, b"</title></head><body>\n<h1>")?;
+    add_title(out, statics, title)?;
+    add(out, b"</h1>\n<pre>\n")
+}
+
+/// Adds what comes after the lines: where to go on.
+fn add_foot(out: &mut Vec<u8>) -> Result<(), AllocError>
+    ensures { OnOk result (out.new.items ≡ out.old.items ++ foot_words) }
+{
+    add(
+        out,
+        b"</pre>\n<p><a href=\"/\">menu</a> <a href=\"/root\">root</a> <a href=\"/procs\">procs</a> <a href=\"/modules\">modules</a></p>\n</body></html>\n",
+    )
+}
