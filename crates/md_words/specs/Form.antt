@@ -1,5 +1,5 @@
 -- Which words are a command, and with which values.
-use Rattle.std.specs.Prelude.{ℕ, Bool, true, false, ◌==◌, List, [], ◌∷◌, Option, Some, None, codes, cond, map, String, string_bytes}
+use Rattle.std.specs.Prelude.{ℕ, ◌≤◌, Bool, true, false, ◌==◌, List, [], ◌∷◌, Option, Some, None, codes, cond, map, String, string_bytes}
 use Rattle.std.specs.List.{before_first, after_first}
 use Rattle.std.specs.Str.{bytes_eq}
 use Rattle.std.specs.declared.alloc.Global.{Global}
@@ -143,3 +143,14 @@ form_of command s =
 unfoldable pub form : List (List ℕ) → Option Form
 form [] = None
 form (command ∷ words) = form_of command (split Front words)
+
+-- ---- what holds of every command
+
+-- a generated program has 1 to 20 procedures
+abbrev pub HasBounds : Form → Type 0
+HasBounds (Check file print) = Unit {0}
+HasBounds (Run file steps profile) = Unit {0}
+HasBounds (Report file query steps) = Unit {0}
+HasBounds (Page name query) = Unit {0}
+HasBounds (Gen n summary) = (1 ≤ n) × (n ≤ 20)
+HasBounds (Migrate name new) = Unit {0}

@@ -1,9 +1,9 @@
 // Which words are a command.
-ghost use Rattle.std.specs.Prelude.{◌≡◌, ◌==◌, IfOk};
+ghost use Rattle.std.specs.Prelude.{◌≡◌, ◌==◌, IfOk, IfSome};
 ghost use Rattle.std.specs.List.{before_first, after_first};
 ghost use Rattle.md_query.specs.Told.{asked_told};
-ghost use Rattle.md_words.specs.Form.{words_of, form, form_of, check_of, run_of, report_of, page_of, gen_of, migrate_of, print_of, summary_of, steps_of, running_of, are_none, without_slash, query_in, query_at, only, two};
-ghost use Rattle.md_words.specs.Told.{settings_told, split_told, command_told, texts, text_told, pair_told, running_told};
+ghost use Rattle.md_words.specs.Form.{words_of, HasBounds, form, form_of, check_of, run_of, report_of, page_of, gen_of, migrate_of, print_of, summary_of, steps_of, running_of, are_none, without_slash, query_in, query_at, only, two};
+ghost use Rattle.md_words.specs.Told.{told, settings_told, split_told, command_told, texts, text_told, pair_told, running_told};
 
 use crate::option::Setting;
 use crate::split::{Words, words_after};
@@ -49,7 +49,8 @@ pub enum Command<'a> {
 /// word `--` ends the options.
 #[tactic(auto, unfolding(crate::specs::Form::form))]
 pub fn command_of<'a>(alloc: Global, words: &'a [String]) -> Result<Option<Command<'a>>, NoMemory>
-    ensures { IfOk result (λ found. command_told found ≡ form (words_of words.now)) }
+    ensures form { IfOk result (λ found. command_told found ≡ form (words_of words.now)) }
+    ensures bounds { IfOk result (λ found. IfSome found (λ command. HasBounds (told command))) }
 {
     let [command, rest @ ..] = words else {
         return Ok(None);

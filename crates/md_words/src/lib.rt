@@ -4,5 +4,7 @@
 mod command;
 mod option;
 mod split;
+#[cfg(test)]
+mod tests;
 
 pub use command::{Command, command_of};

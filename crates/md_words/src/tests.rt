@@ -1,0 +1,85 @@
+use crate::{Command, command_of};
+use md_query::Query;
+use std::alloc::Global;
+use std::test::Fail;
+
+/// The words as the program gets them.
+fn given(alloc: Global, line: &str) -> Result<Vec<String>, Fail> {
+    let mut words = Vec::new(alloc);
+    for word in line.split(' ') {
+        words.push(String::from_str(alloc, word)?)?;
+    }
+    Ok(words)
+}
+
+/// What the words of a line ask for, in short: the command with its values, `none`, or `memory`.
+fn asked(alloc: Global, line: &str) -> Result<String, Fail> {
+    let words = given(alloc, line)?;
+    let told = match command_of(alloc, &words) {
+        Err(_) => format!(in alloc; "memory")?,
+        Ok(None) => format!(in alloc; "none")?,
+        Ok(Some(command)) => told(alloc, &command)?,
+    };
+    Ok(told)
+}
+
+/// A command in short.
+fn told(alloc: Global, command: &Command<'_>) -> Result<String, Fail> {
+    let told = match command {
+        Command::Check { file, print } => format!(in alloc; "check {file} {print}")?,
+        Command::Run {
+            file,
+            steps,
+            profile,
+        } => format!(in alloc; "run {file} {steps} {profile}")?,
+        Command::Report { file, query, steps } => {
+            let query = menu_or_other(query);
+            format!(in alloc; "report {file} {query} {steps}")?
+        }
+        Command::Page { name, query } => {
+            let query = menu_or_other(query);
+            format!(in alloc; "page {name} {query}")?
+        }
+        Command::Gen { n, summary } => format!(in alloc; "gen {n} {summary}")?,
+        Command::Migrate { name, new } => format!(in alloc; "migrate {name} {new}")?,
+    };
+    Ok(told)
+}
+
+fn menu_or_other(query: &Query) -> &'static str {
+    match query {
+        Query::Menu => "menu",
+        _ => "other",
+    }
+}
+
+#[test]
+fn lines_ask_for_commands(rt: HostRuntime) -> Result<(), Fail> {
+    for (line, command) in [
+        ("check a.m", "check a.m false"),
+        ("check --print a.m", "check a.m true"),
+        ("check a.m --print --print", "none"),
+        ("run a.m", "run a.m 1000000 mdprof.data"),
+        ("run --steps 15 a.m --profile p", "run a.m 15 p"),
+        ("run a.m --profile=p --steps=15", "run a.m 15 p"),
+        ("run a.m --profile a.m", "none"),
+        ("run a.m --steps 0", "none"),
+        ("run a.m --steps", "none"),
+        ("run", "none"),
+        ("report a.m menu", "report a.m menu 1000000"),
+        ("report a.m /menu", "report a.m menu 1000000"),
+        ("report a.m clique?id=1", "report a.m other 1000000"),
+        ("report a.m clique", "none"),
+        ("report a.m", "none"),
+        ("page p menu", "page p menu"),
+        ("page p menu --steps 5", "none"),
+        ("gen 20 --summary", "gen 20 true"),
+        ("gen 0", "none"),
+        ("migrate p q", "migrate p q"),
+        ("migrate p p", "none"),
+        ("--help", "none"),
+    ] {
+        assert_eq!(rt; asked(rt.alloc(), line)?.as_str(), command, "{line}");
+    }
+    Ok(())
+}
