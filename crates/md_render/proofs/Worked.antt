@@ -19,7 +19,7 @@ use Rattle.md_render.specs.Text.{text_of}
 use Rattle.md_render.specs.Html.{html_of}
 
 unfoldable on_pages : ⊤
-unfolding digits percent_encode percent_encode_byte should_percent_encode
+unfolding text_of html_of digits percent_encode percent_encode_byte should_percent_encode
 on_pages = tt
 
 -- t.main/2, which calls a_b.step/0, which calls itself by a closure

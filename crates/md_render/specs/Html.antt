@@ -18,5 +18,5 @@ foot_words =
 abbrev pub html_with : Names → PageRows → List ℕ
 html_with n page = head_words (title_words n.statics page.title) ++ (row_lines Html n page.rows ++ foot_words)
 
-abbrev pub html_of : View → PageRows → List ℕ
+unfoldable pub html_of : View → PageRows → List ℕ
 html_of v page = html_with (names_of v) page

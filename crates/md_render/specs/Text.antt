@@ -9,5 +9,5 @@ use Rattle.md_render.specs.Lines.{title_words, row_lines}
 abbrev pub text_with : Names → PageRows → List ℕ
 text_with n page = title_words n.statics page.title ++ (codes "\n" ++ row_lines Text n page.rows)
 
-abbrev pub text_of : View → PageRows → List ℕ
+unfoldable pub text_of : View → PageRows → List ℕ
 text_of v page = text_with (names_of v) page
