@@ -1,6 +1,6 @@
 -- The profile and the view of the run of a program within a budget: those of the history of its events, over the
 -- tables of the program. The run knows neither.
-use Rattle.std.specs.Prelude.{ℕ, ◌≡◌, true, Some}
+use Rattle.std.specs.Prelude.{ℕ, ◌≡◌, Bool, true, false, Some}
 use Rattle.md_hlds.specs.Hlds.{Hlds, Procedure, procedure_called}
 use Rattle.md_hlds.specs.Run.{run, main_name, is_finished}
 use Rattle.md_events.specs.History.{history}
@@ -13,6 +13,8 @@ use Rattle.md_dynamic.specs.OfHistory.{IsProfileOf}
 use Rattle.md_dynamic.specs.Profile.{ProfileRows}
 use Rattle.md_dynamic.specs.Valid.{IsValid}
 use Rattle.md_machine.specs.Ran.{IsRunOf}
+use Rattle.md_machine.specs.declared.ran.End.{End}
+use Rattle.md_machine.specs.declared.ran.End.TheVariants.{Finished, Thrown, OutOfSteps}
 use Rattle.md_cost.specs.View.{View}
 use Rattle.md_view.specs.RunView.{IsRunView}
 use Rattle.md_profile.specs.declared.profiled.Profiled.{Profiled}
@@ -24,6 +26,12 @@ IsProfileOfRun program budget f = IsProfileOf (statics_of program) (site_table p
 -- the view of a run, in which own counts ask the activations themselves, and totals their chains or stations
 abbrev pub IsViewOfRun : Hlds → ℕ → View → Type 0
 IsViewOfRun program budget v = IsRunView (statics_of program) (site_table program).main (history (run program budget)) (is_finished (run program budget)) v
+
+-- whether an end is that of a finished run
+abbrev pub finishes : End → Bool
+finishes Finished = true
+finishes Thrown = false
+finishes OutOfSteps = false
 
 -- what is asked of a program, which the program of every accepted text meets: its run is within bounds, its tables are
 -- sound, and the predicate that `main` names is the one with the io states

@@ -1,7 +1,7 @@
 // A run with its profile.
-ghost use Rattle.std.specs.Prelude.{IfOk};
+ghost use Rattle.std.specs.Prelude.{◌≡◌, IfOk};
 ghost use Rattle.md_hlds.specs.Hlds.{hlds_of};
-ghost use Rattle.md_profile.specs.OfRun.{CanBeProfiled, IsProfiled};
+ghost use Rattle.md_profile.specs.OfRun.{CanBeProfiled, IsProfiled, finishes};
 
 use md_base::NoMemory;
 use md_det::Checked;
@@ -30,9 +30,17 @@ pub fn profile_run(alloc: Global, checked: &Checked, budget: u32) -> Result<Prof
     let tables = statics(alloc, checked.program())?;
     let mut recorder = Recorder::new(alloc, tables, checked.main())?;
     let ran = interpret(alloc, checked, budget, &mut recorder)?;
-    let finished = ran.end == End::Finished;
-    Ok(Profiled {
-        ran,
-        profile: recorder.into_profile(finished),
-    })
+    let profile = recorder.into_profile(finishes(ran.end));
+    Ok(Profiled { ran, profile })
+}
+
+/// Whether an end is that of a finished run.
+fn finishes(end: End) -> bool
+    ensures { result ≡ finishes end }
+{
+    match end {
+        End::Finished => true,
+        End::Thrown => false,
+        End::OutOfSteps => false,
+    }
 }

@@ -6,7 +6,8 @@ use Rattle.md_query.specs.Asked.{Asked}
 use Rattle.md_query.specs.Pair.{number_within, within, is_number}
 use Rattle.md_token.specs.Literal.{number_of}
 use Rattle.md_words.specs.Form.{Form, Gen, HasBounds, check_of, run_of, report_of, report_with, page_of, page_with, gen_of, gen_with, migrate_of, form_of, form, query_in}
-use Rattle.md_words.specs.Split.{Split}
+use Rattle.md_words.specs.Split.{Split, split}
+use Rattle.md_words.specs.declared.split.Place.TheVariants.{Front}
 use Rattle.md_words.specs.declared.command.Command.{Command}
 use Rattle.md_words.specs.Told.{told, command_told}
 
@@ -14,36 +15,40 @@ abbrev Good : Option Form → Type 0
 Good None = Unit {0}
 Good (Some f) = HasBounds f
 
-good_cond : (b : Bool) (x y : Option Form) → Good x → Good y → Good (cond b x y)
+-- a command that the words may be is within its bounds
+record IsGood (found : Option Form) : Type 0 where
+  good : Good found
+
+good_cond : (b : Bool) (x y : Option Form) → IsGood x → IsGood y → IsGood (cond b x y)
 good_cond true x y first second = first
 good_cond false x y first second = second
 
-good_check : (p : Option Bool) (file : Option (List ℕ)) → Good (check_of p file)
-good_check None file = tt
-good_check (Some p) None = tt
-good_check (Some p) (Some file) = tt
+good_check : (p : Option Bool) (file : Option (List ℕ)) → IsGood (check_of p file)
+good_check None file = record { good = tt }
+good_check (Some p) None = record { good = tt }
+good_check (Some p) (Some file) = record { good = tt }
 
-good_run : (r : Option (ℕ × List ℕ)) (file : Option (List ℕ)) → Good (run_of r file)
-good_run None file = tt
-good_run (Some (n, name)) None = tt
-good_run (Some (n, name)) (Some file) = good_cond _ None (Some _) tt tt
+good_run : (r : Option (ℕ × List ℕ)) (file : Option (List ℕ)) → IsGood (run_of r file)
+good_run None file = record { good = tt }
+good_run (Some (n, name)) None = record { good = tt }
+good_run (Some (n, name)) (Some file) = good_cond _ _ _ (record { good = tt }) (record { good = tt })
 
-good_report_with : (file : List ℕ) (steps : ℕ) (query : Option Asked) → Good (report_with file steps query)
-good_report_with file steps None = tt
-good_report_with file steps (Some q) = tt
+good_report_with : (file : List ℕ) (steps : ℕ) (query : Option Asked) → IsGood (report_with file steps query)
+good_report_with file steps None = record { good = tt }
+good_report_with file steps (Some q) = record { good = tt }
 
-good_report : (steps : Option ℕ) (words : Option (List ℕ × List ℕ)) → Good (report_of steps words)
-good_report None words = tt
-good_report (Some n) None = tt
+good_report : (steps : Option ℕ) (words : Option (List ℕ × List ℕ)) → IsGood (report_of steps words)
+good_report None words = record { good = tt }
+good_report (Some n) None = record { good = tt }
 good_report (Some n) (Some (file, query)) = good_report_with file n (query_in query)
 
-good_page_with : (name : List ℕ) (query : Option Asked) → Good (page_with name query)
-good_page_with name None = tt
-good_page_with name (Some q) = tt
+good_page_with : (name : List ℕ) (query : Option Asked) → IsGood (page_with name query)
+good_page_with name None = record { good = tt }
+good_page_with name (Some q) = record { good = tt }
 
-good_page : (bare : Bool) (words : Option (List ℕ × List ℕ)) → Good (page_of bare words)
-good_page false words = tt
-good_page true None = tt
+good_page : (bare : Bool) (words : Option (List ℕ × List ℕ)) → IsGood (page_of bare words)
+good_page false words = record { good = tt }
+good_page true None = record { good = tt }
 good_page true (Some (name, query)) = good_page_with name (query_in query)
 
 abbrev IsCount : Option ℕ → Type 0
@@ -65,29 +70,29 @@ count_cond false x is = tt
 count_in : (word : List ℕ) → IsCount (number_within 1 20 word)
 count_in word = count_cond (is_number word) (within 1 20 (number_of word)) (count_within (number_of word))
 
-good_gen_with : (summary : Bool) (n : Option ℕ) → IsCount n → Good (gen_with summary n)
-good_gen_with summary None is = tt
-good_gen_with summary (Some n) is = is
+good_gen_with : (summary : Bool) (n : Option ℕ) → IsCount n → IsGood (gen_with summary n)
+good_gen_with summary None is = record { good = tt }
+good_gen_with summary (Some n) is = record { good = is }
 
-good_gen : (summary : Option Bool) (word : Option (List ℕ)) → Good (gen_of summary word)
-good_gen None word = tt
-good_gen (Some s) None = tt
+good_gen : (summary : Option Bool) (word : Option (List ℕ)) → IsGood (gen_of summary word)
+good_gen None word = record { good = tt }
+good_gen (Some s) None = record { good = tt }
 good_gen (Some s) (Some word) = good_gen_with s (number_within 1 20 word) (count_in word)
 
-good_migrate : (bare : Bool) (words : Option (List ℕ × List ℕ)) → Good (migrate_of bare words)
-good_migrate false words = tt
-good_migrate true None = tt
-good_migrate true (Some (name, new)) = good_cond _ None (Some _) tt tt
+good_migrate : (bare : Bool) (words : Option (List ℕ × List ℕ)) → IsGood (migrate_of bare words)
+good_migrate false words = record { good = tt }
+good_migrate true None = record { good = tt }
+good_migrate true (Some (name, new)) = good_cond _ _ _ (record { good = tt }) (record { good = tt })
 
-good_form_of : (command : List ℕ) (s : Split) → Good (form_of command s)
+good_form_of : (command : List ℕ) (s : Split) → IsGood (form_of command s)
 good_form_of command s =
     good_cond _ _ _ (good_check _ _) (good_cond _ _ _ (good_run _ _) (good_cond _ _ _ (good_report _ _)
-    (good_cond _ _ _ (good_page _ _) (good_cond _ _ _ (good_gen _ _) (good_cond _ _ _ (good_migrate _ _) tt)))))
+    (good_cond _ _ _ (good_page _ _) (good_cond _ _ _ (good_gen _ _) (good_cond _ _ _ (good_migrate _ _) (record { good = tt }))))))
 
 good_form : (words : List (List ℕ)) → Good (form words)
 unfolding form
 good_form [] = tt
-good_form (command ∷ words) = good_form_of command _
+good_form (command ∷ words) = (good_form_of command (split Front words)).good
 
 -- so of the command that the words are
 pub bounds_of : (words : List (List ℕ)) (found : Option Command) → command_told found ≡ form words → IfSome found (λ command. HasBounds (told command))
