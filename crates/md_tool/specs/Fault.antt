@@ -1,8 +1,8 @@
 -- Faults, with their exit statuses and the lines that tell of them.
 use Rattle.std.specs.Prelude.{ℕ, List, [], ◌∷◌, ◌++◌, codes}
 use Rattle.std.specs.Fmt.{decimal}
-use Rattle.md_deepfile.specs.declared.kind.Kind.{Kind}
-use Rattle.md_deepfile.specs.declared.kind.Kind.TheVariants as kind
+use Rattle.md_deepfile.specs.declared.damage.Kind.{Kind}
+use Rattle.md_deepfile.specs.declared.damage.Kind.TheVariants as kind
 use Rattle.md_hlds.specs.declared.types.Det.{Det}
 use Rattle.md_hlds.specs.declared.types.Det.TheVariants as det
 use Rattle.md_tool.specs.declared.fault.Fault.{Fault}
