@@ -1,7 +1,7 @@
 // The commands, with what each does to the store, the streams and the net.
 ghost use Rattle.std.specs.Prelude.{◌≡◌, ◌≤◌, Some, true};
 ghost use Rattle.md_base.specs.Outside.{Rose};
-ghost use Rattle.md_words.specs.Form.{words_of, form};
+ghost use Rattle.md_words.specs.Form.{words_of, HasBounds, form};
 ghost use Rattle.md_words.specs.Told.{told};
 ghost use Rattle.md_tool.specs.Told.{Tells, EndIsTold, TopEnds};
 ghost use Rattle.md_tool.specs.Meaning.{Means, keeps_store};
@@ -79,6 +79,7 @@ fn do_command<S: Store, O: Sink, E: Sink>(
     out: &mut O,
     err: &mut E,
 ) -> u8
+    requires { HasBounds (told command.now) }
     ensures ends { TopEnds (Some (told command.now)) (S.held store.old) (S.held store.new) (O.held out.old) (O.held out.new) (E.held err.old) (E.held err.new)
         (Rose (S.read_faults store.old) (S.read_faults store.new)) (Rose (S.write_faults store.old) (S.write_faults store.new))
         (Rose (O.write_faults out.old) (O.write_faults out.new)) (Rose (E.write_faults err.old) (E.write_faults err.new)) result }

@@ -1,11 +1,12 @@
 -- What holds of every command.
 use Rattle.std.proofs.Common.{◌≡◌, refl, sym, subst, ℕ, ◌≤◌, Bool, true, false, cond, ◌&&◌, List, [], ◌∷◌, Option, None, Some, arith}
-use Rattle.std.specs.Prelude.{nat_le, IfSome}
+use Rattle.std.specs.Prelude.{nat_le, IfSome, codes}
+use Rattle.std.specs.Str.{bytes_eq}
 use Rattle.std.proofs.lemmas.Bool.Decides.{nat_tests}
 use Rattle.md_query.specs.Asked.{Asked}
 use Rattle.md_query.specs.Pair.{number_within, within, is_number}
 use Rattle.md_token.specs.Literal.{number_of}
-use Rattle.md_words.specs.Form.{Form, Gen, HasBounds, check_of, run_of, report_of, report_with, page_of, page_with, gen_of, gen_with, migrate_of, form_of, form, query_in}
+use Rattle.md_words.specs.Form.{Form, Run, Gen, Migrate, HasBounds, check_of, run_of, report_of, report_with, page_of, page_with, gen_of, gen_with, migrate_of, form, query_in, only, two, print_of, summary_of, steps_of, running_of, are_none}
 use Rattle.md_words.specs.Split.{Split, split}
 use Rattle.md_words.specs.declared.split.Place.TheVariants.{Front}
 use Rattle.md_words.specs.declared.command.Command.{Command}
@@ -31,7 +32,7 @@ good_check (Some p) (Some file) = record { good = tt }
 good_run : (r : Option (ℕ × List ℕ)) (file : Option (List ℕ)) → IsGood (run_of r file)
 good_run None file = record { good = tt }
 good_run (Some (n, name)) None = record { good = tt }
-good_run (Some (n, name)) (Some file) = good_cond _ _ _ (record { good = tt }) (record { good = tt })
+good_run (Some (n, name)) (Some file) = good_cond (bytes_eq name file) None (Some (Run file n name)) (record { good = tt }) (record { good = tt })
 
 good_report_with : (file : List ℕ) (steps : ℕ) (query : Option Asked) → IsGood (report_with file steps query)
 good_report_with file steps None = record { good = tt }
@@ -82,17 +83,49 @@ good_gen (Some s) (Some word) = good_gen_with s (number_within 1 20 word) (count
 good_migrate : (bare : Bool) (words : Option (List ℕ × List ℕ)) → IsGood (migrate_of bare words)
 good_migrate false words = record { good = tt }
 good_migrate true None = record { good = tt }
-good_migrate true (Some (name, new)) = good_cond _ _ _ (record { good = tt }) (record { good = tt })
+good_migrate true (Some (name, new)) = good_cond (bytes_eq name new) None (Some (Migrate name new)) (record { good = tt }) (record { good = tt })
 
-good_form_of : (command : List ℕ) (s : Split) → IsGood (form_of command s)
-good_form_of command s =
-    good_cond _ _ _ (good_check _ _) (good_cond _ _ _ (good_run _ _) (good_cond _ _ _ (good_report _ _)
-    (good_cond _ _ _ (good_page _ _) (good_cond _ _ _ (good_gen _ _) (good_cond _ _ _ (good_migrate _ _) (record { good = tt }))))))
+-- the commands from each one on
+abbrev from_migrate : List ℕ → Split → Option Form
+from_migrate command s = cond (bytes_eq command (codes "migrate")) (migrate_of (are_none s.options) (two s.others)) None
+
+good_from_migrate : (command : List ℕ) (s : Split) → IsGood (from_migrate command s)
+good_from_migrate command s = good_cond (bytes_eq command (codes "migrate")) (migrate_of (are_none s.options) (two s.others)) None (good_migrate (are_none s.options) (two s.others)) (record { good = tt })
+
+abbrev from_gen : List ℕ → Split → Option Form
+from_gen command s = cond (bytes_eq command (codes "gen")) (gen_of (summary_of s.options) (only s.others)) (from_migrate command s)
+
+good_from_gen : (command : List ℕ) (s : Split) → IsGood (from_gen command s)
+good_from_gen command s = good_cond (bytes_eq command (codes "gen")) (gen_of (summary_of s.options) (only s.others)) (from_migrate command s) (good_gen (summary_of s.options) (only s.others)) (good_from_migrate command s)
+
+abbrev from_page : List ℕ → Split → Option Form
+from_page command s = cond (bytes_eq command (codes "page")) (page_of (are_none s.options) (two s.others)) (from_gen command s)
+
+good_from_page : (command : List ℕ) (s : Split) → IsGood (from_page command s)
+good_from_page command s = good_cond (bytes_eq command (codes "page")) (page_of (are_none s.options) (two s.others)) (from_gen command s) (good_page (are_none s.options) (two s.others)) (good_from_gen command s)
+
+abbrev from_report : List ℕ → Split → Option Form
+from_report command s = cond (bytes_eq command (codes "report")) (report_of (steps_of s.options) (two s.others)) (from_page command s)
+
+good_from_report : (command : List ℕ) (s : Split) → IsGood (from_report command s)
+good_from_report command s = good_cond (bytes_eq command (codes "report")) (report_of (steps_of s.options) (two s.others)) (from_page command s) (good_report (steps_of s.options) (two s.others)) (good_from_page command s)
+
+abbrev from_run : List ℕ → Split → Option Form
+from_run command s = cond (bytes_eq command (codes "run")) (run_of (running_of s.options) (only s.others)) (from_report command s)
+
+good_from_run : (command : List ℕ) (s : Split) → IsGood (from_run command s)
+good_from_run command s = good_cond (bytes_eq command (codes "run")) (run_of (running_of s.options) (only s.others)) (from_report command s) (good_run (running_of s.options) (only s.others)) (good_from_report command s)
+
+abbrev from_check : List ℕ → Split → Option Form
+from_check command s = cond (bytes_eq command (codes "check")) (check_of (print_of s.options) (only s.others)) (from_run command s)
+
+good_from_check : (command : List ℕ) (s : Split) → IsGood (from_check command s)
+good_from_check command s = good_cond (bytes_eq command (codes "check")) (check_of (print_of s.options) (only s.others)) (from_run command s) (good_check (print_of s.options) (only s.others)) (good_from_run command s)
 
 good_form : (words : List (List ℕ)) → Good (form words)
 unfolding form
 good_form [] = tt
-good_form (command ∷ words) = (good_form_of command (split Front words)).good
+good_form (command ∷ words) = (good_from_check command (split Front words)).good
 
 -- so of the command that the words are
 pub bounds_of : (words : List (List ℕ)) (found : Option Command) → command_told found ≡ form words → IfSome found (λ command. HasBounds (told command))
