@@ -1,9 +1,8 @@
 -- A generated program is short enough to be read.
-use Rattle.std.proofs.Common.{◌≡◌, refl, ℕ, zero, suc, ◌+◌, ◌*◌, ◌<◌, ◌≤◌, ◌==◌, Bool, true, false, List, [], ◌∷◌, ◌++◌, length, length-append, codes, arith, if◌then◌else◌}
+use Rattle.std.proofs.Common.{◌≡◌, ◌∙◌, refl, ap, sym, subst, append_assoc, ℕ, ◌-◌, zero, suc, ◌+◌, ◌*◌, ◌<◌, ◌≤◌, ◌==◌, Bool, true, false, List, [], ◌∷◌, ◌++◌, length, length-append, codes, arith, if◌then◌else◌}
 use Rattle.std.proofs.lemmas.Fmt.{length-decimal-le}
 use Rattle.std.specs.Fmt.{decimal}
-use Rattle.std.specs.List.{range_with_len, flat_map}
-use Rattle.md_tool.specs.Generated.{level_name, level_body, level, generated_main, gen_text}
+use Rattle.md_tool.specs.Generated.{level_name, level_body, level, levels, generated_main, gen_text}
 
 name_short : (i : ℕ) → i < 100 → length (level_name i) ≤ 3
 name_short i below =
@@ -37,15 +36,33 @@ level_short n i below =
     let whole = length-append (codes ":- pred ") (level_name i ++ (codes " is det.\n" ++ (level_name i ++ (codes " :- " ++ (level_body n i ++ codes ".\n"))))) in
     omega (arith, name, body, a, b, c, d, last, rule, clause, det, named, whole)
 
-levels_short : (n a k : ℕ) → a + k < 100 → length (flat_map (level n) (range_with_len a k)) ≤ 37 * k
+levels_short : (n a k : ℕ) → a + k < 100 → length (levels n a k) ≤ 37 * k
 levels_short n a zero below = omega arith
 levels_short n a (suc k) below =
     let first = level_short n a (omega (arith, below)) in
     let rest = levels_short n (suc a) k (omega (arith, below)) in
-    omega (arith, length-append (level n a) (flat_map (level n) (range_with_len (suc a) k)), first, rest)
+    omega (arith, length-append (level n a) (levels n (suc a) k), first, rest)
 
 pub gen_short : (n : ℕ) → n ≤ 20 → length (gen_text n) ≤ 1048576
 gen_short n few =
     let head : length generated_main ≡ 83 = refl in
     let levels = levels_short n 1 n (omega (arith, few)) in
-    omega (arith, length-append generated_main (flat_map (level n) (range_with_len 1 n)), head, levels, few)
+    omega (arith, length-append generated_main (levels n 1 n), head, levels, few)
+
+-- one procedure more is written
+pub next_level : (n i : ℕ) (xs ys t : List ℕ) → i < n → ys ≡ xs ++ level n (suc i) → xs ++ levels n (suc i) (n - i) ≡ t → ys ++ levels n (suc (suc i)) (n - suc i) ≡ t
+next_level n i xs ys t below is h =
+    let more : n - i ≡ suc (n - suc i) = omega (arith, below) in
+    ap (λ (b : List ℕ). b ++ levels n (suc (suc i)) (n - suc i)) is
+    ∙ (append_assoc xs (level n (suc i)) (levels n (suc (suc i)) (n - suc i))
+    ∙ (ap (λ (k : ℕ). xs ++ levels n (suc i) k) (sym more) ∙ h))
+
+nothing : (bytes : List ℕ) → bytes ≡ bytes ++ []
+nothing [] = refl
+nothing (b ∷ bytes) = ap (λ (all : List ℕ). b ∷ all) (nothing bytes)
+
+-- nothing is left
+pub no_level : (n i : ℕ) (xs t : List ℕ) → n ≤ i → xs ++ levels n (suc i) (n - i) ≡ t → xs ≡ t
+no_level n i xs t past h =
+    let none : n - i ≡ 0 = omega (arith, past) in
+    nothing xs ∙ (ap (λ (k : ℕ). xs ++ levels n (suc i) k) (sym none) ∙ h)

@@ -79,8 +79,8 @@ word_of_kind kind.DoubleLink = codes "double link"
 word_of_kind kind.Orphan = codes "orphan"
 word_of_kind kind.Flag = codes "flag"
 
-abbrev pub damage_text : ℕ → Kind → List ℕ
-damage_text at kind = codes "damaged at " ++ (decimal at ++ (codes ": " ++ word_of_kind kind))
+abbrev pub damage_text : ℕ → List ℕ → List ℕ
+damage_text at kind = codes "damaged at " ++ (decimal at ++ (codes ": " ++ kind))
 
 abbrev pub size_text : ℕ → List ℕ
 size_text most = codes "longer than " ++ (decimal most ++ codes " bytes")
@@ -96,7 +96,7 @@ fault_line TooLong file = file_line file (codes "longer than 1048576 bytes")
 fault_line (Refused line w) file = place_line file line (text_of w)
 fault_line OutOfSteps file = plain_line (codes "out of steps")
 fault_line (Thrown error) file = uncaught_line error.items
-fault_line (Damaged at kind) file = file_line file (damage_text at kind)
+fault_line (Damaged at kind) file = file_line file (damage_text at (word_of_kind kind))
 fault_line (TooLarge most) file = file_line file (size_text most)
 fault_line (TwoEntries clique a b) file = file_line file (entries_text clique a b)
 fault_line NoSuchPage file = plain_line (codes "no such page")

@@ -1,7 +1,6 @@
 -- The generated programs, and what `gen` owes.
-use Rattle.std.specs.Prelude.{ℕ, ◌≡◌, ◌⊎◌, ◌+◌, ◌==◌, Bool, true, false, List, ◌++◌, Option, Result, Ok, Err, codes, if◌then◌else◌}
+use Rattle.std.specs.Prelude.{ℕ, zero, suc, ◌≡◌, ◌⊎◌, ◌+◌, ◌==◌, Bool, true, false, List, [], ◌++◌, Option, Result, Ok, Err, codes, if◌then◌else◌}
 use Rattle.std.specs.Fmt.{decimal}
-use Rattle.std.specs.List.{range_with_len, flat_map}
 use Rattle.md_base.specs.Outside.{added, PartAdded}
 use Rattle.md_hlds.specs.Run.{run}
 use Rattle.md_profile.specs.OfRun.{IsViewOfRun}
@@ -27,9 +26,14 @@ level n i = codes ":- pred " ++ (level_name i ++ (codes " is det.\n" ++ (level_n
 abbrev pub generated_main : List ℕ
 generated_main = codes ":- module gen.\n:- pred main(io::di, io::uo) is det.\nmain(IO0, IO) :- p1, IO = IO0.\n"
 
+-- k of the n procedures, from procedure i on
+abbrev pub levels : ℕ → ℕ → ℕ → List ℕ
+levels n i zero = []
+levels n i (suc k) = level n i ++ levels n (suc i) k
+
 -- the program of n procedures below main, whose run has 2 ^ n contexts
 abbrev pub gen_text : ℕ → List ℕ
-gen_text n = generated_main ++ flat_map (level n) (range_with_len 1 n)
+gen_text n = generated_main ++ levels n 1 n
 
 -- ---- its summary: the menu of its run
 

@@ -104,11 +104,16 @@ impl Fault {
 
 /// The line that tells of damage to a profile file.
 fn damaged(alloc: Global, file: &str, at: u64, kind: Kind) -> Result<Vec<u8>, AllocError>
-    ensures { IfOk result (λ told. told.items ≡ file_line file.now (damage_text at kind)) }
+    ensures { IfOk result (λ told. told.items ≡ file_line file.now (damage_text at (word_of_kind kind))) }
 {
-    let kind = word_of_kind(kind);
-    let text = format!(in alloc; "damaged at {at}: {kind}")?;
+    let text = damage_text(alloc, at, word_of_kind(kind))?;
     of_file(alloc, file, text.as_str())
+}
+
+fn damage_text(alloc: Global, at: u64, kind: &str) -> Result<String, AllocError>
+    ensures { IfOk result (λ text. string_bytes text ≡ damage_text at kind.now) }
+{
+    format!(in alloc; "damaged at {at}: {kind}")
 }
 
 /// The word for a kind of damage.
@@ -132,8 +137,14 @@ fn word_of_kind(kind: Kind) -> &'static str
 fn too_large(alloc: Global, file: &str, most: u64) -> Result<Vec<u8>, AllocError>
     ensures { IfOk result (λ told. told.items ≡ file_line file.now (size_text most)) }
 {
-    let text = format!(in alloc; "longer than {most} bytes")?;
+    let text = size_text(alloc, most)?;
     of_file(alloc, file, text.as_str())
+}
+
+fn size_text(alloc: Global, most: u64) -> Result<String, AllocError>
+    ensures { IfOk result (λ text. string_bytes text ≡ size_text most) }
+{
+    format!(in alloc; "longer than {most} bytes")
 }
 
 /// The line that tells of a clique that two links enter.
@@ -146,8 +157,14 @@ fn two_entries(
 ) -> Result<Vec<u8>, AllocError>
     ensures { IfOk result (λ told. told.items ≡ file_line file.now (entries_text clique a b)) }
 {
-    let text = format!(in alloc; "clique {clique} is entered by links {a} and {b}")?;
+    let text = entries_text(alloc, clique, a, b)?;
     of_file(alloc, file, text.as_str())
+}
+
+fn entries_text(alloc: Global, clique: u32, a: u32, b: u32) -> Result<String, AllocError>
+    ensures { IfOk result (λ text. string_bytes text ≡ entries_text clique a b) }
+{
+    format!(in alloc; "clique {clique} is entered by links {a} and {b}")
 }
 
 /// The line that tells why a text isn't accepted.

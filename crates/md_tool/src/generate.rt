@@ -22,7 +22,7 @@ pub fn generate<O: Sink>(
     summary: bool,
     out: &mut O,
 ) -> Result<(), Fault>
-    requires { 1 ≤ n }
+    requires some { 1 ≤ n }
     requires few { n ≤ 20 }
     ensures { GenEnds n summary (O.held out.old) (O.held out.new) (Rose (O.write_faults out.old) (O.write_faults out.new)) result }
 {
@@ -54,7 +54,7 @@ fn summarize<O: Sink>(
 
 /// The program of `n` procedures below `main`: the last one does nothing, and each other one calls the next one twice.
 fn gen_text(alloc: Global, n: u32) -> Result<Vec<u8>, NoMemory>
-    requires { 1 ≤ n }
+    requires some { 1 ≤ n }
     requires few { n ≤ 20 }
     ensures { IfOk result (λ text. text.items ≡ gen_text n) }
 {
@@ -62,8 +62,8 @@ fn gen_text(alloc: Global, n: u32) -> Result<Vec<u8>, NoMemory>
         alloc,
         b":- module gen.\n:- pred main(io::di, io::uo) is det.\nmain(IO0, IO) :- p1, IO = IO0.\n",
     )?;
-    for i in 1..=n {
-        let level = level(alloc, n, i)?;
+    for i in 0..n {
+        let level = level(alloc, n, i + 1)?;
         text.extend_from_slice(level.as_str().as_bytes())?;
     }
     Ok(text)

@@ -17,14 +17,14 @@ fn report(alloc: Global, text: &str, steps: &str, outside: &Outside<'_>) -> Resu
 }
 
 #[test]
-fn a_report_has_each_procedure_with_its_own_counts(rt: HostRuntime) -> Result<(), Fail> {
+fn a_report_has_each_procedure_with_its_counts(rt: HostRuntime) -> Result<(), Fail> {
     const EVEN_PAGE: &str =
-        "mdprof procs\nproc 0 t.main/2 own 1 1 0 0 0 0\nproc 1 t.even/2 own 3 3 0 0 0 0\nproc 2 t.odd/2 own 3 3 0 0 0 0\n";
-    const HELLO_PAGE: &str = "mdprof procs\nproc 0 t.main/2 own 1 1 0 0 0 0\n";
-    const UNFINISHED: &str = "mdprof procs\nproc 0 t.main/2 own 1 0 0 0 0 0\n";
-    const NOTHING: &str = "mdprof procs\nproc 0 t.main/2 own 0 0 0 0 0 0\n";
+        "mdprof procs\nproc 0 t.main/2 own 1 1 0 0 0 0 total 7 7 0 0 0 0\nproc 1 t.even/2 own 3 3 0 0 0 0 total 3 3 0 0 0 0\nproc 2 t.odd/2 own 3 3 0 0 0 0 total 3 3 0 0 0 0\n";
+    const HELLO_PAGE: &str = "mdprof procs\nproc 0 t.main/2 own 1 1 0 0 0 0 total 1 1 0 0 0 0\n";
+    const UNFINISHED: &str = "mdprof procs\nproc 0 t.main/2 own 1 0 0 0 0 0 total 1 0 0 0 0 0\n";
+    const NOTHING: &str = "mdprof procs\nproc 0 t.main/2 own 0 0 0 0 0 0 total 0 0 0 0 0 0\n";
     const ERR_PAGE: &str =
-        "mdprof procs\nproc 0 t.main/2 own 1 0 0 0 0 0 excps 1\nproc 1 t.f/1 own 3 0 0 0 0 0 excps 3\n";
+        "mdprof procs\nproc 0 t.main/2 own 1 0 0 0 0 0 excps 1 total 4 0 0 0 0 0 excps 4\nproc 1 t.f/1 own 3 0 0 0 0 0 excps 3 total 3 0 0 0 0 0 excps 3\n";
     for (text, steps, out, err, status) in [
         (EVEN, "1000", EVEN_PAGE, "0-- end of output\n", 0),
         (HELLO, "15", HELLO_PAGE, "hello\n-- end of output\n", 0),
@@ -85,7 +85,7 @@ fn a_report_whose_output_cannot_be_written_has_no_page(rt: HostRuntime) -> Resul
 
 #[test]
 fn each_write_of_a_page_that_fails_leaves_a_front(rt: HostRuntime) -> Result<(), Fail> {
-    const PAGE: &[u8] = b"mdprof procs\nproc 0 t.main/2 own 1 1 0 0 0 0\n";
+    const PAGE: &[u8] = b"mdprof procs\nproc 0 t.main/2 own 1 1 0 0 0 0 total 1 1 0 0 0 0\n";
     for call in 1..5u64 {
         let outside = Outside {
             most: 12,
