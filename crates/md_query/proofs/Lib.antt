@@ -1,4 +1,5 @@
 mod Worked
+mod WorkedPages
 pub mod ListSteps
 pub mod ViewLists
 pub mod Orders

@@ -1,10 +1,10 @@
 -- The numbers of the page that a query asks for are in the profile, and no call on it is the root link.
-use Rattle.std.proofs.Common.{◌≡◌, ℕ, ◌+◌, ◌<◌, Bool, true, false, eqb, List, [], ◌∷◌, ◌++◌, length, get_or, map, Option, Some, None, refl, sym, ap, ◌∙◌, inl, inr, subst, arith}
+use Rattle.std.proofs.Common.{◌≡◌, ℕ, ◌<◌, true, eqb, List, [], ◌∷◌, ◌++◌, length, get_or, map, Option, Some, None, refl, sym, ap, ◌∙◌, inl, inr, subst, arith}
 use Rattle.std.specs.Prelude.{All, IsSomeAnd}
-use Rattle.std.specs.List.{slice_get, flat_map, position, range_with_len, AllByRecursion}
+use Rattle.std.specs.List.{slice_get, flat_map, AllByRecursion}
 use Rattle.std.specs.Option.{option_map}
 use Rattle.std.specs.Str.{bytes_eq}
-use Rattle.std.proofs.lemmas.Bool.{cases_Bool, cases_eq, cases_lt, lt-ltb, le-ltb}
+use Rattle.std.proofs.lemmas.Bool.{cases_Bool, cases_lt, lt-ltb, le-ltb}
 use Rattle.std.proofs.lemmas.List.{length-map}
 use Rattle.std.proofs.lemmas.List.Elements.{All-nil, All-cons, All-head, All-tail, All-append, All-map, All-weaker, All-take, All-from_recursion}
 use Rattle.std.proofs.lemmas.List.Quantifiers.{position-Some}
@@ -17,7 +17,6 @@ use Rattle.md_dynamic.specs.Valid.{IsValid, IsRoot}
 use Rattle.md_dynamic.specs.declared.link.LinkRow.{LinkRow}
 use Rattle.md_clique.specs.Cliques.{clique_count, members_of}
 use Rattle.md_clique.specs.Entries.{is_outside}
-use Rattle.md_clique.specs.Places.{places}
 use Rattle.md_cost.specs.FileView.{IsFileView, join_of}
 use Rattle.md_cost.specs.Paths.{ends}
 use Rattle.md_cost.specs.View.{View, Join, OfClique, OfProcedure, OfModule}

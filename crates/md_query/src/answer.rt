@@ -54,6 +54,7 @@ pub fn page(alloc: Global, loaded: &Loaded, query: &Query) -> Result<Page, PageF
     ensures none { result ≡ Err fault.NoSuchPage → (v : View) → IsFileView loaded.now.profile v → page_of v (asked query.now) ≡ None }
     ensures within { IfOk result (λ page. IsWithin loaded.now.profile page) }
 {
+    // it is valid and has a view, which `profile` says
     let _profile = loaded.profile();
     match found_page(alloc, loaded, query)? {
         Some(page) => Ok(page),
@@ -81,6 +82,7 @@ fn found_page(alloc: Global, loaded: &Loaded, query: &Query) -> Result<Option<Pa
 fn root_page(alloc: Global, loaded: &Loaded) -> Result<Option<Page>, NoMemory>
     ensures { IfOk result (λ found. (v : View) → IsFileView loaded.now.profile v → found ≡ page_of v Root) }
 {
+    // it is valid and has a view, which `profile` says
     let _profile = loaded.profile();
     let page = clique_page(alloc, loaded, 0)?;
     Ok(Some(page))

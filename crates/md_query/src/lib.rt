@@ -5,6 +5,8 @@
 mod answer;
 mod listing;
 mod lists;
+#[cfg(test)]
+mod page_tests;
 mod pages;
 mod pair;
 mod query;

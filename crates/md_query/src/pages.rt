@@ -81,6 +81,7 @@ pub fn procs_page(alloc: Global, loaded: &Loaded) -> Result<Page, NoMemory>
 pub fn top_page(alloc: Global, loaded: &Loaded, by: Measure, n: u32) -> Result<Page, NoMemory>
     ensures { IfOk result (λ page. (v : View) → IsFileView loaded.now.profile v → page ≡ page_with (title.Top by n) (map (proc_row v) (top_procs v by n))) }
 {
+    // it is valid and has a view, which `profile` says
     let _profile = loaded.profile();
     let ids = ranked_procs(alloc, loaded, by)?;
     let shown = ids.len().min(n as usize);

@@ -14,6 +14,7 @@ pub fn entered_row(loaded: &Loaded, clique: u32) -> Row
     requires { clique < clique_count loaded.now.cliques }
     ensures { (v : View) → IsFileView loaded.now.profile v → result ≡ entered_row v clique }
 {
+    // it is valid and has a view, which `profile` says
     let _profile = loaded.profile();
     let link = loaded.entering(clique);
     let own = loaded.link_own(link);

@@ -1,9 +1,7 @@
-use Rattle.std.proofs.Common.{◌≡◌, ◌<◌, ◌≤◌, length, Some, None, refl, sym, ap, ◌∙◌, arith}
+use Rattle.std.proofs.Common.{◌<◌, ◌≤◌, length, Some, refl, ap}
 use Rattle.std.proofs.lemmas.Bool.{lt-ltb, le-ltb}
-use Rattle.md_static.specs.Tables.{Static}
 use Rattle.md_query.specs.Page.{PageRows}
-use Rattle.md_query.specs.PageOf.{page_of, page_with, proc_rows}
-use Rattle.md_query.specs.declared.row.Title.TheVariants as title
+use Rattle.md_query.specs.PageOf.{page_of}
 use Rattle.md_query.proofs.ViewLists.{statics_are}
 use Rattle.md_query.proofs.answer.find_proc.Goals as goal
 

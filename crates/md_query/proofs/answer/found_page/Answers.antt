@@ -1,7 +1,6 @@
 use Rattle.std.proofs.Common.{Some, ap}
 use Rattle.md_query.specs.Page.{PageRows}
 use Rattle.md_query.specs.PageOf.{page_of}
-use Rattle.md_query.specs.Told.{asked}
 use Rattle.md_query.proofs.answer.found_page.Goals as goal
 
 pub returns-in_ok-menu_page-in-Menu : goal.returns-in_ok-menu_page-in-Menu

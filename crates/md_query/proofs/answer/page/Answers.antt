@@ -1,5 +1,4 @@
-use Rattle.std.proofs.Common.{◌≡◌, Some, sym, ◌∙◌}
-use Rattle.md_query.specs.PageOf.{page_of}
+use Rattle.std.proofs.Common.{sym, ◌∙◌}
 use Rattle.md_query.specs.Told.{asked}
 use Rattle.md_query.proofs.Within.{within_page}
 use Rattle.md_query.proofs.answer.page.Goals as goal

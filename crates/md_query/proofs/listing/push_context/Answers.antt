@@ -1,11 +1,9 @@
-use Rattle.std.proofs.Common.{◌≡◌, ◌<◌, ◌++◌, ◌∷◌, [], ℕ, List, length, get_or, map, Option, None, sym, ap, ◌∙◌, subst, arith}
+use Rattle.std.proofs.Common.{◌≡◌, ◌++◌, ◌∷◌, [], ℕ, List, get_or, map, None, ap, ◌∙◌, subst, arith}
 use Rattle.std.proofs.lemmas.List.{get_or_read, append_assoc}
 use Rattle.std.proofs.lemmas.Result.{on_ok_weaker}
-use Rattle.md_clique.specs.Cliques.{members_of}
 use Rattle.md_clique.specs.Members.{Follows}
 use Rattle.md_query.specs.declared.row.Row.{Row}
 use Rattle.md_query.specs.PageOf.{context_row, link_row, links_from}
-use Rattle.md_query.specs.Threads.{starts_of}
 use Rattle.md_query.proofs.ViewLists.{links_from_is}
 use Rattle.md_query.proofs.listing.push_context.Goals as goal
 

@@ -1,4 +1,4 @@
-use Rattle.std.proofs.Common.{◌≡◌, ◌++◌, ◌∷◌, [], ℕ, List, get_or, None, sym, ap, ◌∙◌, subst}
+use Rattle.std.proofs.Common.{◌≡◌, ◌++◌, ◌∷◌, [], List, get_or, None, sym, ap, ◌∙◌, subst}
 use Rattle.md_query.specs.PageOf.{link_row}
 use Rattle.md_query.specs.declared.row.Row.{Row}
 use Rattle.md_query.proofs.ListSteps.{RowsGoOn, rows_more, rows_all}

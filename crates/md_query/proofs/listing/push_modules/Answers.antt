@@ -1,4 +1,3 @@
-use Rattle.std.proofs.Common.{refl}
 use Rattle.md_query.specs.PageOf.{module_row}
 use Rattle.md_query.proofs.ListSteps.{row_of_range}
 use Rattle.md_query.proofs.listing.push_modules.Goals as goal

@@ -1,4 +1,4 @@
-use Rattle.std.proofs.Common.{◌≡◌, ◌<◌, ◌≤◌, ◌+◌, eqb, length, get_or, take, sym, ap, ◌∙◌, arith}
+use Rattle.std.proofs.Common.{◌<◌, ◌+◌, eqb, take, ap, arith}
 use Rattle.std.proofs.lemmas.List.{get_or_read, length-take-le}
 use Rattle.md_static.specs.declared.entry.Proc.{Proc}
 use Rattle.md_query.proofs.ListSteps.{places_le, sizes_more}

@@ -1,9 +1,8 @@
 use Rattle.std.proofs.Common.{◌≡◌, ℕ, ◌+◌, ◌<◌, List, ◌++◌, ◌∷◌, [], eqb, length, get_or, take, Option, Some, None, refl, sym, ap, ◌∙◌, arith}
 use Rattle.std.specs.Prelude.{IfSome, All}
-use Rattle.std.specs.List.{slice_get, flat_map}
+use Rattle.std.specs.List.{flat_map}
 use Rattle.std.proofs.lemmas.List.{take_more, take_all, flat_map_more}
 use Rattle.std.proofs.lemmas.Option.{slice_get-get_or}
-use Rattle.md_dynamic.specs.declared.link.LinkRow.{LinkRow}
 use Rattle.md_cost.proofs.ValidSteps.{caller_there}
 use Rattle.md_cost.specs.View.{OfClique}
 use Rattle.md_query.specs.declared.row.Row.{Row}

@@ -1,5 +1,4 @@
-use Rattle.std.proofs.Common.{◌≡◌, ◌<◌, length, get_or, sym, arith}
-use Rattle.std.specs.List.{slice_get}
+use Rattle.std.proofs.Common.{get_or, arith}
 use Rattle.std.proofs.lemmas.Option.{slice_get_within}
 use Rattle.md_cost.specs.Paths.{ends}
 use Rattle.md_cost.proofs.EntrySteps.{entry_there}

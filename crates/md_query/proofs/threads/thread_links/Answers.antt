@@ -1,4 +1,4 @@
-use Rattle.std.proofs.Common.{◌≡◌, ◌<◌, ◌≤◌, ◌+◌, ◌-◌, ℕ, length, get_or, map, replicate, Option, Some, None, refl, sym, ap, ◌∙◌, inl, inr, arith, rules}
+use Rattle.std.proofs.Common.{◌≡◌, ◌<◌, ◌+◌, ◌-◌, ℕ, length, get_or, replicate, Option, Some, None, sym, ◌∙◌, inl, inr, arith, rules}
 use Rattle.std.specs.Prelude.{unwrap_or, IfSome}
 use Rattle.std.proofs.lemmas.Bool.{cases_lt}
 use Rattle.std.proofs.lemmas.List.{get_or_read, get_or-map, length-map, length-replicate, get_or-replicate, get_or_past}
