@@ -1,5 +1,5 @@
 -- What comes of a generated program.
-use Rattle.std.proofs.Common.{◌≡◌, ◌∙◌, refl, sym, inl, inr, ℕ, List, Option}
+use Rattle.std.proofs.Common.{◌≡◌, ◌∙◌, refl, sym, subst, inl, inr, ℕ, Bool, false, List, Option}
 use Rattle.std.specs.Prelude.{Result, Ok, Err}
 use Rattle.md_hlds.specs.Run.{run}
 use Rattle.md_profile.specs.OfRun.{IsViewOfRun}
@@ -9,8 +9,9 @@ use Rattle.md_query.specs.PageOf.{page_of}
 use Rattle.md_tool.specs.declared.fault.Fault.{Fault}
 use Rattle.md_tool.specs.declared.fault.Fault.TheVariants.{Usage, Read, TooLong, Refused, OutOfSteps, Thrown, Damaged, TooLarge, TwoEntries, NoSuchPage, Write, NoMemory}
 use Rattle.md_tool.specs.Accepted.{TextFault}
+use Rattle.md_tool.specs.Due.{WriteEnds}
 use Rattle.md_tool.specs.Ends.{TellsEnd, end_of, ran_end}
-use Rattle.md_tool.specs.Generated.{SummaryEnds, gen_text, most_steps}
+use Rattle.md_tool.specs.Generated.{SummaryEnds, GenEnds, gen_text, most_steps}
 use Rattle.md_tool.specs.Paged.{IsPaged, PageEnds}
 use Rattle.md_tool.specs.Ran.{IsProfiledText}
 use Rattle.md_tool.proofs.RunLemmas.{end_is}
@@ -68,3 +69,6 @@ unaccepted n out outs (TwoEntries clique x y) h = absurd h
 unaccepted n out outs NoSuchPage h = absurd h
 unaccepted n out outs Write h = absurd h
 unaccepted n out outs NoMemory h = inl refl
+
+pub text_written : (n : ℕ) (summary : Bool) (out out' : Option (List ℕ)) (outs : Type 0) (r : Result (Unit {0}) Fault) → summary ≡ false → WriteEnds (gen_text n) out out' outs r → GenEnds n summary out out' outs r
+text_written n summary out out' outs r plain h = subst (λ (s : Bool). GenEnds n s out out' outs r) (sym plain) h

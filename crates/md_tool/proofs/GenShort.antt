@@ -46,8 +46,8 @@ levels_short n a (suc k) below =
 pub gen_short : (n : ℕ) → n ≤ 20 → length (gen_text n) ≤ 1048576
 gen_short n few =
     let head : length generated_main ≡ 83 = refl in
-    let levels = levels_short n 1 n (omega (arith, few)) in
-    omega (arith, length-append generated_main (levels n 1 n), head, levels, few)
+    let rest = levels_short n 1 n (omega (arith, few)) in
+    omega (arith, length-append generated_main (levels n 1 n), head, rest, few)
 
 -- one procedure more is written
 pub next_level : (n i : ℕ) (xs ys t : List ℕ) → i < n → ys ≡ xs ++ level n (suc i) → xs ++ levels n (suc i) (n - i) ≡ t → ys ++ levels n (suc (suc i)) (n - suc i) ≡ t

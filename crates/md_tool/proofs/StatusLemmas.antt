@@ -253,11 +253,11 @@ top_means form held held' out out' err err' reads writes outs errs status h = en
 keeps : (form : Option Form) (held held' : Option Files) (out out' err err' : Option (List ℕ)) (reads writes outs errs : Type 0) (r : Result (Unit {0}) Fault)
     → CommandEnds form held held' out out' err err' reads writes outs errs r → keeps_store form ≡ true → held' ≡ held
 keeps None held held' out out' err err' reads writes outs errs r h so = h.1.held_is
-keeps (Some (Check file print)) held held' out out' err err' reads writes outs errs r h so = h.1.0
+keeps (Some (Check file print)) held held' out out' err err' reads writes outs errs r h so = h.1
 keeps (Some (Run file steps name)) held held' out out' err err' reads writes outs errs r h so = absurd (cc)
 keeps (Some (Report file query steps)) held held' out out' err err' reads writes outs errs r h so = h.1
-keeps (Some (Page name query)) held held' out out' err err' reads writes outs errs r h so = h.1.0
-keeps (Some (Gen n summary)) held held' out out' err err' reads writes outs errs r h so = h.1.0
+keeps (Some (Page name query)) held held' out out' err err' reads writes outs errs r h so = h.1
+keeps (Some (Gen n summary)) held held' out out' err err' reads writes outs errs r h so = h.1
 keeps (Some (Migrate name new)) held held' out out' err err' reads writes outs errs r h so = absurd (cc)
 
 pub store_kept : (form : Option Form) (held held' : Option Files) (out out' err err' : Option (List ℕ)) (reads writes outs errs : Type 0) (status : ℕ)

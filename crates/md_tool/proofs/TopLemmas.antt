@@ -1,6 +1,6 @@
 -- What a whole call comes to.
 use Rattle.std.proofs.Common.{◌≡◌, refl, sym, subst, inl, inr, ◌⊎◌, ℕ, ◌≤◌, List, [], Bool, true, false, Option, None, Some}
-use Rattle.std.specs.Prelude.{Result, Ok, Err}
+use Rattle.std.specs.Prelude.{Result, Ok, Err, codes}
 use Rattle.md_base.specs.Outside.{Rose, added}
 use Rattle.md_base.specs.Files.{Files}
 use Rattle.md_query.specs.Asked.{Asked}
@@ -8,7 +8,7 @@ use Rattle.md_words.specs.Form.{Form, Check, Run, Report, Page, Gen, Migrate}
 use Rattle.md_tool.specs.declared.fault.Fault.{Fault}
 use Rattle.md_tool.specs.declared.fault.Fault.TheVariants.{Usage, Read, TooLong, Refused, OutOfSteps, Thrown, Damaged, TooLarge, TwoEntries, NoSuchPage, Write, NoMemory}
 use Rattle.md_tool.specs.Fault.{fault_line}
-use Rattle.md_tool.specs.Generated.{gen_text}
+use Rattle.md_tool.specs.Generated.{gen_text, GenEnds}
 use Rattle.md_tool.specs.Reported.{ReportEnds}
 use Rattle.md_tool.specs.Told.{Tells, NothingChanged, EndIsTold, CommandEnds, TopEnds}
 use Rattle.md_tool.proofs.StreamLemmas.{rose_before, rose_after, none_added}
@@ -84,3 +84,9 @@ report_told held held' file query steps out out' err between err' reads writes o
   command = (report_rises held file query steps out out' err between reads outs (Rose a b) (Rose a c) r (rose_before a b c first later) ends, kept);
   told = told_rises r file between err' (Rose b c) (Rose a c) status (rose_after a b c first) told;
 }
+
+-- ---- a generated program
+
+pub gen_told : (held : Option Files) (n : ℕ) (summary : Bool) (out out' err err' : Option (List ℕ)) (reads writes outs errs : Type 0) (status : ℕ) (r : Result (Unit {0}) Fault)
+    → GenEnds n summary out out' outs r → EndIsTold r (codes "gen") err err' errs status → TopEnds (Some (Gen n summary)) held held out out' err err' reads writes outs errs status
+gen_told held n summary out out' err err' reads writes outs errs status r ends told = record { end = r; between = err; command = (ends, refl, refl); told = told }

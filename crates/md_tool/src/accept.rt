@@ -22,6 +22,7 @@ pub fn read_text<S: Store>(alloc: Global, file: &str, store: &mut S) -> Result<V
     ensures read { MatchResult result (λ text. IsText (S.held store.old) file.now text.items)
         (ReadFails (S.held store.old) file.now (Rose (S.read_faults store.old) (S.read_faults store.new))) }
     ensures kept { S.held store.new ≡ S.held store.old }
+    ensures writes { S.write_faults store.new ≡ S.write_faults store.old }
 {
     match read_all(alloc, store, file, LONGEST) {
         Ok(text) => Ok(text),

@@ -60,7 +60,7 @@ fn run_command<S: Store, O: Sink, E: Sink>(
     out: &mut O,
     err: &mut E,
 ) -> u8
-    ensures ends { TopEnds (form (words_of words.now)) (S.held store.old) (S.held store.new) (O.held out.old) (O.held out.new) (E.held err.old) (E.held err.new)
+    ensures { TopEnds (form (words_of words.now)) (S.held store.old) (S.held store.new) (O.held out.old) (O.held out.new) (E.held err.old) (E.held err.new)
         (Rose (S.read_faults store.old) (S.read_faults store.new)) (Rose (S.write_faults store.old) (S.write_faults store.new))
         (Rose (O.write_faults out.old) (O.write_faults out.new)) (Rose (E.write_faults err.old) (E.write_faults err.new)) result }
 {
@@ -80,7 +80,7 @@ fn do_command<S: Store, O: Sink, E: Sink>(
     err: &mut E,
 ) -> u8
     requires { HasBounds (told command.now) }
-    ensures ends { TopEnds (Some (told command.now)) (S.held store.old) (S.held store.new) (O.held out.old) (O.held out.new) (E.held err.old) (E.held err.new)
+    ensures { TopEnds (Some (told command.now)) (S.held store.old) (S.held store.new) (O.held out.old) (O.held out.new) (E.held err.old) (E.held err.new)
         (Rose (S.read_faults store.old) (S.read_faults store.new)) (Rose (S.write_faults store.old) (S.write_faults store.new))
         (Rose (O.write_faults out.old) (O.write_faults out.new)) (Rose (E.write_faults err.old) (E.write_faults err.new)) result }
 {

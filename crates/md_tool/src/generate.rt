@@ -1,7 +1,8 @@
 // The command `gen`.
 ghost use Rattle.std.specs.Prelude.{◌≡◌, ◌≤◌, ◌<◌, ◌++◌, IfOk, length, string_bytes};
 ghost use Rattle.md_base.specs.Outside.{Rose};
-ghost use Rattle.md_tool.specs.Generated.{GenEnds, SummaryEnds, gen_text, level, level_body};
+ghost use Rattle.md_tool.specs.Generated.{GenEnds, SummaryEnds, gen_text, most_steps, level, level_body};
+ghost use Rattle.md_tool.specs.Ran.{IsProfiledText};
 
 use crate::fault::Fault;
 use crate::report::{profile_text, show_page};
@@ -47,9 +48,28 @@ fn summarize<O: Sink>(
     requires short { length text.now ≤ 1048576 }
     ensures { SummaryEnds n (O.held out.old) (O.held out.new) (Rose (O.write_faults out.old) (O.write_faults out.new)) result }
 {
-    let Profiled { ran, profile } = profile_text(alloc, text, MOST_STEPS)?;
-    show_page(alloc, profile, &Query::Menu, out)?;
-    ended(ran)
+    match profile_text(alloc, text, MOST_STEPS) {
+        Ok(profiled) => show_menu(alloc, profiled, n, out),
+        Err(fault) => Err(fault),
+    }
+}
+
+/// Writes the menu of a generated program's run, and answers how it ended.
+fn show_menu<O: Sink>(
+    alloc: Global,
+    profiled: Profiled,
+    n: u32,
+    out: &mut O,
+) -> Result<(), Fault>
+    requires { IsProfiledText (gen_text n) most_steps profiled }
+    ensures { SummaryEnds n (O.held out.old) (O.held out.new) (Rose (O.write_faults out.old) (O.write_faults out.new)) result }
+{
+    let _ = n;
+    let Profiled { ran, profile } = profiled;
+    match show_page(alloc, profile, &Query::Menu, out) {
+        Ok(()) => ended(ran),
+        Err(fault) => Err(fault),
+    }
 }
 
 /// The program of `n` procedures below `main`: the last one does nothing, and each other one calls the next one twice.

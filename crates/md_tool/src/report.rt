@@ -78,8 +78,10 @@ fn show<O: Sink, E: Sink>(
 {
     let Profiled { ran, profile } = profiled;
     show_output(err, &ran.output)?;
-    show_page(alloc, profile, query, out)?;
-    ended(ran)
+    match show_page(alloc, profile, query, out) {
+        Ok(()) => ended(ran),
+        Err(fault) => Err(fault),
+    }
 }
 
 /// Writes a run's output, and the line that ends it.

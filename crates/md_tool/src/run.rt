@@ -28,7 +28,7 @@ pub fn run_file<S: Store, O: Sink>(
     store: &mut S,
     out: &mut O,
 ) -> Result<(), Fault>
-    ensures ends { RunEnds (S.held store.old) (S.held store.new) file.now steps name.now (O.held out.old) (O.held out.new)
+    ensures { RunEnds (S.held store.old) (S.held store.new) file.now steps name.now (O.held out.old) (O.held out.new)
         (Rose (S.read_faults store.old) (S.read_faults store.new)) (Rose (S.write_faults store.old) (S.write_faults store.new))
         (Rose (O.write_faults out.old) (O.write_faults out.new)) result }
 {

@@ -1,12 +1,22 @@
 use Rattle.md_base.specs.Outside.{Rose}
-use Rattle.md_tool.specs.Form.{words_of, form}
-use Rattle.md_tool.proofs.StatusLemmas.{top_means}
+use Rattle.md_words.specs.Form.{words_of, form}
+use Rattle.md_tool.proofs.StatusLemmas.{top_means, store_kept}
 use Rattle.md_tool.proofs.command.top.Goals as goal
 
 pub returns-clause-status : goal.returns-clause-status
 returns-clause-status g c =
-    top_means (form (words_of c.args.words.now)) (g.S.Store.held c.args.store.now) (g.O.Sink.held c.args.out.now) (g.O.Sink.held c.run_command.new.out)
+    top_means (form (words_of c.args.words.now)) (g.S.Store.held c.args.store.now) (g.S.Store.held c.run_command.new.store) (g.O.Sink.held c.args.out.now) (g.O.Sink.held c.run_command.new.out)
     (g.E.Sink.held c.args.err.now) (g.E.Sink.held c.run_command.new.err)
     (Rose (g.S.Store.read_faults c.args.store.now) (g.S.Store.read_faults c.run_command.new.store))
+    (Rose (g.S.Store.write_faults c.args.store.now) (g.S.Store.write_faults c.run_command.new.store))
     (Rose (g.O.Sink.write_faults c.args.out.now) (g.O.Sink.write_faults c.run_command.new.out))
-    (Rose (g.E.Sink.write_faults c.args.err.now) (g.E.Sink.write_faults c.run_command.new.err)) c.run_command.result c.run_command.ensures.ends
+    (Rose (g.E.Sink.write_faults c.args.err.now) (g.E.Sink.write_faults c.run_command.new.err)) c.run_command.result c.run_command.ensures
+
+pub returns-clause-store : goal.returns-clause-store
+returns-clause-store g c =
+    store_kept (form (words_of c.args.words.now)) (g.S.Store.held c.args.store.now) (g.S.Store.held c.run_command.new.store) (g.O.Sink.held c.args.out.now) (g.O.Sink.held c.run_command.new.out)
+    (g.E.Sink.held c.args.err.now) (g.E.Sink.held c.run_command.new.err)
+    (Rose (g.S.Store.read_faults c.args.store.now) (g.S.Store.read_faults c.run_command.new.store))
+    (Rose (g.S.Store.write_faults c.args.store.now) (g.S.Store.write_faults c.run_command.new.store))
+    (Rose (g.O.Sink.write_faults c.args.out.now) (g.O.Sink.write_faults c.run_command.new.out))
+    (Rose (g.E.Sink.write_faults c.args.err.now) (g.E.Sink.write_faults c.run_command.new.err)) c.run_command.result c.run_command.ensures

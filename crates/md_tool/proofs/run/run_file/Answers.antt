@@ -1,10 +1,14 @@
 use Rattle.md_base.specs.Outside.{Rose}
-use Rattle.md_tool.proofs.RunLemmas.{shown}
+use Rattle.md_tool.proofs.KeepLemmas.{ran_file}
 use Rattle.md_tool.proofs.run.run_file.Goals as goal
 
-pub returns-clause-ends : goal.returns-clause-ends
-returns-clause-ends g c =
-    shown (g.S.Store.held c.args.store.now) c.args.file.now c.in_ok-text.text.items c.args.steps (g.O.Sink.held c.args.out.now) (g.O.Sink.held c.show.new.out)
-    (Rose (g.S.Store.read_faults c.args.store.now) (g.S.Store.read_faults c.read_text.new.store))
-    (Rose (g.O.Sink.write_faults c.args.out.now) (g.O.Sink.write_faults c.show.new.out))
-    c.in_ok-ran.ran c.show.result c.in_ok-text.ensures.read (rw c.deref.ensures.value at c.in_ok-ran.ensures) c.show.ensures
+pub returns : goal.returns
+returns g c =
+    let p = rw c.deref.ensures.value at c.in_ok-profiled.ensures in
+    ran_file (g.S.Store.held c.args.store.now) (g.S.Store.held c.keep.new.store) c.args.file.now c.in_ok-text.text.items c.args.steps c.args.name.now
+    (g.O.Sink.held c.args.out.now) (g.O.Sink.held c.keep.new.out)
+    (Rose (g.S.Store.read_faults c.args.store.now) (g.S.Store.read_faults c.keep.new.store))
+    (Rose (g.S.Store.write_faults c.args.store.now) (g.S.Store.write_faults c.keep.new.store))
+    (Rose (g.O.Sink.write_faults c.args.out.now) (g.O.Sink.write_faults c.keep.new.out))
+    c.in_ok-profiled.profiled c.keep.result c.in_ok-text.ensures.read p
+    (rw (c.in_ok-text.ensures.kept, c.in_ok-text.ensures.writes) at (c.keep.ensures.ends p.accepted.program c.args.steps p.is_profiled))

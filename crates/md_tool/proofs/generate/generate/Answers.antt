@@ -1,0 +1,14 @@
+use Rattle.std.proofs.Common.{◌≡◌, ◌∙◌, ◌≤◌, ap, sym, subst, length, List, ℕ}
+use Rattle.md_base.specs.Outside.{Rose}
+use Rattle.md_tool.proofs.GenLemmas.{text_written}
+use Rattle.md_tool.proofs.GenShort.{gen_short}
+use Rattle.md_tool.proofs.generate.generate.Goals as goal
+
+pub summarize-requires-clause-short : goal.summarize-requires-clause-short
+summarize-requires-clause-short g c =
+    subst (λ (bytes : List ℕ). length bytes ≤ 1048576) (sym (c.deref.ensures.value ∙ c.in-Ok.ensures)) (gen_short c.args.n c.requires.few)
+
+pub returns : goal.returns
+returns g c =
+    text_written c.args.n c.args.summary (g.O.Sink.held c.args.out.now) (g.O.Sink.held c.write.new.out) (Rose (g.O.Sink.write_faults c.args.out.now) (g.O.Sink.write_faults c.write.new.out))
+    c.write.result c.if-summary.false (rw (c.deref-else-summary.ensures.value, c.in-Ok.ensures) at c.write.ensures.ends)

@@ -1,0 +1,73 @@
+// What comes of a case.
+use crate::case::{Case, File};
+use md_base::{MemSink, MemStore, SureNet};
+use md_tool::{Status, top};
+use std::alloc::{AllocError, Global};
+
+/// `ok` and the case's name, or its name and what came otherwise than it says.
+pub fn of(alloc: Global, case: &Case) -> Result<String, AllocError> {
+    let mut store = store_of(alloc, case)?;
+    let mut out = sink_of(alloc, case.most, case.out_fails)?;
+    let mut err = sink_of(alloc, case.most, case.err_fails)?;
+    let mut net = SureNet::new(Vec::new(alloc));
+    let Status(status) = top(
+        alloc,
+        &case.words,
+        &mut store,
+        &mut out,
+        &mut err,
+        &mut net,
+    );
+    let name = case.name.as_str();
+    let what = if status as u64 != case.status {
+        "another status"
+    } else if out.bytes() != case.out.as_slice() {
+        "another output"
+    } else if err.bytes() != case.err.as_slice() {
+        "something else on the error stream"
+    } else if !are_left(&store, &case.left) {
+        "other files"
+    } else {
+        return format!(in alloc; "ok {name}");
+    };
+    format!(in alloc; "FAILED {name}: {what}, status {status}")
+}
+
+/// A store that holds the case's files.
+fn store_of(alloc: Global, case: &Case) -> Result<MemStore, AllocError> {
+    let mut files = Vec::new(alloc);
+    for file in &case.files {
+        let name = String::from_str(alloc, file.name.as_str())?;
+        let bytes = file.bytes.to_vec(alloc)?;
+        files.push((name, bytes))?;
+    }
+    let fails = failing(alloc, case.store_fails)?;
+    Ok(MemStore::new(files, case.most.max(1), fails))
+}
+
+/// A sink that holds nothing.
+fn sink_of(alloc: Global, most: usize, fails: u64) -> Result<MemSink, AllocError> {
+    let fails = failing(alloc, fails)?;
+    Ok(MemSink::new(Vec::new(alloc), most.max(1), fails))
+}
+
+/// The one call that fails, or none.
+fn failing(alloc: Global, call: u64) -> Result<Vec<u64>, AllocError> {
+    let mut fails = Vec::new(alloc);
+    if call > 0 {
+        fails.push(call)?;
+    }
+    Ok(fails)
+}
+
+/// Whether the store holds these files.
+fn are_left(store: &MemStore, left: &[File]) -> bool {
+    left.iter().all(|file| is_left(store, file))
+}
+
+fn is_left(store: &MemStore, file: &File) -> bool {
+    store
+        .files()
+        .iter()
+        .any(|(name, bytes)| name.as_str() == file.name.as_str() && bytes.as_slice() == file.bytes.as_slice())
+}
