@@ -1,0 +1,5 @@
+pub mod Bytes
+pub mod Format
+pub mod Rules
+pub mod Fields
+pub mod Spells

@@ -1,0 +1,7 @@
+//! The profile file: a profile as bytes, and bytes as a profile, in pieces of any size (`docs/FILE.md`).
+#![tactic(auto)]
+
+mod damage;
+mod part;
+
+pub use damage::{DecodeFault, Kind};
