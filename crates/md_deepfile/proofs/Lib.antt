@@ -1,3 +1,4 @@
 pub mod Accepts
 pub mod Things
+pub mod Whole
 mod Worked
