@@ -1,4 +1,7 @@
 pub mod Accepts
 pub mod Things
 pub mod Whole
+pub mod Rows
+pub mod Links
+pub mod Exact
 mod Worked
