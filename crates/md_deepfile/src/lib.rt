@@ -2,6 +2,9 @@
 #![tactic(auto)]
 
 mod damage;
+mod encoder;
+mod fields;
 mod part;
 
 pub use damage::{DecodeFault, Kind};
+pub use encoder::encode;

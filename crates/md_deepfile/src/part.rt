@@ -50,3 +50,6 @@ pub(crate) enum Field {
     /// Behind caller, site and callee.
     LinkOwn(u32, u32, u32),
 }
+
+/// What stands for no number.
+pub(crate) const NONE: u32 = u32::MAX;
