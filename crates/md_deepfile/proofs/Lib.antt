@@ -4,4 +4,5 @@ pub mod Whole
 pub mod Rows
 pub mod Links
 pub mod Exact
+pub mod Keys
 mod Worked

@@ -1,5 +1,6 @@
 pub mod Bytes
 pub mod Format
 pub mod Rules
+pub mod Sets
 pub mod Fields
 pub mod Spells

@@ -4,7 +4,10 @@
 mod damage;
 mod encoder;
 mod fields;
+mod modules;
+mod names;
 mod part;
+mod procs;
 
 pub use damage::{DecodeFault, Kind};
 pub use encoder::encode;
