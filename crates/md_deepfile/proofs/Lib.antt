@@ -5,4 +5,5 @@ pub mod Rows
 pub mod Links
 pub mod Exact
 pub mod Keys
+pub mod Graphs
 mod Worked

@@ -34,11 +34,11 @@ and_there {X} o P x is h = subst (λ (p : Option X). IsSomeAnd p P) (sym is) h
 
 number_is : (o : Option ℕ) (n : ℕ) → is_number o n ≡ true → o ≡ Some n
 number_is None n h = absurd (false≢true h)
-number_is (Some m) n h = ap (λ (k : ℕ). Some k) (eqb-true m n h)
+number_is (Some m) n h = ap (λ (k : ℕ). Some k) (sym (eqb-true n m h))
 
 is_that_number : (o : Option ℕ) (n : ℕ) → o ≡ Some n → is_number o n ≡ true
 is_that_number None n h = absurd (cc h)
-is_that_number (Some m) n h = eq-eqb m n (same_Some m n h)
+is_that_number (Some m) n h = eq-eqb n m (sym (same_Some m n h))
 
 may_call : (o : Option ℕ) (q : ℕ) → may_be o q ≡ true → IfSome o (λ c. c ≡ q)
 may_call None q h = tt
@@ -86,8 +86,8 @@ pub record AreLinks (k : ℕ) (statics : Static) (nodes : List ℕ) (ls : List L
 -- a link with this key
 has_this_key : (nodes : List ℕ) (z : LinkRow) (v s q : ℕ) → z.caller ≡ Some v → z.site ≡ Some s → slice_get nodes z.callee ≡ Some q → has_key nodes v s q z ≡ true
 has_this_key nodes z v s q caller site proc =
-    and_from (is_number z.caller v) (is_number z.site s && is_number (slice_get nodes z.callee) q) (is_that_number z.caller v caller)
-    (and_from (is_number z.site s) (is_number (slice_get nodes z.callee) q) (is_that_number z.site s site) (is_that_number (slice_get nodes z.callee) q proc))
+    and_from (is_number z.caller v && is_number z.site s) (is_number (slice_get nodes z.callee) q)
+    (and_from (is_number z.caller v) (is_number z.site s) (is_that_number z.caller v caller) (is_that_number z.site s site)) (is_that_number (slice_get nodes z.callee) q proc)
 
 key_apart : (nodes : List ℕ) (links : List LinkRow) (z x : LinkRow) (v s q : ℕ) → x.caller ≡ Some v → x.site ≡ Some s → slice_get nodes x.callee ≡ Some q → (has_key nodes v s q z ≡ true → ⊥) → link_key nodes z ≢ link_key nodes x
 key_apart nodes links z x v s q caller site proc never same =
@@ -129,16 +129,16 @@ module _ (k : ℕ) (m : List (List ℕ)) (p : List Proc) (x : List Site) (v : Li
   -- the keys of a link whose test holds are the same
   same_key : (z l : LinkRow) (a s q : ℕ) → l.caller ≡ Some a → l.site ≡ Some s → slice_get v l.callee ≡ Some q → has_key v a s q z ≡ true → link_key v z ≡ link_key v l
   same_key z l a s q caller site proc has =
-      let one = and_parts (is_number z.caller a) (is_number z.site s && is_number (slice_get v z.callee) q) has in
-      let two = and_parts (is_number z.site s) (is_number (slice_get v z.callee) q) one.1 in
-      let first = number_is z.caller a one.0 ∙ sym caller in
-      let second = number_is z.site s two.0 ∙ sym site in
-      let third = number_is (slice_get v z.callee) q two.1 ∙ sym proc in
+      let one = and_parts (is_number z.caller a && is_number z.site s) (is_number (slice_get v z.callee) q) has in
+      let two = and_parts (is_number z.caller a) (is_number z.site s) one.0 in
+      let first = number_is z.caller a two.0 ∙ sym caller in
+      let second = number_is z.site s two.1 ∙ sym site in
+      let third = number_is (slice_get v z.callee) q one.1 ∙ sym proc in
       λ i. (first i, second i, third i)
 
   -- the root link has no such key
   root_apart : (a s q : ℕ) → root.caller ≡ None → has_key v a s q root ≡ false
-  root_apart a s q none = ap (λ (o : Option ℕ). is_number o a && (is_number root.site s && is_number (slice_get v root.callee) q)) none
+  root_apart a s q none = ap (λ (o : Option ℕ). (is_number o a && is_number root.site s) && is_number (slice_get v root.callee) q) none
 
   link_part : length v < 2 ^ 32 → length x < 2 ^ 32 → root.caller ≡ None → (zs ys : List LinkRow) (l : LinkRow) → AreLinks k statics v (zs ++ l ∷ ys) → IsFineLink k (at zs) l
   link_part few_nodes few_sites no_caller zs ys l valid =

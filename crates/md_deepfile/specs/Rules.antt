@@ -105,11 +105,11 @@ fits_site f v s w = fits (slice_get f.nodes v) (slice_get f.statics.sites s) (sl
 -- the number is there, and it is this one
 abbrev pub is_number : Option ℕ → ℕ → Bool
 is_number None n = false
-is_number (Some m) n = m == n
+is_number (Some m) n = n == m
 
 -- the link has this caller and site, and leads to a context of this procedure
 abbrev pub has_key : List ℕ → ℕ → ℕ → ℕ → LinkRow → Bool
-has_key nodes v s q l = is_number l.caller v && (is_number l.site s && is_number (slice_get nodes l.callee) q)
+has_key nodes v s q l = (is_number l.caller v && is_number l.site s) && is_number (slice_get nodes l.callee) q
 
 abbrev pub has_any_key : List ℕ → List LinkRow → ℕ → ℕ → Option ℕ → Bool
 has_any_key nodes links v s None = false

@@ -16,7 +16,7 @@ pub record GraphRows : Type 0 where
   pub links : List LinkRow
 
 abbrev pub is_key : ℕ → ℕ → ℕ → ℕ × ℕ × ℕ → Bool
-is_key v s q key = (v == key.0) && (s == key.1) && (q == key.2)
+is_key v s q key = ((v == key.0) && (s == key.1)) && (q == key.2)
 
 -- The keys are those of the links, each context has a mark whether it is reached from one of a lower number, and a link
 -- from a context leads to one.

@@ -4,6 +4,7 @@
 mod damage;
 mod encoder;
 mod fields;
+mod graph;
 mod modules;
 mod names;
 mod part;
