@@ -4,3 +4,4 @@ pub mod Rules
 pub mod Sets
 pub mod Fields
 pub mod Spells
+pub mod State

@@ -1,9 +1,8 @@
 /// The field of which the next byte is a part, with the numbers of its thing that came before it.
 #[derive(Clone, Copy, Debug, PartialEq, Eq)]
 pub(crate) enum Part {
-    /// A byte of the magic, by its place.
+    /// A byte of the magic, by its place, or the version, which stands behind it at 7.
     Magic(u8),
-    Version,
     Flag,
     Number(Field),
     /// The length of a name.
@@ -49,6 +48,30 @@ pub(crate) enum Field {
     LinkCallee(u32, u32),
     /// Behind caller, site and callee.
     LinkOwn(u32, u32, u32),
+}
+
+/// A version of the file.
+#[derive(Clone, Copy, Debug, PartialEq, Eq)]
+pub(crate) enum Version {
+    First,
+    Second,
+}
+
+impl Version {
+    ghost use Rattle.std.specs.Prelude.{◌≡◌, ◌≤◌};
+    ghost use Rattle.md_deepfile.specs.State.{width};
+
+    /// How many counts a link has.
+    pub(crate) fn counts(self) -> u8
+        ensures counts { result ≡ width self }
+        ensures some { 1 ≤ result }
+        ensures few { result ≤ 7 }
+    {
+        match self {
+            Version::First => 6,
+            Version::Second => 7,
+        }
+    }
 }
 
 /// What stands for no number.
