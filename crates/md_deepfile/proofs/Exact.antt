@@ -18,7 +18,7 @@ use Rattle.md_deepfile.proofs.Accepts.{AreBytes, read_accepts, accepts_read}
 use Rattle.md_deepfile.proofs.Things.{CountsFit, IsWidth, IsFineRoot}
 use Rattle.md_deepfile.proofs.Whole.{rows, AllFields, Version, first, second, version_width, file_takes, file_again}
 use Rattle.md_deepfile.proofs.Rows.{AreModules, modules_valid, modules_fine, AreProcs, procs_valid, procs_fine, AreSites, sites_valid, sites_fine, contexts_valid, contexts_fine}
-use Rattle.md_deepfile.proofs.Links.{AreLinks, links_valid, links_fine, all_reached, reached_all}
+use Rattle.md_deepfile.proofs.LinkRows.{AreLinks, links_valid, links_fine, all_reached, reached_all}
 
 record IsFineProfile (k : ℕ) (f : ProfileRows) : Type 0 where
   pub valid : IsValid f

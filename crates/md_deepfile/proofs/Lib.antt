@@ -2,8 +2,9 @@ pub mod Accepts
 pub mod Things
 pub mod Whole
 pub mod Rows
-pub mod Links
+pub mod LinkRows
 pub mod Exact
 pub mod Keys
 pub mod Graphs
+pub mod Reading
 mod Worked

@@ -8,7 +8,7 @@ use Rattle.md_dynamic.specs.Profile.{ProfileRows}
 use Rattle.md_deepfile.specs.Bytes.{magic}
 use Rattle.md_deepfile.specs.Fields.{Text, Next, version_told, flag_told, modules_counted, module_field, module_told, procs_fields, procs_counted, proc_field, proc_module, proc_told, proc_arity, sites_fields, sites_counted, site_field, site_owner, site_line, site_callee, contexts_fields, contexts_counted, context_field, context_proc, links_fields, links_counted, root_caller, root_site, root_callee, root_own, link_field, link_caller, link_site, link_callee, link_own, ending}
 use Rattle.md_deepfile.specs.Format.{Format, Damage, byte, read, bytes, number, numbers, exactly, several, is_decided}
-use Rattle.md_deepfile.specs.Rules.{is_new_proc}
+use Rattle.md_deepfile.specs.Rules.{begun, is_new_proc}
 use Rattle.md_deepfile.specs.declared.damage.DecodeFault.{DecodeFault}
 use Rattle.md_deepfile.specs.declared.damage.DecodeFault.TheVariants.{Damage as Damaged, NoMemory}
 use Rattle.md_deepfile.specs.declared.part.Field.{Field}
@@ -17,6 +17,7 @@ use Rattle.md_deepfile.specs.declared.part.Named.{Named}
 use Rattle.md_deepfile.specs.declared.part.Named.TheVariants as named
 use Rattle.md_deepfile.specs.declared.part.Part.{Part}
 use Rattle.md_deepfile.specs.declared.part.Part.TheVariants as parts
+use Rattle.md_deepfile.specs.declared.reader.Reader.{Reader}
 use Rattle.md_deepfile.specs.declared.part.Version.{Version}
 use Rattle.md_deepfile.specs.declared.part.Version.TheVariants as versions
 
@@ -149,22 +150,54 @@ IsReadyNumber fields.LinkCaller s = Unit {0}
 IsReadyNumber (fields.LinkSite v) s = Unit {0}
 IsReadyNumber (fields.LinkCallee v t) s = Unit {0}
 
+-- nothing was read yet
+abbrev pub IsBegun : State → Type 0
+IsBegun s = s.rows ≡ begun s.rows.finished
+
 abbrev pub IsReadyPart : Part → State → Type 0
-IsReadyPart (parts.Magic place) s = place ≤ 7
-IsReadyPart parts.Flag s = Unit {0}
+IsReadyPart (parts.Magic place) s = (place ≤ 7) × IsBegun s
+IsReadyPart parts.Flag s = IsBegun s
 IsReadyPart (parts.Number field) s = (0 < s.left) × (s.left + length s.carry ≡ 4) × IsReadyNumber field s
 IsReadyPart (parts.Length which) s = Unit {0}
 IsReadyPart (parts.Name which) s = 0 < s.left
 IsReadyPart (parts.Arity home) s = is_new_proc s.rows home s.carry ≡ true
 IsReadyPart parts.End s = Unit {0}
 
+-- so many more bytes end below the bound of a file
+abbrev pub HasPlaces : ℕ → State → Type 0
+HasPlaces n s = s.at + n ≤ 4398046511104
+
 -- it can take a byte, and its place is small
 pub record IsReady (s : State) : Type 0 where
   pub part : IsReadyPart s.part s
-  pub room : s.at + to_come s.part s ≤ 4398046511104
+  pub room : HasPlaces (to_come s.part s) s
+
+-- where the decoder of this code stands
+abbrev pub state_of : Reader → State
+state_of r = record {
+  part = r.part;
+  more = r.more;
+  version = r.version;
+  left = r.left;
+  carry = r.carry.items;
+  wanted = r.wanted;
+  own = r.own.items;
+  at = r.at;
+  rows = record { statics = record { modules = r.modules; procs = r.procs; sites = r.sites.items }; nodes = r.graph.nodes; links = r.graph.links; finished = r.finished };
+}
+
+-- what was to be taken by this format from this place is taken from where the decoder stands now
+abbrev pub Leads : Text → ℕ → State → Type 0
+Leads form at now = (rest : List ℕ) → read form at rest ≡ read (form_of now) now.at rest
 
 -- The same bytes were to be taken by this format from this place: the new state takes them further, or their damage is told.
 abbrev pub Follows : Text → ℕ → State → Result (Unit {0}) DecodeFault → Type 0
-Follows form at now (Ok u) = (rest : List ℕ) → read form at rest ≡ read (form_of now) now.at rest
+Follows form at now (Ok u) = Leads form at now
 Follows form at now (Err (Damaged place kind)) = (is_decided kind ≡ true) × ((rest : List ℕ) → read form at rest ≡ Err (record { at = place; kind = kind }))
 Follows form at now (Err NoMemory) = Unit {0}
+
+-- the same of a byte and what follows it
+abbrev pub FollowsByte : Text → ℕ → ℕ → State → Result (Unit {0}) DecodeFault → Type 0
+FollowsByte form b at now (Ok u) = (rest : List ℕ) → read form at (b ∷ rest) ≡ read (form_of now) now.at rest
+FollowsByte form b at now (Err (Damaged place kind)) = (is_decided kind ≡ true) × ((rest : List ℕ) → read form at (b ∷ rest) ≡ Err (record { at = place; kind = kind }))
+FollowsByte form b at now (Err NoMemory) = Unit {0}

@@ -5,10 +5,13 @@ mod damage;
 mod encoder;
 mod fields;
 mod graph;
+mod links;
+mod lists;
 mod modules;
 mod names;
 mod part;
 mod procs;
+mod reader;
 
 pub use damage::{DecodeFault, Kind};
 pub use encoder::encode;
