@@ -201,3 +201,9 @@ abbrev pub FollowsByte : Text → ℕ → ℕ → State → Result (Unit {0}) De
 FollowsByte form b at now (Ok u) = (rest : List ℕ) → read form at (b ∷ rest) ≡ read (form_of now) now.at rest
 FollowsByte form b at now (Err (Damaged place kind)) = (is_decided kind ≡ true) × ((rest : List ℕ) → read form at (b ∷ rest) ≡ Err (record { at = place; kind = kind }))
 FollowsByte form b at now (Err NoMemory) = Unit {0}
+
+-- where the bytes end, this is what was read, or that damage
+abbrev pub IsEnd : Result ProfileRows Damage → ProfileRows → Result (Unit {0}) DecodeFault → Type 0
+IsEnd told rows (Ok u) = told ≡ Ok rows
+IsEnd told rows (Err (Damaged place kind)) = told ≡ Err (record { at = place; kind = kind })
+IsEnd told rows (Err NoMemory) = ⊥

@@ -48,6 +48,13 @@ impl Graph {
         self.nodes.as_slice()
     }
 
+    /// How many links there are.
+    pub(crate) fn link_count(&self) -> usize
+        ensures { result ≡ length self.now.links }
+    {
+        self.links.len()
+    }
+
     /// Adds a context of this procedure.
     pub(crate) fn add_context(&mut self, proc: ProcId) -> Result<(), NoMemory>
         ensures { OnOk result (self.new ≡ record self.old { nodes = self.old.nodes ++ proc ∷ [] }) }

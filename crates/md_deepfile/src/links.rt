@@ -175,7 +175,7 @@ impl Reader {
     }
 
     /// The bytes of a link.
-    fn link_size(&self) -> u64
+    pub(crate) fn link_size(&self) -> u64
         ensures { result ≡ link_size (width self.now.version) }
     {
         12 + 4 * (self.version.counts() as u64)

@@ -2,9 +2,10 @@
 ghost use Rattle.std.specs.Prelude.{◌≡◌, ◌+◌, ◌-◌, ◌*◌, ◌<◌, ◌≤◌, ◌++◌, ◌∷◌, [], List, ℕ, length, drop, OnOk, IfOk};
 ghost use Rattle.std.specs.Int.{w32, from_le_bytes};
 ghost use Rattle.md_deepfile.specs.Bytes.{magic};
-ghost use Rattle.md_deepfile.specs.Fields.{version_told, flag_told, profile_file};
+ghost use Rattle.md_deepfile.specs.Rules.{link_size};
+ghost use Rattle.md_deepfile.specs.Fields.{version_told, flag_told, ending, profile_file};
 ghost use Rattle.md_deepfile.specs.Format.{read, byte, bytes, exactly};
-ghost use Rattle.md_deepfile.specs.State.{state_of, form_of, form_at, width, number_told, after_number, HasPlaces, IsReady, IsReadyNumber, IsReadyPart, IsBegun, Follows, FollowsByte, Leads};
+ghost use Rattle.md_deepfile.specs.State.{state_of, form_of, form_at, width, number_told, name_told, after_number, after_name, IsEnd, HasPlaces, IsReady, IsReadyNumber, IsReadyPart, IsBegun, Follows, FollowsByte, Leads};
 
 use crate::damage::{DecodeFault, Kind};
 use crate::fields::MAGIC;
@@ -12,8 +13,9 @@ use crate::graph::Graph;
 use crate::modules::Modules;
 use crate::part::{Field, Named, Part, Version};
 use crate::procs::Procs;
-use md_static::Site;
-use std::alloc::{AllocError, Global};
+use md_dynamic::Profile;
+use md_static::{Site, Statics};
+use std::alloc::Global;
 
 /// In which field the next byte stands, and what was read so far. It grows with the bytes that came, never by a count
 /// that a field names.
@@ -133,5 +135,170 @@ impl Reader {
         self.finished = byte == 1;
         self.expect(Field::ModuleCount);
         Ok(())
+    }
+
+    /// The number whose four bytes came.
+    fn carried(&self) -> u32
+        requires { length self.now.carry.items ≡ 4 }
+        ensures { result ≡ from_le_bytes w32 self.now.carry.items }
+    {
+        let bytes = self.carry.as_slice();
+        u32::from_le_bytes([bytes[0], bytes[1], bytes[2], bytes[3]])
+    }
+
+    /// A byte of a number.
+    fn number_byte(&mut self, field: Field, byte: u8) -> Result<(), DecodeFault>
+        requires stands { self.old.part ≡ Part.Number field }
+        requires part { IsReadyPart (Part.Number field) (state_of self.old) }
+        requires room { HasPlaces (self.old.left - 1 + after_number field (state_of self.old)) (state_of self.old) }
+        ensures follows { Follows (bytes (self.old.left - 1) (self.old.carry.items ++ byte ∷ []) (λ bs. number_told field (state_of self.old) (from_le_bytes w32 bs))) self.old.at (state_of self.new) result }
+        ensures ready { OnOk result (IsReady (state_of self.new)) }
+    {
+        self.carry.push(byte)?;
+        self.left -= 1;
+        if self.left > 0 {
+            return Ok(());
+        }
+        let number = self.carried();
+        self.number(field, number)
+    }
+
+    /// A number of which all bytes came.
+    fn number(&mut self, field: Field, number: u32) -> Result<(), DecodeFault>
+        requires ready { IsReadyNumber field (state_of self.old) }
+        requires room { HasPlaces (after_number field (state_of self.old)) (state_of self.old) }
+        ensures follows { Follows (number_told field (state_of self.old) number) self.old.at (state_of self.new) result }
+        ensures ready { OnOk result (IsReady (state_of self.new)) }
+    {
+        match field {
+            Field::ModuleCount => self.module_count(number),
+            Field::ProcCount => self.proc_count(number),
+            Field::ProcModule => self.proc_module(number),
+            Field::SiteCount => self.site_count(number),
+            Field::SiteOwner => self.site_owner(number),
+            Field::SiteLine(owner) => self.site_line(owner, number),
+            Field::SiteCallee(owner, line) => self.site_callee(owner, line, number),
+            Field::ContextCount => self.context_count(number),
+            Field::ContextProc => self.context_proc(number),
+            Field::LinkCount => self.link_count(number),
+            Field::RootCaller => self.root_caller(number),
+            Field::RootSite => self.root_site(number),
+            Field::RootCallee => self.root_callee(number),
+            Field::RootOwn => self.root_count(number),
+            Field::LinkCaller => self.link_caller(number),
+            Field::LinkSite(caller) => self.link_site(caller, number),
+            Field::LinkCallee(caller, site) => self.link_callee(caller, site, number),
+            Field::LinkOwn(caller, site, callee) => {
+                self.link_count_of(caller, site, callee, number)
+            }
+        }
+    }
+
+    /// A byte of a name.
+    fn name_byte(&mut self, which: Named, byte: u8) -> Result<(), DecodeFault>
+        requires stands { self.old.part ≡ Part.Name which }
+        requires part { 0 < self.old.left }
+        requires room { HasPlaces (self.old.left - 1 + after_name which (state_of self.old)) (state_of self.old) }
+        ensures follows { Follows (bytes (self.old.left - 1) (self.old.carry.items ++ byte ∷ []) (name_told which (state_of self.old))) self.old.at (state_of self.new) result }
+        ensures ready { OnOk result (IsReady (state_of self.new)) }
+    {
+        self.carry.push(byte)?;
+        self.left -= 1;
+        if self.left > 0 {
+            return Ok(());
+        }
+        self.name(which)
+    }
+
+    /// A name of which all bytes came.
+    fn name(&mut self, which: Named) -> Result<(), DecodeFault>
+        requires { HasPlaces (after_name which (state_of self.old)) (state_of self.old) }
+        ensures follows { Follows (name_told which (state_of self.old) self.old.carry.items) self.old.at (state_of self.new) result }
+        ensures ready { OnOk result (IsReady (state_of self.new)) }
+    {
+        match which {
+            Named::Module => self.module_name(),
+            Named::Proc(home) => self.proc_name(home),
+        }
+    }
+
+    /// The length of a name.
+    fn length(&mut self, which: Named, length: u8) -> Result<(), DecodeFault>
+        requires { HasPlaces (255 + after_name which (state_of self.old)) (state_of self.old) }
+        ensures follows { Follows (bytes length [] (name_told which (state_of self.old))) self.old.at (state_of self.new) result }
+        ensures ready { OnOk result (IsReady (state_of self.new)) }
+    {
+        match which {
+            Named::Module => self.module_length(length),
+            Named::Proc(home) => self.proc_length(home, length),
+        }
+    }
+
+    /// Takes the next byte of the file.
+    pub(crate) fn byte(&mut self, next: u8) -> Result<(), DecodeFault>
+        requires { IsReady (state_of self.old) }
+        ensures follows { FollowsByte (form_of (state_of self.old)) next self.old.at (state_of self.new) result }
+        ensures ready { OnOk result (IsReady (state_of self.new)) }
+    {
+        self.at += 1;
+        match self.part {
+            Part::Magic(place) => self.magic(place, next),
+            Part::Flag => self.flag(next),
+            Part::Number(field) => self.number_byte(field, next),
+            Part::Length(which) => self.length(which, next),
+            Part::Name(which) => self.name_byte(which, next),
+            Part::Arity(home) => self.proc_arity(home, next),
+            Part::End => Err(self.damage(1, Kind::Trailing)),
+        }
+    }
+
+    /// The file ends here: Ok where it is whole.
+    pub(crate) fn ended(&self) -> Result<(), DecodeFault>
+        requires { IsReady (state_of self.now) }
+        ensures { IsEnd (read (form_of (state_of self.now)) self.now.at []) (state_of self.now).rows result }
+    {
+        match self.part {
+            Part::End => self.reached(),
+            _ => Err(self.damage(0, Kind::Short)),
+        }
+    }
+
+    /// Whether each context is reached from one of a lower number.
+    fn reached(&self) -> Result<(), DecodeFault>
+        requires { HasPlaces 0 (state_of self.now) }
+        ensures { IsEnd (read (ending (width self.now.version) (state_of self.now).rows) self.now.at []) (state_of self.now).rows result }
+    {
+        match self.graph.first_orphan() {
+            None => Ok(()),
+            Some(context) => Err(DecodeFault::Damage {
+                at: self.place_of(context),
+                kind: Kind::Orphan,
+            }),
+        }
+    }
+
+    /// The place of a context's procedure, where the file ends here.
+    fn place_of(&self, context: usize) -> u64
+        requires { HasPlaces 0 (state_of self.now) }
+        ensures { result ≡ self.now.at - (4 * (length (state_of self.now).rows.nodes - context) + (4 + link_size (width self.now.version) * length (state_of self.now).rows.links)) }
+    {
+        let contexts = self.graph.nodes().len().saturating_sub(context) as u64;
+        let links = self.graph.link_count() as u64;
+        let list = self.link_size().saturating_mul(links).saturating_add(4);
+        self.at
+            .saturating_sub(contexts.saturating_mul(4).saturating_add(list))
+    }
+
+    /// What was read. Takes no memory.
+    pub(crate) fn into_profile(self) -> Profile
+        ensures { result ≡ (state_of self).rows }
+    {
+        let (nodes, links) = self.graph.into_rows();
+        let statics = Statics::from_parts(
+            self.modules.into_names(),
+            self.procs.into_procs(),
+            self.sites,
+        );
+        Profile::from_parts(statics, nodes, links, self.finished)
     }
 }
