@@ -7,4 +7,5 @@ pub mod Exact
 pub mod Keys
 pub mod Graphs
 pub mod Reading
+pub mod Fed
 mod Worked

@@ -220,7 +220,7 @@ name_whole which s n left carry more at now result none same h =
     subst (λ (k : ℕ). Follows (bytes k carry (name_told which s)) at now result) (sym none) two
 
 -- a file that ends within a field is short
-short_at : (p : Part) (s : State) → IsReadyPart p s → (p ≡ parts.End → ⊥) → read (form_at p s) s.at [] ≡ damage s.at kinds.Short
+pub short_at : (p : Part) (s : State) → IsReadyPart p s → (p ≡ parts.End → ⊥) → read (form_at p s) s.at [] ≡ damage s.at kinds.Short
 short_at (parts.Magic place) s ready other = elim (cases_lt place 7) [
   | inl within ↦ ap (λ (t : Text). read t s.at []) (magic_step place (byte version_told) within)
   | inr last ↦ ap (λ (t : Text). read t s.at []) (magic_all place (byte version_told) (let above : place ≤ 7 = ready.0 in omega (arith, last, above)))

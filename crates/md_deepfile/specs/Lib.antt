@@ -1,4 +1,5 @@
 pub mod Bytes
+pub mod Decoding
 pub mod Format
 pub mod Rules
 pub mod Sets

@@ -2,6 +2,7 @@
 #![tactic(auto)]
 
 mod damage;
+mod decoder;
 mod encoder;
 mod fields;
 mod graph;
@@ -14,4 +15,5 @@ mod procs;
 mod reader;
 
 pub use damage::{DecodeFault, Kind};
+pub use decoder::{Decoder, decode};
 pub use encoder::encode;

@@ -13,6 +13,7 @@ use crate::graph::Graph;
 use crate::modules::Modules;
 use crate::part::{Field, Named, Part, Version};
 use crate::procs::Procs;
+use md_base::{Name, NoMemory};
 use md_dynamic::Profile;
 use md_static::{Site, Statics};
 use std::alloc::Global;
@@ -45,18 +46,19 @@ pub(crate) struct Reader {
 
 impl Reader {
     /// At the first byte of a file.
-    pub(crate) fn new(alloc: Global) -> Reader
-        ensures ready { IsReady (state_of result) }
-        ensures begins { form_of (state_of result) ≡ profile_file }
-        ensures start { result.at ≡ 0 }
+    pub(crate) fn new(alloc: Global) -> Result<Reader, NoMemory>
+        ensures ready { IfOk result (λ reader. IsReady (state_of reader)) }
+        ensures begins { IfOk result (λ reader. form_of (state_of reader) ≡ profile_file) }
+        ensures start { IfOk result (λ reader. reader.at ≡ 0) }
     {
-        Reader {
+        let carry = Vec::with_capacity(alloc, Name::MOST)?;
+        Ok(Reader {
             alloc,
             part: Part::Magic(0),
             more: 0,
             version: Version::Second,
             left: 0,
-            carry: Vec::new(alloc),
+            carry,
             wanted: 0,
             own: Vec::new(alloc),
             at: 0,
@@ -65,7 +67,7 @@ impl Reader {
             procs: Procs::new(alloc),
             sites: Vec::new(alloc),
             graph: Graph::new(alloc),
-        }
+        })
     }
 
     /// The damage so many bytes back.
