@@ -13,6 +13,8 @@ mod names;
 mod part;
 mod procs;
 mod reader;
+mod spelled;
+mod writing;
 
 pub use damage::{DecodeFault, Kind};
 pub use decoder::{Decoder, decode};

@@ -1,7 +1,0 @@
-use Rattle.std.proofs.Common.{◌≡◌, ◌++◌, length, take}
-use Rattle.std.specs.List.{flat_map}
-use Rattle.md_deepfile.specs.Bytes.{u32, proc_bytes}
-use Rattle.md_deepfile.proofs.encoder.put_procs.Given as goal
-
-abbrev pub invariant-loop-proc : goal.invariant-loop-proc
-invariant-loop-proc l = l.out.items ≡ l.fn.out.items ++ (u32 (length l.procs) ++ flat_map proc_bytes (take l.proc-index l.procs))
