@@ -8,4 +8,5 @@ pub mod Keys
 pub mod Graphs
 pub mod Reading
 pub mod Fed
+pub mod Writes
 mod Worked

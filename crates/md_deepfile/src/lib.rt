@@ -19,3 +19,4 @@ mod writing;
 pub use damage::{DecodeFault, Kind};
 pub use decoder::{Decoder, decode};
 pub use encoder::encode;
+pub use writing::write_profile;
