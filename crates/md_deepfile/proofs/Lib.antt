@@ -9,4 +9,5 @@ pub mod Graphs
 pub mod Reading
 pub mod Fed
 pub mod Writes
+pub mod Loaded
 mod Worked

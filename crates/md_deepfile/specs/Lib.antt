@@ -1,6 +1,7 @@
 pub mod Bytes
 pub mod Decoding
 pub mod Format
+pub mod Loads
 pub mod Pieces
 pub mod Rules
 pub mod Sets

@@ -8,6 +8,7 @@ mod fields;
 mod graph;
 mod links;
 mod lists;
+mod loading;
 mod modules;
 mod names;
 mod part;
@@ -19,4 +20,8 @@ mod writing;
 pub use damage::{DecodeFault, Kind};
 pub use decoder::{Decoder, decode};
 pub use encoder::encode;
+pub use loading::{LoadFault, load};
 pub use writing::write_profile;
+
+#[cfg(test)]
+mod tests;
