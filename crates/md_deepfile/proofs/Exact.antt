@@ -92,10 +92,10 @@ valid_fields_at k f root others are fine =
       some_procs = sound.some_procs;
       few_procs = sound.few_procs;
       procs = procs_fine f.statics.modules f.finished f.statics.procs sound.few_modules
-        (record { names = sound.procs_have_names; differ = sound.procs_differ; there = sound.modules_there; arities = fine.room.arities });
+          (record { names = sound.procs_have_names; differ = sound.procs_differ; there = sound.modules_there; arities = fine.room.arities });
       few_sites = sound.few_sites;
       sites = sites_fine f.statics.modules f.statics.procs f.finished f.statics.sites sound.few_procs
-        (record { owners = sound.owners_there; callees = sound.callees_there; lines = sound.lines_from_one; short = fine.room.lines; rise = sound.owners_rise });
+          (record { owners = sound.owners_there; callees = sound.callees_there; lines = sound.lines_from_one; short = fine.room.lines; rise = sound.owners_rise });
       some_nodes = has.some_nodes;
       few_nodes = has.few_nodes;
       nodes = contexts_fine f.statics.modules f.statics.procs f.statics.sites f.finished f.nodes sound.few_procs has.nodes_there;

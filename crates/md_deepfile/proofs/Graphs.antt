@@ -94,7 +94,7 @@ root_added nodes links all keys reached own old are =
       keyed = λ v s q. old.keyed v s q ∙ sym (or_nothing (list_any (has_key nodes v s q) links)) ∙ sym (list_any-append (has_key nodes v s q) links (root ∷ []));
       each = old.each;
       marked = λ u below. old.marked u below ∙ ap (λ (b : Bool). Some b)
-        (sym (list_any-append (leads_down u) links (root ∷ []) ∙ ap (λ (b : Bool). list_any (leads_down u) links || (b || false)) (nothing_led u own) ∙ or_nothing (list_any (leads_down u) links)));
+          (sym (list_any-append (leads_down u) links (root ∷ []) ∙ ap (λ (b : Bool). list_any (leads_down u) links || (b || false)) (nothing_led u own) ∙ or_nothing (list_any (leads_down u) links)));
     } in
     subst (λ (ls : List LinkRow). AreGraph nodes ls keys reached) (sym are) now
 
@@ -155,15 +155,15 @@ link_added nodes links all keys now reached marks v s w q own old there at all_a
     let grown : AreGraph nodes (links ++ l ∷ []) (keys ++ (v, s, q) ∷ []) (marked_as v w reached) = record {
       lead = All-push (IsLed (length nodes)) links l old.lead there;
       keyed = λ a b c.
-        list_any-append (is_key a b c) keys ((v, s, q) ∷ [])
-        ∙ ap (λ (t : Bool). t || (is_key a b c (v, s, q) || false)) (old.keyed a b c)
-        ∙ ap (λ (t : Bool). list_any (has_key nodes a b c) links || (t || false)) (link_key_is nodes v s w q a b c own at)
-        ∙ sym (list_any-append (has_key nodes a b c) links (l ∷ []));
+          list_any-append (is_key a b c) keys ((v, s, q) ∷ [])
+          ∙ ap (λ (t : Bool). t || (is_key a b c (v, s, q) || false)) (old.keyed a b c)
+          ∙ ap (λ (t : Bool). list_any (has_key nodes a b c) links || (t || false)) (link_key_is nodes v s w q a b c own at)
+          ∙ sym (list_any-append (has_key nodes a b c) links (l ∷ []));
       each = mark_size reached w down ∙ old.each;
       marked = λ u below.
-        mark_at reached v w u (list_any (leads_down u) links) down (omega (arith, below, old.each)) (omega (arith, there, old.each)) refl (old.marked u below)
-        ∙ ap (λ (t : Bool). Some (list_any (leads_down u) links || t)) (below_same v w u ∙ sym (or_nothing ((w == u) && nat_lt v u)))
-        ∙ ap (λ (t : Bool). Some t) (sym (list_any-append (leads_down u) links (l ∷ [])));
+          mark_at reached v w u (list_any (leads_down u) links) down (omega (arith, below, old.each)) (omega (arith, there, old.each)) refl (old.marked u below)
+          ∙ ap (λ (t : Bool). Some (list_any (leads_down u) links || t)) (below_same v w u ∙ sym (or_nothing ((w == u) && nat_lt v u)))
+          ∙ ap (λ (t : Bool). Some t) (sym (list_any-append (leads_down u) links (l ∷ [])));
     } in
     let one : AreGraph nodes (links ++ l ∷ []) (keys ++ (v, s, q) ∷ []) marks = subst (λ (m : List Bool). AreGraph nodes (links ++ l ∷ []) (keys ++ (v, s, q) ∷ []) m) (sym marks_are) grown in
     let two : AreGraph nodes (links ++ l ∷ []) now marks = subst (λ (ks : List (ℕ × ℕ × ℕ)). AreGraph nodes (links ++ l ∷ []) ks marks) (sym now_are) one in
@@ -195,9 +195,9 @@ pub orphan_on : (nodes : List ℕ) (links : List LinkRow) (keys : List (ℕ × �
 orphan_on nodes links keys reached v mark seen old are below at is =
     subst (λ (g : GraphRows). orphan_from g.links v (length g.nodes - v) ≡ orphan_from g.links (v + 1) (length g.nodes - (v + 1))) are
     (let within : v < length nodes = omega (arith, below, old.each) in
-     let count : length nodes - v ≡ suc (length nodes - (v + 1)) = omega (arith, within) in
-     let one : suc v ≡ v + 1 = omega arith in
-     let reached_is : list_any (leads_down v) links ≡ true = same_Some _ _ (sym (old.marked v within) ∙ at) ∙ is in
-     ap (orphan_from links v) count
-     ∙ cond-true (list_any (leads_down v) links) (orphan_from links (suc v) (length nodes - (v + 1))) (Some v) reached_is
-     ∙ ap (λ (u : ℕ). orphan_from links u (length nodes - (v + 1))) one)
+    let count : length nodes - v ≡ suc (length nodes - (v + 1)) = omega (arith, within) in
+    let one : suc v ≡ v + 1 = omega arith in
+    let reached_is : list_any (leads_down v) links ≡ true = same_Some _ _ (sym (old.marked v within) ∙ at) ∙ is in
+    ap (orphan_from links v) count
+    ∙ cond-true (list_any (leads_down v) links) (orphan_from links (suc v) (length nodes - (v + 1))) (Some v) reached_is
+    ∙ ap (λ (u : ℕ). orphan_from links u (length nodes - (v + 1))) one)

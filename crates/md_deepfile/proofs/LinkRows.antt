@@ -92,9 +92,9 @@ has_this_key nodes z v s q caller site proc =
 key_apart : (nodes : List ℕ) (links : List LinkRow) (z x : LinkRow) (v s q : ℕ) → x.caller ≡ Some v → x.site ≡ Some s → slice_get nodes x.callee ≡ Some q → (has_key nodes v s q z ≡ true → ⊥) → link_key nodes z ≢ link_key nodes x
 key_apart nodes links z x v s q caller site proc never same =
     never (has_this_key nodes z v s q
-      (ap (λ (t : Option ℕ × Option ℕ × Option ℕ). t.0) same ∙ caller)
-      (ap (λ (t : Option ℕ × Option ℕ × Option ℕ). t.1) same ∙ site)
-      (ap (λ (t : Option ℕ × Option ℕ × Option ℕ). t.2) same ∙ proc))
+    (ap (λ (t : Option ℕ × Option ℕ × Option ℕ). t.0) same ∙ caller)
+    (ap (λ (t : Option ℕ × Option ℕ × Option ℕ). t.1) same ∙ site)
+    (ap (λ (t : Option ℕ × Option ℕ × Option ℕ). t.2) same ∙ proc))
 
 -- no link has this key, where the test says so
 fresh_at : (nodes : List ℕ) (links : List LinkRow) (v s q : ℕ) (o : Option ℕ) → o ≡ Some q → not (has_any_key nodes links v s o) ≡ true → list_any (has_key nodes v s q) links ≡ false
@@ -118,10 +118,10 @@ module _ (k : ℕ) (m : List (List ℕ)) (p : List Proc) (x : List Site) (v : Li
       let none = (or_parts (has_key v fine.v fine.s q root) (list_any (has_key v fine.v fine.s q) zs) fresh).1 in
       record {
         fit = All-push (Fits statics v) zs l valid.fit
-          (and_there l.caller (λ a. IsSomeAnd l.site (λ s. Joins statics v a s l.callee)) fine.v fine.caller
+            (and_there l.caller (λ a. IsSomeAnd l.site (λ s. Joins statics v a s l.callee)) fine.v fine.caller
             (and_there l.site (λ s. Joins statics v fine.v s l.callee) fine.s fine.site (fits_joined (slice_get v fine.v) (slice_get x fine.s) (slice_get v l.callee) fine.joins)));
         differ = all_pairs_push (λ a b. link_key v a ≢ link_key v b) zs l valid.differ
-          (λ i d below. key_apart v zs (get_or zs i d) l fine.v fine.s q fine.caller fine.site proc
+            (λ i d below. key_apart v zs (get_or zs i d) l fine.v fine.s q fine.caller fine.site proc
             (λ has. both_ways (list_any (has_key v fine.v fine.s q) zs) none (list_any_at (has_key v fine.v fine.s q) zs i d below has)));
         counts = All-push (λ (z : LinkRow). CountsFit k z.own) zs l valid.counts fine.counts;
       }
@@ -152,7 +152,7 @@ module _ (k : ℕ) (m : List (List ℕ)) (p : List Proc) (x : List Site) (v : Li
       let q = get_or v l.callee 0 in
       let proc : slice_get v l.callee ≡ Some q = slice_get-get_or v l.callee 0 callee in
       let none = none_passes (has_key v a.value s.value q) zs
-        (λ i d below has. pair_at (λ b c. link_key v b ≢ link_key v c) zs ys l valid.differ i d below (same_key (get_or zs i d) l a.value s.value q a.is s.is proc has)) in
+      (λ i d below has. pair_at (λ b c. link_key v b ≢ link_key v c) zs ys l valid.differ i d below (same_key (get_or zs i d) l a.value s.value q a.is s.is proc has)) in
       let fresh = or_from (has_key v a.value s.value q root) (list_any (has_key v a.value s.value q) zs) (root_apart a.value s.value q no_caller) none in
       record {
         v = a.value;

@@ -73,11 +73,13 @@ magic_goes place b at p next rest within is same =
 
 pub magic_fails : (place b at p : ℕ) (next : Text) (now : State) (fault : DecodeFault) → place < 7 → p ≡ at + 1 → (b ≡ get_or magic place 0 → ⊥) → fault ≡ Damaged (p - 1) kinds.Magic → FollowsByte (exactly (drop place magic) next) b at now (Err fault)
 magic_fails place b at p next now fault within is other told =
-    subst (λ (f : DecodeFault). FollowsByte (exactly (drop place magic) next) b at now (Err f)) (sym told)
-    (refl, λ rest.
-      ap (λ (t : Text). read t at (b ∷ rest)) (magic_step place next within)
-      ∙ ap (λ (t : Bool). cond t (read (exactly (drop (place + 1) magic) next) (at + 1) rest) (damage (at + 1 - 1) kinds.Magic)) (ne_eqb b (get_or magic place 0) other)
-      ∙ ap (λ (q : ℕ). damage (q - 1) kinds.Magic) (sym is))
+    subst (λ (f : DecodeFault). FollowsByte (exactly (drop place magic) next) b at now (Err f)) (sym told) (
+      refl,
+      λ rest.
+          ap (λ (t : Text). read t at (b ∷ rest)) (magic_step place next within)
+          ∙ ap (λ (t : Bool). cond t (read (exactly (drop (place + 1) magic) next) (at + 1) rest) (damage (at + 1 - 1) kinds.Magic)) (ne_eqb b (get_or magic place 0) other)
+          ∙ ap (λ (q : ℕ). damage (q - 1) kinds.Magic) (sym is),
+    )
 
 -- one count of several
 pub numbers_more : (n : ℕ) (front : List ℕ) (told : List ℕ → Text) → 0 < n → numbers n front told ≡ number (λ m. numbers (n - 1) (front ++ m ∷ []) told)

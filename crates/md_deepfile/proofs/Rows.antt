@@ -36,9 +36,11 @@ grow {X} add Fine at same V step zs (x ∷ xs) v fine =
 pub shrink : {X : Type 0} (add : ProfileRows → X → ProfileRows) (Fine : ProfileRows → X → Type 0) (at : List X → ProfileRows) → ((zs : List X) (x : X) → add (at zs) x ≡ at (zs ++ x ∷ []))
     → (V : List X → Type 0) → ((zs ys : List X) (x : X) → V (zs ++ x ∷ ys) → Fine (at zs) x) → (zs xs : List X) → V (zs ++ xs) → AllFine add Fine (at zs) xs
 shrink {X} add Fine at same V part zs [] v = tt
-shrink {X} add Fine at same V part zs (x ∷ xs) v =
-    (part zs xs x v, subst (λ (f : ProfileRows). AllFine add Fine f xs) (sym (same zs x))
-      (shrink add Fine at same V part (zs ++ x ∷ []) xs (subst V (sym (append_assoc zs (x ∷ []) xs)) v)))
+shrink {X} add Fine at same V part zs (x ∷ xs) v = (
+  part zs xs x v,
+  subst (λ (f : ProfileRows). AllFine add Fine f xs) (sym (same zs x))
+      (shrink add Fine at same V part (zs ++ x ∷ []) xs (subst V (sym (append_assoc zs (x ∷ []) xs)) v)),
+)
 
 -- one of a list
 pub all_at : {X : Type 0} (P : X → Type 0) (zs ys : List X) (x : X) → All P (zs ++ x ∷ ys) → P x
@@ -133,7 +135,7 @@ proc_step m finished zs x v fine =
     record {
       names = All-push (λ (p : Proc). IsTrue (is_name p.name)) zs x v.names both.0;
       differ = all_pairs_push (λ (p q : Proc). p.module ≡ q.module → p.name ≢ q.name) zs x v.differ
-        (λ k d below modules names. both_ways (list_any test zs) fresh (list_any_at test zs k d below (same_proc x (get_or zs k d) modules names)));
+          (λ k d below modules names. both_ways (list_any test zs) fresh (list_any_at test zs k d below (same_proc x (get_or zs k d) modules names)));
       there = All-push (λ (p : Proc). p.module < length m) zs x v.there (ltb-true x.module (length m) fine.is_there);
       arities = All-push (λ (p : Proc). p.arity < 256) zs x v.arities fine.arity;
     }
@@ -144,8 +146,8 @@ proc_part m finished few zs ys x v =
     let named = all_at (λ (p : Proc). IsTrue (is_name p.name)) zs ys x v.names in
     let there : x.module < length m = all_at (λ (p : Proc). p.module < length m) zs ys x v.there in
     let fresh = none_passes test zs (λ k d below same.
-      let parts = and_parts (x.module == (get_or zs k d).module) (bytes_eq x.name (get_or zs k d).name) same in
-      pair_at (λ (p q : Proc). p.module ≡ q.module → p.name ≢ q.name) zs ys x v.differ k d below (sym (eqb-true x.module (get_or zs k d).module parts.0)) (sym ((bytes_eq-Decides x.name (get_or zs k d).name).0 parts.1))) in
+    let parts = and_parts (x.module == (get_or zs k d).module) (bytes_eq x.name (get_or zs k d).name) same in
+    pair_at (λ (p q : Proc). p.module ≡ q.module → p.name ≢ q.name) zs ys x v.differ k d below (sym (eqb-true x.module (get_or zs k d).module parts.0)) (sym ((bytes_eq-Decides x.name (get_or zs k d).name).0 parts.1))) in
     let fits = name_fits x.name named in
     record {
       fits = omega (arith, there, few);

@@ -83,8 +83,8 @@ pub record IsFineModule (f : ProfileRows) (name : List ℕ) : Type 0 where
 pub module_thing : Thing module_field name_bytes with_module IsFineModule
 module_thing = record {
   takes = λ f next bs g h.
-    let t = text_takes (module_told f next) bs g h in
-    record { thing = t.name; rest = t.rest; fine = record { is_new = t.goes.0; short = t.short; are = t.are }; parts = t.parts; goes = t.goes.1 };
+      let t = text_takes (module_told f next) bs g h in
+      record { thing = t.name; rest = t.rest; fine = record { is_new = t.goes.0; short = t.short; are = t.are }; parts = t.parts; goes = t.goes.1 };
   again = λ f name next rest g fine h. text_again name (module_told f next) rest g fine.short fine.are (fine.is_new, h);
 }
 
@@ -115,20 +115,20 @@ proc_parts m name n a bs rest more last first second third =
 pub proc_thing : Thing proc_field proc_bytes with_proc IsFineProc
 proc_thing = record {
   takes = λ f next bs g h.
-    let m = number_takes (proc_module f next) bs g h in
-    let t = text_takes (proc_told f next m.n) m.rest g m.goes.1 in
-    let a = arity_takes f next m.n t.name t.rest g t.goes.1 in
-    record {
-      thing = proc_of m.n t.name a.arity;
-      rest = a.rest;
-      fine = record { fits = m.below; is_there = m.goes.0; is_new = t.goes.0; short = t.short; are = t.are; arity = a.below };
-      parts = proc_parts (u32 m.n) t.name (length t.name) a.arity bs m.rest t.rest a.rest m.parts t.parts a.parts;
-      goes = a.goes;
-    };
+      let m = number_takes (proc_module f next) bs g h in
+      let t = text_takes (proc_told f next m.n) m.rest g m.goes.1 in
+      let a = arity_takes f next m.n t.name t.rest g t.goes.1 in
+      record {
+        thing = proc_of m.n t.name a.arity;
+        rest = a.rest;
+        fine = record { fits = m.below; is_there = m.goes.0; is_new = t.goes.0; short = t.short; are = t.are; arity = a.below };
+        parts = proc_parts (u32 m.n) t.name (length t.name) a.arity bs m.rest t.rest a.rest m.parts t.parts a.parts;
+        goes = a.goes;
+      };
   again = λ f p next rest g fine h.
-    let name = text_again p.name (proc_told f next p.module) (p.arity ∷ rest) g fine.short fine.are (fine.is_new, (fine.arity, h)) in
-    let whole = number_again p.module (proc_module f next) ((length p.name ∷ p.name) ++ (p.arity ∷ rest)) g fine.fits (fine.is_there, name) in
-    subst (λ (bs : List ℕ). Accepts (proc_field f next) bs g) (proc_parts (u32 p.module) p.name (length p.name) p.arity _ _ _ rest refl refl refl) whole;
+      let name = text_again p.name (proc_told f next p.module) (p.arity ∷ rest) g fine.short fine.are (fine.is_new, (fine.arity, h)) in
+      let whole = number_again p.module (proc_module f next) ((length p.name ∷ p.name) ++ (p.arity ∷ rest)) g fine.fits (fine.is_there, name) in
+      subst (λ (bs : List ℕ). Accepts (proc_field f next) bs g) (proc_parts (u32 p.module) p.name (length p.name) p.arity _ _ _ rest refl refl refl) whole;
 }
 
 -- call sites
@@ -155,32 +155,32 @@ three_parts a b c bs rest more last first second third =
 pub site_thing : Thing site_field site_bytes with_site IsFineSite
 site_thing = record {
   takes = λ f next bs g h.
-    let o = number_takes (site_owner f next) bs g h in
-    let l = number_takes (site_line f next o.n) o.rest g o.goes.1 in
-    let c = number_takes (site_callee f next o.n l.n) l.rest g l.goes.1 in
-    let back = callee_back c.n in
-    record {
-      thing = record { owner = o.n; line = l.n; kind = kind_of c.n };
-      rest = c.rest;
-      fine = record {
-        owner_fits = o.below;
-        owner = o.goes.0;
-        line_fits = l.below;
-        line = l.goes.0;
-        callee_fits = subst (λ (k : ℕ). k < 2 ^ 32) (sym back) c.below;
-        callee = ap (λ (k : ℕ). is_callee f k) back ∙ c.goes.0;
-        kind = ap (λ (k : ℕ). kind_of k) back;
+      let o = number_takes (site_owner f next) bs g h in
+      let l = number_takes (site_line f next o.n) o.rest g o.goes.1 in
+      let c = number_takes (site_callee f next o.n l.n) l.rest g l.goes.1 in
+      let back = callee_back c.n in
+      record {
+        thing = record { owner = o.n; line = l.n; kind = kind_of c.n };
+        rest = c.rest;
+        fine = record {
+          owner_fits = o.below;
+          owner = o.goes.0;
+          line_fits = l.below;
+          line = l.goes.0;
+          callee_fits = subst (λ (k : ℕ). k < 2 ^ 32) (sym back) c.below;
+          callee = ap (λ (k : ℕ). is_callee f k) back ∙ c.goes.0;
+          kind = ap (λ (k : ℕ). kind_of k) back;
+        };
+        parts = three_parts (u32 o.n) (u32 l.n) (u32 (or_none (callee_of (kind_of c.n)))) bs o.rest l.rest c.rest o.parts l.parts (c.parts ∙ ap (λ (k : ℕ). u32 k ++ c.rest) (sym back));
+        goes = c.goes.1;
       };
-      parts = three_parts (u32 o.n) (u32 l.n) (u32 (or_none (callee_of (kind_of c.n)))) bs o.rest l.rest c.rest o.parts l.parts (c.parts ∙ ap (λ (k : ℕ). u32 k ++ c.rest) (sym back));
-      goes = c.goes.1;
-    };
   again = λ f x next rest g fine h.
-    let c = or_none (callee_of x.kind) in
-    let goes = subst (λ (k : SiteKind). Accepts (next (with_site f (record { owner = x.owner; line = x.line; kind = k }))) rest g) (sym fine.kind) h in
-    let callee = number_again c (site_callee f next x.owner x.line) rest g fine.callee_fits (fine.callee, goes) in
-    let line = number_again x.line (site_line f next x.owner) (u32 c ++ rest) g fine.line_fits (fine.line, callee) in
-    let whole = number_again x.owner (site_owner f next) (u32 x.line ++ (u32 c ++ rest)) g fine.owner_fits (fine.owner, line) in
-    subst (λ (bs : List ℕ). Accepts (site_field f next) bs g) (three_parts (u32 x.owner) (u32 x.line) (u32 c) _ _ _ rest refl refl refl) whole;
+      let c = or_none (callee_of x.kind) in
+      let goes = subst (λ (k : SiteKind). Accepts (next (with_site f (record { owner = x.owner; line = x.line; kind = k }))) rest g) (sym fine.kind) h in
+      let callee = number_again c (site_callee f next x.owner x.line) rest g fine.callee_fits (fine.callee, goes) in
+      let line = number_again x.line (site_line f next x.owner) (u32 c ++ rest) g fine.line_fits (fine.line, callee) in
+      let whole = number_again x.owner (site_owner f next) (u32 x.line ++ (u32 c ++ rest)) g fine.owner_fits (fine.owner, line) in
+      subst (λ (bs : List ℕ). Accepts (site_field f next) bs g) (three_parts (u32 x.owner) (u32 x.line) (u32 c) _ _ _ rest refl refl refl) whole;
 }
 
 -- contexts
@@ -191,8 +191,8 @@ pub record IsFineContext (f : ProfileRows) (p : ℕ) : Type 0 where
 pub context_thing : Thing context_field u32 with_context IsFineContext
 context_thing = record {
   takes = λ f next bs g h.
-    let p = number_takes (context_proc f next) bs g h in
-    record { thing = p.n; rest = p.rest; fine = record { fits = p.below; is_there = p.goes.0 }; parts = p.parts; goes = p.goes.1 };
+      let p = number_takes (context_proc f next) bs g h in
+      record { thing = p.n; rest = p.rest; fine = record { fits = p.below; is_there = p.goes.0 }; parts = p.parts; goes = p.goes.1 };
   again = λ f p next rest g fine h. number_again p (context_proc f next) rest g fine.fits (fine.is_there, h);
 }
 
@@ -274,33 +274,33 @@ pub record IsFineRoot (k : ℕ) (f : ProfileRows) (l : LinkRow) : Type 0 where
 pub root_thing : (k : ℕ) → IsWidth k → Thing (root_field k) (link_bytes k) with_link (IsFineRoot k)
 root_thing k width = record {
   takes = λ f next bs g h.
-    let v = number_takes (root_caller k f next) bs g h in
-    let s = number_takes (root_site k f next) v.rest g v.goes.1 in
-    let w = number_takes (root_callee k f next) s.rest g s.goes.1 in
-    let c = numbers_takes k [] (root_own f next) w.rest g w.goes.1 in
-    let own = read_counts k width c.ns c.size c.below in
-    record {
-      thing = root_of c.ns;
-      rest = c.rest;
-      fine = record { caller = refl; site = refl; callee = refl; counts = own.fit };
-      parts = four_parts (u32 none) (u32 none) (u32 0) (flat_map u32 (take k (numbers_of (counts_of c.ns)))) bs v.rest s.rest w.rest c.rest
-        (v.parts ∙ ap (λ (n : ℕ). u32 n ++ v.rest) (eqb-true v.n none v.goes.0))
-        (s.parts ∙ ap (λ (n : ℕ). u32 n ++ s.rest) (eqb-true s.n none s.goes.0))
-        (w.parts ∙ ap (λ (n : ℕ). u32 n ++ w.rest) (eqb-true w.n 0 w.goes.0))
-        (c.parts ∙ ap (λ (ns : List ℕ). flat_map u32 ns ++ c.rest) (sym own.back));
-      goes = c.goes;
-    };
+      let v = number_takes (root_caller k f next) bs g h in
+      let s = number_takes (root_site k f next) v.rest g v.goes.1 in
+      let w = number_takes (root_callee k f next) s.rest g s.goes.1 in
+      let c = numbers_takes k [] (root_own f next) w.rest g w.goes.1 in
+      let own = read_counts k width c.ns c.size c.below in
+      record {
+        thing = root_of c.ns;
+        rest = c.rest;
+        fine = record { caller = refl; site = refl; callee = refl; counts = own.fit };
+        parts = four_parts (u32 none) (u32 none) (u32 0) (flat_map u32 (take k (numbers_of (counts_of c.ns)))) bs v.rest s.rest w.rest c.rest
+            (v.parts ∙ ap (λ (n : ℕ). u32 n ++ v.rest) (eqb-true v.n none v.goes.0))
+            (s.parts ∙ ap (λ (n : ℕ). u32 n ++ s.rest) (eqb-true s.n none s.goes.0))
+            (w.parts ∙ ap (λ (n : ℕ). u32 n ++ w.rest) (eqb-true w.n 0 w.goes.0))
+            (c.parts ∙ ap (λ (ns : List ℕ). flat_map u32 ns ++ c.rest) (sym own.back));
+        goes = c.goes;
+      };
   again = λ f l next rest g fine h.
-    let ns = take k (numbers_of l.own) in
-    let same : root_of ns ≡ l = λ i. record { caller = sym fine.caller i; site = sym fine.site i; callee = sym fine.callee i; own = fine.counts.whole i } in
-    let goes = subst (λ (x : LinkRow). Accepts (next (with_link f x)) rest g) (sym same) h in
-    let counts = counts_again k l.own (root_own f next) rest g fine.counts goes in
-    let callee = number_again 0 (root_callee k f next) (flat_map u32 ns ++ rest) g (omega arith) (refl, counts) in
-    let site = number_again none (root_site k f next) (u32 0 ++ (flat_map u32 ns ++ rest)) g (omega arith) (refl, callee) in
-    let whole = number_again none (root_caller k f next) (u32 none ++ (u32 0 ++ (flat_map u32 ns ++ rest))) g (omega arith) (refl, site) in
-    subst (λ (bs : List ℕ). Accepts (root_field k f next) bs g)
-    (four_parts (u32 none) (u32 none) (u32 0) (flat_map u32 ns) _ _ _ _ rest refl refl refl refl
-    ∙ (λ i. (u32 (or_none (sym fine.caller i)) ++ (u32 (or_none (sym fine.site i)) ++ (u32 (sym fine.callee i) ++ flat_map u32 ns))) ++ rest)) whole;
+      let ns = take k (numbers_of l.own) in
+      let same : root_of ns ≡ l = λ i. record { caller = sym fine.caller i; site = sym fine.site i; callee = sym fine.callee i; own = fine.counts.whole i } in
+      let goes = subst (λ (x : LinkRow). Accepts (next (with_link f x)) rest g) (sym same) h in
+      let counts = counts_again k l.own (root_own f next) rest g fine.counts goes in
+      let callee = number_again 0 (root_callee k f next) (flat_map u32 ns ++ rest) g (omega arith) (refl, counts) in
+      let site = number_again none (root_site k f next) (u32 0 ++ (flat_map u32 ns ++ rest)) g (omega arith) (refl, callee) in
+      let whole = number_again none (root_caller k f next) (u32 none ++ (u32 0 ++ (flat_map u32 ns ++ rest))) g (omega arith) (refl, site) in
+      subst (λ (bs : List ℕ). Accepts (root_field k f next) bs g)
+      (four_parts (u32 none) (u32 none) (u32 0) (flat_map u32 ns) _ _ _ _ rest refl refl refl refl
+      ∙ (λ i. (u32 (or_none (sym fine.caller i)) ++ (u32 (or_none (sym fine.site i)) ++ (u32 (sym fine.callee i) ++ flat_map u32 ns))) ++ rest)) whole;
 }
 
 -- each other link
@@ -322,42 +322,42 @@ pub record IsFineLink (k : ℕ) (f : ProfileRows) (l : LinkRow) : Type 0 where
 pub link_thing : (k : ℕ) → IsWidth k → Thing (link_field k) (link_bytes k) with_link (IsFineLink k)
 link_thing k width = record {
   takes = λ f next bs g h.
-    let v = number_takes (link_caller k f next) bs g h in
-    let s = number_takes (link_site k f next v.n) v.rest g v.goes.1 in
-    let w = number_takes (link_callee k f next v.n s.n) s.rest g s.goes.1 in
-    let c = numbers_takes k [] (link_own k f next v.n s.n w.n) w.rest g w.goes.1 in
-    let own = read_counts k width c.ns c.size c.below in
-    record {
-      thing = link_of v.n s.n w.n c.ns;
-      rest = c.rest;
-      fine = record {
-        v = v.n;
-        s = s.n;
-        caller = refl;
-        site = refl;
-        caller_fits = v.below;
-        caller_there = v.goes.0;
-        site_fits = s.below;
-        site_there = s.goes.0;
-        callee_fits = w.below;
-        callee_there = w.goes.0;
-        counts = own.fit;
-        joins = c.goes.0;
-        is_new = c.goes.1.0;
+      let v = number_takes (link_caller k f next) bs g h in
+      let s = number_takes (link_site k f next v.n) v.rest g v.goes.1 in
+      let w = number_takes (link_callee k f next v.n s.n) s.rest g s.goes.1 in
+      let c = numbers_takes k [] (link_own k f next v.n s.n w.n) w.rest g w.goes.1 in
+      let own = read_counts k width c.ns c.size c.below in
+      record {
+        thing = link_of v.n s.n w.n c.ns;
+        rest = c.rest;
+        fine = record {
+          v = v.n;
+          s = s.n;
+          caller = refl;
+          site = refl;
+          caller_fits = v.below;
+          caller_there = v.goes.0;
+          site_fits = s.below;
+          site_there = s.goes.0;
+          callee_fits = w.below;
+          callee_there = w.goes.0;
+          counts = own.fit;
+          joins = c.goes.0;
+          is_new = c.goes.1.0;
+        };
+        parts = four_parts (u32 v.n) (u32 s.n) (u32 w.n) (flat_map u32 (take k (numbers_of (counts_of c.ns)))) bs v.rest s.rest w.rest c.rest
+            v.parts s.parts w.parts (c.parts ∙ ap (λ (ns : List ℕ). flat_map u32 ns ++ c.rest) (sym own.back));
+        goes = c.goes.1.1;
       };
-      parts = four_parts (u32 v.n) (u32 s.n) (u32 w.n) (flat_map u32 (take k (numbers_of (counts_of c.ns)))) bs v.rest s.rest w.rest c.rest
-        v.parts s.parts w.parts (c.parts ∙ ap (λ (ns : List ℕ). flat_map u32 ns ++ c.rest) (sym own.back));
-      goes = c.goes.1.1;
-    };
   again = λ f l next rest g fine h.
-    let ns = take k (numbers_of l.own) in
-    let same : link_of fine.v fine.s l.callee ns ≡ l = λ i. record { caller = sym fine.caller i; site = sym fine.site i; callee = l.callee; own = fine.counts.whole i } in
-    let goes = subst (λ (x : LinkRow). Accepts (next (with_link f x)) rest g) (sym same) h in
-    let counts = counts_again k l.own (link_own k f next fine.v fine.s l.callee) rest g fine.counts (fine.joins, (fine.is_new, goes)) in
-    let callee = number_again l.callee (link_callee k f next fine.v fine.s) (flat_map u32 ns ++ rest) g fine.callee_fits (fine.callee_there, counts) in
-    let site = number_again fine.s (link_site k f next fine.v) (u32 l.callee ++ (flat_map u32 ns ++ rest)) g fine.site_fits (fine.site_there, callee) in
-    let whole = number_again fine.v (link_caller k f next) (u32 fine.s ++ (u32 l.callee ++ (flat_map u32 ns ++ rest))) g fine.caller_fits (fine.caller_there, site) in
-    subst (λ (bs : List ℕ). Accepts (link_field k f next) bs g)
-    (four_parts (u32 fine.v) (u32 fine.s) (u32 l.callee) (flat_map u32 ns) _ _ _ _ rest refl refl refl refl
-    ∙ (λ i. (u32 (or_none (sym fine.caller i)) ++ (u32 (or_none (sym fine.site i)) ++ (u32 l.callee ++ flat_map u32 ns))) ++ rest)) whole;
+      let ns = take k (numbers_of l.own) in
+      let same : link_of fine.v fine.s l.callee ns ≡ l = λ i. record { caller = sym fine.caller i; site = sym fine.site i; callee = l.callee; own = fine.counts.whole i } in
+      let goes = subst (λ (x : LinkRow). Accepts (next (with_link f x)) rest g) (sym same) h in
+      let counts = counts_again k l.own (link_own k f next fine.v fine.s l.callee) rest g fine.counts (fine.joins, (fine.is_new, goes)) in
+      let callee = number_again l.callee (link_callee k f next fine.v fine.s) (flat_map u32 ns ++ rest) g fine.callee_fits (fine.callee_there, counts) in
+      let site = number_again fine.s (link_site k f next fine.v) (u32 l.callee ++ (flat_map u32 ns ++ rest)) g fine.site_fits (fine.site_there, callee) in
+      let whole = number_again fine.v (link_caller k f next) (u32 fine.s ++ (u32 l.callee ++ (flat_map u32 ns ++ rest))) g fine.caller_fits (fine.caller_there, site) in
+      subst (λ (bs : List ℕ). Accepts (link_field k f next) bs g)
+      (four_parts (u32 fine.v) (u32 fine.s) (u32 l.callee) (flat_map u32 ns) _ _ _ _ rest refl refl refl refl
+      ∙ (λ i. (u32 (or_none (sym fine.caller i)) ++ (u32 (or_none (sym fine.site i)) ++ (u32 l.callee ++ flat_map u32 ns))) ++ rest)) whole;
 }

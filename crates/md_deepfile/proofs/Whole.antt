@@ -302,13 +302,13 @@ body_again k width m p x v root l finished fields root_fine links_fine =
     let links : Accepts (links_fields k (rows m p x v [] finished)) (each (link_bytes k) (root ∷ l)) g = number_again (length (root ∷ l)) (links_counted k (rows m p x v [] finished)) (link_bytes k root ++ flat_map (link_bytes k) l) g fields.few_links (le-leb 1 (length (root ∷ l)) (omega arith), r) in
     let v_at = added with_context (λ zs. rows m p x zs [] finished) (λ zs y. refl) [] v in
     let contexts = list_again context_field u32 with_context IsFineContext context_thing v (rows m p x [] [] finished) (links_fields k) (contexts_counted k (rows m p x [] [] finished)) (each (link_bytes k) (root ∷ l)) g fields.few_nodes fields.nodes
-      (subst (λ (f : ProfileRows). Accepts (links_fields k f) (each (link_bytes k) (root ∷ l)) g) (sym v_at) links) (λ h. (le-leb 1 (length v) fields.some_nodes, h)) in
+    (subst (λ (f : ProfileRows). Accepts (links_fields k f) (each (link_bytes k) (root ∷ l)) g) (sym v_at) links) (λ h. (le-leb 1 (length v) fields.some_nodes, h)) in
     let x_at = added with_site (λ zs. rows m p zs [] [] finished) (λ zs y. refl) [] x in
     let sites = list_again site_field site_bytes with_site IsFineSite site_thing x (rows m p [] [] [] finished) (contexts_fields k) (sites_counted k (rows m p [] [] [] finished)) (each u32 v ++ each (link_bytes k) (root ∷ l)) g fields.few_sites fields.sites
-      (subst (λ (f : ProfileRows). Accepts (contexts_fields k f) (each u32 v ++ each (link_bytes k) (root ∷ l)) g) (sym x_at) contexts) (λ h. h) in
+    (subst (λ (f : ProfileRows). Accepts (contexts_fields k f) (each u32 v ++ each (link_bytes k) (root ∷ l)) g) (sym x_at) contexts) (λ h. h) in
     let p_at = added with_proc (λ zs. rows m zs [] [] [] finished) (λ zs y. refl) [] p in
     let procs = list_again proc_field proc_bytes with_proc IsFineProc proc_thing p (rows m [] [] [] [] finished) (sites_fields k) (procs_counted k (rows m [] [] [] [] finished)) (each site_bytes x ++ (each u32 v ++ each (link_bytes k) (root ∷ l))) g fields.few_procs fields.procs
-      (subst (λ (f : ProfileRows). Accepts (sites_fields k f) (each site_bytes x ++ (each u32 v ++ each (link_bytes k) (root ∷ l))) g) (sym p_at) sites) (λ h. (le-leb 1 (length p) fields.some_procs, h)) in
+    (subst (λ (f : ProfileRows). Accepts (sites_fields k f) (each site_bytes x ++ (each u32 v ++ each (link_bytes k) (root ∷ l))) g) (sym p_at) sites) (λ h. (le-leb 1 (length p) fields.some_procs, h)) in
     let m_at = added with_module (λ zs. rows zs [] [] [] [] finished) (λ zs y. refl) [] m in
     list_again module_field name_bytes with_module IsFineModule module_thing m (begun finished) (procs_fields k) (modules_counted k (begun finished)) (each proc_bytes p ++ (each site_bytes x ++ (each u32 v ++ each (link_bytes k) (root ∷ l)))) g fields.few_modules fields.modules
     (subst (λ (f : ProfileRows). Accepts (procs_fields k f) (each proc_bytes p ++ (each site_bytes x ++ (each u32 v ++ each (link_bytes k) (root ∷ l)))) g) (sym m_at) procs) (λ h. (le-leb 1 (length m) fields.some_modules, h))

@@ -81,7 +81,7 @@ stop_later name p x rest q old middle now buffer between first second is = λ be
       rest = v.rest ++ rest;
       held = v.held;
       parts = sym (append_assoc v.out v.rest rest) ∙ ap (λ (xs : List ℕ). xs ++ rest) v.parts ∙ ap (λ (xs : List ℕ). xs ++ rest) (append_assoc done p x)
-      ∙ append_assoc done (p ++ x) rest ∙ ap (λ (xs : List ℕ). done ++ xs) is;
+          ∙ append_assoc done (p ++ x) rest ∙ ap (λ (xs : List ℕ). done ++ xs) is;
     }
 
 -- a list as far as it was put

@@ -203,7 +203,12 @@ impl Reader {
         Ok(())
     }
 
-    pub(crate) fn site_callee(&mut self, owner: u32, line: u32, callee: u32) -> Result<(), DecodeFault>
+    pub(crate) fn site_callee(
+        &mut self,
+        owner: u32,
+        line: u32,
+        callee: u32,
+    ) -> Result<(), DecodeFault>
         requires { HasPlaces (after_number (Field.SiteCallee owner line) (state_of self.old)) (state_of self.old) }
         ensures follows { Follows (number_told (Field.SiteCallee owner line) (state_of self.old) callee) self.old.at (state_of self.new) result }
         ensures ready { OnOk result (IsReady (state_of self.new)) }

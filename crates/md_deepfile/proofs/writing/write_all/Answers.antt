@@ -21,6 +21,6 @@ returns-clause-stops g c =
     let f = c.args.profile.now in
     err_then c.empty.result _ _ c.empty.ensures.stops
     (λ stops. stop_later c.args.name.now (table_bytes f ++ row_bytes f) [] [] (file_bytes f) (g.S.Store.held c.args.store.now) (g.S.Store.held c.write_rows.new.store) (g.S.Store.held c.empty.new.store) c.args.buffer.now.items c.write_rows.new.buffer.items
-      (then_on c.args.name.now (table_bytes f) (row_bytes f) (g.S.Store.held c.args.store.now) (g.S.Store.held c.write_tables.new.store) (g.S.Store.held c.write_rows.new.store) c.args.buffer.now.items c.write_tables.new.buffer.items c.write_rows.new.buffer.items
-        c.in_default.ensures.on c.in_default-write_rows.ensures.on)
-      stops (append-nil ((table_bytes f ++ row_bytes f) ++ []) ∙ append-nil (table_bytes f ++ row_bytes f) ∙ file_parts f))
+    (then_on c.args.name.now (table_bytes f) (row_bytes f) (g.S.Store.held c.args.store.now) (g.S.Store.held c.write_tables.new.store) (g.S.Store.held c.write_rows.new.store) c.args.buffer.now.items c.write_tables.new.buffer.items c.write_rows.new.buffer.items
+    c.in_default.ensures.on c.in_default-write_rows.ensures.on)
+    stops (append-nil ((table_bytes f ++ row_bytes f) ++ []) ∙ append-nil (table_bytes f ++ row_bytes f) ∙ file_parts f))

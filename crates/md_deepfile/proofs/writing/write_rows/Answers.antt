@@ -17,6 +17,6 @@ returns-clause-stops g c =
     let f = c.args.profile.now in
     err_then c.write_each-2.result _ _ c.write_each-2.ensures.stops
     (λ stops. stop_later c.args.name.now (each u32 c.nodes.result.now) (each (link_bytes 7) c.links.result.now) [] (row_bytes f) (g.S.Store.held c.args.store.now) (g.S.Store.held c.write_each.new.store) (g.S.Store.held c.write_each-2.new.store)
-      c.args.buffer.now.items c.write_each.new.buffer.items c.in_default.ensures.on stops
-      (append-nil (each u32 c.nodes.result.now ++ each (link_bytes 7) c.links.result.now)
-      ∙ ap (λ (ns : List ℕ). each u32 ns ++ each (link_bytes 7) c.links.result.now) c.nodes.ensures ∙ ap (λ (ls : List LinkRow). each u32 f.nodes ++ each (link_bytes 7) ls) c.links.ensures))
+    c.args.buffer.now.items c.write_each.new.buffer.items c.in_default.ensures.on stops
+    (append-nil (each u32 c.nodes.result.now ++ each (link_bytes 7) c.links.result.now)
+    ∙ ap (λ (ns : List ℕ). each u32 ns ++ each (link_bytes 7) c.links.result.now) c.nodes.ensures ∙ ap (λ (ls : List LinkRow). each u32 f.nodes ++ each (link_bytes 7) ls) c.links.ensures))

@@ -22,4 +22,4 @@ returns c =
     let named = sym c.is_program_name.ensures ∙ c.if-not-is_program_name.false in
     told_of c.args.home name c.args.bytes.now c.self.inside.procs.items c.args.self.now (not c.contains.result) c.in_ok-from_slice.ensures.items c.self.view_is
     (told_by_keys (λ (k : ℕ × Vec ℕ Global). (k.0, k.1.items)) (λ (k : ℕ × List ℕ). (c.args.home == k.0) && bytes_eq name k.1) c.self.inside.keys.keys (map key_of c.self.inside.procs.items)
-      (is_name c.args.bytes.now) (not c.contains.result) c.self.invariant named (ap not c.contains.ensures))
+    (is_name c.args.bytes.now) (not c.contains.result) c.self.invariant named (ap not c.contains.ensures))
