@@ -162,6 +162,26 @@ fn a_file_that_is_cut_is_short(rt: HostRuntime) -> Result<(), Fail> {
     Ok(())
 }
 
+#[test]
+fn a_damage_has_its_word(rt: HostRuntime) -> Result<(), Fail> {
+    let alloc = rt.alloc();
+    for (kind, word) in [
+        (Kind::Magic, "magic"),
+        (Kind::Short, "short"),
+        (Kind::Trailing, "trailing"),
+        (Kind::Range, "range"),
+        (Kind::Text, "text"),
+        (Kind::SiteMismatch, "site mismatch"),
+        (Kind::DoubleLink, "double link"),
+        (Kind::Orphan, "orphan"),
+        (Kind::Flag, "flag"),
+    ] {
+        let told = format!(in alloc; "{kind}")?;
+        assert_eq!(rt; told.as_str(), word);
+    }
+    Ok(())
+}
+
 /// Feeds a file in pieces, and writes what was read.
 fn through(alloc: Global, file: &[u8], size: usize) -> Result<Vec<u8>, Fail> {
     let mut decoder = Decoder::new(alloc)?;
