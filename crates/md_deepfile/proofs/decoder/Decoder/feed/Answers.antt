@@ -1,0 +1,31 @@
+use Rattle.std.proofs.Common.{refl, ap, sym, ◌∙◌, arith, ◌++◌, None, Some, List, ℕ}
+use Rattle.md_deepfile.specs.Decoding.{Decoding, HasTaken}
+use Rattle.md_deepfile.specs.State.{state_of}
+use Rattle.md_deepfile.proofs.Fed.{taken_on, taken_stop, taken_still, tells_on, tells_stop}
+use Rattle.md_deepfile.proofs.decoder.Decoder.feed.Goals as goal
+
+pub returns-in-Some-clause-taken : goal.returns-in-Some-clause-taken
+returns-in-Some-clause-taken c =
+    taken_still c.args.self.now c.in-Some.fault c.args.piece.now (sym (ap (λ (d : Decoding). d.stopped) c.self.view_is) ∙ c.in-Some.is) (λ i. omega (arith, c.type_inv.piece i))
+
+pub returns-in-Ok-clause-taken : goal.returns-in-Ok-clause-taken
+returns-in-Ok-clause-taken c =
+    taken_on c.args.self.now c.self.inside.stopped (state_of c.self.inside.reader) (state_of c.take.new.reader) c.args.piece.now c.self.view_is c.in_default.is (λ i. omega (arith, c.type_inv.piece i)) c.in-Ok.ensures.follows
+
+pub returns-in-Ok-clause-tells : goal.returns-in-Ok-clause-tells
+returns-in-Ok-clause-tells c = λ bytes taken.
+    let d : Decoding = record { stopped = c.self.inside.stopped; state = state_of c.take.new.reader } in
+    let after : HasTaken d (bytes ++ c.args.piece.now) =
+    taken_on c.args.self.now c.self.inside.stopped (state_of c.self.inside.reader) (state_of c.take.new.reader) c.args.piece.now c.self.view_is c.in_default.is (λ i. omega (arith, c.type_inv.piece i)) c.in-Ok.ensures.follows bytes taken in
+    tells_on d (bytes ++ c.args.piece.now) c.in_default.is c.in-Ok.ensures.ready after
+
+pub returns-in-Err-clause-taken : goal.returns-in-Err-clause-taken
+returns-in-Err-clause-taken c =
+    taken_stop c.args.self.now c.self.inside.stopped (state_of c.self.inside.reader) (state_of c.take.new.reader) c.args.piece.now c.in-Err.fault c.self.view_is c.in_default.is (λ i. omega (arith, c.type_inv.piece i)) c.in-Err.ensures.follows
+
+pub returns-in-Err-clause-tells : goal.returns-in-Err-clause-tells
+returns-in-Err-clause-tells c = λ bytes taken.
+    let d : Decoding = record { stopped = Some c.in-Err.fault; state = state_of c.take.new.reader } in
+    let after : HasTaken d (bytes ++ c.args.piece.now) =
+    taken_stop c.args.self.now c.self.inside.stopped (state_of c.self.inside.reader) (state_of c.take.new.reader) c.args.piece.now c.in-Err.fault c.self.view_is c.in_default.is (λ i. omega (arith, c.type_inv.piece i)) c.in-Err.ensures.follows bytes taken in
+    tells_stop d c.in-Err.fault (bytes ++ c.args.piece.now) refl after

@@ -1,0 +1,25 @@
+use Rattle.std.proofs.Common.{◌≡◌, ℕ, ◌∙◌, sym, ap, true, false, Vec, List, Bool, ◌&&◌, not}
+use Rattle.std.specs.Str.{bytes_eq}
+use Rattle.std.specs.List.{list_any}
+use Rattle.std.specs.declared.alloc.Global.{Global}
+use Rattle.md_static.specs.Names.{is_name}
+use Rattle.md_deepfile.proofs.Keys.{told_by_keys}
+use Rattle.md_deepfile.proofs.modules.Modules.add.Goals as goal
+
+-- the test of a key is that of the bytes, and the names are those that the contract sees
+told_of : (name bytes : List ℕ) (names seen : List (List ℕ)) (fresh answer : Bool) → name ≡ bytes → names ≡ seen → fresh ≡ answer
+    → fresh ≡ (is_name bytes && not (list_any (bytes_eq name) names)) → answer ≡ (is_name bytes && not (list_any (bytes_eq bytes) seen))
+told_of name bytes names seen fresh answer same are is told =
+    sym is ∙ told ∙ ap (λ (x : List ℕ). is_name bytes && not (list_any (bytes_eq x) names)) same ∙ ap (λ (xs : List (List ℕ)). is_name bytes && not (list_any (bytes_eq bytes) xs)) are
+
+pub returns-then-not-branch-clause-added : goal.returns-then-not-branch-clause-added
+returns-then-not-branch-clause-added c =
+    let named = sym c.is_program_name.ensures ∙ c.if-not-is_program_name.false in
+    told_of c.in_ok-key.key.items c.args.bytes.now c.self.inside.names.items c.args.self.now c.in_ok-insert.field-0 false c.in_ok-key.ensures.items c.self.view_is c.if-not-branch.true
+    (told_by_keys (λ (k : Vec ℕ Global). k.items) (bytes_eq c.in_ok-key.key.items) c.self.inside.keys.keys c.self.inside.names.items (is_name c.args.bytes.now) c.in_ok-insert.field-0 c.self.invariant named c.in_ok-insert.ensures.added)
+
+pub returns-clause-added : goal.returns-clause-added
+returns-clause-added c =
+    let named = sym c.is_program_name.ensures ∙ c.if-not-is_program_name.false in
+    told_of c.in_ok-key.key.items c.args.bytes.now c.self.inside.names.items c.args.self.now c.in_ok-insert.field-0 true c.in_ok-key.ensures.items c.self.view_is c.if-not-branch.false
+    (told_by_keys (λ (k : Vec ℕ Global). k.items) (bytes_eq c.in_ok-key.key.items) c.self.inside.keys.keys c.self.inside.names.items (is_name c.args.bytes.now) c.in_ok-insert.field-0 c.self.invariant named c.in_ok-insert.ensures.added)

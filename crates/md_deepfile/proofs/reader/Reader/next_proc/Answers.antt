@@ -1,0 +1,12 @@
+use Rattle.std.proofs.Common.{◌≡◌, ℕ, List, ap, sym, ◌∙◌, ◌-◌, arith}
+use Rattle.md_deepfile.specs.Fields.{Text, proc_field, sites_fields, contexts_fields}
+use Rattle.md_deepfile.specs.Format.{read}
+use Rattle.md_deepfile.specs.State.{State, form_of, state_of, width}
+use Rattle.md_deepfile.proofs.Reading.{several_more}
+use Rattle.md_deepfile.proofs.reader.Reader.next_proc.Goals as goal
+
+pub returns-else-self-eq0-clause-leads : goal.returns-else-self-eq0-clause-leads
+returns-else-self-eq0-clause-leads c = λ rest.
+    let s = state_of c.args.self.now in
+    ap (λ (t : Text). read t s.at rest) (several_more proc_field s.more s.rows _ (omega arith))
+    ∙ sym (ap (λ (t : State). read (form_of t) t.at rest) c.expect-else-self-eq0.ensures)

@@ -1,0 +1,10 @@
+pub mod Bytes
+pub mod Decoding
+pub mod Format
+pub mod Loads
+pub mod Pieces
+pub mod Rules
+pub mod Sets
+pub mod Fields
+pub mod Spells
+pub mod State

@@ -1,0 +1,76 @@
+// The modules that were read.
+ghost use Rattle.std.specs.Prelude.{◌≡◌, ◌++◌, ◌∷◌, [], ◌&&◌, not, IfOk, OnOk, if◌then◌else◌};
+ghost use Rattle.std.specs.Str.{bytes_eq};
+ghost use Rattle.std.specs.List.{list_any};
+ghost use Rattle.md_static.specs.Names.{is_name};
+
+use crate::names::is_program_name;
+use indexmap::IndexSet;
+use md_base::{Name, NoMemory};
+use std::alloc::Global;
+use std::marker::Model;
+
+/// Names of modules in their order. A set of their bytes finds one that was there before at once.
+#[derive(Drop)]
+pub(crate) struct Modules {
+    names: Vec<Name>,
+    keys: IndexSet<Vec<u8>>,
+}
+
+impl Model for Modules {
+    ghost use Rattle.std.specs.Prelude.{ℕ, ◌≡◌, List, map};
+
+    ghost Value = { List (List ℕ) };
+
+    ghost view = { λ m. m.names.items };
+
+    ghost invariant = { λ m. map (λ key. key.items) m.keys.keys ≡ m.names.items };
+}
+
+impl Modules {
+    ghost use Rattle.std.specs.Prelude.{length};
+
+    /// No modules.
+    pub(crate) fn new(alloc: Global) -> Modules
+        ensures { result ≡ [] }
+    {
+        Modules {
+            names: Vec::new(alloc),
+            keys: IndexSet::new(alloc),
+        }
+    }
+
+    /// How many there are.
+    pub(crate) fn len(&self) -> usize
+        ensures { result ≡ length self.now }
+    {
+        self.names.len()
+    }
+
+    /// Adds a module of this name, and answers whether it is a name that none had before. Otherwise nothing is added.
+    pub(crate) fn add(&mut self, alloc: Global, bytes: &[u8]) -> Result<bool, NoMemory>
+        ensures added { IfOk result (λ added. added ≡ (is_name bytes.now && not (list_any (bytes_eq bytes.now) self.old))) }
+        ensures names { IfOk result (λ added. self.new ≡ (if added then self.old ++ bytes.now ∷ [] else self.old)) }
+    {
+        if !is_program_name(bytes) {
+            return Ok(false);
+        }
+        let Some(name) = Name::from_bytes(alloc, bytes)? else {
+            return Ok(false);
+        };
+        let key = Vec::from_slice(alloc, bytes)?;
+        self.names.reserve(1)?;
+        if !self.keys.insert(key)? {
+            return Ok(false);
+        }
+        self.names.push(name)?;
+        Ok(true)
+    }
+
+    /// The names. Takes no memory.
+    pub(crate) fn into_names(self) -> Vec<Name>
+        ensures { result.items ≡ self }
+    {
+        self.names
+    }
+}

@@ -1,0 +1,46 @@
+// Which bytes are names.
+ghost use Rattle.std.specs.Prelude.{◌≡◌};
+ghost use Rattle.md_static.specs.Names.{is_lower, is_word, are_words, is_name};
+
+use md_base::Name;
+
+/// A lower-case letter of ASCII.
+fn is_small(byte: u8) -> bool
+    ensures { result ≡ is_lower byte }
+{
+    byte >= b'a' && byte <= b'z'
+}
+
+/// A letter of ASCII, a digit or `_`.
+fn is_part(byte: u8) -> bool
+    ensures { result ≡ is_word byte }
+{
+    is_small(byte)
+        || (byte >= b'A' && byte <= b'Z')
+        || (byte >= b'0' && byte <= b'9')
+        || byte == b'_'
+}
+
+/// Whether each byte is a letter of ASCII, a digit or `_`.
+fn are_parts(bytes: &[u8]) -> bool
+    ensures { result ≡ are_words bytes.now }
+{
+    let mut rest = bytes;
+    while let [first, after @ ..] = rest {
+        if !is_part(*first) {
+            return false;
+        }
+        rest = after;
+    }
+    true
+}
+
+/// Whether these bytes are a name of a program: a lower-case letter, and then letters, digits and `_`, 255 in all at most.
+pub(crate) fn is_program_name(bytes: &[u8]) -> bool
+    ensures { result ≡ is_name bytes.now }
+{
+    match bytes {
+        [] => false,
+        [first, rest @ ..] => is_small(*first) && are_parts(rest) && rest.len() < Name::MOST,
+    }
+}
