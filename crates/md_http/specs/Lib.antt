@@ -1,0 +1,5 @@
+pub mod Heard
+pub mod Message
+pub mod Response
+pub mod Reading
+pub mod Served
