@@ -1,3 +1,5 @@
 pub mod Chains
 pub mod Fields
+pub mod Readings
 pub mod Responses
+pub mod Servings
