@@ -3,3 +3,4 @@ pub mod Message
 pub mod Response
 pub mod Reading
 pub mod Served
+pub mod Serving

@@ -8,7 +8,9 @@ mod link;
 mod message;
 mod reading;
 mod response;
+mod serving;
 
 pub use link::{Served, serve_link};
 pub use message::Refusal;
 pub use response::reply;
+pub use serving::{ServeFault, Tally, serve_connections};
