@@ -1,5 +1,6 @@
 pub mod Chains
 pub mod Fields
+pub mod Givings
 pub mod Readings
 pub mod Responses
 pub mod Servings

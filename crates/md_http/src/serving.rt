@@ -111,10 +111,10 @@ fn serve_next<N: Net>(
     ensures stays { N.IsBound net.new }
 {
     match net.next() {
-        Ok(Some(link)) => {
-            let served = serve_one(alloc, loaded, net, link)?;
-            Ok(Some(served))
-        }
+        Ok(Some(link)) => match serve_one(alloc, loaded, net, link) {
+            Ok(served) => Ok(Some(served)),
+            Err(fault) => Err(fault),
+        },
         Ok(None) => Ok(None),
         Err(Failed::Device) => Err(ServeFault::Net),
         Err(Failed::NoMemory) => Err(ServeFault::NoMemory),
