@@ -63,20 +63,28 @@ gave_back : (v : View) (before : Connections) (input : List ℕ) (rest : List (L
     → (back : IsGivenBack v (record { coming = rest; served = before.served }) input now how) → GaveBack before now input back.connection
 gave_back v before input rest now how first back = record { rest = rest; first = first; given_back = back.given_back }
 
-pub step_served : (v : View) (before : Connections) (middle now : Option Connections) (stream : Option Stream) (held : Option (List ℕ)) (how : Served)
-    → TakesFirst (Some before) middle stream held
+-- the next connection came with these bytes, and what became of it is told of it as it came
+comes_first : (before : Connections) (net middle : Option Connections) (stream : Option Stream) (held : Option (List ℕ)) → net ≡ Some before → TakesFirst net middle stream held → GivesFirst before middle stream held
+comes_first before net middle stream held told first = subst (λ (n : Option Connections). TakesFirst n middle stream held) told first
+
+pub step_served : (v : View) (before : Connections) (net middle now : Option Connections) (stream : Option Stream) (held : Option (List ℕ)) (how : Served) → net ≡ Some before
+    → TakesFirst net middle stream held
     → ((b : Connections) (input : List ℕ) → middle ≡ Some b → stream ≡ Some (fresh input) → held ≡ Some [] → IsEnd v b input now (Ok how))
     → IsStep v before now (Ok (Some how))
-step_served v before middle now stream held how first ends_so =
+step_served v before net middle now stream held how told came ends_so =
+    let first = comes_first before net middle stream held told came in
     let back = ends_so _ first.input first.others first.unread first.unwritten in
     (first.input, back.connection, gave_back v before first.input first.rest now how first.first back, back.served)
 
-pub step_refused : (v : View) (before : Connections) (middle now : Option Connections) (stream : Option Stream) (held : Option (List ℕ)) (why : ServeFault)
-    → TakesFirst (Some before) middle stream held
+pub step_refused : (v : View) (before : Connections) (net middle now : Option Connections) (stream : Option Stream) (held : Option (List ℕ)) (why : ServeFault) → net ≡ Some before
+    → TakesFirst net middle stream held
     → ((b : Connections) (input : List ℕ) → middle ≡ Some b → stream ≡ Some (fresh input) → held ≡ Some [] → IsEnd v b input now (Err why))
     → IsStep v before now (Err why)
-step_refused v before middle now stream held fault.Net first ends_so = absurd (ends_so _ first.input first.others first.unread first.unwritten)
-step_refused v before middle now stream held fault.NoMemory first ends_so = elim (ends_so _ first.input first.others first.unread first.unwritten) [
-  | inl back ↦ at_link first.input back.connection (gave_back v before first.input first.rest now NoMemory first.first back) back.served
-  | inr closed ↦ at_done first.input first.rest first.first closed
-]
+step_refused v before net middle now stream held fault.Net told came ends_so =
+    let first = comes_first before net middle stream held told came in absurd (ends_so _ first.input first.others first.unread first.unwritten)
+step_refused v before net middle now stream held fault.NoMemory told came ends_so =
+    let first = comes_first before net middle stream held told came in
+    elim (ends_so _ first.input first.others first.unread first.unwritten) [
+      | inl back ↦ at_link first.input back.connection (gave_back v before first.input first.rest now NoMemory first.first back) back.served
+      | inr closed ↦ at_done first.input first.rest first.first closed
+    ]

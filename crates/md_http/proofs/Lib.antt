@@ -4,3 +4,4 @@ pub mod Givings
 pub mod Readings
 pub mod Responses
 pub mod Servings
+pub mod Tallies

@@ -70,9 +70,10 @@ pub fn serve_connections<N: Net>(
         answered: 0,
     };
     while tally.connections < requests {
-        match serve_next(alloc, loaded, net)? {
-            Some(served) => tally = counted(tally, served),
-            None => return Ok(tally),
+        match serve_next(alloc, loaded, net) {
+            Ok(Some(served)) => tally = counted(tally, served),
+            Ok(None) => return Ok(tally),
+            Err(fault) => return Err(fault),
         }
     }
     Ok(tally)
