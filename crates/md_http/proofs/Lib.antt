@@ -5,3 +5,4 @@ pub mod Readings
 pub mod Responses
 pub mod Servings
 pub mod Tallies
+mod Worked
