@@ -1,6 +1,6 @@
 // How connections are served one after the other.
-ghost use Rattle.std.specs.Prelude.{◌≡◌, ◌<◌, ◌≤◌, ◌+◌, ℕ, List, [], Some, IsErrOf, IfOk, IfSome};
-ghost use Rattle.md_base.specs.Nets.{Connections};
+ghost use Rattle.std.specs.Prelude.{◌≡◌, ◌<◌, ◌≤◌, ◌+◌, ℕ, List, [], Some, IsErrOf, IfOk, OnOk, OnErr, IfSome};
+ghost use Rattle.md_base.specs.Nets.{Connections, connection_of, with_served};
 ghost use Rattle.md_base.specs.Outside.{Rose};
 ghost use Rattle.md_base.specs.Streams.{fresh};
 ghost use Rattle.md_cost.specs.FileView.{IsFileView};
@@ -141,9 +141,22 @@ fn serve_one<N: Net>(
 {
     let mut link = link;
     let served = serve_link(alloc, loaded, &mut link);
-    net.done(link)?;
+    give_back(net, link)?;
     match served {
         Served::NoMemory => Err(ServeFault::NoMemory),
         other => Ok(other),
     }
+}
+
+/// Gives a connection back as it stands.
+fn give_back<N: Net>(net: &mut N, link: N::Conn) -> Result<(), ServeFault>
+    requires { N.IsBound net.old }
+    ensures served { OnOk result (N.connections net.new ≡ with_served (connection_of (N.Conn.stream link) (N.Conn.held link) (N.Conn.read_faults link) (N.Conn.write_faults link)) (N.connections net.old)) }
+    ensures kept { OnErr result (N.connections net.new ≡ N.connections net.old) }
+    ensures memory { IsErrOf result ServeFault.Net → ⊥ }
+    ensures stays { N.IsBound net.new }
+    ensures count { N.faults net.new ≡ N.faults net.old }
+{
+    net.done(link)?;
+    Ok(())
 }
