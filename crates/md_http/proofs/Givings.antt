@@ -5,7 +5,7 @@ use Rattle.md_base.specs.Outside.{added}
 use Rattle.md_base.specs.Streams.{Stream, fresh}
 use Rattle.md_cost.specs.View.{View}
 use Rattle.md_http.specs.Served.{Ends, ends, IsServed, early, late}
-use Rattle.md_http.specs.Serving.{fresh_ends, ends_of, GaveBack, IsRefused, at_link, at_done, IsGivenBack, IsEnd, IsStep}
+use Rattle.md_http.specs.Serving.{fresh_ends, ends_of, GaveBack, WantsMemoryNext, at_link, at_done, IsGivenBack, IsEnd, IsStep}
 use Rattle.md_http.specs.declared.link.Served.{Served}
 use Rattle.md_http.specs.declared.link.Served.TheVariants.{Answered, ReadFault, WriteFault, NoMemory}
 use Rattle.md_http.specs.declared.serving.ServeFault.{ServeFault}

@@ -1,5 +1,5 @@
 -- What was read of a connection.
-use Rattle.std.specs.Prelude.{ℕ, ◌≡◌, ◌<◌, ◌||◌, Bool, false, IsTrue, List, ◌++◌, length, Option, None, Some}
+use Rattle.std.specs.Prelude.{ℕ, ◌≡◌, ◌<◌, ◌≤◌, ◌||◌, Bool, false, IsTrue, List, ◌++◌, length, Option, None, Some}
 use Rattle.md_base.specs.Streams.{Stream}
 use Rattle.md_http.specs.Heard.{IsOpen, IsDecided, most_bytes}
 
@@ -19,10 +19,12 @@ pub record IsWaiting (bytes : List ℕ) : Type 0 where
   pub still : IsOpen bytes
   pub few : length bytes < most_bytes
 
--- a connection was read until its bytes decided, and no further: its end was met only where they didn't decide without it
+-- a connection was read until its bytes decided, and no further: they are at most 8,192, and its end was met only where
+-- they didn't decide without it
 pub record HasHeard (before now : Option Stream) (bytes : List ℕ) : Type 0 where
   pub ended : Bool
   pub read : HasRead before now bytes ended
+  pub within : length bytes ≤ most_bytes
   pub decided : IsDecided bytes ended
   pub waited : IsTrue ended → IsWaiting bytes
 

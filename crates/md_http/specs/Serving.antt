@@ -48,10 +48,10 @@ pub record GaveBack (before : Connections) (now : Option Connections) (input : L
 
 -- where memory was refused: before a connection was taken; for a connection, which was given back; or when it was given
 -- back, which closes it
-pub data IsRefused (v : View) (before : Connections) (now : Option Connections) : Type 0 where
-  at_next : now ≡ Some before → IsRefused v before now
-  at_link : (input : List ℕ) (connection : Connection) → GaveBack before now input connection → WantsMemory v (fresh_ends input) (ends_of connection) → IsRefused v before now
-  at_done : (input : List ℕ) (rest : List (List ℕ)) → before.coming ≡ input ∷ rest → now ≡ Some (record { coming = rest; served = before.served }) → IsRefused v before now
+pub data WantsMemoryNext (v : View) (before : Connections) (now : Option Connections) : Type 0 where
+  at_next : now ≡ Some before → WantsMemoryNext v before now
+  at_link : (input : List ℕ) (connection : Connection) → GaveBack before now input connection → WantsMemory v (fresh_ends input) (ends_of connection) → WantsMemoryNext v before now
+  at_done : (input : List ℕ) (rest : List (List ℕ)) → before.coming ≡ input ∷ rest → now ≡ Some (record { coming = rest; served = before.served }) → WantsMemoryNext v before now
 
 -- a connection that came with these bytes was served and given back
 pub record IsGivenBack (v : View) (before : Connections) (input : List ℕ) (now : Option Connections) (how : Served) : Type 0 where
@@ -70,7 +70,7 @@ abbrev pub IsStep : View → Connections → Option Connections → Result (Opti
 IsStep v before now (Ok (Some how)) = (input : List ℕ) × (connection : Connection) × GaveBack before now input connection × IsServed v (fresh_ends input) (ends_of connection) how
 IsStep v before now (Ok None) = (before.coming ≡ []) × (now ≡ Some before)
 IsStep v before now (Err fault.Net) = now ≡ Some before
-IsStep v before now (Err fault.NoMemory) = IsRefused v before now
+IsStep v before now (Err fault.NoMemory) = WantsMemoryNext v before now
 
 -- as many connections were served as were asked for, or all that were to come where these are fewer
 pub record ServesAll (v : View) (requests : ℕ) (before : Connections) (now : Option Connections) (tally : Tally) : Type 0 where
@@ -82,7 +82,7 @@ pub record ServesUntilRefused (v : View) (before : Connections) (now : Option Co
   pub tally : Tally
   pub middle : Connections
   pub served : HasServed v before (Some middle) tally
-  pub refused : IsRefused v middle now
+  pub refused : WantsMemoryNext v middle now
 
 abbrev pub Serves : View → (requests : ℕ) (before : Connections) (now : Option Connections) → Result Tally ServeFault → Type 0
 Serves v requests before now (Ok tally) = ServesAll v requests before now tally
