@@ -1,0 +1,45 @@
+-- How serving a connection ends, by how its response was written.
+use Rattle.std.proofs.Common.{◌≡◌, ℕ, List, Option, refl, sym, ◌∙◌, ap, subst}
+use Rattle.md_base.specs.Outside.{Rose, added, PartAdded}
+use Rattle.md_base.specs.Streams.{Stream, SinkSide, SourceSide, sink_side, source_side}
+use Rattle.md_cost.specs.View.{View}
+use Rattle.md_http.specs.Served.{Ends, IsDue, IsServed, late}
+use Rattle.md_http.specs.declared.link.Served.{Served}
+use Rattle.md_http.specs.declared.link.Served.TheVariants.{Answered, ReadFault, WriteFault, NoMemory}
+
+-- how a response was written to a connection that held this before
+pub record IsWritten (response : List ℕ) (before now : Ends) (result : Served) : Type 0 where
+  pub whole : result ≡ Answered → now.held ≡ added response before.held
+  pub part : (result ≡ Answered → ⊥) → PartAdded response before.held now.held
+  pub fault : result ≡ WriteFault → Rose before.write_faults now.write_faults
+  pub read : result ≡ ReadFault → ⊥
+
+pub served_of : (v : View) (before now : Ends) (response : List ℕ) (result : Served) → IsDue v before.stream now.stream response → IsWritten response before now result
+    → IsServed v before now result
+served_of v before now response Answered due written = record { response = response; due = due; written = written.whole refl }
+served_of v before now response ReadFault due written = absurd (written.read refl)
+served_of v before now response WriteFault due written =
+    record { part = record { response = response; due = due; written = written.part (λ e. cc) }; rose = written.fault refl }
+served_of v before now response NoMemory due written = late (record { response = response; due = due; written = written.part (λ e. cc) })
+
+-- the same of a connection that held as much, and had as many faults, when writing began
+pub written_since : (response : List ℕ) (before now : Ends) (held : Option (List ℕ)) (faults : ℕ) (result : Served) → held ≡ before.held → faults ≡ before.write_faults
+    → (result ≡ Answered → now.held ≡ added response held) → ((result ≡ Answered → ⊥) → PartAdded response held now.held)
+    → (result ≡ WriteFault → Rose faults now.write_faults) → (result ≡ ReadFault → ⊥) → IsWritten response before now result
+written_since response before now held faults result same still whole part fault read = record {
+  whole = λ e. whole e ∙ ap (added response) same;
+  part = λ e. subst (λ (h : Option (List ℕ)). PartAdded response h now.held) same (part e);
+  fault = λ e. subst (λ (n : ℕ). Rose n now.write_faults) still (fault e);
+  read = read;
+}
+
+-- where one side of a link is left, so are its parts
+pub same_held : (old new : Option (List ℕ)) (n m : ℕ) (before now : SinkSide) → now ≡ before → before ≡ sink_side old n → now ≡ sink_side new m → (new ≡ old) × (m ≡ n)
+same_held old new n m before now same b a =
+    let e : sink_side new m ≡ sink_side old n = sym a ∙ same ∙ b in
+    (ap (λ (s : SinkSide). s.held) e, ap (λ (s : SinkSide). s.faults) e)
+
+pub same_stream : (old new : Option Stream) (n m : ℕ) (before now : SourceSide) → now ≡ before → before ≡ source_side old n → now ≡ source_side new m → (new ≡ old) × (m ≡ n)
+same_stream old new n m before now same b a =
+    let e : source_side new m ≡ source_side old n = sym a ∙ same ∙ b in
+    (ap (λ (s : SourceSide). s.stream) e, ap (λ (s : SourceSide). s.faults) e)

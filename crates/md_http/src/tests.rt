@@ -1,0 +1,293 @@
+// Requests over connections in memory, answered by the pages of two small profiles.
+ghost use Rattle.std.specs.Prelude.{◌≤◌, IfOk};
+ghost use Rattle.md_base.specs.Memory.{IsFreshFailingLink};
+
+use crate::{ServeFault, Served, Tally, reply, serve_connections, serve_link};
+use md_base::{Counts, Measure, MemLink, MemNet, Name, Net, PdId, ProcId, SiteId};
+use md_cost::{Loaded, propagate};
+use md_dynamic::{LinkRow, Profile};
+use md_static::{Proc, Site, SiteKind, Statics};
+use std::alloc::Global;
+use std::test::Fail;
+
+/// What a browser sends.
+const REQUEST: &[u8] =
+    b"GET / HTTP/1.1\r\nHost: localhost:8080\r\nUser-Agent: Mozilla/5.0\r\nAccept: text/html\r\n\r\n";
+
+/// The menu of a program that calls nothing.
+const MENU: &[u8] =
+    b"HTTP/1.1 200 OK\r\nContent-Type: text/html; charset=utf-8\r\nContent-Length: 379\r\nConnection: close\r\n\r\n<!DOCTYPE html>\n<html><head><meta charset=\"utf-8\"><title>mdprof menu</title></head><body>\n<h1>mdprof menu</h1>\n<pre>\n<a href=\"/module?name=t\">module t</a>\nfinished yes\ncontexts 1\nlinks 1\ncliques 1\ncalls 1\nexits 1\nfails 0\nredos 0\nallocs 0\nwords 0\n</pre>\n<p><a href=\"/\">menu</a> <a href=\"/root\">root</a> <a href=\"/procs\">procs</a> <a href=\"/modules\">modules</a></p>\n</body></html>\n";
+
+/// The clique of a procedure that calls itself three times.
+const CLIQUE: &[u8] =
+    b"HTTP/1.1 200 OK\r\nContent-Type: text/html; charset=utf-8\r\nContent-Length: 486\r\nConnection: close\r\n\r\n<!DOCTYPE html>\n<html><head><meta charset=\"utf-8\"><title>mdprof clique 1</title></head><body>\n<h1>mdprof clique 1</h1>\n<pre>\nentered by link 1 site 0 from context 0 t.main/2 <a href=\"/clique?id=0\">clique 0</a> own 1 1 0 0 0 0\ntotal 4 4 0 0 0 0\ncontext 1 t.count/1 own 4 4 0 0 0 0 total 4 4 0 0 0 0\n  link 2 site 1 to context 1 t.count/1 own 3 3 0 0 0 0\n</pre>\n<p><a href=\"/\">menu</a> <a href=\"/root\">root</a> <a href=\"/procs\">procs</a> <a href=\"/modules\">modules</a></p>\n</body></html>\n";
+
+const BAD_REQUEST: &[u8] =
+    b"HTTP/1.1 400 Bad Request\r\nContent-Type: text/plain\r\nContent-Length: 16\r\nConnection: close\r\n\r\n400 Bad Request\n";
+
+const NOT_FOUND: &[u8] =
+    b"HTTP/1.1 404 Not Found\r\nContent-Type: text/plain\r\nContent-Length: 14\r\nConnection: close\r\n\r\n404 Not Found\n";
+
+const NOT_ALLOWED: &[u8] =
+    b"HTTP/1.1 405 Method Not Allowed\r\nAllow: GET\r\nContent-Type: text/plain\r\nContent-Length: 23\r\nConnection: close\r\n\r\n405 Method Not Allowed\n";
+
+const TOO_LARGE: &[u8] =
+    b"HTTP/1.1 431 Request Header Fields Too Large\r\nContent-Type: text/plain\r\nContent-Length: 36\r\nConnection: close\r\n\r\n431 Request Header Fields Too Large\n";
+
+fn name(alloc: Global, bytes: &[u8]) -> Result<Name, Fail> {
+    Ok(Name::from_bytes(alloc, bytes)?.ok_or("a name")?)
+}
+
+fn proc(alloc: Global, bytes: &[u8], arity: u8) -> Result<Proc, Fail> {
+    Ok(Proc {
+        module: 0,
+        name: name(alloc, bytes)?,
+        arity,
+    })
+}
+
+/// The call site of this number of its owner, which calls `count`.
+fn site(owner: u32) -> Site {
+    Site {
+        owner: ProcId::new(owner),
+        line: 4,
+        kind: SiteKind::Plain(ProcId::new(1)),
+    }
+}
+
+/// So many calls, each of which exits.
+fn counts(calls: u32) -> Counts {
+    let mut counts = Counts::default();
+    counts.add(Measure::Calls, calls);
+    counts.add(Measure::Exits, calls);
+    counts
+}
+
+/// The root link.
+fn root() -> LinkRow {
+    LinkRow {
+        caller: None,
+        site: None,
+        callee: PdId::new(0),
+        own: counts(1),
+    }
+}
+
+/// A link from a context at the site of its number to the context of `count`.
+fn link(caller: u32, calls: u32) -> LinkRow {
+    LinkRow {
+        caller: Some(PdId::new(caller)),
+        site: Some(SiteId::new(caller)),
+        callee: PdId::new(1),
+        own: counts(calls),
+    }
+}
+
+/// A module `t` with these procedures and call sites.
+fn statics(alloc: Global, procs: Vec<Proc>, sites: Vec<Site>) -> Result<Statics, Fail> {
+    let mut modules = Vec::new(alloc);
+    modules.push(name(alloc, b"t")?)?;
+    Ok(Statics::from_parts(modules, procs, sites))
+}
+
+/// A program whose `main` calls nothing.
+fn alone(alloc: Global) -> Result<Loaded, Fail> {
+    let mut procs = Vec::new(alloc);
+    procs.push(proc(alloc, b"main", 2)?)?;
+    let mut nodes = Vec::new(alloc);
+    nodes.push(ProcId::new(0))?;
+    let mut links = Vec::new(alloc);
+    links.push(root())?;
+    let statics = statics(alloc, procs, Vec::new(alloc))?;
+    load(alloc, Profile::from_parts(statics, nodes, links, true))
+}
+
+/// A program whose `main` calls `count`, which calls itself three times.
+fn counting(alloc: Global) -> Result<Loaded, Fail> {
+    let mut procs = Vec::new(alloc);
+    procs.push(proc(alloc, b"main", 2)?)?;
+    procs.push(proc(alloc, b"count", 1)?)?;
+    let mut sites = Vec::new(alloc);
+    sites.push(site(0))?;
+    sites.push(site(1))?;
+    let statics = statics(alloc, procs, sites)?;
+    let mut nodes = Vec::new(alloc);
+    nodes.push(ProcId::new(0))?;
+    nodes.push(ProcId::new(1))?;
+    let mut links = Vec::new(alloc);
+    links.push(root())?;
+    links.push(link(0, 1))?;
+    links.push(link(1, 3))?;
+    load(alloc, Profile::from_parts(statics, nodes, links, true))
+}
+
+fn load(alloc: Global, profile: Profile) -> Result<Loaded, Fail> {
+    profile.check()?;
+    Ok(propagate(alloc, profile)?)
+}
+
+/// A head without its end: the request line, and a field that goes on to so many bytes in all.
+fn endless(alloc: Global, count: usize) -> Result<Vec<u8>, Fail> {
+    let mut bytes = b"GET / HTTP/1.1\r\nA: ".to_vec(alloc)?;
+    for _ in bytes.len()..count {
+        bytes.push(b'a')?;
+    }
+    Ok(bytes)
+}
+
+/// A head with so many fields.
+fn with_fields(alloc: Global, count: u32) -> Result<Vec<u8>, Fail> {
+    let mut bytes = b"GET /nothing HTTP/1.1\r\n".to_vec(alloc)?;
+    for _ in 0..count {
+        bytes.extend_from_slice(b"A:\r\n")?;
+    }
+    bytes.extend_from_slice(b"\r\n")?;
+    Ok(bytes)
+}
+
+/// What is written to a connection that sends these bytes, and gives and takes at most so many a call.
+fn served(alloc: Global, loaded: &Loaded, input: &[u8], most: usize) -> Result<Vec<u8>, Fail>
+    requires { 1 ≤ most }
+{
+    let mut link = MemLink::new(input.to_vec(alloc)?, most, Vec::new(alloc));
+    match serve_link(alloc, loaded, &mut link) {
+        Served::Answered => Ok(link.written().to_vec(alloc)?),
+        _ => Err(Fail::from("no answer")),
+    }
+}
+
+#[test]
+fn each_request_has_its_answer(rt: HostRuntime) -> Result<(), Fail> {
+    let alloc = rt.alloc();
+    let loaded = counting(alloc)?;
+    let cases: [(&[u8], &[u8]); 8] = [
+        (b"GET /clique?id=1 HTTP/1.1\r\n\r\n", CLIQUE),
+        (b"GET /clique?id=%31&id=2 HTTP/1.0\n\nmore", CLIQUE),
+        (b"GET /clique?id=999 HTTP/1.1\r\n\r\n", NOT_FOUND),
+        (b"GET /nothing HTTP/1.1\r\n\r\n", NOT_FOUND),
+        (b"GET menu HTTP/1.1\r\n\r\n", NOT_FOUND),
+        (b"POST / HTTP/1.1\r\n\r\n", NOT_ALLOWED),
+        (b"GET / HT", BAD_REQUEST),
+        (b"GET\r\n", BAD_REQUEST),
+    ];
+    for (request, want) in cases {
+        assert_eq!(rt; reply(alloc, &loaded, request)?.as_slice(), want);
+    }
+    Ok(())
+}
+
+#[test]
+fn a_head_has_room_for_sixty_four_fields(rt: HostRuntime) -> Result<(), Fail> {
+    let alloc = rt.alloc();
+    let loaded = alone(alloc)?;
+    assert_eq!(rt;
+        served(alloc, &loaded, &with_fields(alloc, 64)?, 100)?.as_slice(),
+        NOT_FOUND
+    );
+    assert_eq!(rt;
+        served(alloc, &loaded, &with_fields(alloc, 65)?, 100)?.as_slice(),
+        TOO_LARGE
+    );
+    assert_eq!(rt;
+        served(alloc, &loaded, &endless(alloc, 8_191)?, 100)?.as_slice(),
+        BAD_REQUEST
+    );
+    assert_eq!(rt;
+        served(alloc, &loaded, &endless(alloc, 9_000)?, 100)?.as_slice(),
+        TOO_LARGE
+    );
+    Ok(())
+}
+
+#[test]
+fn a_request_comes_in_pieces_of_any_size(rt: HostRuntime) -> Result<(), Fail> {
+    let alloc = rt.alloc();
+    let loaded = alone(alloc)?;
+    for most in [1, 2, 3, 7, 8_192] {
+        assert_eq!(rt; served(alloc, &loaded, REQUEST, most)?.as_slice(), MENU);
+    }
+    Ok(())
+}
+
+#[test]
+fn a_request_that_is_cut_off_is_none(rt: HostRuntime) -> Result<(), Fail> {
+    let alloc = rt.alloc();
+    let loaded = alone(alloc)?;
+    for count in 0..REQUEST.len() {
+        assert_eq!(rt;
+            served(alloc, &loaded, &REQUEST[..count], 50)?.as_slice(),
+            BAD_REQUEST
+        );
+    }
+    Ok(())
+}
+
+#[test]
+fn each_call_of_a_connection_may_fail(rt: HostRuntime) -> Result<(), Fail> {
+    let alloc = rt.alloc();
+    let loaded = alone(alloc)?;
+    // Two reads of at most 60 bytes, and eight writes of the 478 bytes of the response.
+    let cases: [(u64, Served, usize); 6] = [
+        (1, Served::ReadFault, 0),
+        (2, Served::ReadFault, 0),
+        (3, Served::WriteFault, 0),
+        (4, Served::WriteFault, 60),
+        (10, Served::WriteFault, 420),
+        (11, Served::Answered, 478),
+    ];
+    for (call, want, count) in cases {
+        let fail = [call].to_vec(alloc)?;
+        let mut link = MemLink::new(REQUEST.to_vec(alloc)?, 60, fail);
+        assert_eq!(rt; serve_link(alloc, &loaded, &mut link), want, "call {call}");
+        assert_eq!(rt; link.written(), &MENU[..count], "call {call}");
+    }
+    Ok(())
+}
+
+/// A connection that sends the request of a browser, and whose calls of these numbers fail.
+fn browser(alloc: Global, fail: &[u64]) -> Result<MemLink, Fail>
+    ensures { IfOk result IsFreshFailingLink }
+{
+    let input = REQUEST.to_vec(alloc)?;
+    let fail = fail.to_vec(alloc)?;
+    Ok(MemLink::new(input, 100, fail))
+}
+
+#[test]
+fn a_fault_of_a_connection_stops_nothing(rt: HostRuntime) -> Result<(), Fail> {
+    let alloc = rt.alloc();
+    let loaded = alone(alloc)?;
+    let mut coming = Vec::new(alloc);
+    coming.push(browser(alloc, &[2])?)?;
+    coming.push(browser(alloc, &[1])?)?;
+    coming.push(browser(alloc, &[])?)?;
+    let mut net = MemNet::new(coming, Vec::new(alloc));
+    net.bind(8_080)?;
+    let tally = Tally {
+        connections: 3,
+        answered: 1,
+    };
+    assert_eq!(rt; serve_connections(alloc, &loaded, &mut net, 4), Ok(tally));
+    assert_eq!(rt; net.served().len(), 3);
+    assert!(rt; net.served()[0].written().is_empty());
+    assert!(rt; net.served()[1].written().is_empty());
+    assert_eq!(rt; net.served()[2].written(), MENU);
+    Ok(())
+}
+
+#[test]
+fn a_fault_of_the_net_ends_serving(rt: HostRuntime) -> Result<(), Fail> {
+    let alloc = rt.alloc();
+    let loaded = alone(alloc)?;
+    let mut coming = Vec::new(alloc);
+    coming.push(browser(alloc, &[])?)?;
+    coming.push(browser(alloc, &[])?)?;
+    let mut net = MemNet::new(coming, [3].to_vec(alloc)?);
+    net.bind(8_080)?;
+    assert_eq!(rt;
+        serve_connections(alloc, &loaded, &mut net, 2),
+        Err(ServeFault::Net)
+    );
+    assert_eq!(rt; net.served().len(), 1);
+    Ok(())
+}
