@@ -66,3 +66,6 @@ pub no_level : (n i : ℕ) (xs t : List ℕ) → n ≤ i → xs ++ levels n (suc
 no_level n i xs t past h =
     let none : n - i ≡ 0 = omega (arith, past) in
     nothing xs ∙ (ap (λ (k : ℕ). xs ++ levels n (suc i) k) (sym none) ∙ h)
+
+pub next_number : (i : ℕ) → i + 1 ≡ suc i
+next_number i = omega arith

@@ -6,7 +6,7 @@ use Rattle.std.proofs.lemmas.Bool.Decides.{nat_tests}
 use Rattle.md_query.specs.Asked.{Asked}
 use Rattle.md_query.specs.Pair.{number_within, within, is_number}
 use Rattle.md_token.specs.Literal.{number_of}
-use Rattle.md_words.specs.Form.{Form, Run, Gen, Migrate, HasBounds, check_of, run_of, report_of, report_with, page_of, page_with, gen_of, gen_with, migrate_of, form, query_in, only, two, print_of, summary_of, steps_of, running_of, are_none}
+use Rattle.md_words.specs.Form.{Form, Run, Gen, Migrate, HasBounds, check_of, run_of, report_of, report_with, page_of, page_with, serve_of, gen_of, gen_with, migrate_of, form, query_in, only, two, print_of, summary_of, steps_of, running_of, serving_of, are_none}
 use Rattle.md_words.specs.Split.{Split, split}
 use Rattle.md_words.specs.declared.split.Place.TheVariants.{Front}
 use Rattle.md_words.specs.declared.command.Command.{Command}
@@ -71,6 +71,11 @@ count_cond false x is = tt
 count_in : (word : List ℕ) → IsCount (number_within 1 20 word)
 count_in word = count_cond (is_number word) (within 1 20 (number_of word)) (count_within (number_of word))
 
+good_serve : (serving : Option (ℕ × ℕ)) (name : Option (List ℕ)) → IsGood (serve_of serving name)
+good_serve None name = record { good = tt }
+good_serve (Some (p, n)) None = record { good = tt }
+good_serve (Some (p, n)) (Some name) = record { good = tt }
+
 good_gen_with : (summary : Bool) (n : Option ℕ) → IsCount n → IsGood (gen_with summary n)
 good_gen_with summary None is = record { good = tt }
 good_gen_with summary (Some n) is = record { good = is }
@@ -98,11 +103,17 @@ from_gen command s = cond (bytes_eq command (codes "gen")) (gen_of (summary_of s
 good_from_gen : (command : List ℕ) (s : Split) → IsGood (from_gen command s)
 good_from_gen command s = good_cond (bytes_eq command (codes "gen")) (gen_of (summary_of s.options) (only s.others)) (from_migrate command s) (good_gen (summary_of s.options) (only s.others)) (good_from_migrate command s)
 
+abbrev from_serve : List ℕ → Split → Option Form
+from_serve command s = cond (bytes_eq command (codes "serve")) (serve_of (serving_of s.options) (only s.others)) (from_gen command s)
+
+good_from_serve : (command : List ℕ) (s : Split) → IsGood (from_serve command s)
+good_from_serve command s = good_cond (bytes_eq command (codes "serve")) (serve_of (serving_of s.options) (only s.others)) (from_gen command s) (good_serve (serving_of s.options) (only s.others)) (good_from_gen command s)
+
 abbrev from_page : List ℕ → Split → Option Form
-from_page command s = cond (bytes_eq command (codes "page")) (page_of (are_none s.options) (two s.others)) (from_gen command s)
+from_page command s = cond (bytes_eq command (codes "page")) (page_of (are_none s.options) (two s.others)) (from_serve command s)
 
 good_from_page : (command : List ℕ) (s : Split) → IsGood (from_page command s)
-good_from_page command s = good_cond (bytes_eq command (codes "page")) (page_of (are_none s.options) (two s.others)) (from_gen command s) (good_page (are_none s.options) (two s.others)) (good_from_gen command s)
+good_from_page command s = good_cond (bytes_eq command (codes "page")) (page_of (are_none s.options) (two s.others)) (from_serve command s) (good_page (are_none s.options) (two s.others)) (good_from_serve command s)
 
 abbrev from_report : List ℕ → Split → Option Form
 from_report command s = cond (bytes_eq command (codes "report")) (report_of (steps_of s.options) (two s.others)) (from_page command s)
@@ -131,3 +142,20 @@ good_form (command ∷ words) = (good_from_check command (split Front words)).go
 pub bounds_of : (words : List (List ℕ)) (found : Option Command) → command_told found ≡ form words → IfSome found (λ command. HasBounds (told command))
 bounds_of words None is = tt
 bounds_of words (Some command) is = subst Good (sym is) (good_form words)
+
+-- ---- a number within bounds
+
+pub number_fits : (least most : ℕ) (text : List ℕ) → IfSome (number_within least most text) (λ n. n ≤ most)
+number_fits least most text = by (is_number text)
+  where
+    inside : (n : ℕ) → IfSome (within least most n) (λ n. n ≤ most)
+    inside n = go (nat_le least n) (nat_le n most) refl
+      where
+        go : (a b : Bool) → nat_le n most ≡ b → IfSome (cond (a && b) (Some n) None) (λ n. n ≤ most)
+        go true true below = grind (arith, nat_tests, below)
+        go true false below = tt
+        go false b below = tt
+
+    by : (b : Bool) → IfSome (cond b (within least most (number_of text)) None) (λ n. n ≤ most)
+    by true = inside (number_of text)
+    by false = tt

@@ -6,7 +6,7 @@ use Rattle.std.specs.declared.alloc.Global.{Global}
 use Rattle.md_query.specs.Asked.{Asked, query_of}
 use Rattle.md_query.specs.Pair.{number_within}
 use Rattle.md_words.specs.declared.split.Place.TheVariants.{Front}
-use Rattle.md_words.specs.Settings.{Setting, Print, Summary, Steps, Profile}
+use Rattle.md_words.specs.Settings.{Setting, Print, Summary, Steps, Port, Requests, Profile}
 use Rattle.md_words.specs.Split.{Split, split}
 
 -- the words of the code as bytes
@@ -22,6 +22,8 @@ pub data Form : Type 0 where
   Report : (file : List ℕ) (query : Asked) (steps : ℕ) → Form
   -- `page NAME QUERY`
   Page : (name : List ℕ) (query : Asked) → Form
+  -- `serve NAME --port P --requests N`
+  Serve : (name : List ℕ) (port requests : ℕ) → Form
   -- `gen N [--summary]`
   Gen : (n : ℕ) (summary : Bool) → Form
   -- `migrate NAME NEW`
@@ -58,6 +60,12 @@ running_of (Profile name ∷ []) = Some (usual_steps, name)
 running_of (Steps n ∷ Profile name ∷ []) = Some (n, name)
 running_of (Profile name ∷ Steps n ∷ []) = Some (n, name)
 running_of options = None
+
+-- port and connections, neither of which is left out
+abbrev pub serving_of : List Setting → Option (ℕ × ℕ)
+serving_of (Port p ∷ Requests n ∷ []) = Some (p, n)
+serving_of (Requests n ∷ Port p ∷ []) = Some (p, n)
+serving_of options = None
 
 abbrev pub are_none : List Setting → Bool
 are_none [] = true
@@ -116,6 +124,10 @@ abbrev pub page_of : Bool → (words : Option (List ℕ × List ℕ)) → Option
 page_of true (Some (name, query)) = page_with name (query_in query)
 page_of bare words = None
 
+abbrev pub serve_of : Option (ℕ × ℕ) → (name : Option (List ℕ)) → Option Form
+serve_of (Some (port, requests)) (Some name) = Some (Serve name port requests)
+serve_of serving name = None
+
 abbrev pub gen_with : Bool → Option ℕ → Option Form
 gen_with summary None = None
 gen_with summary (Some n) = Some (Gen n summary)
@@ -136,8 +148,9 @@ form_of command s =
     (cond (bytes_eq command (codes "run")) (run_of (running_of s.options) (only s.others))
     (cond (bytes_eq command (codes "report")) (report_of (steps_of s.options) (two s.others))
     (cond (bytes_eq command (codes "page")) (page_of (are_none s.options) (two s.others))
+    (cond (bytes_eq command (codes "serve")) (serve_of (serving_of s.options) (only s.others))
     (cond (bytes_eq command (codes "gen")) (gen_of (summary_of s.options) (only s.others))
-    (cond (bytes_eq command (codes "migrate")) (migrate_of (are_none s.options) (two s.others)) None)))))
+    (cond (bytes_eq command (codes "migrate")) (migrate_of (are_none s.options) (two s.others)) None))))))
 
 -- what the words ask for, where they are a command
 unfoldable pub form : List (List ℕ) → Option Form
@@ -152,5 +165,6 @@ HasBounds (Check file print) = Unit {0}
 HasBounds (Run file steps profile) = Unit {0}
 HasBounds (Report file query steps) = Unit {0}
 HasBounds (Page name query) = Unit {0}
+HasBounds (Serve name port requests) = Unit {0}
 HasBounds (Gen n summary) = (1 ≤ n) × (n ≤ 20)
 HasBounds (Migrate name new) = Unit {0}

@@ -13,6 +13,10 @@ pub data Setting : Type 0 where
   Summary : Setting
   -- `--steps`, with a number of steps
   Steps : (n : ℕ) → Setting
+  -- `--port`, with the number of a port
+  Port : (n : ℕ) → Setting
+  -- `--requests`, with a number of connections
+  Requests : (n : ℕ) → Setting
   -- `--profile`, with the name of a file
   Profile : (name : List ℕ) → Setting
   -- what no command takes
@@ -22,7 +26,9 @@ pub data Setting : Type 0 where
 abbrev pub named : List ℕ → Option Valued
 named word =
     cond (bytes_eq word (codes "--steps")) (Some valued.Steps)
-    (cond (bytes_eq word (codes "--profile")) (Some valued.Profile) None)
+    (cond (bytes_eq word (codes "--profile")) (Some valued.Profile)
+    (cond (bytes_eq word (codes "--port")) (Some valued.Port)
+    (cond (bytes_eq word (codes "--requests")) (Some valued.Requests) None)))
 
 -- an option whose value is a number within its bounds
 abbrev pub numbered : (ℕ → Setting) → Option ℕ → Setting
@@ -33,6 +39,8 @@ numbered setting (Some n) = setting n
 abbrev pub setting_of : Valued → List ℕ → Setting
 setting_of valued.Steps value = numbered Steps (number_within 1 16777216 value)
 setting_of valued.Profile value = Profile value
+setting_of valued.Port value = numbered Port (number_within 1 65535 value)
+setting_of valued.Requests value = numbered Requests (number_within 1 1000000 value)
 
 -- a word that begins with `-` and isn't `-` alone has to be an option
 abbrev pub is_option : List ℕ → Bool

@@ -7,14 +7,16 @@ use Rattle.md_words.specs.declared.command.Command.TheVariants as command
 use Rattle.md_words.specs.declared.option.Setting as code
 use Rattle.md_words.specs.declared.option.Setting.TheVariants as setting
 use Rattle.md_words.specs.declared.split.Words as words
-use Rattle.md_words.specs.Settings.{Setting, Print, Summary, Steps, Profile, Unknown}
+use Rattle.md_words.specs.Settings.{Setting, Print, Summary, Steps, Port, Requests, Profile, Unknown}
 use Rattle.md_words.specs.Split.{Split}
-use Rattle.md_words.specs.Form.{Form, Check, Run, Report, Page, Gen, Migrate}
+use Rattle.md_words.specs.Form.{Form, Check, Run, Report, Page, Serve, Gen, Migrate}
 
 abbrev pub setting_told : code.Setting → Setting
 setting_told setting.Print = Print
 setting_told setting.Summary = Summary
 setting_told (setting.Steps n) = Steps n
+setting_told (setting.Port n) = Port n
+setting_told (setting.Requests n) = Requests n
 setting_told (setting.Profile name) = Profile name.now
 setting_told setting.Unknown = Unknown
 
@@ -33,6 +35,7 @@ told (command.Check file print) = Check file.now print
 told (command.Run file steps profile) = Run file.now steps profile.now
 told (command.Report file query steps) = Report file.now (asked query) steps
 told (command.Page name query) = Page name.now (asked query)
+told (command.Serve name port requests) = Serve name.now port requests
 told (command.Gen n summary) = Gen n summary
 told (command.Migrate name new) = Migrate name.now new.now
 

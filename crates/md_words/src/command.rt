@@ -2,7 +2,7 @@
 ghost use Rattle.std.specs.Prelude.{◌≡◌, ◌==◌, IfOk, IfSome};
 ghost use Rattle.std.specs.List.{before_first, after_first};
 ghost use Rattle.md_query.specs.Told.{asked_told};
-ghost use Rattle.md_words.specs.Form.{words_of, HasBounds, form, form_of, check_of, run_of, report_of, page_of, gen_of, migrate_of, print_of, summary_of, steps_of, running_of, are_none, without_slash, query_in, query_at, only, two};
+ghost use Rattle.md_words.specs.Form.{words_of, HasBounds, form, form_of, check_of, run_of, report_of, page_of, serve_of, gen_of, migrate_of, print_of, summary_of, steps_of, running_of, serving_of, are_none, without_slash, query_in, query_at, only, two};
 ghost use Rattle.md_words.specs.Told.{told, settings_told, split_told, command_told, texts, text_told, pair_told, running_told};
 
 use crate::option::Setting;
@@ -39,6 +39,12 @@ pub enum Command<'a> {
     },
     /// `page NAME QUERY`.
     Page { name: &'a str, query: Query },
+    /// `serve NAME --port P --requests N`.
+    Serve {
+        name: &'a str,
+        port: u16,
+        requests: u32,
+    },
     /// `gen N [--summary]`.
     Gen { n: u32, summary: bool },
     /// `migrate NAME NEW`.
@@ -75,6 +81,8 @@ fn command_by<'a>(
         report_command(alloc, steps(&words.options), two(&words.others))
     } else if command == "page" {
         page_command(alloc, bare(&words.options), two(&words.others))
+    } else if command == "serve" {
+        Ok(serve_command(serving(&words.options), only(&words.others)))
     } else if command == "gen" {
         Ok(gen_command(summing(&words.options), only(&words.others)))
     } else if command == "migrate" {
@@ -147,6 +155,19 @@ fn page_command<'a>(
         Some(query) => Ok(Some(Command::Page { name, query })),
         None => Ok(None),
     }
+}
+
+/// `serve NAME --port P --requests N`.
+fn serve_command<'a>(serving: Option<(u16, u32)>, name: Option<&'a str>) -> Option<Command<'a>>
+    ensures { command_told result ≡ serve_of serving (text_told name.entry) }
+{
+    let (port, requests) = serving?;
+    let name = name?;
+    Some(Command::Serve {
+        name,
+        port,
+        requests,
+    })
 }
 
 /// `gen N [--summary]`.
@@ -285,6 +306,17 @@ fn running<'a>(options: &[Setting<'a>]) -> Option<(u32, &'a str)>
         [Setting::Profile(name)] => Some((USUAL_STEPS, *name)),
         [Setting::Steps(steps), Setting::Profile(name)] => Some((*steps, *name)),
         [Setting::Profile(name), Setting::Steps(steps)] => Some((*steps, *name)),
+        _ => None,
+    }
+}
+
+/// The port and the number of connections, neither of which is left out; `None` where there are others.
+fn serving(options: &[Setting]) -> Option<(u16, u32)>
+    ensures { result ≡ serving_of (settings_told options.now) }
+{
+    match options {
+        [Setting::Port(port), Setting::Requests(requests)] => Some((*port, *requests)),
+        [Setting::Requests(requests), Setting::Port(port)] => Some((*port, *requests)),
         _ => None,
     }
 }

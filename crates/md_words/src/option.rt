@@ -1,12 +1,18 @@
 // The options of the command line.
-ghost use Rattle.std.specs.Prelude.{◌≡◌};
-ghost use Rattle.md_words.specs.Settings.{Steps, numbered, named, setting_of, is_option, with_value, around_equals, setting_named, option_of};
+ghost use Rattle.std.specs.Prelude.{◌≡◌, ◌≤◌, IfSome};
+ghost use Rattle.md_words.specs.Settings.{Steps, Port, Requests, numbered, named, setting_of, is_option, with_value, around_equals, setting_named, option_of};
 ghost use Rattle.md_words.specs.Told.{setting_told, pair_told};
 
 use md_query::number_within;
 
 /// The most steps that a run may be given.
 const MOST_STEPS: u32 = 16_777_216;
+
+/// The greatest number of a port.
+const LAST_PORT: u32 = 65_535;
+
+/// The most connections that are served.
+const MOST_REQUESTS: u32 = 1_000_000;
 
 /// An option.
 #[derive(Clone, Copy, Debug)]
@@ -17,6 +23,10 @@ pub enum Setting<'a> {
     Summary,
     /// `--steps N`.
     Steps(u32),
+    /// `--port P`.
+    Port(u16),
+    /// `--requests N`.
+    Requests(u32),
     /// `--profile NAME`.
     Profile(&'a str),
     /// What no command takes: another word, or an option without a value that it may have.
@@ -28,6 +38,8 @@ pub enum Setting<'a> {
 pub enum Valued {
     Steps,
     Profile,
+    Port,
+    Requests,
 }
 
 /// The option of this name, where it is one that takes a value.
@@ -38,6 +50,10 @@ pub fn named(word: &str) -> Option<Valued>
         Some(Valued::Steps)
     } else if word == "--profile" {
         Some(Valued::Profile)
+    } else if word == "--port" {
+        Some(Valued::Port)
+    } else if word == "--requests" {
+        Some(Valued::Requests)
     } else {
         None
     }
@@ -50,6 +66,8 @@ fn setting_of(name: Valued, value: &str) -> Setting
     match name {
         Valued::Steps => steps(number_within(1, MOST_STEPS, value.as_bytes())),
         Valued::Profile => Setting::Profile(value),
+        Valued::Port => port(number_within(1, LAST_PORT, value.as_bytes())),
+        Valued::Requests => requests(number_within(1, MOST_REQUESTS, value.as_bytes())),
     }
 }
 
@@ -59,6 +77,27 @@ fn steps(number: Option<u32>) -> Setting<'static>
 {
     match number {
         Some(number) => Setting::Steps(number),
+        None => Setting::Unknown,
+    }
+}
+
+/// The option `--port` with this number, where it is one.
+fn port(number: Option<u32>) -> Setting<'static>
+    requires { IfSome number (λ n. n ≤ 65535) }
+    ensures { setting_told result ≡ numbered Port number }
+{
+    match number {
+        Some(number) => Setting::Port(number as u16),
+        None => Setting::Unknown,
+    }
+}
+
+/// The option `--requests` with this number, where it is one.
+fn requests(number: Option<u32>) -> Setting<'static>
+    ensures { setting_told result ≡ numbered Requests number }
+{
+    match number {
+        Some(number) => Setting::Requests(number),
         None => Setting::Unknown,
     }
 }

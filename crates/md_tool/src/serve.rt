@@ -1,0 +1,91 @@
+// The command `serve`.
+ghost use Rattle.std.specs.Prelude.{◌≡◌, ◌≤◌, IfOk, MatchResult, OnOk, string_bytes};
+ghost use Rattle.md_base.specs.Outside.{Rose};
+ghost use Rattle.md_cost.specs.FileView.{IsFileView};
+ghost use Rattle.md_cost.specs.View.{View};
+ghost use Rattle.md_http.specs.declared.serving.ServeFault.TheVariants as served;
+ghost use Rattle.md_tool.specs.Due.{WriteEnds};
+ghost use Rattle.md_tool.specs.Served.{ServeEnds, BindEnds, ConnectionsEnd, tally_line};
+
+use crate::fault::Fault;
+use crate::stored::load_file;
+use crate::write::write;
+use md_base::{Failed, Net, Sink, Store};
+use md_cost::Loaded;
+use md_http::{ServeFault, Tally, serve_connections};
+use std::alloc::{AllocError, Global};
+
+/// Serves the pages of the profile in a file to as many connections as are asked for, one after the other, and writes
+/// how many came and how many of them were answered.
+pub fn serve_file<S: Store, O: Sink, N: Net>(
+    alloc: Global,
+    name: &str,
+    port: u16,
+    requests: u32,
+    store: &mut S,
+    out: &mut O,
+    net: &mut N,
+) -> Result<(), Fault>
+    ensures ends { ServeEnds (S.held store.old) name.now requests (N.connections net.old) (N.connections net.new) (O.held out.old) (O.held out.new)
+        (Rose (S.read_faults store.old) (S.read_faults store.new)) (Rose (O.write_faults out.old) (O.write_faults out.new))
+        (Rose (N.faults net.old) (N.faults net.new)) result }
+    ensures kept { S.held store.new ≡ S.held store.old }
+{
+    let loaded = load_file(alloc, name, store)?;
+    let _viewed = loaded.profile();
+    bind(net, port)?;
+    let tally = serve(alloc, &loaded, net, requests)?;
+    tell_tally(alloc, tally, out)
+}
+
+/// Listens at a port.
+fn bind<N: Net>(net: &mut N, port: u16) -> Result<(), Fault>
+    ensures bound { OnOk result (N.IsBound net.new) }
+    ensures kept { N.connections net.new ≡ N.connections net.old }
+    ensures ends { BindEnds (Rose (N.faults net.old) (N.faults net.new)) result }
+    ensures later { N.faults net.old ≤ N.faults net.new }
+{
+    match net.bind(port) {
+        Ok(()) => Ok(()),
+        Err(Failed::Device) => Err(Fault::Network),
+        Err(Failed::NoMemory) => Err(Fault::NoMemory),
+    }
+}
+
+/// Serves connections.
+fn serve<N: Net>(
+    alloc: Global,
+    loaded: &Loaded,
+    net: &mut N,
+    requests: u32,
+) -> Result<Tally, Fault>
+    requires { N.IsBound net.old }
+    ensures { (v : View) → IsFileView loaded.now.profile v
+        → ConnectionsEnd v requests (N.connections net.old) (N.connections net.new) (Rose (N.faults net.old) (N.faults net.new)) result }
+{
+    match serve_connections(alloc, loaded, net, requests) {
+        Ok(tally) => Ok(tally),
+        Err(ServeFault::Net) => Err(Fault::Network),
+        Err(ServeFault::NoMemory) => Err(Fault::NoMemory),
+    }
+}
+
+/// Writes how many connections came, and how many of them were answered.
+fn tell_tally<O: Sink>(alloc: Global, tally: Tally, out: &mut O) -> Result<(), Fault>
+    ensures { WriteEnds (tally_line tally) (O.held out.old) (O.held out.new) (Rose (O.write_faults out.old) (O.write_faults out.new)) result }
+{
+    match tally_line(alloc, tally) {
+        Ok(line) => write(out, line.as_str().as_bytes()),
+        Err(_) => Err(Fault::NoMemory),
+    }
+}
+
+fn tally_line(alloc: Global, tally: Tally) -> Result<String, AllocError>
+    ensures { IfOk result (λ line. string_bytes line ≡ tally_line tally) }
+{
+    let Tally {
+        connections,
+        answered,
+    } = tally;
+    format!(in alloc; "connections {connections} answered {answered}\n")
+}
