@@ -14,7 +14,7 @@ use Rattle.md_det.specs.declared.fault.DetFault.{DetFault}
 use Rattle.md_det.specs.declared.fault.DetFault.TheVariants as determinism
 use Rattle.md_det.specs.Faults.{det_fault}
 use Rattle.md_tool.specs.declared.fault.Fault.{Fault}
-use Rattle.md_tool.specs.declared.fault.Fault.TheVariants.{Usage, Read, TooLong, OutOfSteps, Thrown, Damaged, TooLarge, TwoEntries, NoSuchPage, Write, NoMemory}
+use Rattle.md_tool.specs.declared.fault.Fault.TheVariants.{Usage, Read, TooLong, OutOfSteps, Thrown, Damaged, TooLarge, TwoEntries, NoSuchPage, Write, NoMemory, Network}
 use Rattle.md_tool.specs.declared.fault.Fault.TheVariants.{Refused as RefusedAt}
 use Rattle.md_tool.specs.Accepted.{Accepts, IsAccepted, HasModeFault, HasDetFault, HasFaultOfModes, HasFaultOfDeterminism, ProgramHas, TextFault, refusal_of, modes_refusal, determinism_refusal}
 
@@ -94,6 +94,7 @@ text_fault text program (RefusedAt line w) spelled is_read (inr (inl h)) = inr (
 text_fault text program (RefusedAt line w) spelled is_read (inr (inr h)) = inr (inr (det_of_text text program (RefusedAt line w) spelled is_read h))
 text_fault text program NoMemory spelled is_read has = tt
 text_fault text program Usage spelled is_read has = of_text program Usage has
+text_fault text program Network spelled is_read has = of_text program Network has
 text_fault text program (Damaged at kind) spelled is_read has = of_text program (Damaged at kind) has
 text_fault text program (TooLarge most) spelled is_read has = of_text program (TooLarge most) has
 text_fault text program (TwoEntries clique x y) spelled is_read has = of_text program (TwoEntries clique x y) has

@@ -7,7 +7,7 @@ use Rattle.md_profile.specs.declared.profiled.Profiled.{Profiled}
 use Rattle.md_query.specs.Asked.{Menu}
 use Rattle.md_query.specs.PageOf.{page_of}
 use Rattle.md_tool.specs.declared.fault.Fault.{Fault}
-use Rattle.md_tool.specs.declared.fault.Fault.TheVariants.{Usage, Read, TooLong, Refused, OutOfSteps, Thrown, Damaged, TooLarge, TwoEntries, NoSuchPage, Write, NoMemory}
+use Rattle.md_tool.specs.declared.fault.Fault.TheVariants.{Usage, Read, TooLong, Refused, OutOfSteps, Thrown, Damaged, TooLarge, TwoEntries, NoSuchPage, Write, NoMemory, Network}
 use Rattle.md_tool.specs.Accepted.{TextFault}
 use Rattle.md_tool.specs.Due.{WriteEnds}
 use Rattle.md_tool.specs.Ends.{TellsEnd, end_of, ran_end}
@@ -26,6 +26,7 @@ summed n out out' outs profiled r c paged told = by r told
     by : (r : Result (Unit {0}) Fault) → TellsEnd (ran_end profiled.ran) r → SummaryEnds n out out' outs r
     by (Ok done) told = record { accepted = c.accepted; paged = paged; ended = same ∙ told }
     by (Err Usage) told = absurd told
+    by (Err Network) told = absurd told
     by (Err Read) told = absurd told
     by (Err TooLong) told = absurd told
     by (Err (Refused line w)) told = absurd told
@@ -43,6 +44,7 @@ pub unsummed : (n : ℕ) (out out' : Option (List ℕ)) (outs : Type 0) (profile
     → PageEnds (IsViewOfRun c.accepted.program most_steps) Menu out out' outs (Err fault) → SummaryEnds n out out' outs (Err fault)
 unfolding page_of
 unsummed n out out' outs profiled Usage c h = absurd h
+unsummed n out out' outs profiled Network c h = absurd h
 unsummed n out out' outs profiled Read c h = absurd h
 unsummed n out out' outs profiled TooLong c h = absurd h
 unsummed n out out' outs profiled (Refused line w) c h = absurd h
@@ -58,6 +60,7 @@ unsummed n out out' outs profiled NoMemory c (inr h) = inr (record { accepted = 
 
 pub unaccepted : (n : ℕ) (out : Option (List ℕ)) (outs : Type 0) (fault : Fault) → TextFault (gen_text n) fault → SummaryEnds n out out outs (Err fault)
 unaccepted n out outs Usage h = absurd h
+unaccepted n out outs Network h = absurd h
 unaccepted n out outs Read h = absurd h
 unaccepted n out outs TooLong h = absurd h
 unaccepted n out outs (Refused line w) h = (h, refl)

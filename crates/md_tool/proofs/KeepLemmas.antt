@@ -9,7 +9,7 @@ use Rattle.md_hlds.specs.Run.{run, output}
 use Rattle.md_profile.specs.OfRun.{IsProfiled}
 use Rattle.md_profile.specs.declared.profiled.Profiled.{Profiled}
 use Rattle.md_tool.specs.declared.fault.Fault.{Fault}
-use Rattle.md_tool.specs.declared.fault.Fault.TheVariants.{Usage, Read, TooLong, Refused, OutOfSteps, Thrown, Damaged, TooLarge, TwoEntries, NoSuchPage, Write, NoMemory}
+use Rattle.md_tool.specs.declared.fault.Fault.TheVariants.{Usage, Read, TooLong, Refused, OutOfSteps, Thrown, Damaged, TooLarge, TwoEntries, NoSuchPage, Write, NoMemory, Network}
 use Rattle.md_tool.specs.Due.{IsText, WriteEnds, StoreEnds}
 use Rattle.md_tool.specs.Ends.{TellsEnd, end_of, ran_end}
 use Rattle.md_tool.specs.Profiled.{IsKept, IsOutputPart, IsKeptInPart, KeepEnds, RunEnds}
@@ -46,6 +46,7 @@ kept program steps name profiled held held' out out' writes outs r p written sto
     by : (r : Result (Unit {0}) Fault) → TellsEnd (ran_end profiled.ran) r → KeepEnds program steps name held held' out out' writes outs r
     by (Ok done) told = (all, same ∙ told)
     by (Err Usage) told = absurd told
+    by (Err Network) told = absurd told
     by (Err Read) told = absurd told
     by (Err TooLong) told = absurd told
     by (Err (Refused line w)) told = absurd told
@@ -74,6 +75,7 @@ unkept program steps name profiled held held' out out' writes outs fault p writt
 
     by : (fault : Fault) → StoreEnds name profiled.profile held held' writes (Err fault) → KeepEnds program steps name held held' out out' writes outs (Err fault)
     by Usage h = absurd h
+    by Network h = absurd h
     by Read h = absurd h
     by TooLong h = absurd h
     by (Refused line w) h = absurd h
@@ -93,6 +95,7 @@ unwritten program steps name profiled held out out' writes outs fault p ends = b
   where
     by : (fault : Fault) → WriteEnds (output (run program steps)) out out' outs (Err fault) → KeepEnds program steps name held held out out' writes outs (Err fault)
     by Usage h = absurd h
+    by Network h = absurd h
     by Read h = absurd h
     by TooLong h = absurd h
     by (Refused line w) h = absurd h
@@ -112,6 +115,7 @@ pub ran_file : (held held' : Option Files) (file text : List ℕ) (steps : ℕ) 
     → RunEnds held held' file steps name out out' reads writes outs r
 ran_file held held' file text steps name out out' reads writes outs profiled (Ok done) is_text c h = record { text = text; is_text = is_text; accepted = c.accepted; kept = h.0; ended = h.1 }
 ran_file held held' file text steps name out out' reads writes outs profiled (Err Usage) is_text c h = absurd h
+ran_file held held' file text steps name out out' reads writes outs profiled (Err Network) is_text c h = absurd h
 ran_file held held' file text steps name out out' reads writes outs profiled (Err Read) is_text c h = absurd h
 ran_file held held' file text steps name out out' reads writes outs profiled (Err TooLong) is_text c h = absurd h
 ran_file held held' file text steps name out out' reads writes outs profiled (Err (Refused line w)) is_text c h = absurd h

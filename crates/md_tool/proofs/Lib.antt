@@ -6,6 +6,7 @@ pub mod RunLemmas
 pub mod KeepLemmas
 pub mod ReportLemmas
 pub mod StoredLemmas
+pub mod ServeLemmas
 pub mod GenShort
 pub mod GenLemmas
 pub mod TopLemmas

@@ -21,7 +21,7 @@ use Rattle.md_query.specs.Page.{PageRows}
 use Rattle.md_query.specs.PageOf.{page_of}
 use Rattle.md_render.specs.Text.{text_of}
 use Rattle.md_tool.specs.declared.fault.Fault.{Fault}
-use Rattle.md_tool.specs.declared.fault.Fault.TheVariants.{Usage, Read, TooLong, Refused, OutOfSteps, Thrown, Damaged, TooLarge, TwoEntries, NoSuchPage, Write, NoMemory}
+use Rattle.md_tool.specs.declared.fault.Fault.TheVariants.{Usage, Read, TooLong, Refused, OutOfSteps, Thrown, Damaged, TooLarge, TwoEntries, NoSuchPage, Write, NoMemory, Network}
 use Rattle.md_tool.specs.Accepted.{Accepts}
 use Rattle.md_tool.specs.Due.{IsText, WriteEnds}
 use Rattle.md_tool.specs.Ends.{RunEnd, Finished, Threw, RanOut, TellsEnd, end_of, ran_end}
@@ -40,6 +40,7 @@ page_written f query page before now writes (Ok done) v is paged h = record { vi
 page_written f query page before now writes (Err Write) v is paged h = (h.0, record { view = v; is_meant = is; page = page; is_page = paged; written = h.1 })
 page_written f query page before now writes (Err NoMemory) v is paged h = inr (record { view = v; is_meant = is; page = page; is_page = paged; written = h })
 page_written f query page before now writes (Err Usage) v is paged h = absurd h
+page_written f query page before now writes (Err Network) v is paged h = absurd h
 page_written f query page before now writes (Err (Damaged at kind)) v is paged h = absurd h
 page_written f query page before now writes (Err (TooLarge most)) v is paged h = absurd h
 page_written f query page before now writes (Err (TwoEntries clique x y)) v is paged h = absurd h
@@ -56,6 +57,7 @@ pub page_failed : (f : ProfileRows) (query : Asked) (before : Option (List ℕ))
 page_failed f query before writes NoSuchPage v is h = record { view = v; is_meant = is; none = h v is; untouched = refl }
 page_failed f query before writes NoMemory v is h = inl refl
 page_failed f query before writes Usage v is h = absurd h
+page_failed f query before writes Network v is h = absurd h
 page_failed f query before writes (Damaged at kind) v is h = absurd h
 page_failed f query before writes (TooLarge most) v is h = absurd h
 page_failed f query before writes (TwoEntries clique x y) v is h = absurd h
@@ -77,6 +79,7 @@ page_meant IsA IsB query before now writes (Err NoMemory) so (inl h) = inl h
 page_meant IsA IsB query before now writes (Err NoMemory) so (inr h) =
     inr (record { view = h.view; is_meant = so h.view h.is_meant; page = h.page; is_page = h.is_page; written = h.written })
 page_meant IsA IsB query before now writes (Err Usage) so h = absurd h
+page_meant IsA IsB query before now writes (Err Network) so h = absurd h
 page_meant IsA IsB query before now writes (Err (Damaged at kind)) so h = absurd h
 page_meant IsA IsB query before now writes (Err (TooLarge most)) so h = absurd h
 page_meant IsA IsB query before now writes (Err (TwoEntries clique x y)) so h = absurd h
@@ -105,6 +108,7 @@ shown program steps query profiled out out' err err' outs errs r p written paged
     by (Err OutOfSteps) told = (reported, same ∙ told)
     by (Err (Thrown bytes)) told = (reported, same ∙ told)
     by (Err Usage) told = absurd told
+    by (Err Network) told = absurd told
     by (Err (Damaged at kind)) told = absurd told
     by (Err (TooLarge most)) told = absurd told
     by (Err (TwoEntries clique x y)) told = absurd told
@@ -130,6 +134,7 @@ unpaged program steps query profiled out out' err err' outs errs fault p written
     by NoMemory (inl h) = inl (record { output_is = all_added (reported_output program steps) err err' all; no_page = h })
     by NoMemory (inr h) = inr (record { output_is = all; paged = h })
     by Usage h = absurd h
+    by Network h = absurd h
     by (Damaged at kind) h = absurd h
     by (TooLarge most) h = absurd h
     by (TwoEntries clique x y) h = absurd h
@@ -150,6 +155,7 @@ unwritten program steps query profiled out err err' outs errs fault p ends = by 
     by NoMemory h = inl (record { output_is = h; no_page = refl })
     by NoSuchPage h = absurd h
     by Usage h = absurd h
+    by Network h = absurd h
     by (Damaged at kind) h = absurd h
     by (TooLarge most) h = absurd h
     by (TwoEntries clique x y) h = absurd h
@@ -187,6 +193,7 @@ reported held file text query steps out out' err err' reads outs errs profiled (
 reported held file text query steps out out' err err' reads outs errs profiled (Err NoMemory) is_text c (inr h) =
     inr (inr (record { text = text; is_text = is_text; accepted = c.accepted; written = h }))
 reported held file text query steps out out' err err' reads outs errs profiled (Err Usage) is_text c h = absurd h
+reported held file text query steps out out' err err' reads outs errs profiled (Err Network) is_text c h = absurd h
 reported held file text query steps out out' err err' reads outs errs profiled (Err (Damaged at kind)) is_text c h = absurd h
 reported held file text query steps out out' err err' reads outs errs profiled (Err (TooLarge most)) is_text c h = absurd h
 reported held file text query steps out out' err err' reads outs errs profiled (Err (TwoEntries clique x y)) is_text c h = absurd h

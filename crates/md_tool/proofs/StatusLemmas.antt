@@ -3,16 +3,18 @@ use Rattle.std.proofs.Common.{◌≡◌, refl, sym, subst, inl, inr, ◌⊎◌, 
 use Rattle.std.specs.Prelude.{Result, Ok, Err}
 use Rattle.md_base.specs.Outside.{PartAdded}
 use Rattle.md_base.specs.Files.{Files}
+use Rattle.md_base.specs.Nets.{Connections}
 use Rattle.md_deepfile.specs.Bytes.{file_bytes}
 use Rattle.md_query.specs.Asked.{Asked}
 use Rattle.md_render.specs.Text.{text_of}
-use Rattle.md_words.specs.Form.{Form, Check, Run, Report, Page, Gen, Migrate}
+use Rattle.md_words.specs.Form.{Form, Check, Run, Report, Page, Serve, Gen, Migrate}
 use Rattle.md_tool.specs.declared.fault.Fault.{Fault}
-use Rattle.md_tool.specs.declared.fault.Fault.TheVariants.{Usage, Read, TooLong, Refused, OutOfSteps, Thrown, Damaged, TooLarge, TwoEntries, NoSuchPage, Write, NoMemory}
+use Rattle.md_tool.specs.declared.fault.Fault.TheVariants.{Usage, Read, TooLong, Refused, OutOfSteps, Thrown, Damaged, TooLarge, TwoEntries, NoSuchPage, Write, NoMemory, Network}
 use Rattle.md_tool.specs.Ends.{RunEnd, Finished, Threw, RanOut}
 use Rattle.md_tool.specs.Due.{CheckEnds}
 use Rattle.md_tool.specs.Profiled.{HasRun, HasProfileInPart, RunEnds}
 use Rattle.md_tool.specs.Reported.{HasReported, HasPageInPart, ReportEnds}
+use Rattle.md_tool.specs.Served.{ServeEnds}
 use Rattle.md_tool.specs.Stored.{StoredEnds, MigrateEnds}
 use Rattle.md_tool.specs.Generated.{GenEnds}
 use Rattle.md_tool.specs.Fault.{status_of, fault_line}
@@ -42,6 +44,7 @@ whole_profile held held' file steps name out out' end h = record {
 -- its end was told
 run_told : (held held' : Option Files) (file : List ℕ) (steps : ℕ) (name : List ℕ) (out out' : Option (List ℕ)) (reads writes outs : Type 0) (fault : Fault) → RunEnds held held' file steps name out out' reads writes outs (Err fault) → MeansRun held held' file steps name out out' reads writes outs (status_of fault)
 run_told held held' file steps name out out' reads writes outs Usage h = absurd h
+run_told held held' file steps name out out' reads writes outs Network h = absurd h
 run_told held held' file steps name out out' reads writes outs Read h = h
 run_told held held' file steps name out out' reads writes outs TooLong h = (LongerText h.0 h.1.out_is, h.1.held_is)
 run_told held held' file steps name out out' reads writes outs (Refused line w) h = (AtLine line w h.0, h.1)
@@ -57,6 +60,7 @@ run_told held held' file steps name out out' reads writes outs NoMemory h = h
 -- its end could not be told for want of memory
 run_untold : (held held' : Option Files) (file : List ℕ) (steps : ℕ) (name : List ℕ) (out out' : Option (List ℕ)) (reads writes outs : Type 0) (fault : Fault) → RunEnds held held' file steps name out out' reads writes outs (Err fault) → MeansRun held held' file steps name out out' reads writes outs 8
 run_untold held held' file steps name out out' reads writes outs Usage h = absurd h
+run_untold held held' file steps name out out' reads writes outs Network h = absurd h
 run_untold held held' file steps name out out' reads writes outs Read h = inl h.1
 run_untold held held' file steps name out out' reads writes outs TooLong h = inl h.1
 run_untold held held' file steps name out out' reads writes outs (Refused line w) h = inl (record { held_is = h.1; out_is = h.0.untouched })
@@ -81,6 +85,7 @@ run_fault held held' file steps name out out' reads writes outs fault status h (
 check_told : (held : Option Files) (file : List ℕ) (print : Bool) (before now : Option (List ℕ)) (reads writes : Type 0) (fault : Fault)
     → CheckEnds held file print before now reads writes (Err fault) → MeansCheck held file print before now reads writes (status_of fault)
 check_told held file print before now reads writes Usage h = absurd h
+check_told held file print before now reads writes Network h = absurd h
 check_told held file print before now reads writes (Damaged at kind) h = absurd h
 check_told held file print before now reads writes (TooLarge most) h = absurd h
 check_told held file print before now reads writes (TwoEntries clique x y) h = absurd h
@@ -97,6 +102,7 @@ check_told held file print before now reads writes NoMemory h = h
 check_untold : (held : Option Files) (file : List ℕ) (print : Bool) (before now : Option (List ℕ)) (reads writes : Type 0) (fault : Fault)
     → CheckEnds held file print before now reads writes (Err fault) → MeansCheck held file print before now reads writes 8
 check_untold held file print before now reads writes Usage h = absurd h
+check_untold held file print before now reads writes Network h = absurd h
 check_untold held file print before now reads writes (Damaged at kind) h = absurd h
 check_untold held file print before now reads writes (TooLarge most) h = absurd h
 check_untold held file print before now reads writes (TwoEntries clique x y) h = absurd h
@@ -142,6 +148,7 @@ part_of_page held file query steps out out' err err' h = record { text = h.text;
 report_told : (held : Option Files) (file : List ℕ) (query : Asked) (steps : ℕ) (out out' err between err' : Option (List ℕ)) (reads outs errs : Type 0) (fault : Fault)
     → ReportEnds held file query steps out out' err between reads outs errs (Err fault) → PartAdded (fault_line fault file) between err' → MeansReport held file query steps out out' err err' reads outs errs (status_of fault)
 report_told held file query steps out out' err between err' reads outs errs Usage h line = absurd h
+report_told held file query steps out out' err between err' reads outs errs Network h line = absurd h
 report_told held file query steps out out' err between err' reads outs errs Read h line = (h.0, h.1.out_is)
 report_told held file query steps out out' err between err' reads outs errs TooLong h line = LongerText h.0 h.1.out_is
 report_told held file query steps out out' err between err' reads outs errs (Refused line w) h at_line = AtLine line w h.0
@@ -160,6 +167,7 @@ report_told held file query steps out out' err between err' reads outs errs NoMe
 -- its end could not be told for want of memory
 report_untold : (held : Option Files) (file : List ℕ) (query : Asked) (steps : ℕ) (out out' err between err' : Option (List ℕ)) (reads outs errs : Type 0) (fault : Fault) → ReportEnds held file query steps out out' err between reads outs errs (Err fault) → MeansReport held file query steps out out' err err' reads outs errs 8
 report_untold held file query steps out out' err between err' reads outs errs Usage h = absurd h
+report_untold held file query steps out out' err between err' reads outs errs Network h = absurd h
 report_untold held file query steps out out' err between err' reads outs errs Read h = inl h.1.out_is
 report_untold held file query steps out out' err between err' reads outs errs TooLong h = inl h.1.out_is
 report_untold held file query steps out out' err between err' reads outs errs (Refused line w) h = inl h.0.untouched
@@ -218,6 +226,7 @@ usage_fault before now status fault same why (inr is) = subst (MeansUsage before
 usage_fault before now status Usage same why (inl is) = subst (MeansUsage before now) (sym is) same
 usage_fault before now status NoMemory same why (inl is) = subst (MeansUsage before now) (sym is) same
 usage_fault before now status Read same why (inl is) = absurd why
+usage_fault before now status Network same why (inl is) = absurd why
 usage_fault before now status (Damaged at kind) same why (inl is) = absurd why
 usage_fault before now status (TooLarge most) same why (inl is) = absurd why
 usage_fault before now status (TwoEntries clique x y) same why (inl is) = absurd why
@@ -230,36 +239,38 @@ usage_fault before now status Write same why (inl is) = absurd why
 
 -- ---- a whole call
 
-end_means : (form : Option Form) (held held' : Option Files) (out out' err between err' : Option (List ℕ)) (reads writes outs errs : Type 0) (status : ℕ) (end : Result (Unit {0}) Fault)
-    → CommandEnds form held held' out out' err between reads writes outs errs end → EndIsTold end (named form) between err' errs status → Means form held held' out out' err err' reads writes outs errs status
-end_means None held held' out out' err between err' reads writes outs errs status (Ok done) command told = absurd (usage_end (Ok done) command.0)
-end_means None held held' out out' err between err' reads writes outs errs status (Err fault) command told = usage_fault out out' status fault command.1.out_is (usage_end (Err fault) command.0) told.told
-end_means (Some (Run file steps name)) held held' out out' err between err' reads writes outs errs status (Ok done) command told = subst (MeansRun held held' file steps name out out' reads writes outs) (sym told.0) command.0
-end_means (Some (Run file steps name)) held held' out out' err between err' reads writes outs errs status (Err fault) command told = run_fault held held' file steps name out out' reads writes outs fault status command.0 told.told
-end_means (Some (Check file print)) held held' out out' err between err' reads writes outs errs status (Ok done) command told = subst (MeansCheck held file print out out' reads outs) (sym told.0) command.0
-end_means (Some (Check file print)) held held' out out' err between err' reads writes outs errs status (Err fault) command told = check_fault held file print out out' reads outs fault status command.0 told.told
-end_means (Some (Report file query steps)) held held' out out' err between err' reads writes outs errs status (Ok done) command told = report_done held file query steps out out' err between err' reads outs errs status command.0 told
-end_means (Some (Report file query steps)) held held' out out' err between err' reads writes outs errs status (Err fault) command told = report_fault held file query steps out out' err between err' reads outs errs fault status command.0 told.part told.told
-end_means (Some (Page name query)) held held' out out' err between err' reads writes outs errs status end command told = ended (StoredEnds held name query out out' reads outs) end name between err' errs status command.0 told
-end_means (Some (Gen n summary)) held held' out out' err between err' reads writes outs errs status end command told = ended (GenEnds n summary out out' outs) end (file_of (Gen n summary)) between err' errs status command.0 told
-end_means (Some (Migrate name new)) held held' out out' err between err' reads writes outs errs status end command told = ended (MigrateEnds held held' name new out out' reads writes outs) end name between err' errs status command.0 told
+end_means : (form : Option Form) (held held' : Option Files) (net net' : Option Connections) (out out' err between err' : Option (List ℕ)) (reads writes outs errs nets : Type 0) (status : ℕ) (end : Result (Unit {0}) Fault)
+    → CommandEnds form held held' net net' out out' err between reads writes outs errs nets end → EndIsTold end (named form) between err' errs status → Means form held held' net net' out out' err err' reads writes outs errs nets status
+end_means None held held' net net' out out' err between err' reads writes outs errs nets status (Ok done) command told = absurd (usage_end (Ok done) command.0)
+end_means None held held' net net' out out' err between err' reads writes outs errs nets status (Err fault) command told = usage_fault out out' status fault command.1.out_is (usage_end (Err fault) command.0) told.told
+end_means (Some (Run file steps name)) held held' net net' out out' err between err' reads writes outs errs nets status (Ok done) command told = subst (MeansRun held held' file steps name out out' reads writes outs) (sym told.0) command.0
+end_means (Some (Run file steps name)) held held' net net' out out' err between err' reads writes outs errs nets status (Err fault) command told = run_fault held held' file steps name out out' reads writes outs fault status command.0 told.told
+end_means (Some (Check file print)) held held' net net' out out' err between err' reads writes outs errs nets status (Ok done) command told = subst (MeansCheck held file print out out' reads outs) (sym told.0) command.0
+end_means (Some (Check file print)) held held' net net' out out' err between err' reads writes outs errs nets status (Err fault) command told = check_fault held file print out out' reads outs fault status command.0 told.told
+end_means (Some (Report file query steps)) held held' net net' out out' err between err' reads writes outs errs nets status (Ok done) command told = report_done held file query steps out out' err between err' reads outs errs status command.0 told
+end_means (Some (Report file query steps)) held held' net net' out out' err between err' reads writes outs errs nets status (Err fault) command told = report_fault held file query steps out out' err between err' reads outs errs fault status command.0 told.part told.told
+end_means (Some (Page name query)) held held' net net' out out' err between err' reads writes outs errs nets status end command told = ended (StoredEnds held name query out out' reads outs) end name between err' errs status command.0 told
+end_means (Some (Serve name port requests)) held held' net net' out out' err between err' reads writes outs errs nets status end command told = ended (ServeEnds held name requests net net' out out' reads outs nets) end name between err' errs status command.0 told
+end_means (Some (Gen n summary)) held held' net net' out out' err between err' reads writes outs errs nets status end command told = ended (GenEnds n summary out out' outs) end (file_of (Gen n summary)) between err' errs status command.0 told
+end_means (Some (Migrate name new)) held held' net net' out out' err between err' reads writes outs errs nets status end command told = ended (MigrateEnds held held' name new out out' reads writes outs) end name between err' errs status command.0 told
 
-pub top_means : (form : Option Form) (held held' : Option Files) (out out' err err' : Option (List ℕ)) (reads writes outs errs : Type 0) (status : ℕ)
-    → TopEnds form held held' out out' err err' reads writes outs errs status → Means form held held' out out' err err' reads writes outs errs status
-top_means form held held' out out' err err' reads writes outs errs status h = end_means form held held' out out' err h.between err' reads writes outs errs status h.end h.command h.told
+pub top_means : (form : Option Form) (held held' : Option Files) (net net' : Option Connections) (out out' err err' : Option (List ℕ)) (reads writes outs errs nets : Type 0) (status : ℕ)
+    → TopEnds form held held' net net' out out' err err' reads writes outs errs nets status → Means form held held' net net' out out' err err' reads writes outs errs nets status
+top_means form held held' net net' out out' err err' reads writes outs errs nets status h = end_means form held held' net net' out out' err h.between err' reads writes outs errs nets status h.end h.command h.told
 
 -- ---- what is kept
 
-keeps : (form : Option Form) (held held' : Option Files) (out out' err err' : Option (List ℕ)) (reads writes outs errs : Type 0) (r : Result (Unit {0}) Fault)
-    → CommandEnds form held held' out out' err err' reads writes outs errs r → keeps_store form ≡ true → held' ≡ held
-keeps None held held' out out' err err' reads writes outs errs r h so = h.1.held_is
-keeps (Some (Check file print)) held held' out out' err err' reads writes outs errs r h so = h.1
-keeps (Some (Run file steps name)) held held' out out' err err' reads writes outs errs r h so = absurd (cc)
-keeps (Some (Report file query steps)) held held' out out' err err' reads writes outs errs r h so = h.1
-keeps (Some (Page name query)) held held' out out' err err' reads writes outs errs r h so = h.1
-keeps (Some (Gen n summary)) held held' out out' err err' reads writes outs errs r h so = h.1
-keeps (Some (Migrate name new)) held held' out out' err err' reads writes outs errs r h so = absurd (cc)
+keeps : (form : Option Form) (held held' : Option Files) (net net' : Option Connections) (out out' err err' : Option (List ℕ)) (reads writes outs errs nets : Type 0) (r : Result (Unit {0}) Fault)
+    → CommandEnds form held held' net net' out out' err err' reads writes outs errs nets r → keeps_store form ≡ true → held' ≡ held
+keeps None held held' net net' out out' err err' reads writes outs errs nets r h so = h.1.held_is
+keeps (Some (Check file print)) held held' net net' out out' err err' reads writes outs errs nets r h so = h.1
+keeps (Some (Run file steps name)) held held' net net' out out' err err' reads writes outs errs nets r h so = absurd (cc)
+keeps (Some (Report file query steps)) held held' net net' out out' err err' reads writes outs errs nets r h so = h.1
+keeps (Some (Page name query)) held held' net net' out out' err err' reads writes outs errs nets r h so = h.1
+keeps (Some (Serve name port requests)) held held' net net' out out' err err' reads writes outs errs nets r h so = h.1
+keeps (Some (Gen n summary)) held held' net net' out out' err err' reads writes outs errs nets r h so = h.1
+keeps (Some (Migrate name new)) held held' net net' out out' err err' reads writes outs errs nets r h so = absurd (cc)
 
-pub store_kept : (form : Option Form) (held held' : Option Files) (out out' err err' : Option (List ℕ)) (reads writes outs errs : Type 0) (status : ℕ)
-    → TopEnds form held held' out out' err err' reads writes outs errs status → keeps_store form ≡ true → held' ≡ held
-store_kept form held held' out out' err err' reads writes outs errs status h so = keeps form held held' out out' err h.between reads writes outs errs h.end h.command so
+pub store_kept : (form : Option Form) (held held' : Option Files) (net net' : Option Connections) (out out' err err' : Option (List ℕ)) (reads writes outs errs nets : Type 0) (status : ℕ)
+    → TopEnds form held held' net net' out out' err err' reads writes outs errs nets status → keeps_store form ≡ true → held' ≡ held
+store_kept form held held' net net' out out' err err' reads writes outs errs nets status h so = keeps form held held' net net' out out' err h.between reads writes outs errs nets h.end h.command so

@@ -7,7 +7,7 @@ use Rattle.md_cost.specs.Loading.{LoadedRows}
 use Rattle.md_dynamic.specs.Profile.{ProfileRows}
 use Rattle.md_query.specs.Asked.{Asked}
 use Rattle.md_tool.specs.declared.fault.Fault.{Fault}
-use Rattle.md_tool.specs.declared.fault.Fault.TheVariants.{Usage, Read, TooLong, Refused, OutOfSteps, Thrown, Damaged, TooLarge, TwoEntries, NoSuchPage, Write, NoMemory}
+use Rattle.md_tool.specs.declared.fault.Fault.TheVariants.{Usage, Read, TooLong, Refused, OutOfSteps, Thrown, Damaged, TooLarge, TwoEntries, NoSuchPage, Write, NoMemory, Network}
 use Rattle.md_tool.specs.Due.{WriteEnds, StoreEnds}
 use Rattle.md_tool.specs.Paged.{PageEnds}
 use Rattle.md_tool.specs.Stored.{IsStored, IsLoadedFrom, HasAnswered, LoadFails, ViewFails, StoredEnds, MigrateEnds, longest_profile, longest_migrated, migrated}
@@ -17,6 +17,7 @@ pub answered : (held : Option Files) (name : List ℕ) (query : Asked) (out out'
     → IsLoadedFrom held name loaded → PageEnds (IsFileView loaded.profile) query out out' outs r → StoredEnds held name query out out' reads outs r
 answered held name query out out' reads outs loaded (Ok done) l h = record { profile = loaded.profile; spelled = l.spelled; ends = h }
 answered held name query out out' reads outs loaded (Err Usage) l h = absurd h
+answered held name query out out' reads outs loaded (Err Network) l h = absurd h
 answered held name query out out' reads outs loaded (Err Read) l h = absurd h
 answered held name query out out' reads outs loaded (Err TooLong) l h = absurd h
 answered held name query out out' reads outs loaded (Err (Refused line w)) l h = absurd h
@@ -32,6 +33,7 @@ answered held name query out out' reads outs loaded (Err NoMemory) l h = inr (re
 -- it wasn't
 pub unanswered : (held : Option Files) (name : List ℕ) (query : Asked) (out : Option (List ℕ)) (reads outs : Type 0) (fault : Fault) → ViewFails held name reads fault → StoredEnds held name query out out reads outs (Err fault)
 unanswered held name query out reads outs Usage h = absurd h
+unanswered held name query out reads outs Network h = absurd h
 unanswered held name query out reads outs Read h = (h, refl)
 unanswered held name query out reads outs TooLong h = absurd h
 unanswered held name query out reads outs (Refused line w) h = absurd h
@@ -47,6 +49,7 @@ unanswered held name query out reads outs NoMemory h = inl refl
 -- why a profile has no view, where it wasn't read
 pub view_fails : (held : Option Files) (name : List ℕ) (reads : Type 0) (fault : Fault) → LoadFails held name longest_profile reads fault → ViewFails held name reads fault
 view_fails held name reads Usage h = absurd h
+view_fails held name reads Network h = absurd h
 view_fails held name reads Read h = h
 view_fails held name reads TooLong h = absurd h
 view_fails held name reads (Refused line w) h = absurd h
@@ -64,6 +67,7 @@ view_fails held name reads NoMemory h = h
 pub unread : (held : Option Files) (name new : List ℕ) (out : Option (List ℕ)) (reads writes outs : Type 0) (fault : Fault) → LoadFails held name longest_migrated reads fault
     → MigrateEnds held held name new out out reads writes outs (Err fault)
 unread held name new out reads writes outs Usage h = absurd h
+unread held name new out reads writes outs Network h = absurd h
 unread held name new out reads writes outs Read h = (h, record { held_is = refl; out_is = refl })
 unread held name new out reads writes outs TooLong h = absurd h
 unread held name new out reads writes outs (Refused line w) h = absurd h
@@ -79,6 +83,7 @@ unread held name new out reads writes outs NoMemory h = inl (record { held_is = 
 pub unstored : (held held' : Option Files) (name new : List ℕ) (out : Option (List ℕ)) (reads writes outs : Type 0) (f : ProfileRows) (fault : Fault) → IsStored held name longest_migrated f
     → StoreEnds new f held held' writes (Err fault) → MigrateEnds held held' name new out out reads writes outs (Err fault)
 unstored held held' name new out reads writes outs f Usage s h = absurd h
+unstored held held' name new out reads writes outs f Network s h = absurd h
 unstored held held' name new out reads writes outs f Read s h = absurd h
 unstored held held' name new out reads writes outs f TooLong s h = absurd h
 unstored held held' name new out reads writes outs f (Refused line w) s h = absurd h
@@ -95,6 +100,7 @@ pub stored : (held held' : Option Files) (name new : List ℕ) (out out' : Optio
     → StoreEnds new f held held' writes (Ok tt) → WriteEnds migrated out out' outs r → MigrateEnds held held' name new out out' reads writes outs r
 stored held held' name new out out' reads writes outs f (Ok done) s whole h = record { profile = f; spelled = s.spelled; stored = whole; told = h }
 stored held held' name new out out' reads writes outs f (Err Usage) s whole h = absurd h
+stored held held' name new out out' reads writes outs f (Err Network) s whole h = absurd h
 stored held held' name new out out' reads writes outs f (Err Read) s whole h = absurd h
 stored held held' name new out out' reads writes outs f (Err TooLong) s whole h = absurd h
 stored held held' name new out out' reads writes outs f (Err (Refused line w)) s whole h = absurd h

@@ -5,7 +5,7 @@ use Rattle.std.proofs.lemmas.Bool.{cases_lt}
 use Rattle.std.specs.Prelude.{Result, Ok, Err}
 use Rattle.md_base.specs.Outside.{Rose, added, PartAdded}
 use Rattle.md_tool.specs.declared.fault.Fault.{Fault}
-use Rattle.md_tool.specs.declared.fault.Fault.TheVariants.{Usage, Read, TooLong, Refused, OutOfSteps, Thrown, Damaged, TooLarge, TwoEntries, NoSuchPage, Write, NoMemory}
+use Rattle.md_tool.specs.declared.fault.Fault.TheVariants.{Usage, Read, TooLong, Refused, OutOfSteps, Thrown, Damaged, TooLarge, TwoEntries, NoSuchPage, Write, NoMemory, Network}
 use Rattle.md_tool.specs.Due.{WriteEnds}
 
 -- ---- a count that never falls
@@ -62,6 +62,7 @@ second_ends a b before between now second both (Ok done) rises first h = h ∙ (
 second_ends a b before between now second both (Err Write) rises first h = (rises h.0, part_of_second a b before between now first h.1)
 second_ends a b before between now second both (Err NoMemory) rises first h = part_of_second a b before between now first h
 second_ends a b before between now second both (Err Usage) rises first h = absurd h
+second_ends a b before between now second both (Err Network) rises first h = absurd h
 second_ends a b before between now second both (Err (Damaged at kind)) rises first h = absurd h
 second_ends a b before between now second both (Err (TooLarge most)) rises first h = absurd h
 second_ends a b before between now second both (Err (TwoEntries clique x y)) rises first h = absurd h

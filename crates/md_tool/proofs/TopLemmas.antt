@@ -3,10 +3,11 @@ use Rattle.std.proofs.Common.{◌≡◌, refl, sym, subst, inl, inr, ◌⊎◌, 
 use Rattle.std.specs.Prelude.{Result, Ok, Err, codes}
 use Rattle.md_base.specs.Outside.{Rose, added}
 use Rattle.md_base.specs.Files.{Files}
+use Rattle.md_base.specs.Nets.{Connections}
 use Rattle.md_query.specs.Asked.{Asked}
-use Rattle.md_words.specs.Form.{Form, Check, Run, Report, Page, Gen, Migrate}
+use Rattle.md_words.specs.Form.{Form, Check, Run, Report, Page, Serve, Gen, Migrate}
 use Rattle.md_tool.specs.declared.fault.Fault.{Fault}
-use Rattle.md_tool.specs.declared.fault.Fault.TheVariants.{Usage, Read, TooLong, Refused, OutOfSteps, Thrown, Damaged, TooLarge, TwoEntries, NoSuchPage, Write, NoMemory}
+use Rattle.md_tool.specs.declared.fault.Fault.TheVariants.{Usage, Read, TooLong, Refused, OutOfSteps, Thrown, Damaged, TooLarge, TwoEntries, NoSuchPage, Write, NoMemory, Network}
 use Rattle.md_tool.specs.Fault.{fault_line}
 use Rattle.md_tool.specs.Generated.{gen_text, GenEnds}
 use Rattle.md_tool.specs.Reported.{ReportEnds}
@@ -17,29 +18,30 @@ nothing_changed : (held : Option Files) (out err : Option (List ℕ)) → Nothin
 nothing_changed held out err = record { held_is = refl; out_is = refl; err_is = refl }
 
 -- no command was asked for, and that was told
-pub usage_told : (form : Option Form) (held : Option Files) (out err err' : Option (List ℕ)) (reads writes outs errs : Type 0) (status : ℕ)
-    → form ≡ None → Tells Usage [] err err' errs status → TopEnds form held held out out err err' reads writes outs errs status
-usage_told form held out err err' reads writes outs errs status none told =
-    subst (λ (a : Option Form). TopEnds a held held out out err err' reads writes outs errs status) (sym none)
+pub usage_told : (form : Option Form) (held : Option Files) (net : Option Connections) (out err err' : Option (List ℕ)) (reads writes outs errs nets : Type 0) (status : ℕ)
+    → form ≡ None → Tells Usage [] err err' errs status → TopEnds form held held net net out out err err' reads writes outs errs nets status
+usage_told form held net out err err' reads writes outs errs nets status none told =
+    subst (λ (a : Option Form). TopEnds a held held net net out out err err' reads writes outs errs nets status) (sym none)
     (record { end = Err Usage; between = err; command = (inl refl, nothing_changed held out err); told = told })
 
 -- memory was refused before it was known what is asked for
-unknown : (form : Option Form) (held : Option Files) (out err : Option (List ℕ)) (reads writes outs errs : Type 0) → CommandEnds form held held out out err err reads writes outs errs (Err NoMemory)
-unknown None held out err reads writes outs errs = (inr refl, nothing_changed held out err)
-unknown (Some (Check file print)) held out err reads writes outs errs = (inl refl, refl, refl)
-unknown (Some (Run file steps name)) held out err reads writes outs errs = (inl (record { held_is = refl; out_is = refl }), refl)
-unknown (Some (Report file query steps)) held out err reads writes outs errs = (inl (record { out_is = refl; err_is = refl }), refl)
-unknown (Some (Page name query)) held out err reads writes outs errs = (inl refl, refl, refl)
-unknown (Some (Gen n false)) held out err reads writes outs errs = (none_added (gen_text n) out, refl, refl)
-unknown (Some (Gen n true)) held out err reads writes outs errs = (inl refl, refl, refl)
-unknown (Some (Migrate name new)) held out err reads writes outs errs = (inl (record { held_is = refl; out_is = refl }), refl)
+unknown : (form : Option Form) (held : Option Files) (net : Option Connections) (out err : Option (List ℕ)) (reads writes outs errs nets : Type 0) → CommandEnds form held held net net out out err err reads writes outs errs nets (Err NoMemory)
+unknown None held net out err reads writes outs errs nets = (inr refl, nothing_changed held out err)
+unknown (Some (Check file print)) held net out err reads writes outs errs nets = (inl refl, refl, refl)
+unknown (Some (Run file steps name)) held net out err reads writes outs errs nets = (inl (record { held_is = refl; out_is = refl }), refl)
+unknown (Some (Report file query steps)) held net out err reads writes outs errs nets = (inl (record { out_is = refl; err_is = refl }), refl)
+unknown (Some (Page name query)) held net out err reads writes outs errs nets = (inl refl, refl, refl)
+unknown (Some (Serve name port requests)) held net out err reads writes outs errs nets = (inl (record { net_is = refl; out_is = refl }), refl, refl)
+unknown (Some (Gen n false)) held net out err reads writes outs errs nets = (none_added (gen_text n) out, refl, refl)
+unknown (Some (Gen n true)) held net out err reads writes outs errs nets = (inl refl, refl, refl)
+unknown (Some (Migrate name new)) held net out err reads writes outs errs nets = (inl (record { held_is = refl; out_is = refl }), refl)
 
-pub memory_told : (form : Option Form) (held : Option Files) (out err err' : Option (List ℕ)) (reads writes outs errs : Type 0) (status : ℕ)
-    → Tells NoMemory [] err err' errs status → TopEnds form held held out out err err' reads writes outs errs status
-memory_told form held out err err' reads writes outs errs status told = record {
+pub memory_told : (form : Option Form) (held : Option Files) (net : Option Connections) (out err err' : Option (List ℕ)) (reads writes outs errs nets : Type 0) (status : ℕ)
+    → Tells NoMemory [] err err' errs status → TopEnds form held held net net out out err err' reads writes outs errs nets status
+memory_told form held net out err err' reads writes outs errs nets status told = record {
   end = Err NoMemory;
   between = err;
-  command = unknown form held out err reads writes outs errs;
+  command = unknown form held net out err reads writes outs errs nets;
   told = record { told = told.told; part = told.part; whole = told.whole };
 }
 
@@ -50,6 +52,7 @@ report_rises : (held : Option Files) (file : List ℕ) (query : Asked) (steps : 
     → (some → all) → ReportEnds held file query steps out out' err err' reads outs some r → ReportEnds held file query steps out out' err err' reads outs all r
 report_rises held file query steps out out' err err' reads outs some all (Ok done) rises h = h
 report_rises held file query steps out out' err err' reads outs some all (Err Usage) rises h = h
+report_rises held file query steps out out' err err' reads outs some all (Err Network) rises h = h
 report_rises held file query steps out out' err err' reads outs some all (Err Read) rises h = h
 report_rises held file query steps out out' err err' reads outs some all (Err TooLong) rises h = h
 report_rises held file query steps out out' err err' reads outs some all (Err (Refused line w)) rises h = h
@@ -75,10 +78,10 @@ told_rises (Ok done) file before now some all status rises h = h
 told_rises (Err fault) file before now some all status rises h =
     record { told = h.told; part = h.part; whole = whole_rises (fault_line fault file) before now some all status rises h.whole }
 
-pub report_told : (held held' : Option Files) (file : List ℕ) (query : Asked) (steps : ℕ) (out out' err between err' : Option (List ℕ)) (reads writes outs : Type 0) (a b c : ℕ) (status : ℕ)
+pub report_told : (held held' : Option Files) (net net' : Option Connections) (file : List ℕ) (query : Asked) (steps : ℕ) (out out' err between err' : Option (List ℕ)) (reads writes outs nets : Type 0) (a b c : ℕ) (status : ℕ)
     (r : Result (Unit {0}) Fault) → a ≤ b → b ≤ c → ReportEnds held file query steps out out' err between reads outs (Rose a b) r → held' ≡ held
-    → EndIsTold r file between err' (Rose b c) status → TopEnds (Some (Report file query steps)) held held' out out' err err' reads writes outs (Rose a c) status
-report_told held held' file query steps out out' err between err' reads writes outs a b c status r first later ends kept told = record {
+    → EndIsTold r file between err' (Rose b c) status → TopEnds (Some (Report file query steps)) held held' net net' out out' err err' reads writes outs (Rose a c) nets status
+report_told held held' net net' file query steps out out' err between err' reads writes outs nets a b c status r first later ends kept told = record {
   end = r;
   between = between;
   command = (report_rises held file query steps out out' err between reads outs (Rose a b) (Rose a c) r (rose_before a b c first later) ends, kept);
@@ -87,6 +90,6 @@ report_told held held' file query steps out out' err between err' reads writes o
 
 -- ---- a generated program
 
-pub gen_told : (held : Option Files) (n : ℕ) (summary : Bool) (out out' err err' : Option (List ℕ)) (reads writes outs errs : Type 0) (status : ℕ) (r : Result (Unit {0}) Fault)
-    → GenEnds n summary out out' outs r → EndIsTold r (codes "gen") err err' errs status → TopEnds (Some (Gen n summary)) held held out out' err err' reads writes outs errs status
-gen_told held n summary out out' err err' reads writes outs errs status r ends told = record { end = r; between = err; command = (ends, refl, refl); told = told }
+pub gen_told : (held : Option Files) (net net' : Option Connections) (n : ℕ) (summary : Bool) (out out' err err' : Option (List ℕ)) (reads writes outs errs nets : Type 0) (status : ℕ) (r : Result (Unit {0}) Fault)
+    → GenEnds n summary out out' outs r → EndIsTold r (codes "gen") err err' errs status → TopEnds (Some (Gen n summary)) held held net net' out out' err err' reads writes outs errs nets status
+gen_told held net net' n summary out out' err err' reads writes outs errs nets status r ends told = record { end = r; between = err; command = (ends, refl, refl); told = told }

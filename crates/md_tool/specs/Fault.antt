@@ -6,7 +6,7 @@ use Rattle.md_deepfile.specs.declared.damage.Kind.TheVariants as kind
 use Rattle.md_hlds.specs.declared.types.Det.{Det}
 use Rattle.md_hlds.specs.declared.types.Det.TheVariants as det
 use Rattle.md_tool.specs.declared.fault.Fault.{Fault}
-use Rattle.md_tool.specs.declared.fault.Fault.TheVariants.{Usage, Read, TooLong, Refused, OutOfSteps, Thrown, Damaged, TooLarge, TwoEntries, NoSuchPage, Write, NoMemory}
+use Rattle.md_tool.specs.declared.fault.Fault.TheVariants.{Usage, Read, TooLong, Refused, OutOfSteps, Thrown, Damaged, TooLarge, TwoEntries, NoSuchPage, Network, Write, NoMemory}
 use Rattle.md_tool.specs.declared.fault.Why.{Why}
 use Rattle.md_tool.specs.declared.fault.Why.TheVariants as why
 
@@ -21,6 +21,7 @@ status_of (Damaged at kind) = 5
 status_of (TooLarge most) = 5
 status_of (TwoEntries clique a b) = 5
 status_of NoSuchPage = 6
+status_of Network = 9
 status_of Write = 7
 status_of NoMemory = 8
 
@@ -100,5 +101,6 @@ fault_line (Damaged at kind) file = file_line file (damage_text at (word_of_kind
 fault_line (TooLarge most) file = file_line file (size_text most)
 fault_line (TwoEntries clique a b) file = file_line file (entries_text clique a b)
 fault_line NoSuchPage file = plain_line (codes "no such page")
+fault_line Network file = plain_line (codes "network fault")
 fault_line Write file = plain_line (codes "write fault")
 fault_line NoMemory file = plain_line (codes "want of memory")

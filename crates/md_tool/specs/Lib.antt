@@ -7,6 +7,7 @@ pub mod Paged
 pub mod Profiled
 pub mod Reported
 pub mod Stored
+pub mod Served
 pub mod Generated
 pub mod Told
 pub mod Meaning

@@ -2,9 +2,10 @@
 use Rattle.std.specs.Prelude.{ℕ, ◌≡◌, ◌⊎◌, Bool, true, false, ◌||◌, ◌==◌, List, Option, None, Some, Result, Ok, Err, codes}
 use Rattle.md_base.specs.Outside.{PartAdded}
 use Rattle.md_base.specs.Files.{Files, FileIsLonger}
+use Rattle.md_base.specs.Nets.{Connections}
 use Rattle.md_profile.specs.OfRun.{IsViewOfRun}
 use Rattle.md_query.specs.Asked.{Asked}
-use Rattle.md_words.specs.Form.{Form, Check, Run, Report, Page, Gen, Migrate}
+use Rattle.md_words.specs.Form.{Form, Check, Run, Report, Page, Serve, Gen, Migrate}
 use Rattle.md_tool.specs.declared.fault.Fault.{Fault}
 use Rattle.md_tool.specs.declared.fault.Fault.TheVariants.{Refused}
 use Rattle.md_tool.specs.declared.fault.Why.{Why}
@@ -16,6 +17,7 @@ use Rattle.md_tool.specs.Generated.{GenEnds}
 use Rattle.md_tool.specs.Paged.{IsPagedInPart}
 use Rattle.md_tool.specs.Profiled.{AreUntouched, HasRun, HasRunInPart, HasProfileInPart}
 use Rattle.md_tool.specs.Reported.{HasReported, HasNoPage}
+use Rattle.md_tool.specs.Served.{ServeEnds}
 use Rattle.md_tool.specs.Stored.{StoredEnds, MigrateEnds}
 
 -- a file's text isn't accepted as a program: it is too long, or has a fault at a line
@@ -98,16 +100,17 @@ MeansReport held file query steps out out' err err' reads outs errs status =
 abbrev pub MeansEnd : (Result (Unit {0}) Fault → Type 0) → ℕ → Type 0
 MeansEnd Ends status = ((status ≡ 0) × Ends (Ok tt)) ⊎ ((fault : Fault) × ((status ≡ status_of fault) ⊎ (status ≡ 8)) × Ends (Err fault))
 
--- What a status says of what the words ask for. The four facts are that the store's count of faults in a read rose, that in
--- a write, and those of `out` and `err`.
-abbrev pub Means : Option Form → (held held' : Option Files) → (out out' err err' : Option (List ℕ)) → (reads writes outs errs : Type 0) → ℕ → Type 0
-Means None held held' out out' err err' reads writes outs errs status = MeansUsage out out' status
-Means (Some (Check file print)) held held' out out' err err' reads writes outs errs status = MeansCheck held file print out out' reads outs status
-Means (Some (Run file steps name)) held held' out out' err err' reads writes outs errs status = MeansRun held held' file steps name out out' reads writes outs status
-Means (Some (Report file query steps)) held held' out out' err err' reads writes outs errs status = MeansReport held file query steps out out' err err' reads outs errs status
-Means (Some (Page name query)) held held' out out' err err' reads writes outs errs status = MeansEnd (StoredEnds held name query out out' reads outs) status
-Means (Some (Gen n summary)) held held' out out' err err' reads writes outs errs status = MeansEnd (GenEnds n summary out out' outs) status
-Means (Some (Migrate name new)) held held' out out' err err' reads writes outs errs status = MeansEnd (MigrateEnds held held' name new out out' reads writes outs) status
+-- What a status says of what the words ask for. The five facts are that the store's count of faults in a read rose, that in
+-- a write, and those of `out`, of `err` and of the net.
+abbrev pub Means : Option Form → (held held' : Option Files) → (net net' : Option Connections) → (out out' err err' : Option (List ℕ)) → (reads writes outs errs nets : Type 0) → ℕ → Type 0
+Means None held held' net net' out out' err err' reads writes outs errs nets status = MeansUsage out out' status
+Means (Some (Check file print)) held held' net net' out out' err err' reads writes outs errs nets status = MeansCheck held file print out out' reads outs status
+Means (Some (Run file steps name)) held held' net net' out out' err err' reads writes outs errs nets status = MeansRun held held' file steps name out out' reads writes outs status
+Means (Some (Report file query steps)) held held' net net' out out' err err' reads writes outs errs nets status = MeansReport held file query steps out out' err err' reads outs errs status
+Means (Some (Page name query)) held held' net net' out out' err err' reads writes outs errs nets status = MeansEnd (StoredEnds held name query out out' reads outs) status
+Means (Some (Serve name port requests)) held held' net net' out out' err err' reads writes outs errs nets status = MeansEnd (ServeEnds held name requests net net' out out' reads outs nets) status
+Means (Some (Gen n summary)) held held' net net' out out' err err' reads writes outs errs nets status = MeansEnd (GenEnds n summary out out' outs) status
+Means (Some (Migrate name new)) held held' net net' out out' err err' reads writes outs errs nets status = MeansEnd (MigrateEnds held held' name new out out' reads writes outs) status
 
 -- whether a command leaves the store as it was
 abbrev pub keeps_store : Option Form → Bool
@@ -116,5 +119,17 @@ keeps_store (Some (Migrate name new)) = false
 keeps_store (Some (Check file print)) = true
 keeps_store (Some (Report file query steps)) = true
 keeps_store (Some (Page name query)) = true
+keeps_store (Some (Serve name port requests)) = true
 keeps_store (Some (Gen n summary)) = true
 keeps_store None = true
+
+-- whether a command leaves the net as it was
+abbrev pub keeps_net : Option Form → Bool
+keeps_net (Some (Serve name port requests)) = false
+keeps_net (Some (Run file steps name)) = true
+keeps_net (Some (Migrate name new)) = true
+keeps_net (Some (Check file print)) = true
+keeps_net (Some (Report file query steps)) = true
+keeps_net (Some (Page name query)) = true
+keeps_net (Some (Gen n summary)) = true
+keeps_net None = true

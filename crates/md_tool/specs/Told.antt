@@ -2,7 +2,8 @@
 use Rattle.std.specs.Prelude.{ℕ, ◌≡◌, ◌⊎◌, List, [], Option, None, Some, Result, Ok, Err, codes}
 use Rattle.md_base.specs.Outside.{added, PartAdded}
 use Rattle.md_base.specs.Files.{Files}
-use Rattle.md_words.specs.Form.{Form, Check, Run, Report, Page, Gen, Migrate}
+use Rattle.md_base.specs.Nets.{Connections}
+use Rattle.md_words.specs.Form.{Form, Check, Run, Report, Page, Serve, Gen, Migrate}
 use Rattle.md_tool.specs.declared.fault.Fault.{Fault}
 use Rattle.md_tool.specs.declared.fault.Fault.TheVariants.{Usage, NoMemory}
 use Rattle.md_tool.specs.Fault.{status_of, fault_line}
@@ -10,6 +11,7 @@ use Rattle.md_tool.specs.Due.{CheckEnds}
 use Rattle.md_tool.specs.Generated.{GenEnds}
 use Rattle.md_tool.specs.Profiled.{RunEnds}
 use Rattle.md_tool.specs.Reported.{ReportEnds}
+use Rattle.md_tool.specs.Served.{ServeEnds}
 use Rattle.md_tool.specs.Stored.{StoredEnds, MigrateEnds}
 
 -- A fault was told: its line was written, or a front of it where the stream's count of faults rose or memory was
@@ -25,16 +27,17 @@ pub record NothingChanged (held held' : Option Files) (out out' err err' : Optio
   pub out_is : out' ≡ out
   pub err_is : err' ≡ err
 
--- What the words ask for: nothing, or a command. The four facts say that the store's count of faults in a read rose, that
--- in a write, and those of `out` and `err`. What a command doesn't write it leaves as it was.
-abbrev pub CommandEnds : Option Form → (held held' : Option Files) → (out out' err err' : Option (List ℕ)) → (reads writes outs errs : Type 0) → Result (Unit {0}) Fault → Type 0
-CommandEnds None held held' out out' err err' reads writes outs errs r = ((r ≡ Err Usage) ⊎ (r ≡ Err NoMemory)) × NothingChanged held held' out out' err err'
-CommandEnds (Some (Check file print)) held held' out out' err err' reads writes outs errs r = CheckEnds held file print out out' reads outs r × (held' ≡ held) × (err' ≡ err)
-CommandEnds (Some (Run file steps name)) held held' out out' err err' reads writes outs errs r = RunEnds held held' file steps name out out' reads writes outs r × (err' ≡ err)
-CommandEnds (Some (Report file query steps)) held held' out out' err err' reads writes outs errs r = ReportEnds held file query steps out out' err err' reads outs errs r × (held' ≡ held)
-CommandEnds (Some (Page name query)) held held' out out' err err' reads writes outs errs r = StoredEnds held name query out out' reads outs r × (held' ≡ held) × (err' ≡ err)
-CommandEnds (Some (Gen n summary)) held held' out out' err err' reads writes outs errs r = GenEnds n summary out out' outs r × (held' ≡ held) × (err' ≡ err)
-CommandEnds (Some (Migrate name new)) held held' out out' err err' reads writes outs errs r = MigrateEnds held held' name new out out' reads writes outs r × (err' ≡ err)
+-- What the words ask for: nothing, or a command. The five facts say that the store's count of faults in a read rose, that
+-- in a write, and those of `out`, of `err` and of the net. What a command doesn't write it leaves as it was.
+abbrev pub CommandEnds : Option Form → (held held' : Option Files) → (net net' : Option Connections) → (out out' err err' : Option (List ℕ)) → (reads writes outs errs nets : Type 0) → Result (Unit {0}) Fault → Type 0
+CommandEnds None held held' net net' out out' err err' reads writes outs errs nets r = ((r ≡ Err Usage) ⊎ (r ≡ Err NoMemory)) × NothingChanged held held' out out' err err'
+CommandEnds (Some (Check file print)) held held' net net' out out' err err' reads writes outs errs nets r = CheckEnds held file print out out' reads outs r × (held' ≡ held) × (err' ≡ err)
+CommandEnds (Some (Run file steps name)) held held' net net' out out' err err' reads writes outs errs nets r = RunEnds held held' file steps name out out' reads writes outs r × (err' ≡ err)
+CommandEnds (Some (Report file query steps)) held held' net net' out out' err err' reads writes outs errs nets r = ReportEnds held file query steps out out' err err' reads outs errs r × (held' ≡ held)
+CommandEnds (Some (Page name query)) held held' net net' out out' err err' reads writes outs errs nets r = StoredEnds held name query out out' reads outs r × (held' ≡ held) × (err' ≡ err)
+CommandEnds (Some (Serve name port requests)) held held' net net' out out' err err' reads writes outs errs nets r = ServeEnds held name requests net net' out out' reads outs nets r × (held' ≡ held) × (err' ≡ err)
+CommandEnds (Some (Gen n summary)) held held' net net' out out' err err' reads writes outs errs nets r = GenEnds n summary out out' outs r × (held' ≡ held) × (err' ≡ err)
+CommandEnds (Some (Migrate name new)) held held' net net' out out' err err' reads writes outs errs nets r = MigrateEnds held held' name new out out' reads writes outs r × (err' ≡ err)
 
 -- the name in a line that tells of a fault: that of the command's file; a generated program is called `gen`
 abbrev pub file_of : Form → List ℕ
@@ -42,6 +45,7 @@ file_of (Check file print) = file
 file_of (Run file steps name) = file
 file_of (Report file query steps) = file
 file_of (Page name query) = name
+file_of (Serve name port requests) = name
 file_of (Gen n summary) = codes "gen"
 file_of (Migrate name new) = name
 
@@ -54,10 +58,10 @@ abbrev pub EndIsTold : Result (Unit {0}) Fault → (file : List ℕ) → Option 
 EndIsTold (Ok done) file before now faults_rose status = (status ≡ 0) × (now ≡ before)
 EndIsTold (Err fault) file before now faults_rose status = Tells fault file before now faults_rose status
 
--- A whole call: what the command came to, what `err` held then, and what was told of it. The four facts say that the
--- store's count of faults in a read rose in the call, that in a write, and those of `out` and `err`.
-pub record TopEnds (form : Option Form) (held held' : Option Files) (out out' err err' : Option (List ℕ)) (reads writes outs errs : Type 0) (status : ℕ) : Type 0 where
+-- A whole call: what the command came to, what `err` held then, and what was told of it. The five facts say that the
+-- store's count of faults in a read rose in the call, that in a write, and those of `out`, of `err` and of the net.
+pub record TopEnds (form : Option Form) (held held' : Option Files) (net net' : Option Connections) (out out' err err' : Option (List ℕ)) (reads writes outs errs nets : Type 0) (status : ℕ) : Type 0 where
   pub end : Result (Unit {0}) Fault
   pub between : Option (List ℕ)
-  pub command : CommandEnds form held held' out out' err between reads writes outs errs end
+  pub command : CommandEnds form held held' net net' out out' err between reads writes outs errs nets end
   pub told : EndIsTold end (named form) between err' errs status

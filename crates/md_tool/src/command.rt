@@ -4,13 +4,14 @@ ghost use Rattle.md_base.specs.Outside.{Rose};
 ghost use Rattle.md_words.specs.Form.{words_of, HasBounds, form};
 ghost use Rattle.md_words.specs.Told.{told};
 ghost use Rattle.md_tool.specs.Told.{Tells, EndIsTold, TopEnds};
-ghost use Rattle.md_tool.specs.Meaning.{Means, keeps_store};
+ghost use Rattle.md_tool.specs.Meaning.{Means, keeps_store, keeps_net};
 
 use crate::check::check_file;
 use crate::fault::Fault;
 use crate::generate::generate;
 use crate::report::report_file;
 use crate::run::run_file;
+use crate::serve::serve_file;
 use crate::stored::{migrate_file, page_of_file};
 use md_base::{Net, Sink, Store, WriteFault, write_whole};
 use md_words::{Command, command_of};
@@ -26,11 +27,12 @@ pub struct Status(pub u8);
 /// program within 1,000,000 steps, or as many as `--steps` gives, writes what it writes to `out`, and stores the profile of
 /// the run in `mdprof.data`, or under the name that `--profile` gives. `report FILE QUERY` runs the program as `run` does,
 /// but writes what it writes to `err`, with a line that ends it, and then to `out` the page of the run that is asked for.
-/// `page NAME QUERY` writes the page of a stored profile, and `migrate NAME NEW` stores it in the newer form. `gen N` writes a
-/// generated program, and `gen N --summary` the menu of its run. A fault is told by a line on `err` and by the status: 1
+/// `page NAME QUERY` writes the page of a stored profile, and `migrate NAME NEW` stores it in the newer form. `serve NAME --port P
+/// --requests N` serves the pages of a stored profile over HTTP to as many connections, and writes how many came and how many
+/// of them were answered. `gen N` writes a generated program, and `gen N --summary` the menu of its run. A fault is told by a line on `err` and by the status: 1
 /// where the words are no command, 2 where a file can't be read, 3 where a text isn't accepted as a program, 4 where the run
 /// isn't finished, 5 where a file isn't a profile, 6 where a profile has no such page, 7 where something can't be written,
-/// 8 where memory was refused, and 10 where an exception left the program's `main`.
+/// 8 where memory was refused, 9 where the net failed, and 10 where an exception left the program's `main`.
 pub fn top<S: Store, O: Sink, E: Sink, N: Net>(
     alloc: Global,
     words: &[String],
@@ -39,50 +41,53 @@ pub fn top<S: Store, O: Sink, E: Sink, N: Net>(
     err: &mut E,
     net: &mut N,
 ) -> Status
-    ensures status { Means (form (words_of words.now)) (S.held store.old) (S.held store.new) (O.held out.old) (O.held out.new) (E.held err.old) (E.held err.new)
+    ensures status { Means (form (words_of words.now)) (S.held store.old) (S.held store.new) (N.connections net.old) (N.connections net.new) (O.held out.old) (O.held out.new) (E.held err.old) (E.held err.new)
         (Rose (S.read_faults store.old) (S.read_faults store.new)) (Rose (S.write_faults store.old) (S.write_faults store.new))
-        (Rose (O.write_faults out.old) (O.write_faults out.new)) (Rose (E.write_faults err.old) (E.write_faults err.new)) result.0 }
-    ensures ends { TopEnds (form (words_of words.now)) (S.held store.old) (S.held store.new) (O.held out.old) (O.held out.new) (E.held err.old) (E.held err.new)
+        (Rose (O.write_faults out.old) (O.write_faults out.new)) (Rose (E.write_faults err.old) (E.write_faults err.new)) (Rose (N.faults net.old) (N.faults net.new)) result.0 }
+    ensures ends { TopEnds (form (words_of words.now)) (S.held store.old) (S.held store.new) (N.connections net.old) (N.connections net.new) (O.held out.old) (O.held out.new) (E.held err.old) (E.held err.new)
         (Rose (S.read_faults store.old) (S.read_faults store.new)) (Rose (S.write_faults store.old) (S.write_faults store.new))
-        (Rose (O.write_faults out.old) (O.write_faults out.new)) (Rose (E.write_faults err.old) (E.write_faults err.new)) result.0 }
+        (Rose (O.write_faults out.old) (O.write_faults out.new)) (Rose (E.write_faults err.old) (E.write_faults err.new)) (Rose (N.faults net.old) (N.faults net.new)) result.0 }
     ensures store { keeps_store (form (words_of words.now)) ≡ true → S.held store.new ≡ S.held store.old }
-    ensures net { net.new ≡ net.old }
+    ensures net { keeps_net (form (words_of words.now)) ≡ true → net.new ≡ net.old }
 {
-    let _ = net;
-    Status(run_command(alloc, words, store, out, err))
+    Status(run_command(alloc, words, store, out, err, net))
 }
 
 /// Does what the words ask for, tells a fault, and gives the status.
-fn run_command<S: Store, O: Sink, E: Sink>(
+fn run_command<S: Store, O: Sink, E: Sink, N: Net>(
     alloc: Global,
     words: &[String],
     store: &mut S,
     out: &mut O,
     err: &mut E,
+    net: &mut N,
 ) -> u8
-    ensures { TopEnds (form (words_of words.now)) (S.held store.old) (S.held store.new) (O.held out.old) (O.held out.new) (E.held err.old) (E.held err.new)
+    ensures ends { TopEnds (form (words_of words.now)) (S.held store.old) (S.held store.new) (N.connections net.old) (N.connections net.new) (O.held out.old) (O.held out.new) (E.held err.old) (E.held err.new)
         (Rose (S.read_faults store.old) (S.read_faults store.new)) (Rose (S.write_faults store.old) (S.write_faults store.new))
-        (Rose (O.write_faults out.old) (O.write_faults out.new)) (Rose (E.write_faults err.old) (E.write_faults err.new)) result }
+        (Rose (O.write_faults out.old) (O.write_faults out.new)) (Rose (E.write_faults err.old) (E.write_faults err.new)) (Rose (N.faults net.old) (N.faults net.new)) result }
+    ensures net { keeps_net (form (words_of words.now)) ≡ true → net.new ≡ net.old }
 {
     match command_of(alloc, words) {
         Err(_) => tell(alloc, &Fault::NoMemory, "", err),
         Ok(None) => tell(alloc, &Fault::Usage, "", err),
-        Ok(Some(command)) => do_command(alloc, &command, store, out, err),
+        Ok(Some(command)) => do_command(alloc, &command, store, out, err, net),
     }
 }
 
 /// Does a command, tells a fault, and gives the status.
-fn do_command<S: Store, O: Sink, E: Sink>(
+fn do_command<S: Store, O: Sink, E: Sink, N: Net>(
     alloc: Global,
     command: &Command<'_>,
     store: &mut S,
     out: &mut O,
     err: &mut E,
+    net: &mut N,
 ) -> u8
     requires { HasBounds (told command.now) }
-    ensures { TopEnds (Some (told command.now)) (S.held store.old) (S.held store.new) (O.held out.old) (O.held out.new) (E.held err.old) (E.held err.new)
+    ensures ends { TopEnds (Some (told command.now)) (S.held store.old) (S.held store.new) (N.connections net.old) (N.connections net.new) (O.held out.old) (O.held out.new) (E.held err.old) (E.held err.new)
         (Rose (S.read_faults store.old) (S.read_faults store.new)) (Rose (S.write_faults store.old) (S.write_faults store.new))
-        (Rose (O.write_faults out.old) (O.write_faults out.new)) (Rose (E.write_faults err.old) (E.write_faults err.new)) result }
+        (Rose (O.write_faults out.old) (O.write_faults out.new)) (Rose (E.write_faults err.old) (E.write_faults err.new)) (Rose (N.faults net.old) (N.faults net.new)) result }
+    ensures net { keeps_net (Some (told command.now)) ≡ true → net.new ≡ net.old }
 {
     match command {
         Command::Check { file, print } => {
@@ -105,6 +110,14 @@ fn do_command<S: Store, O: Sink, E: Sink>(
             let end = page_of_file(alloc, *name, query, store, out);
             tell_end(alloc, &end, *name, err)
         }
+        Command::Serve {
+            name,
+            port,
+            requests,
+        } => {
+            let end = serve_file(alloc, *name, *port, *requests, store, out, net);
+            tell_end(alloc, &end, *name, err)
+        }
         Command::Gen { n, summary } => {
             let end = generate(alloc, *n, *summary, out);
             tell_end(alloc, &end, "gen", err)
@@ -118,7 +131,7 @@ fn do_command<S: Store, O: Sink, E: Sink>(
 
 /// Tells how a command ended, and gives the status.
 fn tell_end<E: Sink>(alloc: Global, end: &Result<(), Fault>, file: &str, err: &mut E) -> u8
-    ensures told { EndIsTold end.now file.now (E.held err.old) (E.held err.new) (Rose (E.write_faults err.old) (E.write_faults err.new)) result }
+    ensures told { EndIsTold end.now file.now (E.held err.old) (E.held err.new) (Rose (E.write_faults err.old) (E.write_faults err.new)) (Rose (N.faults net.old) (N.faults net.new)) result }
     ensures later { E.write_faults err.old ≤ E.write_faults err.new }
 {
     match end {
@@ -129,7 +142,7 @@ fn tell_end<E: Sink>(alloc: Global, end: &Result<(), Fault>, file: &str, err: &m
 
 /// Writes the line that tells of a fault, and gives its status.
 fn tell<E: Sink>(alloc: Global, fault: &Fault, file: &str, err: &mut E) -> u8
-    ensures told { Tells fault.now file.now (E.held err.old) (E.held err.new) (Rose (E.write_faults err.old) (E.write_faults err.new)) result }
+    ensures told { Tells fault.now file.now (E.held err.old) (E.held err.new) (Rose (E.write_faults err.old) (E.write_faults err.new)) (Rose (N.faults net.old) (N.faults net.new)) result }
     ensures later { E.write_faults err.old ≤ E.write_faults err.new }
 {
     let Ok(line) = fault.line(alloc, file) else {

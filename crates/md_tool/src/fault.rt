@@ -30,6 +30,8 @@ pub enum Fault {
     TwoEntries { clique: u32, a: u32, b: u32 },
     /// The profile has no such page.
     NoSuchPage,
+    /// The net failed.
+    Network,
     /// Something can't be written.
     Write,
     /// Memory was refused.
@@ -75,6 +77,7 @@ impl Fault {
             Fault::TooLarge(_) => 5,
             Fault::TwoEntries { .. } => 5,
             Fault::NoSuchPage => 6,
+            Fault::Network => 9,
             Fault::Thrown(_) => 10,
             Fault::Write => 7,
             Fault::NoMemory => 8,
@@ -96,6 +99,7 @@ impl Fault {
             Fault::TooLarge(most) => too_large(alloc, file, *most),
             Fault::TwoEntries { clique, a, b } => two_entries(alloc, file, *clique, *a, *b),
             Fault::NoSuchPage => plain(alloc, "no such page"),
+            Fault::Network => plain(alloc, "network fault"),
             Fault::Write => plain(alloc, "write fault"),
             Fault::NoMemory => plain(alloc, "want of memory"),
         }

@@ -9,6 +9,7 @@ mod generate;
 mod paged;
 mod report;
 mod run;
+mod serve;
 mod stored;
 #[cfg(test)]
 mod tests;

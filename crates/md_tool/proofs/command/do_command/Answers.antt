@@ -7,40 +7,44 @@ use Rattle.md_tool.specs.Told.{TopEnds}
 use Rattle.md_tool.proofs.TopLemmas.{report_told, gen_told}
 use Rattle.md_tool.proofs.command.do_command.Goals as goal
 
-pub returns-in-Report : goal.returns-in-Report
-returns-in-Report g c =
+pub returns-in-Report-clause-ends : goal.returns-in-Report-clause-ends
+returns-in-Report-clause-ends g c =
     subst
-    (λ (x : Command). TopEnds (Some (told x)) (g.S.Store.held c.args.store.now) (g.S.Store.held c.report_file-end.new.store) (g.O.Sink.held c.args.out.now) (g.O.Sink.held c.report_file-end.new.out)
+    (λ (x : Command). TopEnds (Some (told x)) (g.S.Store.held c.args.store.now) (g.S.Store.held c.report_file-end.new.store) (g.N.Net.connections c.args.net.now) (g.N.Net.connections c.args.net.now) (g.O.Sink.held c.args.out.now) (g.O.Sink.held c.report_file-end.new.out)
     (g.E.Sink.held c.args.err.now) (g.E.Sink.held c.tell_end-in-Report.new.err)
     (Rose (g.S.Store.read_faults c.args.store.now) (g.S.Store.read_faults c.report_file-end.new.store))
     (Rose (g.S.Store.write_faults c.args.store.now) (g.S.Store.write_faults c.report_file-end.new.store))
     (Rose (g.O.Sink.write_faults c.args.out.now) (g.O.Sink.write_faults c.report_file-end.new.out))
-    (Rose (g.E.Sink.write_faults c.args.err.now) (g.E.Sink.write_faults c.tell_end-in-Report.new.err)) c.tell_end-in-Report.result)
+    (Rose (g.E.Sink.write_faults c.args.err.now) (g.E.Sink.write_faults c.tell_end-in-Report.new.err))
+    (Rose (g.N.Net.faults c.args.net.now) (g.N.Net.faults c.args.net.now)) c.tell_end-in-Report.result)
     (sym c.in-Report.is)
-    (report_told (g.S.Store.held c.args.store.now) (g.S.Store.held c.report_file-end.new.store) c.in-Report.file.now (asked c.in-Report.query) c.in-Report.steps
+    (report_told (g.S.Store.held c.args.store.now) (g.S.Store.held c.report_file-end.new.store) (g.N.Net.connections c.args.net.now) (g.N.Net.connections c.args.net.now) c.in-Report.file.now (asked c.in-Report.query) c.in-Report.steps
     (g.O.Sink.held c.args.out.now) (g.O.Sink.held c.report_file-end.new.out)
     (g.E.Sink.held c.args.err.now) (g.E.Sink.held c.report_file-end.new.err) (g.E.Sink.held c.tell_end-in-Report.new.err)
     (Rose (g.S.Store.read_faults c.args.store.now) (g.S.Store.read_faults c.report_file-end.new.store))
     (Rose (g.S.Store.write_faults c.args.store.now) (g.S.Store.write_faults c.report_file-end.new.store))
     (Rose (g.O.Sink.write_faults c.args.out.now) (g.O.Sink.write_faults c.report_file-end.new.out))
+    (Rose (g.N.Net.faults c.args.net.now) (g.N.Net.faults c.args.net.now))
     (g.E.Sink.write_faults c.args.err.now) (g.E.Sink.write_faults c.report_file-end.new.err) (g.E.Sink.write_faults c.tell_end-in-Report.new.err)
     c.tell_end-in-Report.result c.report_file-end.result c.report_file-end.ensures.later c.tell_end-in-Report.ensures.later c.report_file-end.ensures.ends c.report_file-end.ensures.kept
     c.tell_end-in-Report.ensures.told)
 
-pub returns-in-Gen : goal.returns-in-Gen
-returns-in-Gen g c =
+pub returns-in-Gen-clause-ends : goal.returns-in-Gen-clause-ends
+returns-in-Gen-clause-ends g c =
     subst
-    (λ (x : Command). TopEnds (Some (told x)) (g.S.Store.held c.args.store.now) (g.S.Store.held c.args.store.now) (g.O.Sink.held c.args.out.now) (g.O.Sink.held c.generate-end.new.out)
+    (λ (x : Command). TopEnds (Some (told x)) (g.S.Store.held c.args.store.now) (g.S.Store.held c.args.store.now) (g.N.Net.connections c.args.net.now) (g.N.Net.connections c.args.net.now) (g.O.Sink.held c.args.out.now) (g.O.Sink.held c.generate-end.new.out)
     (g.E.Sink.held c.args.err.now) (g.E.Sink.held c.tell_end-in-Gen.new.err)
     (Rose (g.S.Store.read_faults c.args.store.now) (g.S.Store.read_faults c.args.store.now))
     (Rose (g.S.Store.write_faults c.args.store.now) (g.S.Store.write_faults c.args.store.now))
     (Rose (g.O.Sink.write_faults c.args.out.now) (g.O.Sink.write_faults c.generate-end.new.out))
-    (Rose (g.E.Sink.write_faults c.args.err.now) (g.E.Sink.write_faults c.tell_end-in-Gen.new.err)) c.tell_end-in-Gen.result)
+    (Rose (g.E.Sink.write_faults c.args.err.now) (g.E.Sink.write_faults c.tell_end-in-Gen.new.err))
+    (Rose (g.N.Net.faults c.args.net.now) (g.N.Net.faults c.args.net.now)) c.tell_end-in-Gen.result)
     (sym c.in-Gen.is)
-    (gen_told (g.S.Store.held c.args.store.now) c.in-Gen.n c.in-Gen.summary (g.O.Sink.held c.args.out.now) (g.O.Sink.held c.generate-end.new.out)
+    (gen_told (g.S.Store.held c.args.store.now) (g.N.Net.connections c.args.net.now) (g.N.Net.connections c.args.net.now) c.in-Gen.n c.in-Gen.summary (g.O.Sink.held c.args.out.now) (g.O.Sink.held c.generate-end.new.out)
     (g.E.Sink.held c.args.err.now) (g.E.Sink.held c.tell_end-in-Gen.new.err)
     (Rose (g.S.Store.read_faults c.args.store.now) (g.S.Store.read_faults c.args.store.now))
     (Rose (g.S.Store.write_faults c.args.store.now) (g.S.Store.write_faults c.args.store.now))
     (Rose (g.O.Sink.write_faults c.args.out.now) (g.O.Sink.write_faults c.generate-end.new.out))
-    (Rose (g.E.Sink.write_faults c.args.err.now) (g.E.Sink.write_faults c.tell_end-in-Gen.new.err)) c.tell_end-in-Gen.result c.generate-end.result
+    (Rose (g.E.Sink.write_faults c.args.err.now) (g.E.Sink.write_faults c.tell_end-in-Gen.new.err))
+    (Rose (g.N.Net.faults c.args.net.now) (g.N.Net.faults c.args.net.now)) c.tell_end-in-Gen.result c.generate-end.result
     c.generate-end.ensures c.tell_end-in-Gen.ensures.told)

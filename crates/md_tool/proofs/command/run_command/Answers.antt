@@ -5,19 +5,21 @@ use Rattle.md_words.specs.Told.{command_told}
 use Rattle.md_tool.proofs.TopLemmas.{usage_told, memory_told}
 use Rattle.md_tool.proofs.command.run_command.Goals as goal
 
-pub returns-in-Err : goal.returns-in-Err
-returns-in-Err g c =
-    memory_told (form (words_of c.args.words.now)) (g.S.Store.held c.args.store.now) (g.O.Sink.held c.args.out.now) (g.E.Sink.held c.args.err.now) (g.E.Sink.held c.tell.new.err)
+pub returns-in-Err-clause-ends : goal.returns-in-Err-clause-ends
+returns-in-Err-clause-ends g c =
+    memory_told (form (words_of c.args.words.now)) (g.S.Store.held c.args.store.now) (g.N.Net.connections c.args.net.now) (g.O.Sink.held c.args.out.now) (g.E.Sink.held c.args.err.now) (g.E.Sink.held c.tell.new.err)
     (Rose (g.S.Store.read_faults c.args.store.now) (g.S.Store.read_faults c.args.store.now))
     (Rose (g.S.Store.write_faults c.args.store.now) (g.S.Store.write_faults c.args.store.now))
     (Rose (g.O.Sink.write_faults c.args.out.now) (g.O.Sink.write_faults c.args.out.now))
-    (Rose (g.E.Sink.write_faults c.args.err.now) (g.E.Sink.write_faults c.tell.new.err)) c.tell.result c.tell.ensures.told
+    (Rose (g.E.Sink.write_faults c.args.err.now) (g.E.Sink.write_faults c.tell.new.err))
+    (Rose (g.N.Net.faults c.args.net.now) (g.N.Net.faults c.args.net.now)) c.tell.result c.tell.ensures.told
 
-pub returns-in-Ok-None : goal.returns-in-Ok-None
-returns-in-Ok-None g c =
-    usage_told (form (words_of c.args.words.now)) (g.S.Store.held c.args.store.now) (g.O.Sink.held c.args.out.now) (g.E.Sink.held c.args.err.now) (g.E.Sink.held c.tell-in-Ok-None.new.err)
+pub returns-in-Ok-None-clause-ends : goal.returns-in-Ok-None-clause-ends
+returns-in-Ok-None-clause-ends g c =
+    usage_told (form (words_of c.args.words.now)) (g.S.Store.held c.args.store.now) (g.N.Net.connections c.args.net.now) (g.O.Sink.held c.args.out.now) (g.E.Sink.held c.args.err.now) (g.E.Sink.held c.tell-in-Ok-None.new.err)
     (Rose (g.S.Store.read_faults c.args.store.now) (g.S.Store.read_faults c.args.store.now))
     (Rose (g.S.Store.write_faults c.args.store.now) (g.S.Store.write_faults c.args.store.now))
     (Rose (g.O.Sink.write_faults c.args.out.now) (g.O.Sink.write_faults c.args.out.now))
-    (Rose (g.E.Sink.write_faults c.args.err.now) (g.E.Sink.write_faults c.tell-in-Ok-None.new.err)) c.tell-in-Ok-None.result
+    (Rose (g.E.Sink.write_faults c.args.err.now) (g.E.Sink.write_faults c.tell-in-Ok-None.new.err))
+    (Rose (g.N.Net.faults c.args.net.now) (g.N.Net.faults c.args.net.now)) c.tell-in-Ok-None.result
     (sym c.in-Ok-None.ensures.form ∙ ap command_told c.in-Ok-None.field-0-is) c.tell-in-Ok-None.ensures.told

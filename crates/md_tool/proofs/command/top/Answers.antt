@@ -5,18 +5,20 @@ use Rattle.md_tool.proofs.command.top.Goals as goal
 
 pub returns-clause-status : goal.returns-clause-status
 returns-clause-status g c =
-    top_means (form (words_of c.args.words.now)) (g.S.Store.held c.args.store.now) (g.S.Store.held c.run_command.new.store) (g.O.Sink.held c.args.out.now) (g.O.Sink.held c.run_command.new.out)
+    top_means (form (words_of c.args.words.now)) (g.S.Store.held c.args.store.now) (g.S.Store.held c.run_command.new.store) (g.N.Net.connections c.args.net.now) (g.N.Net.connections c.run_command.new.net) (g.O.Sink.held c.args.out.now) (g.O.Sink.held c.run_command.new.out)
     (g.E.Sink.held c.args.err.now) (g.E.Sink.held c.run_command.new.err)
     (Rose (g.S.Store.read_faults c.args.store.now) (g.S.Store.read_faults c.run_command.new.store))
     (Rose (g.S.Store.write_faults c.args.store.now) (g.S.Store.write_faults c.run_command.new.store))
     (Rose (g.O.Sink.write_faults c.args.out.now) (g.O.Sink.write_faults c.run_command.new.out))
-    (Rose (g.E.Sink.write_faults c.args.err.now) (g.E.Sink.write_faults c.run_command.new.err)) c.run_command.result c.run_command.ensures
+    (Rose (g.E.Sink.write_faults c.args.err.now) (g.E.Sink.write_faults c.run_command.new.err))
+    (Rose (g.N.Net.faults c.args.net.now) (g.N.Net.faults c.run_command.new.net)) c.run_command.result c.run_command.ensures.ends
 
 pub returns-clause-store : goal.returns-clause-store
 returns-clause-store g c =
-    store_kept (form (words_of c.args.words.now)) (g.S.Store.held c.args.store.now) (g.S.Store.held c.run_command.new.store) (g.O.Sink.held c.args.out.now) (g.O.Sink.held c.run_command.new.out)
+    store_kept (form (words_of c.args.words.now)) (g.S.Store.held c.args.store.now) (g.S.Store.held c.run_command.new.store) (g.N.Net.connections c.args.net.now) (g.N.Net.connections c.run_command.new.net) (g.O.Sink.held c.args.out.now) (g.O.Sink.held c.run_command.new.out)
     (g.E.Sink.held c.args.err.now) (g.E.Sink.held c.run_command.new.err)
     (Rose (g.S.Store.read_faults c.args.store.now) (g.S.Store.read_faults c.run_command.new.store))
     (Rose (g.S.Store.write_faults c.args.store.now) (g.S.Store.write_faults c.run_command.new.store))
     (Rose (g.O.Sink.write_faults c.args.out.now) (g.O.Sink.write_faults c.run_command.new.out))
-    (Rose (g.E.Sink.write_faults c.args.err.now) (g.E.Sink.write_faults c.run_command.new.err)) c.run_command.result c.run_command.ensures
+    (Rose (g.E.Sink.write_faults c.args.err.now) (g.E.Sink.write_faults c.run_command.new.err))
+    (Rose (g.N.Net.faults c.args.net.now) (g.N.Net.faults c.run_command.new.net)) c.run_command.result c.run_command.ensures.ends

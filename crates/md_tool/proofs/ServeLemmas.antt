@@ -1,0 +1,85 @@
+-- What comes of serving a stored profile.
+use Rattle.std.proofs.Common.{◌≡◌, refl, inl, inr, ℕ, List, Option}
+use Rattle.std.specs.Prelude.{Result, Ok, Err}
+use Rattle.md_base.specs.Files.{Files}
+use Rattle.md_base.specs.Nets.{Connections}
+use Rattle.md_cost.specs.FileView.{IsFileView}
+use Rattle.md_cost.specs.Loading.{LoadedRows}
+use Rattle.md_cost.specs.View.{View}
+use Rattle.md_http.specs.declared.serving.Tally.{Tally}
+use Rattle.md_tool.specs.declared.fault.Fault.{Fault}
+use Rattle.md_tool.specs.declared.fault.Fault.TheVariants.{Usage, Read, TooLong, Refused, OutOfSteps, Thrown, Damaged, TooLarge, TwoEntries, NoSuchPage, Network, Write, NoMemory}
+use Rattle.md_tool.specs.Due.{WriteEnds}
+use Rattle.md_tool.specs.Served.{BindEnds, ConnectionsEnd, ServeEnds, tally_line}
+use Rattle.md_tool.specs.Stored.{IsLoadedFrom, ViewFails}
+
+-- the profile wasn't loaded
+pub unloaded : (held : Option Files) (name : List ℕ) (requests : ℕ) (net : Option Connections) (out : Option (List ℕ)) (reads outs nets : Type 0) (fault : Fault) → ViewFails held name reads fault
+    → ServeEnds held name requests net net out out reads outs nets (Err fault)
+unloaded held name requests net out reads outs nets Usage h = absurd h
+unloaded held name requests net out reads outs nets Read h = (h, record { net_is = refl; out_is = refl })
+unloaded held name requests net out reads outs nets TooLong h = absurd h
+unloaded held name requests net out reads outs nets (Refused line w) h = absurd h
+unloaded held name requests net out reads outs nets OutOfSteps h = absurd h
+unloaded held name requests net out reads outs nets (Thrown bytes) h = absurd h
+unloaded held name requests net out reads outs nets (Damaged at kind) h = (h, record { net_is = refl; out_is = refl })
+unloaded held name requests net out reads outs nets (TooLarge most) h = (h.0, h.1, record { net_is = refl; out_is = refl })
+unloaded held name requests net out reads outs nets (TwoEntries clique x y) h = (h, record { net_is = refl; out_is = refl })
+unloaded held name requests net out reads outs nets NoSuchPage h = absurd h
+unloaded held name requests net out reads outs nets Network h = absurd h
+unloaded held name requests net out reads outs nets Write h = absurd h
+unloaded held name requests net out reads outs nets NoMemory h = inl (record { net_is = refl; out_is = refl })
+
+-- the net doesn't listen
+pub unbound : (held : Option Files) (name : List ℕ) (requests : ℕ) (net net' : Option Connections) (out : Option (List ℕ)) (reads outs nets : Type 0) (fault : Fault) → net' ≡ net → BindEnds nets (Err fault)
+    → ServeEnds held name requests net net' out out reads outs nets (Err fault)
+unbound held name requests net net' out reads outs nets Usage same h = absurd h
+unbound held name requests net net' out reads outs nets Read same h = absurd h
+unbound held name requests net net' out reads outs nets TooLong same h = absurd h
+unbound held name requests net net' out reads outs nets (Refused line w) same h = absurd h
+unbound held name requests net net' out reads outs nets OutOfSteps same h = absurd h
+unbound held name requests net net' out reads outs nets (Thrown bytes) same h = absurd h
+unbound held name requests net net' out reads outs nets (Damaged at kind) same h = absurd h
+unbound held name requests net net' out reads outs nets (TooLarge most) same h = absurd h
+unbound held name requests net net' out reads outs nets (TwoEntries clique x y) same h = absurd h
+unbound held name requests net net' out reads outs nets NoSuchPage same h = absurd h
+unbound held name requests net net' out reads outs nets Network same h = (h, refl, inl same)
+unbound held name requests net net' out reads outs nets Write same h = absurd h
+unbound held name requests net net' out reads outs nets NoMemory same h = inl (record { net_is = same; out_is = refl })
+
+-- not all connections were served
+pub unserved : (held : Option Files) (name : List ℕ) (requests : ℕ) (net net' : Option Connections) (out : Option (List ℕ)) (reads outs some all : Type 0) (loaded : LoadedRows) (v : View) (fault : Fault)
+    → IsLoadedFrom held name loaded → IsFileView loaded.profile v → (some → all) → ConnectionsEnd v requests net net' some (Err fault)
+    → ServeEnds held name requests net net' out out reads outs all (Err fault)
+unserved held name requests net net' out reads outs some all loaded v Usage l is rises h = absurd h
+unserved held name requests net net' out reads outs some all loaded v Read l is rises h = absurd h
+unserved held name requests net net' out reads outs some all loaded v TooLong l is rises h = absurd h
+unserved held name requests net net' out reads outs some all loaded v (Refused line w) l is rises h = absurd h
+unserved held name requests net net' out reads outs some all loaded v OutOfSteps l is rises h = absurd h
+unserved held name requests net net' out reads outs some all loaded v (Thrown bytes) l is rises h = absurd h
+unserved held name requests net net' out reads outs some all loaded v (Damaged at kind) l is rises h = absurd h
+unserved held name requests net net' out reads outs some all loaded v (TooLarge most) l is rises h = absurd h
+unserved held name requests net net' out reads outs some all loaded v (TwoEntries clique x y) l is rises h = absurd h
+unserved held name requests net net' out reads outs some all loaded v NoSuchPage l is rises h = absurd h
+unserved held name requests net net' out reads outs some all loaded v Network l is rises h = (rises h.0, refl, inr (record { profile = loaded.profile; spelled = l.spelled; view = v; is_view = is; served = h.1 }))
+unserved held name requests net net' out reads outs some all loaded v Write l is rises h = absurd h
+unserved held name requests net net' out reads outs some all loaded v NoMemory l is rises h = inr (inl (refl, record { profile = loaded.profile; spelled = l.spelled; view = v; is_view = is; served = h }))
+
+-- they were, and that was told as far as it was
+pub served : (held : Option Files) (name : List ℕ) (requests : ℕ) (net net' : Option Connections) (out out' : Option (List ℕ)) (reads outs some all : Type 0) (loaded : LoadedRows) (v : View) (tally : Tally)
+    (r : Result (Unit {0}) Fault) → IsLoadedFrom held name loaded → IsFileView loaded.profile v → ConnectionsEnd v requests net net' some (Ok tally) → WriteEnds (tally_line tally) out out' outs r
+    → ServeEnds held name requests net net' out out' reads outs all r
+served held name requests net net' out out' reads outs some all loaded v tally (Ok done) l is h w = record { tally = tally; served = record { profile = loaded.profile; spelled = l.spelled; view = v; is_view = is; served = h }; told = w }
+served held name requests net net' out out' reads outs some all loaded v tally (Err Usage) l is h w = absurd w
+served held name requests net net' out out' reads outs some all loaded v tally (Err Read) l is h w = absurd w
+served held name requests net net' out out' reads outs some all loaded v tally (Err TooLong) l is h w = absurd w
+served held name requests net net' out out' reads outs some all loaded v tally (Err (Refused line w)) l is h w = absurd w
+served held name requests net net' out out' reads outs some all loaded v tally (Err OutOfSteps) l is h w = absurd w
+served held name requests net net' out out' reads outs some all loaded v tally (Err (Thrown bytes)) l is h w = absurd w
+served held name requests net net' out out' reads outs some all loaded v tally (Err (Damaged at kind)) l is h w = absurd w
+served held name requests net net' out out' reads outs some all loaded v tally (Err (TooLarge most)) l is h w = absurd w
+served held name requests net net' out out' reads outs some all loaded v tally (Err (TwoEntries clique x y)) l is h w = absurd w
+served held name requests net net' out out' reads outs some all loaded v tally (Err NoSuchPage) l is h w = absurd w
+served held name requests net net' out out' reads outs some all loaded v tally (Err Network) l is h w = absurd w
+served held name requests net net' out out' reads outs some all loaded v tally (Err Write) l is h w = (w.0, record { tally = tally; served = record { profile = loaded.profile; spelled = l.spelled; view = v; is_view = is; served = h }; told = w.1 })
+served held name requests net net' out out' reads outs some all loaded v tally (Err NoMemory) l is h w = inr (inr (record { tally = tally; served = record { profile = loaded.profile; spelled = l.spelled; view = v; is_view = is; served = h }; told = w }))
