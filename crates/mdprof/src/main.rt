@@ -2,7 +2,7 @@
 //! status. All that it does is `md_tool::top`.
 #![tactic(auto)]
 
-use md_base::{StdSink, StdStore, SureNet};
+use md_base::{StdSink, StdStore, TcpNet};
 use md_tool::top;
 use std::io::ErrorKind;
 use std::process::ExitCode;
@@ -24,7 +24,7 @@ fn main(rt: HostRuntime) -> ExitCode {
     let mut store = StdStore::new(alloc, &rt);
     let mut out = StdSink::new(rt.stdout());
     let mut err = StdSink::new(rt.stderr());
-    let mut net = SureNet::new(Vec::new(alloc));
+    let mut net = TcpNet::new(&rt);
     let status = top(
         alloc,
         words.as_slice(),
