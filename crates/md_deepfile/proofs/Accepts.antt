@@ -6,7 +6,6 @@ use Rattle.std.specs.Int.{w32, to_le_bytes, from_le_bytes}
 use Rattle.std.specs.List.{flat_map, AllByRecursion}
 use Rattle.md_deepfile.specs.Bytes.{u32}
 use Rattle.md_deepfile.specs.Format.{Damage, Format, done, byte, must, read, damage, ended, bytes, number, numbers, text}
-use Rattle.md_deepfile.specs.declared.damage.Kind.{Kind}
 
 abbrev pub AreBytes : List ℕ → Type 0
 AreBytes bs = AllByRecursion (λ b. b < 256) bs

@@ -1,23 +1,21 @@
 -- The bytes that are read as a profile are those that spell it.
-use Rattle.std.proofs.Common.{◌≡◌, ◌≢◌, ℕ, zero, suc, ◌+◌, ◌-◌, ◌<◌, ◌≤◌, ◌^◌, ◌⊎◌, inl, inr, Bool, true, false, List, [], ◌∷◌, ◌++◌, length, take, drop, get_or, Option, None, Some, Ok, IsSomeAnd, refl, sym, ap, subst, ◌∙◌, arith}
-use Rattle.std.specs.Prelude.{IsTrue, slice_get}
+use Rattle.std.proofs.Common.{◌≡◌, ◌≢◌, ℕ, ◌<◌, inl, inr, List, [], ◌∷◌, ◌++◌, length, drop, get_or, Ok, IsSomeAnd, refl, sym, ap, subst, ◌∙◌, arith}
+use Rattle.std.specs.Prelude.{slice_get}
 use Rattle.std.specs.List.{All, AllPairs}
 use Rattle.std.proofs.lemmas.List.Elements.{All-head, All-tail, All-cons, All-weaker}
 use Rattle.md_base.specs.declared.measure.Counts.{Counts}
 use Rattle.md_static.specs.Sound.{IsSound}
-use Rattle.md_static.specs.Tables.{Static}
 use Rattle.md_dynamic.specs.declared.link.LinkRow.{LinkRow}
 use Rattle.md_dynamic.specs.Profile.{ProfileRows}
-use Rattle.md_dynamic.specs.Valid.{IsRoot, Fits, HasRows, AreValid, IsValid, link_key}
-use Rattle.md_deepfile.specs.Bytes.{magic, numbers_of, body_bytes, file_bytes, file_bytes1}
+use Rattle.md_dynamic.specs.Valid.{IsRoot, Fits, HasRows, IsValid, link_key}
+use Rattle.md_deepfile.specs.Bytes.{magic, body_bytes, file_bytes, file_bytes1}
 use Rattle.md_deepfile.specs.Fields.{profile_file}
 use Rattle.md_deepfile.specs.Format.{read}
-use Rattle.md_deepfile.specs.Rules.{counts_of}
 use Rattle.md_deepfile.specs.Spells.{AreSmall, HasRoom, Spells}
 use Rattle.md_deepfile.proofs.Accepts.{AreBytes, read_accepts, accepts_read}
-use Rattle.md_deepfile.proofs.Things.{CountsFit, IsWidth, IsFineRoot}
-use Rattle.md_deepfile.proofs.Whole.{rows, AllFields, Version, first, second, version_width, file_takes, file_again}
-use Rattle.md_deepfile.proofs.Rows.{AreModules, modules_valid, modules_fine, AreProcs, procs_valid, procs_fine, AreSites, sites_valid, sites_fine, contexts_valid, contexts_fine}
+use Rattle.md_deepfile.proofs.Things.{CountsFit, IsFineRoot}
+use Rattle.md_deepfile.proofs.Whole.{rows, AllFields, Version, first, second, file_takes, file_again}
+use Rattle.md_deepfile.proofs.Rows.{modules_valid, modules_fine, procs_valid, procs_fine, sites_valid, sites_fine, contexts_valid, contexts_fine}
 use Rattle.md_deepfile.proofs.LinkRows.{AreLinks, links_valid, links_fine, all_reached, reached_all}
 
 record IsFineProfile (k : ℕ) (f : ProfileRows) : Type 0 where

@@ -1,12 +1,11 @@
 -- What a decoder knows of the bytes that it was fed stays true as more come.
-use Rattle.std.proofs.Common.{◌≡◌, ℕ, ◌+◌, ◌<◌, Bool, true, false, List, [], ◌∷◌, ◌++◌, length, get_or, take, drop, Option, None, Some, Result, Ok, Err, OnOk, IfErr, IfOk, refl, sym, ap, subst, ◌∙◌, append_assoc, arith}
+use Rattle.std.proofs.Common.{◌≡◌, ℕ, ◌+◌, ◌<◌, false, List, [], ◌∷◌, ◌++◌, length, get_or, take, drop, Option, None, Some, Result, Ok, Err, OnOk, IfErr, refl, sym, ap, subst, ◌∙◌, append_assoc}
 use Rattle.std.specs.List.{All}
-use Rattle.std.proofs.lemmas.Bool.{true≢false}
 use Rattle.std.proofs.lemmas.List.{append-nil, take-append-drop, drop_more}
 use Rattle.std.proofs.lemmas.List.Elements.{All-append, All-from_get_or, All-nil, recursion_from_All}
 use Rattle.md_dynamic.specs.Profile.{ProfileRows}
-use Rattle.md_deepfile.specs.Decoding.{Decoding, StandsAt, HasTaken, IsOpen, Tells, FollowsBytes}
-use Rattle.md_deepfile.specs.Fields.{Text, profile_file, ending}
+use Rattle.md_deepfile.specs.Decoding.{Decoding, StandsAt, HasTaken, Tells, FollowsBytes}
+use Rattle.md_deepfile.specs.Fields.{Text, profile_file}
 use Rattle.md_deepfile.specs.Format.{Damage, read, damage, ended, is_decided}
 use Rattle.md_deepfile.specs.Rules.{orphan_back}
 use Rattle.md_deepfile.specs.Spells.{Spells, IsFaultOf, Reads}

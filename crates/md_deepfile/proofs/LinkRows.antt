@@ -1,21 +1,20 @@
 -- The same of links, and of the contexts that they reach.
-use Rattle.std.proofs.Common.{◌≡◌, ◌≢◌, ℕ, zero, suc, ◌+◌, ◌-◌, ◌*◌, ◌<◌, ◌≤◌, ◌^◌, ◌⊎◌, inl, inr, Bool, true, false, cond, not, ◌&&◌, ◌||◌, ◌==◌, nat_lt, List, [], ◌∷◌, ◌++◌, length, get_or, take, drop, Option, None, Some, IsSomeAnd, IfSome, refl, sym, ap, subst, ◌∙◌, append_assoc, arith, option_map}
-use Rattle.std.specs.Prelude.{IsTrue, slice_get}
-use Rattle.std.specs.List.{All, Any, AllPairs, list_any}
+use Rattle.std.proofs.Common.{◌≡◌, ◌≢◌, ℕ, zero, suc, ◌+◌, ◌-◌, ◌*◌, ◌<◌, ◌≤◌, ◌^◌, inl, inr, Bool, true, false, cond, not, ◌&&◌, ◌==◌, List, [], ◌∷◌, ◌++◌, length, get_or, Option, None, Some, IsSomeAnd, IfSome, refl, sym, ap, subst, ◌∙◌, arith, option_map}
+use Rattle.std.specs.Prelude.{slice_get}
+use Rattle.std.specs.List.{All, AllPairs, list_any}
 use Rattle.std.proofs.lemmas.List.Elements.{All-push, All-nil}
 use Rattle.std.proofs.lemmas.List.Quantifiers.{all_pairs_push}
 use Rattle.std.proofs.lemmas.List.Folds.{list_any_at, Any-from_list_any, list_any-from_Any}
-use Rattle.std.proofs.lemmas.Bool.{both_ways, not-true, ltb-true, lt-ltb, eqb-true, eq-eqb, and_parts, and_from, or_parts, or_from, not_from_false, cases_lt, false_from_ne_true, false≢true}
+use Rattle.std.proofs.lemmas.Bool.{both_ways, not-true, ltb-true, lt-ltb, eqb-true, eq-eqb, and_parts, and_from, or_parts, or_from, not_from_false, cases_lt, false≢true}
 use Rattle.std.proofs.lemmas.Option.{slice_get_within, slice_get-get_or, same_Some}
-use Rattle.md_base.specs.declared.measure.Counts.{Counts}
 use Rattle.md_static.specs.declared.entry.Proc.{Proc}
 use Rattle.md_static.specs.declared.entry.Site.{Site}
 use Rattle.md_static.specs.Tables.{Static, callee_of}
 use Rattle.md_dynamic.specs.declared.link.LinkRow.{LinkRow}
 use Rattle.md_dynamic.specs.Profile.{ProfileRows}
-use Rattle.md_dynamic.specs.Valid.{IsRoot, MayCall, Joins, Fits, link_key, leads_down, AllReached}
-use Rattle.md_deepfile.specs.Rules.{with_link, may_be, fits, fits_site, is_number, has_key, has_any_key, is_new_link, orphan_from, orphan_back, link_size}
-use Rattle.md_deepfile.proofs.Things.{AllFine, CountsFit, IsFineRoot, IsFineLink}
+use Rattle.md_dynamic.specs.Valid.{MayCall, Joins, Fits, link_key, leads_down, AllReached}
+use Rattle.md_deepfile.specs.Rules.{with_link, may_be, fits, is_number, has_key, has_any_key, orphan_from, orphan_back, link_size}
+use Rattle.md_deepfile.proofs.Things.{AllFine, CountsFit, IsFineLink}
 use Rattle.md_deepfile.proofs.Whole.{rows}
 use Rattle.md_deepfile.proofs.Rows.{grow, shrink, all_at, pair_at, no_pairs, none_passes}
 

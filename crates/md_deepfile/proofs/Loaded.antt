@@ -1,7 +1,7 @@
 -- A file that is read to its end, a piece at a time.
-use Rattle.std.proofs.Common.{◌≡◌, ℕ, ◌+◌, ◌-◌, ◌<◌, ◌≤◌, List, [], ◌++◌, length, take, Option, refl, sym, ap, subst, ◌∙◌, arith}
+use Rattle.std.proofs.Common.{◌≡◌, ℕ, ◌+◌, ◌<◌, ◌≤◌, List, [], ◌++◌, length, take, Option, refl, sym, ap, subst, ◌∙◌, arith}
 use Rattle.std.proofs.lemmas.List.{length-append, length-take-le}
-use Rattle.md_base.specs.Files.{Files, GivesFrom, FileIs, FileIsLonger}
+use Rattle.md_base.specs.Files.{Files, GivesFrom, FileIsLonger}
 use Rattle.md_base.proofs.Told.{HasFront, front_start, front_more, front_end, front_longer}
 use Rattle.md_deepfile.specs.Decoding.{Decoding, HasTaken}
 use Rattle.md_deepfile.specs.Loads.{FileTaken, IsLoadFault, IsStoreFault}

@@ -1,6 +1,6 @@
 -- The whole file: what a reader takes is the file of a profile whose things are fine, and such a file is taken again.
-use Rattle.std.proofs.Common.{◌≡◌, ℕ, zero, suc, ◌+◌, ◌-◌, ◌<◌, ◌≤◌, ◌^◌, ◌⊎◌, inl, inr, Bool, true, false, cond, ◌||◌, ◌==◌, nat_le, List, [], ◌∷◌, ◌++◌, length, Option, None, Some, refl, sym, ap, subst, ◌∙◌, append_assoc, arith}
-use Rattle.std.proofs.lemmas.List.{append-nil, length-append}
+use Rattle.std.proofs.Common.{◌≡◌, ℕ, zero, suc, ◌-◌, ◌<◌, ◌≤◌, ◌^◌, inl, inr, Bool, true, false, ◌||◌, ◌==◌, nat_le, List, [], ◌∷◌, ◌++◌, length, None, refl, sym, ap, subst, ◌∙◌, append_assoc, arith}
+use Rattle.std.proofs.lemmas.List.{append-nil}
 use Rattle.std.proofs.lemmas.Bool.{eq-eqb, eqb-true, leb-true, le-leb, or_cases}
 use Rattle.std.specs.List.{flat_map}
 use Rattle.md_static.specs.declared.entry.Proc.{Proc}
@@ -8,11 +8,11 @@ use Rattle.md_static.specs.declared.entry.Site.{Site}
 use Rattle.md_dynamic.specs.declared.link.LinkRow.{LinkRow}
 use Rattle.md_dynamic.specs.Profile.{ProfileRows}
 use Rattle.md_deepfile.specs.Bytes.{u32, name_bytes, proc_bytes, site_bytes, link_bytes, each, magic, flag_byte, body_bytes}
-use Rattle.md_deepfile.specs.Fields.{Text, Next, module_field, proc_field, site_field, context_field, root_field, link_field, ending, links_counted, links_fields, contexts_counted, contexts_fields, sites_counted, sites_fields, procs_counted, procs_fields, modules_counted, modules_fields, flag_told, counts_in, version_told, profile_file}
-use Rattle.md_deepfile.specs.Format.{Format, byte, exactly, number, several}
+use Rattle.md_deepfile.specs.Fields.{Text, Next, module_field, proc_field, site_field, context_field, link_field, ending, links_counted, links_fields, contexts_counted, contexts_fields, sites_counted, sites_fields, procs_counted, procs_fields, modules_counted, modules_fields, flag_told, counts_in, version_told, profile_file}
+use Rattle.md_deepfile.specs.Format.{byte, exactly, number, several}
 use Rattle.md_deepfile.specs.Rules.{begun, with_module, with_proc, with_site, with_context, with_link, orphan_back}
 use Rattle.md_deepfile.proofs.Accepts.{AreBytes, Accepts, number_takes, number_again}
-use Rattle.md_deepfile.proofs.Things.{Taken, Thing, SeveralTaken, adds, AllFine, several_takes, several_again, IsFineModule, module_thing, IsFineProc, proc_thing, IsFineSite, site_thing, IsFineContext, context_thing, IsWidth, IsFineRoot, root_thing, IsFineLink, link_thing}
+use Rattle.md_deepfile.proofs.Things.{Thing, adds, AllFine, several_takes, several_again, IsFineModule, module_thing, IsFineProc, proc_thing, IsFineSite, site_thing, IsFineContext, context_thing, IsWidth, IsFineRoot, root_thing, IsFineLink, link_thing}
 
 -- a profile of these lists
 abbrev pub rows : List (List ℕ) → List Proc → List Site → List ℕ → List LinkRow → Bool → ProfileRows

@@ -1,5 +1,5 @@
 -- The files of two small programs, computed, and the damage of some that are changed.
-use Rattle.std.proofs.Common.{ℕ, ◌≡◌, ◌++◌, List, [], ◌∷◌, take, Some, None, Ok, Err, true, refl}
+use Rattle.std.proofs.Common.{ℕ, ◌≡◌, ◌++◌, List, [], ◌∷◌, take, Some, None, Ok, true, refl}
 use Rattle.md_base.specs.declared.measure.Counts.{Counts}
 use Rattle.md_static.specs.declared.entry.Proc.{Proc}
 use Rattle.md_static.specs.declared.entry.Site.{Site}
@@ -9,7 +9,7 @@ use Rattle.md_dynamic.specs.Profile.{ProfileRows}
 use Rattle.md_deepfile.specs.Bytes.{u32, magic, file_bytes, file_bytes1}
 use Rattle.md_deepfile.specs.Fields.{profile_file}
 use Rattle.md_deepfile.specs.Format.{read, damage}
-use Rattle.md_deepfile.specs.declared.damage.Kind.TheVariants.{Magic, Short, Trailing, Range, Text, SiteMismatch, DoubleLink, Orphan, Flag}
+use Rattle.md_deepfile.specs.declared.damage.Kind.TheVariants.{Magic, Short, Trailing, Text, SiteMismatch, DoubleLink, Orphan, Flag}
 
 -- so many calls, each of which had an exit
 abbrev calls : ℕ → Counts

@@ -1,7 +1,7 @@
 -- Pieces that go to a file one after the other.
 use Rattle.std.proofs.Common.{◌≡◌, ℕ, ◌+◌, ◌<◌, ◌≤◌, List, [], ◌∷◌, ◌++◌, length, get_or, take, drop, Option, Result, Ok, Err, OnOk, OnErr, Bool, refl, sym, ap, subst, ◌∙◌, append_assoc, arith, inl, inr}
 use Rattle.std.specs.List.{flat_map}
-use Rattle.std.proofs.lemmas.List.{append-nil, take-append-drop, take-take, take_more, take_at, drop_more, flat_map_more, length-append}
+use Rattle.std.proofs.lemmas.List.{append-nil, take-append-drop, take-take, take_more, take_at, flat_map_more, length-append}
 use Rattle.md_base.specs.Files.{Files, HoldsPart, holding, extended}
 use Rattle.md_base.proofs.Told.{extended-holding, take_add}
 use Rattle.md_static.specs.declared.entry.Proc.{Proc}

@@ -1,5 +1,5 @@
 -- What a decoder knows of the bytes that it was fed.
-use Rattle.std.specs.Prelude.{ℕ, ◌≡◌, ◌<◌, true, false, List, [], ◌++◌, Option, None, Some, Result, Ok, Err, All}
+use Rattle.std.specs.Prelude.{ℕ, ◌≡◌, ◌<◌, true, false, List, ◌++◌, Option, None, Some, Result, Ok, Err, All}
 use Rattle.md_deepfile.specs.Fields.{Text, profile_file}
 use Rattle.md_deepfile.specs.Format.{Damage, read, is_decided}
 use Rattle.md_deepfile.specs.State.{State, form_of, IsReady}

@@ -1,5 +1,5 @@
 -- The profile file, field by field. Links have k counts, six in version 1 and seven in version 2.
-use Rattle.std.specs.Prelude.{ℕ, ◌+◌, ◌-◌, ◌==◌, ◌||◌, nat_lt, nat_le, Bool, List, [], ◌∷◌, ◌++◌, length, if◌then◌else◌}
+use Rattle.std.specs.Prelude.{ℕ, ◌+◌, ◌-◌, ◌==◌, ◌||◌, nat_lt, nat_le, List, [], length, if◌then◌else◌}
 use Rattle.md_dynamic.specs.Profile.{ProfileRows}
 use Rattle.md_deepfile.specs.Bytes.{none, magic}
 use Rattle.md_deepfile.specs.Format.{Format, done, byte, must, number, numbers, text, exactly, several}

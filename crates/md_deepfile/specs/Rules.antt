@@ -8,7 +8,7 @@ use Rattle.md_static.specs.declared.entry.Site.{Site}
 use Rattle.md_static.specs.declared.entry.SiteKind.{SiteKind}
 use Rattle.md_static.specs.declared.entry.SiteKind.TheVariants.{Plain, HigherOrder}
 use Rattle.md_static.specs.Names.{is_name}
-use Rattle.md_static.specs.Tables.{Static, callee_of}
+use Rattle.md_static.specs.Tables.{callee_of}
 use Rattle.md_dynamic.specs.declared.link.LinkRow.{LinkRow}
 use Rattle.md_dynamic.specs.Profile.{ProfileRows}
 use Rattle.md_dynamic.specs.Valid.{leads_down}

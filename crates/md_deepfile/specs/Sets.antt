@@ -1,5 +1,5 @@
 -- What the decoder keeps beside the lists, so that a thing that was there before is found at once.
-use Rattle.std.specs.Prelude.{ℕ, ◌≡◌, ◌<◌, ◌&&◌, ◌==◌, Bool, List, length, map, Option, Some, IfSome, All, slice_get}
+use Rattle.std.specs.Prelude.{ℕ, ◌≡◌, ◌<◌, ◌&&◌, ◌==◌, Bool, List, length, Some, IfSome, All, slice_get}
 use Rattle.std.specs.List.{list_any}
 use Rattle.md_static.specs.declared.entry.Proc.{Proc}
 use Rattle.md_dynamic.specs.declared.link.LinkRow.{LinkRow}

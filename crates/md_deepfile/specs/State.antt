@@ -1,13 +1,10 @@
 -- Where the decoder stands: in which field, behind what, and which format takes the rest of the file.
-use Rattle.std.specs.Prelude.{ℕ, ◌≡◌, ◌+◌, ◌-◌, ◌*◌, ◌<◌, ◌≤◌, ◌==◌, ◌&&◌, not, Bool, true, List, [], ◌∷◌, ◌++◌, length, drop, Result, Ok, Err}
+use Rattle.std.specs.Prelude.{ℕ, ◌≡◌, ◌+◌, ◌-◌, ◌*◌, ◌<◌, ◌≤◌, true, List, [], ◌∷◌, ◌++◌, length, drop, Result, Ok, Err}
 use Rattle.std.specs.Int.{w32, from_le_bytes}
-use Rattle.std.specs.List.{list_any}
-use Rattle.md_static.specs.declared.entry.Proc.{Proc}
-use Rattle.md_static.specs.Names.{is_name}
 use Rattle.md_dynamic.specs.Profile.{ProfileRows}
 use Rattle.md_deepfile.specs.Bytes.{magic}
 use Rattle.md_deepfile.specs.Fields.{Text, Next, version_told, flag_told, modules_counted, module_field, module_told, procs_fields, procs_counted, proc_field, proc_module, proc_told, proc_arity, sites_fields, sites_counted, site_field, site_owner, site_line, site_callee, contexts_fields, contexts_counted, context_field, context_proc, links_fields, links_counted, root_caller, root_site, root_callee, root_own, link_field, link_caller, link_site, link_callee, link_own, ending}
-use Rattle.md_deepfile.specs.Format.{Format, Damage, byte, read, bytes, number, numbers, exactly, several, is_decided}
+use Rattle.md_deepfile.specs.Format.{Damage, byte, read, bytes, numbers, exactly, several, is_decided}
 use Rattle.md_deepfile.specs.Rules.{begun, is_new_proc}
 use Rattle.md_deepfile.specs.declared.damage.DecodeFault.{DecodeFault}
 use Rattle.md_deepfile.specs.declared.damage.DecodeFault.TheVariants.{Damage as Damaged, NoMemory}

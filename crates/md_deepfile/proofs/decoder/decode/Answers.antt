@@ -1,4 +1,4 @@
-use Rattle.std.proofs.Common.{List, ℕ, []}
+use Rattle.std.proofs.Common.{[]}
 use Rattle.md_deepfile.proofs.Fed.{fault_told, never_damaged}
 use Rattle.md_deepfile.proofs.decoder.decode.Goals as goal
 

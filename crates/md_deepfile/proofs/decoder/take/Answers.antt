@@ -1,4 +1,4 @@
-use Rattle.std.proofs.Common.{get_or, refl, arith}
+use Rattle.std.proofs.Common.{get_or, refl}
 use Rattle.md_deepfile.specs.State.{state_of, form_of}
 use Rattle.md_deepfile.proofs.Fed.{take_stops}
 use Rattle.md_deepfile.proofs.decoder.take.Goals as goal

@@ -1,5 +1,4 @@
-use Rattle.std.proofs.Common.{◌≡◌, ◌∙◌, List, ℕ, Option, take, refl, subst, arith}
-use Rattle.std.proofs.lemmas.Grind.{common_steps}
+use Rattle.std.proofs.Common.{◌∙◌, Option, refl, subst, arith}
 use Rattle.md_base.specs.Files.{Files, GivesFrom}
 use Rattle.md_deepfile.proofs.Loaded.{fed_more}
 use Rattle.md_deepfile.proofs.loading.read_on.Goals as goal

@@ -1,4 +1,4 @@
-use Rattle.std.proofs.Common.{◌≡◌, ◌≤◌, ◌-◌, length}
+use Rattle.std.proofs.Common.{◌≡◌, ◌≤◌, ◌-◌}
 use Rattle.md_deepfile.proofs.Loaded.{Fed}
 use Rattle.md_deepfile.proofs.loading.read_on.Given as goal
 

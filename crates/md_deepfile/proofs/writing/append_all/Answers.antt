@@ -1,4 +1,4 @@
-use Rattle.std.proofs.Common.{◌-◌, ◌∙◌, length, arith}
+use Rattle.std.proofs.Common.{◌-◌, ◌∙◌, arith}
 use Rattle.md_base.proofs.Told.{piece_within}
 use Rattle.md_deepfile.proofs.Writes.{appended_on}
 use Rattle.md_deepfile.proofs.writing.append_all.Goals as goal

@@ -1,4 +1,4 @@
-use Rattle.std.proofs.Common.{List, ℕ, [], ◌++◌, ◌∙◌}
+use Rattle.std.proofs.Common.{[], ◌++◌, ◌∙◌}
 use Rattle.std.proofs.lemmas.List.{append-nil}
 use Rattle.md_deepfile.specs.Bytes.{file_bytes}
 use Rattle.md_deepfile.specs.Pieces.{table_bytes, row_bytes}

@@ -1,4 +1,4 @@
-use Rattle.std.proofs.Common.{◌≡◌, ◌≤◌, length, take}
+use Rattle.std.proofs.Common.{◌≡◌, ◌≤◌}
 use Rattle.md_deepfile.specs.Pieces.{WritesOn}
 use Rattle.md_deepfile.proofs.Writes.{each_so_far}
 use Rattle.md_deepfile.proofs.writing.write_each.Given as goal

@@ -1,4 +1,4 @@
-use Rattle.std.proofs.Common.{List, ℕ, [], ◌++◌, ap, refl, ◌∙◌}
+use Rattle.std.proofs.Common.{◌++◌, ap, refl, ◌∙◌}
 use Rattle.md_static.specs.Tables.{Static}
 use Rattle.md_deepfile.specs.Bytes.{each, name_bytes, proc_bytes, site_bytes}
 use Rattle.md_deepfile.specs.Pieces.{table_bytes}

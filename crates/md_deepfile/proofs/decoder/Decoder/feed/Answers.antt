@@ -1,4 +1,4 @@
-use Rattle.std.proofs.Common.{refl, ap, sym, ◌∙◌, arith, ◌++◌, None, Some, List, ℕ}
+use Rattle.std.proofs.Common.{refl, ap, sym, ◌∙◌, arith, ◌++◌, Some}
 use Rattle.md_deepfile.specs.Decoding.{Decoding, HasTaken}
 use Rattle.md_deepfile.specs.State.{state_of}
 use Rattle.md_deepfile.proofs.Fed.{taken_on, taken_stop, taken_still, tells_on, tells_stop}

@@ -1,4 +1,4 @@
-use Rattle.std.proofs.Common.{◌∙◌, ap, List, ◌++◌, ◌∷◌, [], Bool, false, ℕ, rules}
+use Rattle.std.proofs.Common.{rules}
 use Rattle.md_deepfile.proofs.Graphs.{context_added}
 use Rattle.md_deepfile.proofs.graph.Graph.add_context.Goals as goal
 

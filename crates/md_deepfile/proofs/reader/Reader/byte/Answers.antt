@@ -1,4 +1,4 @@
-use Rattle.std.proofs.Common.{◌≡◌, ℕ, ◌+◌, [], subst, sym, refl, arith}
+use Rattle.std.proofs.Common.{◌+◌, subst, sym, refl}
 use Rattle.md_deepfile.specs.Fields.{flag_told}
 use Rattle.md_deepfile.specs.State.{state_of, form_at, width, FollowsByte, IsReadyPart}
 use Rattle.md_deepfile.specs.declared.part.Part.{Part}

@@ -1,4 +1,4 @@
-use Rattle.std.proofs.Common.{◌≡◌, [], subst, sym}
+use Rattle.std.proofs.Common.{[], subst, sym}
 use Rattle.md_deepfile.specs.Format.{bytes}
 use Rattle.md_deepfile.specs.State.{state_of, name_told, Follows}
 use Rattle.md_deepfile.specs.declared.part.Named.{Named}

@@ -1,9 +1,8 @@
-use Rattle.std.proofs.Common.{◌≡◌, ◌==◌, ◌-◌, nat_lt, nat_le, length, List, [], ap, refl, arith}
-use Rattle.std.proofs.lemmas.Bool.{lt-ltb, le-leb, eq-eqb}
-use Rattle.md_deepfile.specs.Bytes.{none}
+use Rattle.std.proofs.Common.{◌-◌, nat_lt, length, [], ap, arith}
+use Rattle.std.proofs.lemmas.Bool.{lt-ltb}
 use Rattle.md_deepfile.specs.Fields.{Text, link_own}
-use Rattle.md_deepfile.specs.Format.{number, numbers, read}
-use Rattle.md_deepfile.specs.State.{State, state_of, next_link, width}
+use Rattle.md_deepfile.specs.Format.{numbers, read}
+use Rattle.md_deepfile.specs.State.{state_of, next_link, width}
 use Rattle.md_deepfile.specs.declared.part.Field.TheVariants as fields
 use Rattle.md_deepfile.specs.declared.part.Part.TheVariants as parts
 use Rattle.md_deepfile.proofs.Reading.{range_passes, numbers_first}

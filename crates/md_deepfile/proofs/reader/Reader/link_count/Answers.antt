@@ -1,12 +1,11 @@
-use Rattle.std.proofs.Common.{◌≡◌, ◌==◌, ◌-◌, nat_lt, nat_le, length, List, [], ap, refl, arith}
-use Rattle.std.proofs.lemmas.Bool.{lt-ltb, le-leb, eq-eqb}
-use Rattle.md_deepfile.specs.Bytes.{none}
-use Rattle.md_deepfile.specs.Fields.{Text, root_field, link_field, ending}
-use Rattle.md_deepfile.specs.Format.{number, several, read}
-use Rattle.md_deepfile.specs.State.{State, state_of, next_link, width}
+use Rattle.std.proofs.Common.{◌-◌, nat_le, [], refl, arith}
+use Rattle.std.proofs.lemmas.Bool.{le-leb}
+use Rattle.md_deepfile.specs.Fields.{root_field, link_field, ending}
+use Rattle.md_deepfile.specs.Format.{several}
+use Rattle.md_deepfile.specs.State.{state_of, width}
 use Rattle.md_deepfile.specs.declared.part.Field.TheVariants as fields
 use Rattle.md_deepfile.specs.declared.part.Part.TheVariants as parts
-use Rattle.md_deepfile.proofs.Reading.{range_passes, numbers_first}
+use Rattle.md_deepfile.proofs.Reading.{range_passes}
 use Rattle.md_deepfile.proofs.reader.Reader.link_count.Goals as goal
 
 pub returns-clause-follows : goal.returns-clause-follows

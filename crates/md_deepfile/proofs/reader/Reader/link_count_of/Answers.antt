@@ -1,6 +1,6 @@
-use Rattle.std.proofs.Common.{◌≡◌, ℕ, ◌-◌, ◌++◌, ◌∷◌, List, [], ap, refl, arith, rules}
-use Rattle.md_deepfile.specs.Fields.{Text, link_own}
-use Rattle.md_deepfile.specs.State.{State, state_of, next_link, width}
+use Rattle.std.proofs.Common.{◌-◌, ◌++◌, ◌∷◌, [], refl, arith}
+use Rattle.md_deepfile.specs.Fields.{link_own}
+use Rattle.md_deepfile.specs.State.{state_of, next_link, width}
 use Rattle.md_deepfile.specs.declared.part.Field.TheVariants as fields
 use Rattle.md_deepfile.specs.declared.part.Part.TheVariants as parts
 use Rattle.md_deepfile.proofs.Reading.{counts_go}

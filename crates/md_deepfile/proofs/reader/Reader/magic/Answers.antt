@@ -1,12 +1,8 @@
-use Rattle.std.proofs.Common.{◌≡◌, ℕ, ◌+◌, ◌-◌, ◌<◌, ◌==◌, Bool, true, false, cond, List, ◌∷◌, get_or, drop, Err, ap, sym, subst, refl, ◌∙◌, arith, rules}
-use Rattle.std.proofs.lemmas.Bool.{eq-eqb, ne_eqb}
-use Rattle.std.proofs.lemmas.List.{get_or_default}
-use Rattle.md_deepfile.specs.Bytes.{magic}
+use Rattle.std.proofs.Common.{sym, subst, arith}
 use Rattle.md_deepfile.specs.Fields.{Text, version_told}
-use Rattle.md_deepfile.specs.Format.{byte, read, damage, exactly}
-use Rattle.md_deepfile.specs.State.{State, FollowsByte, form_of, state_of}
-use Rattle.md_deepfile.specs.declared.damage.Kind.TheVariants as kinds
-use Rattle.md_deepfile.proofs.Reading.{byte_follows, magic_told, magic_goes, magic_fails, magic_all}
+use Rattle.md_deepfile.specs.Format.{byte}
+use Rattle.md_deepfile.specs.State.{FollowsByte, state_of}
+use Rattle.md_deepfile.proofs.Reading.{byte_follows, magic_goes, magic_fails, magic_all}
 use Rattle.md_deepfile.proofs.reader.Reader.magic.Goals as goal
 
 pub returns-then-place-eq7-clause-follows : goal.returns-then-place-eq7-clause-follows

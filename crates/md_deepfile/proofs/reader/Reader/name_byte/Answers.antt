@@ -1,6 +1,6 @@
-use Rattle.std.proofs.Common.{◌≡◌, ◌-◌, ◌++◌, ◌∷◌, [], arith}
+use Rattle.std.proofs.Common.{◌-◌, ◌++◌, ◌∷◌, [], arith}
 use Rattle.md_deepfile.specs.State.{state_of}
-use Rattle.md_deepfile.proofs.Reading.{name_stays, name_whole}
+use Rattle.md_deepfile.proofs.Reading.{name_whole}
 use Rattle.md_deepfile.proofs.reader.Reader.name_byte.Goals as goal
 
 pub returns-clause-follows : goal.returns-clause-follows

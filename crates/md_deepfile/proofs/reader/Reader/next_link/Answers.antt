@@ -1,4 +1,4 @@
-use Rattle.std.proofs.Common.{◌≡◌, ℕ, List, ap, sym, ◌∙◌, ◌-◌, arith}
+use Rattle.std.proofs.Common.{ap, sym, ◌∙◌, arith}
 use Rattle.md_deepfile.specs.Fields.{Text, link_field, ending}
 use Rattle.md_deepfile.specs.Format.{read}
 use Rattle.md_deepfile.specs.State.{State, form_of, state_of, width}

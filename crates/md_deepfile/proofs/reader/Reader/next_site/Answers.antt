@@ -1,7 +1,7 @@
-use Rattle.std.proofs.Common.{◌≡◌, ℕ, List, ap, sym, ◌∙◌, ◌-◌, arith}
-use Rattle.md_deepfile.specs.Fields.{Text, site_field, sites_fields, contexts_fields}
+use Rattle.std.proofs.Common.{ap, sym, ◌∙◌, arith}
+use Rattle.md_deepfile.specs.Fields.{Text, site_field}
 use Rattle.md_deepfile.specs.Format.{read}
-use Rattle.md_deepfile.specs.State.{State, form_of, state_of, width}
+use Rattle.md_deepfile.specs.State.{State, form_of, state_of}
 use Rattle.md_deepfile.proofs.Reading.{several_more}
 use Rattle.md_deepfile.proofs.reader.Reader.next_site.Goals as goal
 

@@ -1,4 +1,4 @@
-use Rattle.std.proofs.Common.{◌≡◌, subst, sym}
+use Rattle.std.proofs.Common.{subst, sym}
 use Rattle.md_deepfile.specs.State.{state_of, number_told, Follows}
 use Rattle.md_deepfile.specs.declared.part.Field.{Field}
 use Rattle.md_deepfile.proofs.reader.Reader.number.Goals as goal

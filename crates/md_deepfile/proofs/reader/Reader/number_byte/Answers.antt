@@ -1,4 +1,4 @@
-use Rattle.std.proofs.Common.{◌≡◌, ◌-◌, ◌++◌, ◌∷◌, [], arith}
+use Rattle.std.proofs.Common.{◌-◌, ◌++◌, ◌∷◌, [], arith}
 use Rattle.md_deepfile.specs.State.{state_of}
 use Rattle.md_deepfile.proofs.Reading.{number_stays, number_whole}
 use Rattle.md_deepfile.proofs.reader.Reader.number_byte.Goals as goal

@@ -1,6 +1,6 @@
-use Rattle.std.proofs.Common.{◌≡◌, ℕ, ◌+◌, ◌-◌, ◌*◌, ◌<◌, min, length, ap, sym, ◌∙◌, arith}
+use Rattle.std.proofs.Common.{◌≡◌, ℕ, ◌+◌, ◌-◌, ◌*◌, ◌<◌, min, length, ap, ◌∙◌, arith}
 use Rattle.md_deepfile.specs.Rules.{link_size}
-use Rattle.md_deepfile.specs.State.{state_of, width}
+use Rattle.md_deepfile.specs.State.{width}
 use Rattle.md_deepfile.proofs.reader.Reader.place_of.Goals as goal
 
 -- what stands still at the last number of 64 bits is past the place anyway

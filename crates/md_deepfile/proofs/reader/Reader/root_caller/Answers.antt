@@ -1,12 +1,12 @@
-use Rattle.std.proofs.Common.{◌≡◌, ◌==◌, ◌-◌, nat_lt, nat_le, length, List, [], ap, refl, arith}
-use Rattle.std.proofs.lemmas.Bool.{lt-ltb, le-leb, eq-eqb}
+use Rattle.std.proofs.Common.{◌==◌, [], refl, arith}
+use Rattle.std.proofs.lemmas.Bool.{eq-eqb}
 use Rattle.md_deepfile.specs.Bytes.{none}
-use Rattle.md_deepfile.specs.Fields.{Text, root_site}
-use Rattle.md_deepfile.specs.Format.{number, numbers, read}
-use Rattle.md_deepfile.specs.State.{State, state_of, next_link, width}
+use Rattle.md_deepfile.specs.Fields.{root_site}
+use Rattle.md_deepfile.specs.Format.{number}
+use Rattle.md_deepfile.specs.State.{state_of, next_link, width}
 use Rattle.md_deepfile.specs.declared.part.Field.TheVariants as fields
 use Rattle.md_deepfile.specs.declared.part.Part.TheVariants as parts
-use Rattle.md_deepfile.proofs.Reading.{range_passes, numbers_first}
+use Rattle.md_deepfile.proofs.Reading.{range_passes}
 use Rattle.md_deepfile.proofs.reader.Reader.root_caller.Goals as goal
 
 pub returns-clause-follows : goal.returns-clause-follows
