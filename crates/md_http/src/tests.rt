@@ -1,5 +1,5 @@
 // Requests over connections in memory, answered by the pages of two small profiles.
-ghost use Rattle.std.specs.Prelude.{◌≤◌, IfOk};
+ghost use Rattle.std.specs.Prelude.{◌≤◌, All, IfOk};
 ghost use Rattle.md_base.specs.Memory.{IsFreshFailingLink};
 
 use crate::{ServeFault, Served, Tally, reply, serve_connections, serve_link};
@@ -34,27 +34,6 @@ const NOT_ALLOWED: &[u8] =
 const TOO_LARGE: &[u8] =
     b"HTTP/1.1 431 Request Header Fields Too Large\r\nContent-Type: text/plain\r\nContent-Length: 36\r\nConnection: close\r\n\r\n431 Request Header Fields Too Large\n";
 
-fn name(alloc: Global, bytes: &[u8]) -> Result<Name, Fail> {
-    Ok(Name::from_bytes(alloc, bytes)?.ok_or("a name")?)
-}
-
-fn proc(alloc: Global, bytes: &[u8], arity: u8) -> Result<Proc, Fail> {
-    Ok(Proc {
-        module: 0,
-        name: name(alloc, bytes)?,
-        arity,
-    })
-}
-
-/// The call site of this number of its owner, which calls `count`.
-fn site(owner: u32) -> Site {
-    Site {
-        owner: ProcId::new(owner),
-        line: 4,
-        kind: SiteKind::Plain(ProcId::new(1)),
-    }
-}
-
 /// So many calls, each of which exits.
 fn counts(calls: u32) -> Counts {
     let mut counts = Counts::default();
@@ -63,67 +42,74 @@ fn counts(calls: u32) -> Counts {
     counts
 }
 
-/// The root link.
-fn root() -> LinkRow {
-    LinkRow {
+fn name(alloc: Global, bytes: &[u8]) -> Result<Name, Fail> {
+    Ok(Name::from_bytes(alloc, bytes)?.ok_or("a name")?)
+}
+
+/// A module `t` with procedures of these names, of two arguments and of one, and so many call sites, one in each, which
+/// call the second procedure.
+fn statics(alloc: Global, names: &[&[u8]], calls: &[u32]) -> Result<Statics, Fail> {
+    let mut modules = Vec::new(alloc);
+    modules.push(name(alloc, b"t")?)?;
+    let mut procs = Vec::new(alloc);
+    for (bytes, arity) in names.iter().zip([2, 1]) {
+        procs.push(Proc {
+            module: 0,
+            name: name(alloc, bytes)?,
+            arity,
+        })?;
+    }
+    let mut sites = Vec::new(alloc);
+    for (_, owner) in calls.iter().zip([0, 1]) {
+        sites.push(Site {
+            owner: ProcId::new(owner),
+            line: 4,
+            kind: SiteKind::Plain(ProcId::new(1)),
+        })?;
+    }
+    Ok(Statics::from_parts(modules, procs, sites))
+}
+
+/// The root link, and one from each site, over which there were so many calls.
+fn links(alloc: Global, calls: &[u32]) -> Result<Vec<LinkRow>, Fail> {
+    let mut links = Vec::new(alloc);
+    links.push(LinkRow {
         caller: None,
         site: None,
         callee: PdId::new(0),
         own: counts(1),
+    })?;
+    for (calls, site) in calls.iter().zip([0, 1]) {
+        links.push(LinkRow {
+            caller: Some(PdId::new(site)),
+            site: Some(SiteId::new(site)),
+            callee: PdId::new(1),
+            own: counts(*calls),
+        })?;
     }
+    Ok(links)
 }
 
-/// A link from a context at the site of its number to the context of `count`.
-fn link(caller: u32, calls: u32) -> LinkRow {
-    LinkRow {
-        caller: Some(PdId::new(caller)),
-        site: Some(SiteId::new(caller)),
-        callee: PdId::new(1),
-        own: counts(calls),
+/// A program of these procedures, of which each has one context.
+fn load(alloc: Global, names: &[&[u8]], calls: &[u32]) -> Result<Loaded, Fail> {
+    let mut nodes = Vec::new(alloc);
+    for (_, proc) in names.iter().zip([0, 1]) {
+        nodes.push(ProcId::new(proc))?;
     }
-}
-
-/// A module `t` with these procedures and call sites.
-fn statics(alloc: Global, procs: Vec<Proc>, sites: Vec<Site>) -> Result<Statics, Fail> {
-    let mut modules = Vec::new(alloc);
-    modules.push(name(alloc, b"t")?)?;
-    Ok(Statics::from_parts(modules, procs, sites))
+    let statics = statics(alloc, names, calls)?;
+    let profile = Profile::from_parts(statics, nodes, links(alloc, calls)?, true);
+    profile.check()?;
+    Ok(propagate(alloc, profile)?)
 }
 
 /// A program whose `main` calls nothing.
 fn alone(alloc: Global) -> Result<Loaded, Fail> {
-    let mut procs = Vec::new(alloc);
-    procs.push(proc(alloc, b"main", 2)?)?;
-    let mut nodes = Vec::new(alloc);
-    nodes.push(ProcId::new(0))?;
-    let mut links = Vec::new(alloc);
-    links.push(root())?;
-    let statics = statics(alloc, procs, Vec::new(alloc))?;
-    load(alloc, Profile::from_parts(statics, nodes, links, true))
+    load(alloc, &[b"main".as_slice()], &[])
 }
 
 /// A program whose `main` calls `count`, which calls itself three times.
 fn counting(alloc: Global) -> Result<Loaded, Fail> {
-    let mut procs = Vec::new(alloc);
-    procs.push(proc(alloc, b"main", 2)?)?;
-    procs.push(proc(alloc, b"count", 1)?)?;
-    let mut sites = Vec::new(alloc);
-    sites.push(site(0))?;
-    sites.push(site(1))?;
-    let statics = statics(alloc, procs, sites)?;
-    let mut nodes = Vec::new(alloc);
-    nodes.push(ProcId::new(0))?;
-    nodes.push(ProcId::new(1))?;
-    let mut links = Vec::new(alloc);
-    links.push(root())?;
-    links.push(link(0, 1))?;
-    links.push(link(1, 3))?;
-    load(alloc, Profile::from_parts(statics, nodes, links, true))
-}
-
-fn load(alloc: Global, profile: Profile) -> Result<Loaded, Fail> {
-    profile.check()?;
-    Ok(propagate(alloc, profile)?)
+    load(alloc, &[b"main".as_slice(), b"count".as_slice()], &[1, 3])
 }
 
 /// A head without its end: the request line, and a field that goes on to so many bytes in all.
@@ -244,24 +230,25 @@ fn each_call_of_a_connection_may_fail(rt: HostRuntime) -> Result<(), Fail> {
     Ok(())
 }
 
-/// A connection that sends the request of a browser, and whose calls of these numbers fail.
-fn browser(alloc: Global, fail: &[u64]) -> Result<MemLink, Fail>
-    ensures { IfOk result IsFreshFailingLink }
+/// Connections that send the request of a browser, of which the calls of these numbers fail; a number is one a
+/// connection, and none has the number 0.
+fn browsers(alloc: Global, fail: &[u64]) -> Result<Vec<MemLink>, Fail>
+    ensures { IfOk result (λ coming. All IsFreshFailingLink coming.items) }
 {
-    let input = REQUEST.to_vec(alloc)?;
-    let fail = fail.to_vec(alloc)?;
-    Ok(MemLink::new(input, 100, fail))
+    let mut coming = Vec::new(alloc);
+    for call in fail {
+        let input = REQUEST.to_vec(alloc)?;
+        let fail = [*call].to_vec(alloc)?;
+        coming.push(MemLink::new(input, 100, fail))?;
+    }
+    Ok(coming)
 }
 
 #[test]
 fn a_fault_of_a_connection_stops_nothing(rt: HostRuntime) -> Result<(), Fail> {
     let alloc = rt.alloc();
     let loaded = alone(alloc)?;
-    let mut coming = Vec::new(alloc);
-    coming.push(browser(alloc, &[2])?)?;
-    coming.push(browser(alloc, &[1])?)?;
-    coming.push(browser(alloc, &[])?)?;
-    let mut net = MemNet::new(coming, Vec::new(alloc));
+    let mut net = MemNet::new(browsers(alloc, &[2, 1, 0])?, Vec::new(alloc));
     net.bind(8_080)?;
     let tally = Tally {
         connections: 3,
@@ -279,10 +266,7 @@ fn a_fault_of_a_connection_stops_nothing(rt: HostRuntime) -> Result<(), Fail> {
 fn a_fault_of_the_net_ends_serving(rt: HostRuntime) -> Result<(), Fail> {
     let alloc = rt.alloc();
     let loaded = alone(alloc)?;
-    let mut coming = Vec::new(alloc);
-    coming.push(browser(alloc, &[])?)?;
-    coming.push(browser(alloc, &[])?)?;
-    let mut net = MemNet::new(coming, [3].to_vec(alloc)?);
+    let mut net = MemNet::new(browsers(alloc, &[0, 0])?, [3].to_vec(alloc)?);
     net.bind(8_080)?;
     assert_eq!(rt;
         serve_connections(alloc, &loaded, &mut net, 2),
