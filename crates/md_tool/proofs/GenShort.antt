@@ -49,13 +49,20 @@ gen_short n few =
     let rest = levels_short n 1 n (omega (arith, few)) in
     omega (arith, length-append generated_main (levels n 1 n), head, rest, few)
 
--- one procedure more is written
-pub next_level : (n i : ℕ) (xs ys t : List ℕ) → i < n → ys ≡ xs ++ level n (suc i) → xs ++ levels n (suc i) (n - i) ≡ t → ys ++ levels n (suc (suc i)) (n - suc i) ≡ t
-next_level n i xs ys t below is h =
+next_number : (i : ℕ) → suc i ≡ i + 1
+next_number i = omega arith
+
+next_after : (n i : ℕ) (xs ys t : List ℕ) → i < n → ys ≡ xs ++ level n (suc i) → xs ++ levels n (suc i) (n - i) ≡ t → ys ++ levels n (suc (suc i)) (n - suc i) ≡ t
+next_after n i xs ys t below is h =
     let more : n - i ≡ suc (n - suc i) = omega (arith, below) in
     ap (λ (b : List ℕ). b ++ levels n (suc (suc i)) (n - suc i)) is
     ∙ (append_assoc xs (level n (suc i)) (levels n (suc (suc i)) (n - suc i))
     ∙ (ap (λ (k : ℕ). xs ++ levels n (suc i) k) (sym more) ∙ h))
+
+-- one procedure more is written
+pub next_level : (n i : ℕ) (xs ys t : List ℕ) → i < n → ys ≡ xs ++ level n (i + 1) → xs ++ levels n (suc i) (n - i) ≡ t → ys ++ levels n (suc (i + 1)) (n - (i + 1)) ≡ t
+next_level n i xs ys t below is h =
+    subst (λ (k : ℕ). ys ≡ xs ++ level n k → ys ++ levels n (suc k) (n - k) ≡ t) (next_number i) (λ same. next_after n i xs ys t below same h) is
 
 nothing : (bytes : List ℕ) → bytes ≡ bytes ++ []
 nothing [] = refl
@@ -66,6 +73,3 @@ pub no_level : (n i : ℕ) (xs t : List ℕ) → n ≤ i → xs ++ levels n (suc
 no_level n i xs t past h =
     let none : n - i ≡ 0 = omega (arith, past) in
     nothing xs ∙ (ap (λ (k : ℕ). xs ++ levels n (suc i) k) (sym none) ∙ h)
-
-pub next_number : (i : ℕ) → i + 1 ≡ suc i
-next_number i = omega arith

@@ -1,17 +1,25 @@
 -- What comes of serving a stored profile.
-use Rattle.std.proofs.Common.{◌≡◌, refl, inl, inr, ℕ, List, Option}
+use Rattle.std.proofs.Common.{◌≡◌, refl, subst, inl, inr, ℕ, List, Option, None, Some}
 use Rattle.std.specs.Prelude.{Result, Ok, Err}
 use Rattle.md_base.specs.Files.{Files}
 use Rattle.md_base.specs.Nets.{Connections}
 use Rattle.md_cost.specs.FileView.{IsFileView}
 use Rattle.md_cost.specs.Loading.{LoadedRows}
 use Rattle.md_cost.specs.View.{View}
+use Rattle.md_http.specs.Serving.{Serves}
+use Rattle.md_http.specs.declared.serving.ServeFault.{ServeFault}
+use Rattle.md_http.specs.declared.serving.ServeFault.TheVariants as faults
 use Rattle.md_http.specs.declared.serving.Tally.{Tally}
 use Rattle.md_tool.specs.declared.fault.Fault.{Fault}
 use Rattle.md_tool.specs.declared.fault.Fault.TheVariants.{Usage, Read, TooLong, Refused, OutOfSteps, Thrown, Damaged, TooLarge, TwoEntries, NoSuchPage, Network, Write, NoMemory}
 use Rattle.md_tool.specs.Due.{WriteEnds}
-use Rattle.md_tool.specs.Served.{BindEnds, ConnectionsEnd, ServeEnds, tally_line}
+use Rattle.md_tool.specs.Served.{BindEnds, ConnectionsEnd, ServeEnds, ServesTold, fault_of, tally_line}
 use Rattle.md_tool.specs.Stored.{IsLoadedFrom, ViewFails}
+
+-- what was served, where the net tells it
+pub told_served : (v : View) (requests : ℕ) (net net' : Option Connections) (r : Result Tally ServeFault) → ((before : Connections) → net ≡ Some before → Serves v requests before net' r) → ServesTold v requests net net' r
+told_served v requests None net' r h = tt
+told_served v requests (Some before) net' r h = h before refl
 
 -- the profile wasn't loaded
 pub unloaded : (held : Option Files) (name : List ℕ) (requests : ℕ) (net : Option Connections) (out : Option (List ℕ)) (reads outs nets : Type 0) (fault : Fault) → ViewFails held name reads fault
@@ -43,7 +51,7 @@ unbound held name requests net net' out reads outs nets (Damaged at kind) same h
 unbound held name requests net net' out reads outs nets (TooLarge most) same h = absurd h
 unbound held name requests net net' out reads outs nets (TwoEntries clique x y) same h = absurd h
 unbound held name requests net net' out reads outs nets NoSuchPage same h = absurd h
-unbound held name requests net net' out reads outs nets Network same h = (h, refl, inl same)
+unbound held name requests net net' out reads outs nets Network same h = (h, (refl, inl same))
 unbound held name requests net net' out reads outs nets Write same h = absurd h
 unbound held name requests net net' out reads outs nets NoMemory same h = inl (record { net_is = same; out_is = refl })
 
@@ -61,7 +69,7 @@ unserved held name requests net net' out reads outs some all loaded v (Damaged a
 unserved held name requests net net' out reads outs some all loaded v (TooLarge most) l is rises h = absurd h
 unserved held name requests net net' out reads outs some all loaded v (TwoEntries clique x y) l is rises h = absurd h
 unserved held name requests net net' out reads outs some all loaded v NoSuchPage l is rises h = absurd h
-unserved held name requests net net' out reads outs some all loaded v Network l is rises h = (rises h.0, refl, inr (record { profile = loaded.profile; spelled = l.spelled; view = v; is_view = is; served = h.1 }))
+unserved held name requests net net' out reads outs some all loaded v Network l is rises h = (rises h.0, (refl, inr (record { profile = loaded.profile; spelled = l.spelled; view = v; is_view = is; served = h.1 })))
 unserved held name requests net net' out reads outs some all loaded v Write l is rises h = absurd h
 unserved held name requests net net' out reads outs some all loaded v NoMemory l is rises h = inr (inl (refl, record { profile = loaded.profile; spelled = l.spelled; view = v; is_view = is; served = h }))
 
@@ -69,17 +77,23 @@ unserved held name requests net net' out reads outs some all loaded v NoMemory l
 pub served : (held : Option Files) (name : List ℕ) (requests : ℕ) (net net' : Option Connections) (out out' : Option (List ℕ)) (reads outs some all : Type 0) (loaded : LoadedRows) (v : View) (tally : Tally)
     (r : Result (Unit {0}) Fault) → IsLoadedFrom held name loaded → IsFileView loaded.profile v → ConnectionsEnd v requests net net' some (Ok tally) → WriteEnds (tally_line tally) out out' outs r
     → ServeEnds held name requests net net' out out' reads outs all r
-served held name requests net net' out out' reads outs some all loaded v tally (Ok done) l is h w = record { tally = tally; served = record { profile = loaded.profile; spelled = l.spelled; view = v; is_view = is; served = h }; told = w }
-served held name requests net net' out out' reads outs some all loaded v tally (Err Usage) l is h w = absurd w
-served held name requests net net' out out' reads outs some all loaded v tally (Err Read) l is h w = absurd w
-served held name requests net net' out out' reads outs some all loaded v tally (Err TooLong) l is h w = absurd w
-served held name requests net net' out out' reads outs some all loaded v tally (Err (Refused line w)) l is h w = absurd w
-served held name requests net net' out out' reads outs some all loaded v tally (Err OutOfSteps) l is h w = absurd w
-served held name requests net net' out out' reads outs some all loaded v tally (Err (Thrown bytes)) l is h w = absurd w
-served held name requests net net' out out' reads outs some all loaded v tally (Err (Damaged at kind)) l is h w = absurd w
-served held name requests net net' out out' reads outs some all loaded v tally (Err (TooLarge most)) l is h w = absurd w
-served held name requests net net' out out' reads outs some all loaded v tally (Err (TwoEntries clique x y)) l is h w = absurd w
-served held name requests net net' out out' reads outs some all loaded v tally (Err NoSuchPage) l is h w = absurd w
-served held name requests net net' out out' reads outs some all loaded v tally (Err Network) l is h w = absurd w
-served held name requests net net' out out' reads outs some all loaded v tally (Err Write) l is h w = (w.0, record { tally = tally; served = record { profile = loaded.profile; spelled = l.spelled; view = v; is_view = is; served = h }; told = w.1 })
-served held name requests net net' out out' reads outs some all loaded v tally (Err NoMemory) l is h w = inr (inr (record { tally = tally; served = record { profile = loaded.profile; spelled = l.spelled; view = v; is_view = is; served = h }; told = w }))
+served held name requests net net' out out' reads outs some all loaded v tally (Ok done) l is h shown = record { tally = tally; served = record { profile = loaded.profile; spelled = l.spelled; view = v; is_view = is; served = h }; told = shown }
+served held name requests net net' out out' reads outs some all loaded v tally (Err Usage) l is h shown = absurd shown
+served held name requests net net' out out' reads outs some all loaded v tally (Err Read) l is h shown = absurd shown
+served held name requests net net' out out' reads outs some all loaded v tally (Err TooLong) l is h shown = absurd shown
+served held name requests net net' out out' reads outs some all loaded v tally (Err (Refused line w)) l is h shown = absurd shown
+served held name requests net net' out out' reads outs some all loaded v tally (Err OutOfSteps) l is h shown = absurd shown
+served held name requests net net' out out' reads outs some all loaded v tally (Err (Thrown bytes)) l is h shown = absurd shown
+served held name requests net net' out out' reads outs some all loaded v tally (Err (Damaged at kind)) l is h shown = absurd shown
+served held name requests net net' out out' reads outs some all loaded v tally (Err (TooLarge most)) l is h shown = absurd shown
+served held name requests net net' out out' reads outs some all loaded v tally (Err (TwoEntries clique x y)) l is h shown = absurd shown
+served held name requests net net' out out' reads outs some all loaded v tally (Err NoSuchPage) l is h shown = absurd shown
+served held name requests net net' out out' reads outs some all loaded v tally (Err Network) l is h shown = absurd shown
+served held name requests net net' out out' reads outs some all loaded v tally (Err Write) l is h shown = (shown.0, record { tally = tally; served = record { profile = loaded.profile; spelled = l.spelled; view = v; is_view = is; served = h }; told = shown.1 })
+served held name requests net net' out out' reads outs some all loaded v tally (Err NoMemory) l is h shown = inr (inr (record { tally = tally; served = record { profile = loaded.profile; spelled = l.spelled; view = v; is_view = is; served = h }; told = shown }))
+
+-- why connections weren't all served
+pub connections_failed : (v : View) (requests : ℕ) (net net' : Option Connections) (nets : Type 0) (r : Result Tally ServeFault) (fault : ServeFault) → r ≡ Err fault → (r ≡ Err faults.Net → nets)
+    → ((before : Connections) → net ≡ Some before → Serves v requests before net' r) → ConnectionsEnd v requests net net' nets (Err (fault_of fault))
+connections_failed v requests net net' nets r faults.Net is rose serves = (rose is, told_served v requests net net' (Err faults.Net) (λ before told. subst (Serves v requests before net') is (serves before told)))
+connections_failed v requests net net' nets r faults.NoMemory is rose serves = told_served v requests net net' (Err faults.NoMemory) (λ before told. subst (Serves v requests before net') is (serves before told))

@@ -1,54 +1,15 @@
--- Words, ends and a page, worked out by hand.
-use Rattle.std.proofs.Common.{◌≡◌, List, [], ◌∷◌, ℕ, Some, None, codes, refl, true, false}
-use Rattle.std.specs.Prelude.{⊤, zero, suc}
+-- Ends, faults and a generated program, worked out by hand.
+use Rattle.std.proofs.Common.{◌≡◌, [], ◌∷◌, codes, refl}
+use Rattle.std.specs.Prelude.{⊤}
 use Rattle.std.specs.Fmt.{digits}
-use Rattle.md_base.specs.declared.measure.Counts.{Counts}
-use Rattle.md_static.specs.declared.entry.Proc.{Proc}
-use Rattle.md_static.specs.Tables.{Static}
-use Rattle.md_token.specs.Literal.{number_of}
-use Rattle.md_hlds.specs.Trace.{Items, Answer, Throw}
-use Rattle.md_tool.specs.Form.{form, Run, Check, Report}
+use Rattle.md_deepfile.specs.declared.damage.Kind.TheVariants as kind
+use Rattle.md_hlds.specs.Trace.{Answer, Throw}
+use Rattle.md_tool.specs.declared.fault.Fault.TheVariants.{Damaged, TooLarge, TwoEntries}
+use Rattle.md_tool.specs.declared.fault.Why.TheVariants as why
+use Rattle.md_tool.specs.declared.fault.Fault.TheVariants as faults
 use Rattle.md_tool.specs.Ends.{end_of, Finished, Threw, RanOut}
-use Rattle.md_tool.specs.Procs.{procs_page}
-
--- ---- words
-
-unfoldable on_words : ⊤
-unfolding number_of
-on_words = tt
-
--- a million steps, where none are said
-no-steps-are-a-million : form (codes "run" ∷ codes "a.m" ∷ []) ≡ Some (Run (codes "a.m") 1000000)
-unfolding on_words
-no-steps-are-a-million = refl
-
-options-stand-before-the-file-or-behind-it : form (codes "run" ∷ codes "--steps" ∷ codes "5" ∷ codes "a.m" ∷ []) ≡ Some (Run (codes "a.m") 5)
-unfolding on_words
-options-stand-before-the-file-or-behind-it = refl
-
-a-value-may-stand-in-the-word : form (codes "report" ∷ codes "a.m" ∷ codes "procs" ∷ codes "--steps=16777216" ∷ []) ≡ Some (Report (codes "a.m") 16777216)
-unfolding on_words
-a-value-may-stand-in-the-word = refl
-
-no-more-steps-than-these : form (codes "run" ∷ codes "a.m" ∷ codes "--steps=16777217" ∷ []) ≡ None
-unfolding on_words
-no-more-steps-than-these = refl
-
-an-option-comes-once : form (codes "run" ∷ codes "a.m" ∷ codes "--steps=5" ∷ codes "--steps=5" ∷ []) ≡ None
-unfolding on_words
-an-option-comes-once = refl
-
-no-option-behind-two-dashes : form (codes "run" ∷ codes "--" ∷ codes "--steps" ∷ []) ≡ Some (Run (codes "--steps") 1000000)
-unfolding on_words
-no-option-behind-two-dashes = refl
-
-run-has-no-print : form (codes "run" ∷ codes "a.m" ∷ codes "--print" ∷ []) ≡ None
-unfolding on_words
-run-has-no-print = refl
-
-check-has-print : form (codes "check" ∷ codes "--print" ∷ codes "a.m" ∷ []) ≡ Some (Check (codes "a.m") true)
-unfolding on_words
-check-has-print = refl
+use Rattle.md_tool.specs.Fault.{fault_line}
+use Rattle.md_tool.specs.Generated.{gen_text}
 
 -- ---- how a run ends
 
@@ -61,21 +22,36 @@ an-answer-is-the-end = refl
 what-is-thrown-is-told : end_of (Throw (codes "bad") ∷ []) ≡ Threw (codes "bad")
 what-is-thrown-is-told = refl
 
--- ---- a page
+-- ---- faults
 
-counts : ℕ → Counts
-counts zero = record { calls = 1; exits = 0; fails = 0; redos = 0; allocs = 3; words = 6; excps = 1 }
-counts (suc n) = record { calls = 4; exits = 6; fails = 4; redos = 6; allocs = 0; words = 0; excps = 0 }
+unfoldable on_numbers : ⊤
+unfolding digits
+on_numbers = tt
 
-tables : Static
-tables = record {
-  modules = codes "t" ∷ codes "list" ∷ [];
-  procs = record { «module» = 0; name = codes "main"; arity = 2 } ∷ record { «module» = 1; name = codes "member"; arity = 2 } ∷ [];
-  sites = [];
-}
+damage-has-its-place-and-kind : fault_line (Damaged 156 kind.SiteMismatch) (codes "f") ≡ codes "mdprof: f: damaged at 156: site mismatch\n"
+unfolding on_numbers
+damage-has-its-place-and-kind = refl
 
--- exceptions stand on the line of the one procedure that they left
-a-page-of-two : procs_page tables counts
-    ≡ codes "mdprof procs\nproc 0 t.main/2 own 1 0 0 0 3 6 excps 1\nproc 1 list.member/2 own 4 6 4 6 0 0\n"
-unfolding tables counts digits
-a-page-of-two = refl
+a-profile-that-is-too-long : fault_line (TooLarge 268435456) (codes "f") ≡ codes "mdprof: f: longer than 268435456 bytes\n"
+unfolding on_numbers
+a-profile-that-is-too-long = refl
+
+two-links-enter-a-clique : fault_line (TwoEntries 1 2 7) (codes "f") ≡ codes "mdprof: f: clique 1 is entered by links 2 and 7\n"
+unfolding on_numbers
+two-links-enter-a-clique = refl
+
+a-refused-text-has-its-line : fault_line (faults.Refused 4 why.Syntax) (codes "a.m") ≡ codes "mdprof: a.m:4: syntax\n"
+unfolding on_numbers
+a-refused-text-has-its-line = refl
+
+-- ---- generated programs
+
+one-procedure-does-nothing :
+    gen_text 1 ≡ codes ":- module gen.\n:- pred main(io::di, io::uo) is det.\nmain(IO0, IO) :- p1, IO = IO0.\n:- pred p1 is det.\np1 :- true.\n"
+unfolding on_numbers
+one-procedure-does-nothing = refl
+
+the-first-of-two-calls-the-second-twice :
+    gen_text 2 ≡ codes ":- module gen.\n:- pred main(io::di, io::uo) is det.\nmain(IO0, IO) :- p1, IO = IO0.\n:- pred p1 is det.\np1 :- p2, p2.\n:- pred p2 is det.\np2 :- true.\n"
+unfolding on_numbers
+the-first-of-two-calls-the-second-twice = refl

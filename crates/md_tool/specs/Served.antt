@@ -78,3 +78,8 @@ ConnectionsEnd v requests net net' nets (Ok tally) = ServesTold v requests net n
 ConnectionsEnd v requests net net' nets (Err Network) = nets × ServesTold v requests net net' (Err served.Net)
 ConnectionsEnd v requests net net' nets (Err NoMemory) = ServesTold v requests net net' (Err served.NoMemory)
 ConnectionsEnd v requests net net' nets (Err fault) = ⊥
+
+-- the fault that one of serving is
+abbrev pub fault_of : ServeFault → Fault
+fault_of served.Net = Network
+fault_of served.NoMemory = NoMemory

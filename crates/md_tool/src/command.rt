@@ -131,7 +131,7 @@ fn do_command<S: Store, O: Sink, E: Sink, N: Net>(
 
 /// Tells how a command ended, and gives the status.
 fn tell_end<E: Sink>(alloc: Global, end: &Result<(), Fault>, file: &str, err: &mut E) -> u8
-    ensures told { EndIsTold end.now file.now (E.held err.old) (E.held err.new) (Rose (E.write_faults err.old) (E.write_faults err.new)) (Rose (N.faults net.old) (N.faults net.new)) result }
+    ensures told { EndIsTold end.now file.now (E.held err.old) (E.held err.new) (Rose (E.write_faults err.old) (E.write_faults err.new)) result }
     ensures later { E.write_faults err.old ≤ E.write_faults err.new }
 {
     match end {
@@ -142,7 +142,7 @@ fn tell_end<E: Sink>(alloc: Global, end: &Result<(), Fault>, file: &str, err: &m
 
 /// Writes the line that tells of a fault, and gives its status.
 fn tell<E: Sink>(alloc: Global, fault: &Fault, file: &str, err: &mut E) -> u8
-    ensures told { Tells fault.now file.now (E.held err.old) (E.held err.new) (Rose (E.write_faults err.old) (E.write_faults err.new)) (Rose (N.faults net.old) (N.faults net.new)) result }
+    ensures told { Tells fault.now file.now (E.held err.old) (E.held err.new) (Rose (E.write_faults err.old) (E.write_faults err.new)) result }
     ensures later { E.write_faults err.old ≤ E.write_faults err.new }
 {
     let Ok(line) = fault.line(alloc, file) else {

@@ -3,9 +3,8 @@ ghost use Rattle.std.specs.Prelude.{◌≡◌, ◌≤◌, IfOk, MatchResult, OnO
 ghost use Rattle.md_base.specs.Outside.{Rose};
 ghost use Rattle.md_cost.specs.FileView.{IsFileView};
 ghost use Rattle.md_cost.specs.View.{View};
-ghost use Rattle.md_http.specs.declared.serving.ServeFault.TheVariants as served;
 ghost use Rattle.md_tool.specs.Due.{WriteEnds};
-ghost use Rattle.md_tool.specs.Served.{ServeEnds, BindEnds, ConnectionsEnd, tally_line};
+ghost use Rattle.md_tool.specs.Served.{ServeEnds, BindEnds, ConnectionsEnd, fault_of, tally_line};
 
 use crate::fault::Fault;
 use crate::stored::load_file;
@@ -32,10 +31,13 @@ pub fn serve_file<S: Store, O: Sink, N: Net>(
     ensures kept { S.held store.new ≡ S.held store.old }
 {
     let loaded = load_file(alloc, name, store)?;
+    // What is served is the view of the profile, which has one.
     let _viewed = loaded.profile();
     bind(net, port)?;
-    let tally = serve(alloc, &loaded, net, requests)?;
-    tell_tally(alloc, tally, out)
+    match serve(alloc, &loaded, net, requests) {
+        Ok(tally) => tell_tally(alloc, tally, out),
+        Err(fault) => Err(fault),
+    }
 }
 
 /// Listens at a port.
@@ -65,8 +67,17 @@ fn serve<N: Net>(
 {
     match serve_connections(alloc, loaded, net, requests) {
         Ok(tally) => Ok(tally),
-        Err(ServeFault::Net) => Err(Fault::Network),
-        Err(ServeFault::NoMemory) => Err(Fault::NoMemory),
+        Err(fault) => Err(fault_of(fault)),
+    }
+}
+
+/// The fault that one of serving is.
+fn fault_of(fault: ServeFault) -> Fault
+    ensures { result ≡ fault_of fault }
+{
+    match fault {
+        ServeFault::Net => Fault::Network,
+        ServeFault::NoMemory => Fault::NoMemory,
     }
 }
 
