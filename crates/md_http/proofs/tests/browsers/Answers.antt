@@ -1,4 +1,4 @@
-use Rattle.std.proofs.Common.{◌≡◌, List, All, refl, sym, subst}
+use Rattle.std.proofs.Common.{List, All, refl, sym, subst}
 use Rattle.std.proofs.lemmas.List.Elements.{All-push}
 use Rattle.md_base.specs.Memory.{FailingLink, IsFreshFailingLink}
 use Rattle.md_http.proofs.tests.browsers.Goals as goal
