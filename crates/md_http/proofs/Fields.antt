@@ -1,8 +1,8 @@
 -- How many fields so many bytes can hold: each has a name, a colon and the end of its line.
-use Rattle.std.proofs.Common.{◌≡◌, ℕ, suc, ◌+◌, ◌*◌, ◌<◌, ◌≤◌, List, [], ◌∷◌, ◌++◌, length, All, arith, length-append, ap, map}
+use Rattle.std.proofs.Common.{ℕ, suc, ◌*◌, ◌≤◌, List, [], ◌∷◌, ◌++◌, length, All, arith, length-append, ap}
 use Rattle.std.specs.List.{flat_map}
 use Rattle.httparse.specs.Ascii.{colon, space}
-use Rattle.httparse.specs.Grammar.{LineEnd, crlf, lf, print_end, Field, IsField, print_field, print_section, RequestHead, IsRequestHead, print_request, print_blank, print_version, ReadsRequest}
+use Rattle.httparse.specs.Grammar.{LineEnd, crlf, lf, print_end, Field, IsField, print_field, print_section, RequestHead, IsRequestHead, print_request, print_blank, print_version}
 use Rattle.httparse.specs.Spans.{RequestExceeds}
 
 end_size : (e : LineEnd) → 1 ≤ length (print_end e)

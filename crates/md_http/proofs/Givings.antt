@@ -1,11 +1,10 @@
 -- What a net tells of a connection that was served and given back.
-use Rattle.std.proofs.Common.{◌≡◌, ℕ, List, [], ◌∷◌, ◌++◌, take, Option, None, Some, Result, Ok, Err, refl, sym, ◌∙◌, ap, subst, inl, inr}
+use Rattle.std.proofs.Common.{◌≡◌, ℕ, List, [], ◌∷◌, Option, Some, Ok, Err, ◌∙◌, ap, subst, inl, inr}
 use Rattle.md_base.specs.Nets.{Connection, Connections, connection_of, with_served, TakesFirst, GivesFirst}
-use Rattle.md_base.specs.Outside.{added}
 use Rattle.md_base.specs.Streams.{Stream, fresh}
 use Rattle.md_cost.specs.View.{View}
 use Rattle.md_http.specs.Served.{Ends, ends, IsServed, early, late}
-use Rattle.md_http.specs.Serving.{fresh_ends, ends_of, GaveBack, WantsMemoryNext, at_link, at_done, IsGivenBack, IsEnd, IsStep}
+use Rattle.md_http.specs.Serving.{fresh_ends, ends_of, GaveBack, at_link, at_done, IsGivenBack, IsEnd, IsStep}
 use Rattle.md_http.specs.declared.link.Served.{Served}
 use Rattle.md_http.specs.declared.link.Served.TheVariants.{Answered, ReadFault, WriteFault, NoMemory}
 use Rattle.md_http.specs.declared.serving.ServeFault.{ServeFault}

@@ -1,12 +1,12 @@
 -- Responses by what the bytes hold.
-use Rattle.std.proofs.Common.{◌≡◌, ◌≢◌, ℕ, ◌≤◌, ◌<◌, ◌==◌, Bool, true, false, List, length, drop, refl, sym, ◌∙◌, ap, arith, slice_range, inl, inr, if◌then◌else◌}
+use Rattle.std.proofs.Common.{◌≡◌, ℕ, ◌≤◌, ◌==◌, Bool, List, length, drop, sym, ◌∙◌, ap, arith, slice_range, inl, inr, if◌then◌else◌}
 use Rattle.std.proofs.lemmas.Bool.{cases_eq, eq-eqb, ne_eqb}
-use Rattle.httparse.specs.Grammar.{RequestHead, ReadsRequest}
+use Rattle.httparse.specs.Grammar.{RequestHead}
 use Rattle.httparse.specs.declared.spans.RequestSpans.{RequestSpans}
 use Rattle.md_cost.specs.View.{View}
 use Rattle.md_http.specs.Heard.{IsOpen, IsRefused, IsHeadAt, most_bytes}
 use Rattle.md_http.specs.Message.{Refuses, response_of}
-use Rattle.md_http.specs.Response.{IsResponse, IsAnswer, to_head, to_refused, to_full, to_cut_off, answer_to, answer_of}
+use Rattle.md_http.specs.Response.{IsResponse, to_head, to_refused, to_full, to_cut_off, answer_to, answer_of}
 use Rattle.md_http.specs.declared.message.Refusal.TheVariants.{BadRequest, HeadTooLarge}
 
 same_answer : (v : View) (fields : ℕ) (method target : List ℕ) (head : RequestHead) → fields ≡ length head.fields → method ≡ head.method → target ≡ head.target

@@ -1,5 +1,5 @@
 -- What the bytes of a connection hold so far. A head is one of the request grammar (RFC 9112, sections 2 to 5).
-use Rattle.std.specs.Prelude.{ℕ, ◌≡◌, ◌≤◌, ◌<◌, List, length, drop, slice_range, Bool, IsTrue}
+use Rattle.std.specs.Prelude.{ℕ, ◌≡◌, ◌≤◌, List, length, drop, slice_range, Bool, IsTrue}
 use Rattle.httparse.specs.Grammar.{RequestHead, ReadsRequest, HasNoRequest, NeverHasRequest, MayBecomeRequest}
 use Rattle.httparse.specs.declared.spans.Span.{Span}
 use Rattle.httparse.specs.declared.spans.RequestSpans.{RequestSpans}

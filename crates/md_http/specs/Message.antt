@@ -1,5 +1,5 @@
 -- Responses, byte for byte (RFC 9110; RFC 9112, section 6; status 431 is that of RFC 6585, section 5).
-use Rattle.std.specs.Prelude.{ℕ, List, [], ◌∷◌, ◌++◌, length, codes, decimal}
+use Rattle.std.specs.Prelude.{ℕ, List, [], ◌++◌, length, codes, decimal}
 use Rattle.md_http.specs.declared.message.Refusal.{Refusal}
 use Rattle.md_http.specs.declared.message.Refusal.TheVariants.{BadRequest, NotFound, MethodNotAllowed, HeadTooLarge}
 

@@ -1,5 +1,5 @@
 // Requests over connections in memory, answered by the pages of two small profiles.
-ghost use Rattle.std.specs.Prelude.{◌≤◌, All, IfOk};
+ghost use Rattle.std.specs.Prelude.{All, IfOk};
 ghost use Rattle.md_base.specs.Memory.{IsFreshFailingLink};
 
 use crate::{ServeFault, Served, Tally, reply, serve_connections, serve_link};
@@ -131,15 +131,25 @@ fn with_fields(alloc: Global, count: u32) -> Result<Vec<u8>, Fail> {
     Ok(bytes)
 }
 
-/// What is written to a connection that sends these bytes, and gives and takes at most so many a call.
-fn served(alloc: Global, loaded: &Loaded, input: &[u8], most: usize) -> Result<Vec<u8>, Fail>
-    requires { 1 ≤ most }
-{
-    let mut link = MemLink::new(input.to_vec(alloc)?, most, Vec::new(alloc));
-    match serve_link(alloc, loaded, &mut link) {
-        Served::Answered => Ok(link.written().to_vec(alloc)?),
-        _ => Err(Fail::from("no answer")),
+/// Whether a connection that sends these bytes, and gives and takes at most so many a call, gets this response.
+fn is_served(
+    alloc: Global,
+    loaded: &Loaded,
+    input: &[u8],
+    most: usize,
+    want: &[u8],
+) -> Result<bool, Fail> {
+    let mut link = MemLink::new(input.to_vec(alloc)?, most.max(1), Vec::new(alloc));
+    let served = serve_link(alloc, loaded, &mut link);
+    Ok(served == Served::Answered && link.written() == want)
+}
+
+fn is_replied(alloc: Global, loaded: &Loaded, bytes: &[u8], want: &[u8]) -> Result<bool, Fail> {
+    if bytes.len() > 8_192 {
+        return Ok(false);
     }
+    let response = reply(alloc, loaded, bytes)?;
+    Ok(response.as_slice() == want)
 }
 
 #[test]
@@ -157,31 +167,41 @@ fn each_request_has_its_answer(rt: HostRuntime) -> Result<(), Fail> {
         (b"GET\r\n", BAD_REQUEST),
     ];
     for (request, want) in cases {
-        assert_eq!(rt; reply(alloc, &loaded, request)?.as_slice(), want);
+        assert!(rt; is_replied(alloc, &loaded, request, want)?);
     }
     Ok(())
+}
+
+/// Whether a head with so many fields gets this response.
+fn fields_are_served(
+    alloc: Global,
+    loaded: &Loaded,
+    count: u32,
+    want: &[u8],
+) -> Result<bool, Fail> {
+    let head = with_fields(alloc, count)?;
+    is_served(alloc, loaded, &head, 100, want)
+}
+
+/// Whether so many bytes of a head without an end get this response.
+fn endless_is_served(
+    alloc: Global,
+    loaded: &Loaded,
+    count: usize,
+    want: &[u8],
+) -> Result<bool, Fail> {
+    let head = endless(alloc, count)?;
+    is_served(alloc, loaded, &head, 1_000, want)
 }
 
 #[test]
 fn a_head_has_room_for_sixty_four_fields(rt: HostRuntime) -> Result<(), Fail> {
     let alloc = rt.alloc();
     let loaded = alone(alloc)?;
-    assert_eq!(rt;
-        served(alloc, &loaded, &with_fields(alloc, 64)?, 100)?.as_slice(),
-        NOT_FOUND
-    );
-    assert_eq!(rt;
-        served(alloc, &loaded, &with_fields(alloc, 65)?, 100)?.as_slice(),
-        TOO_LARGE
-    );
-    assert_eq!(rt;
-        served(alloc, &loaded, &endless(alloc, 8_191)?, 100)?.as_slice(),
-        BAD_REQUEST
-    );
-    assert_eq!(rt;
-        served(alloc, &loaded, &endless(alloc, 9_000)?, 100)?.as_slice(),
-        TOO_LARGE
-    );
+    assert!(rt; fields_are_served(alloc, &loaded, 64, NOT_FOUND)?);
+    assert!(rt; fields_are_served(alloc, &loaded, 65, TOO_LARGE)?);
+    assert!(rt; endless_is_served(alloc, &loaded, 8_191, BAD_REQUEST)?);
+    assert!(rt; endless_is_served(alloc, &loaded, 8_192, TOO_LARGE)?);
     Ok(())
 }
 
@@ -190,7 +210,7 @@ fn a_request_comes_in_pieces_of_any_size(rt: HostRuntime) -> Result<(), Fail> {
     let alloc = rt.alloc();
     let loaded = alone(alloc)?;
     for most in [1, 2, 3, 7, 8_192] {
-        assert_eq!(rt; served(alloc, &loaded, REQUEST, most)?.as_slice(), MENU);
+        assert!(rt; is_served(alloc, &loaded, REQUEST, most, MENU)?, "{most}");
     }
     Ok(())
 }
@@ -200,12 +220,23 @@ fn a_request_that_is_cut_off_is_none(rt: HostRuntime) -> Result<(), Fail> {
     let alloc = rt.alloc();
     let loaded = alone(alloc)?;
     for count in 0..REQUEST.len() {
-        assert_eq!(rt;
-            served(alloc, &loaded, &REQUEST[..count], 50)?.as_slice(),
-            BAD_REQUEST
+        assert!(rt;
+            is_served(alloc, &loaded, &REQUEST[..count], 50, BAD_REQUEST)?,
+            "{count}"
         );
     }
     Ok(())
+}
+
+/// How serving a connection ends whose call of this number fails, with how much of the menu was written to it.
+fn faulty(alloc: Global, loaded: &Loaded, call: u64) -> Result<(Served, usize), Fail> {
+    let fail = [call].to_vec(alloc)?;
+    let mut link = MemLink::new(REQUEST.to_vec(alloc)?, 60, fail);
+    let served = serve_link(alloc, loaded, &mut link);
+    if !MENU.starts_with(link.written()) {
+        return Err(Fail::from("another response"));
+    }
+    Ok((served, link.written().len()))
 }
 
 #[test]
@@ -222,10 +253,7 @@ fn each_call_of_a_connection_may_fail(rt: HostRuntime) -> Result<(), Fail> {
         (11, Served::Answered, 478),
     ];
     for (call, want, count) in cases {
-        let fail = [call].to_vec(alloc)?;
-        let mut link = MemLink::new(REQUEST.to_vec(alloc)?, 60, fail);
-        assert_eq!(rt; serve_link(alloc, &loaded, &mut link), want, "call {call}");
-        assert_eq!(rt; link.written(), &MENU[..count], "call {call}");
+        assert_eq!(rt; faulty(alloc, &loaded, call)?, (want, count));
     }
     Ok(())
 }
@@ -244,21 +272,50 @@ fn browsers(alloc: Global, fail: &[u64]) -> Result<Vec<MemLink>, Fail>
     Ok(coming)
 }
 
+/// Whether so much of the menu was written to each of these.
+fn are_written(served: &[MemLink], counts: &[usize]) -> bool {
+    for (link, count) in served.iter().zip(counts) {
+        if link.written().len() != *count || !MENU.starts_with(link.written()) {
+            return false;
+        }
+    }
+    served.len() == counts.len()
+}
+
+/// What comes of so many requests over a net where these calls fail, and whether so much was written to each connection.
+fn serve(
+    alloc: Global,
+    loaded: &Loaded,
+    fail: &[u64],
+    net_fail: u64,
+    requests: u32,
+    counts: &[usize],
+) -> Result<(Result<Tally, ServeFault>, bool), Fail> {
+    let coming = browsers(alloc, fail)?;
+    let mut net = MemNet::new(coming, [net_fail].to_vec(alloc)?);
+    net.bind(8_080)?;
+    let tally = serve_connections(alloc, loaded, &mut net, requests);
+    Ok((tally, are_written(net.served(), counts)))
+}
+
+/// So many connections, of which so many were answered.
+fn tally(connections: u32, answered: u32) -> Result<Tally, ServeFault> {
+    Ok(Tally {
+        connections,
+        answered,
+    })
+}
+
 #[test]
 fn a_fault_of_a_connection_stops_nothing(rt: HostRuntime) -> Result<(), Fail> {
     let alloc = rt.alloc();
     let loaded = alone(alloc)?;
-    let mut net = MemNet::new(browsers(alloc, &[2, 1, 0])?, Vec::new(alloc));
-    net.bind(8_080)?;
-    let tally = Tally {
-        connections: 3,
-        answered: 1,
-    };
-    assert_eq!(rt; serve_connections(alloc, &loaded, &mut net, 4), Ok(tally));
-    assert_eq!(rt; net.served().len(), 3);
-    assert!(rt; net.served()[0].written().is_empty());
-    assert!(rt; net.served()[1].written().is_empty());
-    assert_eq!(rt; net.served()[2].written(), MENU);
+    let both = serve(alloc, &loaded, &[2, 0], 0, 2, &[0, 478])?;
+    assert_eq!(rt; both, (tally(2, 1), true));
+    let unread = serve(alloc, &loaded, &[1, 0], 0, 1, &[0])?;
+    assert_eq!(rt; unread, (tally(1, 0), true));
+    let fewer = serve(alloc, &loaded, &[0], 0, 3, &[478])?;
+    assert_eq!(rt; fewer, (tally(1, 1), true));
     Ok(())
 }
 
@@ -266,12 +323,7 @@ fn a_fault_of_a_connection_stops_nothing(rt: HostRuntime) -> Result<(), Fail> {
 fn a_fault_of_the_net_ends_serving(rt: HostRuntime) -> Result<(), Fail> {
     let alloc = rt.alloc();
     let loaded = alone(alloc)?;
-    let mut net = MemNet::new(browsers(alloc, &[0, 0])?, [3].to_vec(alloc)?);
-    net.bind(8_080)?;
-    assert_eq!(rt;
-        serve_connections(alloc, &loaded, &mut net, 2),
-        Err(ServeFault::Net)
-    );
-    assert_eq!(rt; net.served().len(), 1);
+    let ended = serve(alloc, &loaded, &[0, 0], 3, 2, &[478])?;
+    assert_eq!(rt; ended, (Err(ServeFault::Net), true));
     Ok(())
 }

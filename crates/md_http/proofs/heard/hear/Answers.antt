@@ -1,4 +1,4 @@
-use Rattle.std.proofs.Common.{◌≡◌, ℕ, subst, ap, ◌∙◌, Err, Result}
+use Rattle.std.proofs.Common.{ℕ, subst, ap, ◌∙◌, Err}
 use Rattle.httparse.specs.Spans.{RequestExceeds}
 use Rattle.httparse.specs.declared.Error.{Error}
 use Rattle.md_http.proofs.Fields.{never_exceeds}

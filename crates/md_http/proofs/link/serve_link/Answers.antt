@@ -1,4 +1,4 @@
-use Rattle.std.proofs.Common.{◌≡◌, ℕ, List, Option, sym, subst}
+use Rattle.std.proofs.Common.{ℕ, List, Option, sym, subst}
 use Rattle.md_base.specs.Streams.{Stream}
 use Rattle.md_http.specs.Served.{IsDue, ends}
 use Rattle.md_http.proofs.Servings.{served_of, written_since, same_held, same_stream}

@@ -1,6 +1,4 @@
-use Rattle.std.proofs.Common.{◌++◌, codes}
 use Rattle.md_http.proofs.Chains.{three-added}
-use Rattle.md_http.specs.Message.{line}
 use Rattle.md_http.proofs.message.add_body.Goals as goal
 
 pub returns : goal.returns

@@ -1,4 +1,4 @@
-use Rattle.std.proofs.Common.{◌≡◌, ◌++◌, ◌∷◌, [], codes, arith}
+use Rattle.std.proofs.Common.{◌≡◌, ◌++◌, codes, arith}
 use Rattle.std.proofs.lemmas.Grind.{common_steps}
 use Rattle.md_http.specs.Message.{response_of, status_words}
 use Rattle.md_http.proofs.message.refusal_response.Goals as goal

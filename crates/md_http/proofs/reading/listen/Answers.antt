@@ -1,4 +1,4 @@
-use Rattle.std.proofs.Common.{◌≡◌, ◌∙◌, arith}
+use Rattle.std.proofs.Common.{◌∙◌, arith}
 use Rattle.md_http.proofs.Readings.{reads_more}
 use Rattle.md_http.proofs.reading.listen.Goals as goal
 

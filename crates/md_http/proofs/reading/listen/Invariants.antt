@@ -1,4 +1,4 @@
-use Rattle.std.proofs.Common.{◌≡◌, ◌≤◌, ◌-◌, length, take, false}
+use Rattle.std.proofs.Common.{◌≡◌, ◌≤◌, ◌-◌, take, false}
 use Rattle.md_http.specs.Heard.{most_bytes}
 use Rattle.md_http.specs.Reading.{HasRead}
 use Rattle.md_http.proofs.reading.listen.Given as goal

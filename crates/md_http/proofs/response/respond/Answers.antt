@@ -1,6 +1,5 @@
-use Rattle.std.proofs.Common.{◌≡◌, refl}
+use Rattle.std.proofs.Common.{refl}
 use Rattle.std.proofs.lemmas.Result.{IfOk-weaker}
-use Rattle.md_http.specs.Heard.{Holds}
 use Rattle.md_http.proofs.Responses.{head_response, refused_response, open_response}
 use Rattle.md_http.proofs.response.respond.Goals as goal
 

@@ -1,4 +1,4 @@
-use Rattle.std.proofs.Common.{◌≡◌, arith}
+use Rattle.std.proofs.Common.{arith}
 use Rattle.md_http.proofs.Tallies.{served_none, served_more, served_enough, served_whole, served_some}
 use Rattle.md_http.proofs.serving.serve_connections.Goals as goal
 

@@ -1,7 +1,4 @@
-use Rattle.std.proofs.Common.{◌≡◌, inl, subst}
-use Rattle.md_http.specs.Served.{IsServed, ends}
-use Rattle.md_http.specs.declared.link.Served.{Served}
-use Rattle.md_http.specs.Serving.{IsGivenBack}
+use Rattle.std.proofs.Common.{inl}
 use Rattle.md_http.proofs.Givings.{given_back}
 use Rattle.md_http.proofs.serving.serve_one.Goals as goal
 
