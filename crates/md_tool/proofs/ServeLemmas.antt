@@ -56,7 +56,7 @@ unbound held name requests net net' out reads outs nets Write same h = absurd h
 unbound held name requests net net' out reads outs nets NoMemory same h = inl (record { net_is = same; out_is = refl })
 
 -- not all connections were served
-pub unserved : (held : Option Files) (name : List ℕ) (requests : ℕ) (net net' : Option Connections) (out : Option (List ℕ)) (reads outs some all : Type 0) (loaded : LoadedRows) (v : View) (fault : Fault)
+unserved : (held : Option Files) (name : List ℕ) (requests : ℕ) (net net' : Option Connections) (out : Option (List ℕ)) (reads outs some all : Type 0) (loaded : LoadedRows) (v : View) (fault : Fault)
     → IsLoadedFrom held name loaded → IsFileView loaded.profile v → (some → all) → ConnectionsEnd v requests net net' some (Err fault)
     → ServeEnds held name requests net net' out out reads outs all (Err fault)
 unserved held name requests net net' out reads outs some all loaded v Usage l is rises h = absurd h
@@ -74,7 +74,7 @@ unserved held name requests net net' out reads outs some all loaded v Write l is
 unserved held name requests net net' out reads outs some all loaded v NoMemory l is rises h = inr (inl (refl, record { profile = loaded.profile; spelled = l.spelled; view = v; is_view = is; served = h }))
 
 -- they were, and that was told as far as it was
-pub served : (held : Option Files) (name : List ℕ) (requests : ℕ) (net net' : Option Connections) (out out' : Option (List ℕ)) (reads outs some all : Type 0) (loaded : LoadedRows) (v : View) (tally : Tally)
+served : (held : Option Files) (name : List ℕ) (requests : ℕ) (net net' : Option Connections) (out out' : Option (List ℕ)) (reads outs some all : Type 0) (loaded : LoadedRows) (v : View) (tally : Tally)
     (r : Result (Unit {0}) Fault) → IsLoadedFrom held name loaded → IsFileView loaded.profile v → ConnectionsEnd v requests net net' some (Ok tally) → WriteEnds (tally_line tally) out out' outs r
     → ServeEnds held name requests net net' out out' reads outs all r
 served held name requests net net' out out' reads outs some all loaded v tally (Ok done) l is h shown = record { tally = tally; served = record { profile = loaded.profile; spelled = l.spelled; view = v; is_view = is; served = h }; told = shown }
@@ -91,6 +91,19 @@ served held name requests net net' out out' reads outs some all loaded v tally (
 served held name requests net net' out out' reads outs some all loaded v tally (Err Network) l is h shown = absurd shown
 served held name requests net net' out out' reads outs some all loaded v tally (Err Write) l is h shown = (shown.0, record { tally = tally; served = record { profile = loaded.profile; spelled = l.spelled; view = v; is_view = is; served = h }; told = shown.1 })
 served held name requests net net' out out' reads outs some all loaded v tally (Err NoMemory) l is h shown = inr (inr (record { tally = tally; served = record { profile = loaded.profile; spelled = l.spelled; view = v; is_view = is; served = h }; told = shown }))
+
+-- the same of a net that listened in between
+pub unserved_from : (held : Option Files) (name : List ℕ) (requests : ℕ) (net between net' : Option Connections) (out : Option (List ℕ)) (reads outs some all : Type 0) (loaded : LoadedRows) (v : View) (fault : Fault)
+    → IsLoadedFrom held name loaded → IsFileView loaded.profile v → (some → all) → between ≡ net → ConnectionsEnd v requests between net' some (Err fault)
+    → ServeEnds held name requests net net' out out reads outs all (Err fault)
+unserved_from held name requests net between net' out reads outs some all loaded v fault l is rises same h =
+    unserved held name requests net net' out reads outs some all loaded v fault l is rises (subst (λ (n : Option Connections). ConnectionsEnd v requests n net' some (Err fault)) same h)
+
+pub served_from : (held : Option Files) (name : List ℕ) (requests : ℕ) (net between net' : Option Connections) (out out' : Option (List ℕ)) (reads outs some all : Type 0) (loaded : LoadedRows) (v : View) (tally : Tally)
+    (r : Result (Unit {0}) Fault) → IsLoadedFrom held name loaded → IsFileView loaded.profile v → between ≡ net → ConnectionsEnd v requests between net' some (Ok tally) → WriteEnds (tally_line tally) out out' outs r
+    → ServeEnds held name requests net net' out out' reads outs all r
+served_from held name requests net between net' out out' reads outs some all loaded v tally r l is same h shown =
+    served held name requests net net' out out' reads outs some all loaded v tally r l is (subst (λ (n : Option Connections). ConnectionsEnd v requests n net' some (Ok tally)) same h) shown
 
 -- why connections weren't all served
 pub connections_failed : (v : View) (requests : ℕ) (net net' : Option Connections) (nets : Type 0) (r : Result Tally ServeFault) (fault : ServeFault) → r ≡ Err fault → (r ≡ Err faults.Net → nets)
