@@ -17,12 +17,7 @@ use std::alloc::{AllocError, Global};
 const MOST_STEPS: u32 = 16_777_216;
 
 /// Writes a generated program, or the menu of its run.
-pub fn generate<O: Sink>(
-    alloc: Global,
-    n: u32,
-    summary: bool,
-    out: &mut O,
-) -> Result<(), Fault>
+pub fn generate<O: Sink>(alloc: Global, n: u32, summary: bool, out: &mut O) -> Result<(), Fault>
     requires some { 1 ≤ n }
     requires few { n ≤ 20 }
     ensures { GenEnds n summary (O.held out.old) (O.held out.new) (Rose (O.write_faults out.old) (O.write_faults out.new)) result }
@@ -38,12 +33,7 @@ pub fn generate<O: Sink>(
 }
 
 /// Runs a generated program, and writes the menu of its run.
-fn summarize<O: Sink>(
-    alloc: Global,
-    n: u32,
-    text: &[u8],
-    out: &mut O,
-) -> Result<(), Fault>
+fn summarize<O: Sink>(alloc: Global, n: u32, text: &[u8], out: &mut O) -> Result<(), Fault>
     requires text { text.now ≡ gen_text n }
     requires short { length text.now ≤ 1048576 }
     ensures { SummaryEnds n (O.held out.old) (O.held out.new) (Rose (O.write_faults out.old) (O.write_faults out.new)) result }
@@ -55,12 +45,7 @@ fn summarize<O: Sink>(
 }
 
 /// Writes the menu of a generated program's run, and answers how it ended.
-fn show_menu<O: Sink>(
-    alloc: Global,
-    profiled: Profiled,
-    n: u32,
-    out: &mut O,
-) -> Result<(), Fault>
+fn show_menu<O: Sink>(alloc: Global, profiled: Profiled, n: u32, out: &mut O) -> Result<(), Fault>
     requires { IsProfiledText (gen_text n) most_steps profiled }
     ensures { SummaryEnds n (O.held out.old) (O.held out.new) (Rose (O.write_faults out.old) (O.write_faults out.new)) result }
 {

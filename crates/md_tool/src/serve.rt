@@ -55,12 +55,7 @@ fn bind<N: Net>(net: &mut N, port: u16) -> Result<(), Fault>
 }
 
 /// Serves connections.
-fn serve<N: Net>(
-    alloc: Global,
-    loaded: &Loaded,
-    net: &mut N,
-    requests: u32,
-) -> Result<Tally, Fault>
+fn serve<N: Net>(alloc: Global, loaded: &Loaded, net: &mut N, requests: u32) -> Result<Tally, Fault>
     requires { N.IsBound net.old }
     ensures { (v : View) → IsFileView loaded.now.profile v
         → ConnectionsEnd v requests (N.connections net.old) (N.connections net.new) (Rose (N.faults net.old) (N.faults net.new)) result }

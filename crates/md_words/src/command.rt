@@ -24,7 +24,10 @@ const MOST_GENERATED: u32 = 20;
 #[derive(Debug, Drop)]
 pub enum Command<'a> {
     /// `check FILE [--print]`.
-    Check { file: &'a str, print: bool },
+    Check {
+        file: &'a str,
+        print: bool,
+    },
     /// `run FILE [--steps N] [--profile NAME]`.
     Run {
         file: &'a str,
@@ -38,7 +41,10 @@ pub enum Command<'a> {
         steps: u32,
     },
     /// `page NAME QUERY`.
-    Page { name: &'a str, query: Query },
+    Page {
+        name: &'a str,
+        query: Query,
+    },
     /// `serve NAME --port P --requests N`.
     Serve {
         name: &'a str,
@@ -46,9 +52,15 @@ pub enum Command<'a> {
         requests: u32,
     },
     /// `gen N [--summary]`.
-    Gen { n: u32, summary: bool },
+    Gen {
+        n: u32,
+        summary: bool,
+    },
     /// `migrate NAME NEW`.
-    Migrate { name: &'a str, new: &'a str },
+    Migrate {
+        name: &'a str,
+        new: &'a str,
+    },
 }
 
 /// The command that the words are, or `None` exactly where they are none. Options and other words come in any order; the

@@ -5,7 +5,7 @@ ghost use Rattle.md_words.specs.Form.{words_of};
 ghost use Rattle.md_words.specs.Split.{Split, split, after, at_end, with_word, with_front, with_ordinary};
 ghost use Rattle.md_words.specs.Told.{split_told, before_told};
 
-use crate::option::{Valued, Setting, is_option, named, option_of, with_value};
+use crate::option::{Setting, Valued, is_option, named, option_of, with_value};
 use md_base::NoMemory;
 use std::alloc::Global;
 

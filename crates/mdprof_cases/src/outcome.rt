@@ -10,14 +10,7 @@ pub fn of(alloc: Global, case: &Case) -> Result<String, AllocError> {
     let mut out = sink_of(alloc, case.most, case.out_fails)?;
     let mut err = sink_of(alloc, case.most, case.err_fails)?;
     let mut net = SureNet::new(Vec::new(alloc));
-    let Status(status) = top(
-        alloc,
-        &case.words,
-        &mut store,
-        &mut out,
-        &mut err,
-        &mut net,
-    );
+    let Status(status) = top(alloc, &case.words, &mut store, &mut out, &mut err, &mut net);
     let name = case.name.as_str();
     let what = if status as u64 != case.status {
         "another status"
@@ -66,8 +59,6 @@ fn are_left(store: &MemStore, left: &[File]) -> bool {
 }
 
 fn is_left(store: &MemStore, file: &File) -> bool {
-    store
-        .files()
-        .iter()
-        .any(|(name, bytes)| name.as_str() == file.name.as_str() && bytes.as_slice() == file.bytes.as_slice())
+    store.files().iter().any(|(name, bytes)| name.as_str() == file.name.as_str()
+        && bytes.as_slice() == file.bytes.as_slice())
 }
