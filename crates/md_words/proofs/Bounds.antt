@@ -6,7 +6,7 @@ use Rattle.std.proofs.lemmas.Bool.Decides.{nat_tests}
 use Rattle.md_query.specs.Asked.{Asked}
 use Rattle.md_query.specs.Pair.{number_within, within, is_number}
 use Rattle.md_token.specs.Literal.{number_of}
-use Rattle.md_words.specs.Form.{Form, Run, Gen, Migrate, HasBounds, check_of, run_of, report_of, report_with, page_of, page_with, serve_of, gen_of, gen_with, migrate_of, form, query_in, only, two, print_of, summary_of, steps_of, running_of, serving_of, are_none}
+use Rattle.md_words.specs.Form.{Form, Run, Migrate, HasBounds, check_of, run_of, report_of, report_with, page_of, page_with, serve_of, gen_of, gen_with, migrate_of, form, query_in, only, two, print_of, summary_of, steps_of, running_of, serving_of, are_none}
 use Rattle.md_words.specs.Split.{Split, split}
 use Rattle.md_words.specs.declared.split.Place.TheVariants.{Front}
 use Rattle.md_words.specs.declared.command.Command.{Command}
