@@ -40,6 +40,11 @@ fn told(alloc: Global, command: &Command<'_>) -> Result<String, Fail> {
             let query = menu_or_other(query);
             format!(in alloc; "page {name} {query}")?
         }
+        Command::Serve {
+            name,
+            port,
+            requests,
+        } => format!(in alloc; "serve {name} {port} {requests}")?,
         Command::Gen { n, summary } => format!(in alloc; "gen {n} {summary}")?,
         Command::Migrate { name, new } => format!(in alloc; "migrate {name} {new}")?,
     };
@@ -73,6 +78,11 @@ fn lines_ask_for_commands(rt: HostRuntime) -> Result<(), Fail> {
         ("report a.m", "none"),
         ("page p menu", "page p menu"),
         ("page p menu --steps 5", "none"),
+        ("serve p --port 8080 --requests 3", "serve p 8080 3"),
+        ("serve --requests=1000000 --port=65535 p", "serve p 65535 1000000"),
+        ("serve p --port 8080", "none"),
+        ("serve p --port 65536 --requests 3", "none"),
+        ("serve p --port 0 --requests 3", "none"),
         ("gen 20 --summary", "gen 20 true"),
         ("gen 0", "none"),
         ("migrate p q", "migrate p q"),
