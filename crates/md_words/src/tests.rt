@@ -79,7 +79,10 @@ fn lines_ask_for_commands(rt: HostRuntime) -> Result<(), Fail> {
         ("page p menu", "page p menu"),
         ("page p menu --steps 5", "none"),
         ("serve p --port 8080 --requests 3", "serve p 8080 3"),
-        ("serve --requests=1000000 --port=65535 p", "serve p 65535 1000000"),
+        (
+            "serve --requests=1000000 --port=65535 p",
+            "serve p 65535 1000000",
+        ),
         ("serve p --port 8080", "none"),
         ("serve p --port 65536 --requests 3", "none"),
         ("serve p --port 0 --requests 3", "none"),
