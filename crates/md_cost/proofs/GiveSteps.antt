@@ -10,7 +10,7 @@ use Rattle.md_dynamic.specs.Valid.{IsValid}
 use Rattle.md_cost.specs.declared.sums.Sums.{Sums}
 use Rattle.md_cost.specs.SumOf.{sum_of, zero_sums}
 use Rattle.md_cost.specs.Totals.{sum_where, path_total}
-use Rattle.md_cost.specs.Climbing.{AreOwn, AreTotals}
+use Rattle.md_cost.specs.Climbing.{AreContextsOwn, AreTotals}
 use Rattle.md_cost.specs.Keys.{AreKeys}
 use Rattle.md_cost.specs.Tree.{IsTree}
 use Rattle.md_cost.specs.View.{Row, OfContext, OfClique, OfSite}
@@ -54,8 +54,8 @@ module _ (f : ProfileRows) (valid : IsValid f) (cliques found : List ℕ) (tree 
     is = λ v s m is lt. view_own f (valid_sound f valid).links cliques found tree v is (OfSite s) m ∙ ap (λ (x : ℕ). Some x) (sym (own s m lt));
   }
 
-  pub gives_own_contexts : (nodes groups : List Sums) → AreOwn cliques f.links nodes groups → Gives f (λ v. v.own) OfContext (length f.nodes) nodes
-  gives_own_contexts nodes groups own = record {
+  pub gives_own_contexts : (nodes : List Sums) → AreContextsOwn cliques f.links nodes → Gives f (λ v. v.own) OfContext (length f.nodes) nodes
+  gives_own_contexts nodes own = record {
     each = own.each_node ∙ tree.cliques_are.each;
     is = λ v c m is lt. let size = tree.cliques_are.each in view_own f (valid_sound f valid).links cliques found tree v is (OfContext c) m ∙ ap (λ (x : ℕ). Some x) (sym (own.of_node c m (omega arith)));
   }

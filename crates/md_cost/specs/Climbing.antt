@@ -15,6 +15,11 @@ pub record AreOwn (cliques : List ℕ) (rows : List LinkRow) (nodes groups : Lis
   pub of_node : (c : ℕ) (m : Measure) → c < length cliques → sum_of (slice_index_or nodes c zero_sums) m ≡ context_own rows c m
   pub of_group : (k : ℕ) (m : Measure) → k < clique_count cliques → sum_of (slice_index_or groups k zero_sums) m ≡ clique_own cliques rows k m
 
+-- each context has the sum of the links that lead to it
+pub record AreContextsOwn (cliques : List ℕ) (rows : List LinkRow) (nodes : List Sums) : Type 0 where
+  pub each_node : length nodes ≡ length cliques
+  pub of_node : (c : ℕ) (m : Measure) → c < length cliques → sum_of (slice_index_or nodes c zero_sums) m ≡ context_own rows c m
+
 -- the counts of all links together are no more than so many full ones
 abbrev pub AreSmall : List LinkRow → Type 0
 AreSmall rows = (m : Measure) → sum_by (λ r. count_of r.own m) rows ≤ length rows * 4294967295

@@ -1,7 +1,7 @@
 // The sums of a profile: own counts and totals of each kind of row.
 ghost use Rattle.std.specs.Prelude.{◌≡◌, IfOk, length};
 ghost use Rattle.md_dynamic.specs.Valid.{IsValid};
-ghost use Rattle.md_cost.specs.Climbing.{AreTotals};
+ghost use Rattle.md_cost.specs.Climbing.{AreContextsOwn, AreSmall, AreTotals};
 ghost use Rattle.md_cost.specs.Costs.{AreCosts};
 ghost use Rattle.md_cost.specs.Paths.{EntriesRise};
 ghost use Rattle.md_cost.specs.Tree.{IsTree};
@@ -35,14 +35,13 @@ pub fn sum_costs(alloc: Global, profile: &Profile, tree: &Tree) -> Result<Costs,
     ensures { IfOk result (λ costs. AreCosts profile.now tree.now.cliques costs) }
 {
     let nodes = profile.nodes().len() as u32;
-    let own = own_sums(alloc, &tree.cliques, nodes, profile.links())?;
-    let totals = total_sums(alloc, profile, tree, nodes)?;
+    let (own, totals) = own_and_totals(alloc, profile, tree, nodes)?;
     let children = descend(alloc, tree, profile.links(), nodes)?;
     let procedures = of_procedures(alloc, profile, tree, &children, &own, &totals)?;
     let modules = of_modules(alloc, profile, tree, &children, &own, &totals)?;
     let sites = of_sites(alloc, profile, tree, &children, &own, &totals)?;
     Ok(Costs {
-        own: own.nodes,
+        own,
         totals,
         procedures,
         modules,
@@ -50,15 +49,23 @@ pub fn sum_costs(alloc: Global, profile: &Profile, tree: &Tree) -> Result<Costs,
     })
 }
 
-/// The totals of contexts and cliques.
-fn total_sums(alloc: Global, profile: &Profile, tree: &Tree, nodes: u32) -> Result<Own, NoMemory>
+/// The own counts of contexts, and the totals of contexts and cliques, which begin as own counts.
+fn own_and_totals(
+    alloc: Global,
+    profile: &Profile,
+    tree: &Tree,
+    nodes: u32,
+) -> Result<(Vec<Sums>, Own), NoMemory>
     requires valid { IsValid profile.now }
     requires tree { IsTree (length profile.now.nodes) profile.now.links tree.now.cliques tree.now.entries.items }
     requires rise { EntriesRise tree.now.cliques tree.now.entries.items profile.now.links }
     requires nodes { nodes ≡ length profile.now.nodes }
-    ensures { IfOk result (λ totals. AreTotals tree.now.cliques tree.now.entries.items profile.now.links totals.nodes.items totals.cliques.items) }
+    ensures own { IfOk result (λ sums. AreContextsOwn tree.now.cliques profile.now.links sums.0.items) }
+    ensures totals { IfOk result (λ sums. AreTotals tree.now.cliques tree.now.entries.items profile.now.links sums.1.nodes.items sums.1.cliques.items) }
+    ensures small { IfOk result (λ _. AreSmall profile.now.links) }
 {
     let mut totals = own_sums(alloc, &tree.cliques, nodes, profile.links())?;
+    let own = Vec::from_slice(alloc, &totals.nodes)?;
     climb(&tree.cliques, &tree.entries, profile.links(), &mut totals);
-    Ok(totals)
+    Ok((own, totals))
 }

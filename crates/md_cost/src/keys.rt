@@ -16,7 +16,7 @@ use std::alloc::Global;
 pub fn procedure_keys(alloc: Global, profile: &Profile) -> Result<Vec<Option<u32>>, NoMemory>
     ensures { IfOk result (λ keys. AreKeys (procedure_at profile.now) (length profile.now.nodes) keys.items) }
 {
-    let mut keys = Vec::new(alloc);
+    let mut keys = Vec::with_capacity(alloc, profile.nodes().len())?;
     for node in profile.nodes() {
         keys.push(Some(node.number()))?;
     }
@@ -29,7 +29,7 @@ pub fn module_keys(alloc: Global, profile: &Profile) -> Result<Vec<Option<u32>>,
     ensures { IfOk result (λ keys. AreKeys (module_at profile.now) (length profile.now.nodes) keys.items) }
 {
     let procs = profile.statics().procs();
-    let mut keys = Vec::new(alloc);
+    let mut keys = Vec::with_capacity(alloc, profile.nodes().len())?;
     for node in profile.nodes() {
         keys.push(Some(procs[node.number() as usize].module))?;
     }
@@ -47,7 +47,7 @@ pub fn site_keys(
     ensures { IfOk result (λ keys. AreKeys (site_above profile.now tree.now.cliques tree.now.entries.items) (length profile.now.nodes) keys.items) }
 {
     let nodes = profile.nodes().len() as u32;
-    let mut keys = Vec::new(alloc);
+    let mut keys = Vec::with_capacity(alloc, nodes as usize)?;
     for node in 0..nodes {
         let site = site_of_entry(profile, tree, node);
         keys.push(site)?;

@@ -32,10 +32,10 @@ pub fn of_procedures(
     profile: &Profile,
     tree: &Tree,
     children: &Children,
-    own: &Own,
+    own: &[Sums],
     totals: &Own,
 ) -> Result<Kind, NoMemory>
-    requires { IsSummed profile.now tree.now.cliques tree.now.entries.items children.now.first.items children.now.next.items own.now.nodes.items own.now.cliques.items totals.now.nodes.items totals.now.cliques.items }
+    requires { IsSummed profile.now tree.now.cliques tree.now.entries.items children.now.first.items children.now.next.items own.now totals.now.nodes.items totals.now.cliques.items }
     ensures own { IfOk result (λ kind. Gives profile.now (λ v. v.own) OfProcedure (length profile.now.statics.procs) kind.own.items) }
     ensures totals { IfOk result (λ kind. Gives profile.now (λ v. v.total) OfProcedure (length profile.now.statics.procs) kind.totals.items) }
 {
@@ -51,10 +51,10 @@ pub fn of_modules(
     profile: &Profile,
     tree: &Tree,
     children: &Children,
-    own: &Own,
+    own: &[Sums],
     totals: &Own,
 ) -> Result<Kind, NoMemory>
-    requires { IsSummed profile.now tree.now.cliques tree.now.entries.items children.now.first.items children.now.next.items own.now.nodes.items own.now.cliques.items totals.now.nodes.items totals.now.cliques.items }
+    requires { IsSummed profile.now tree.now.cliques tree.now.entries.items children.now.first.items children.now.next.items own.now totals.now.nodes.items totals.now.cliques.items }
     ensures own { IfOk result (λ kind. Gives profile.now (λ v. v.own) OfModule (length profile.now.statics.modules) kind.own.items) }
     ensures totals { IfOk result (λ kind. Gives profile.now (λ v. v.total) OfModule (length profile.now.statics.modules) kind.totals.items) }
 {
@@ -70,10 +70,10 @@ pub fn of_sites(
     profile: &Profile,
     tree: &Tree,
     children: &Children,
-    own: &Own,
+    own: &[Sums],
     totals: &Own,
 ) -> Result<Kind, NoMemory>
-    requires { IsSummed profile.now tree.now.cliques tree.now.entries.items children.now.first.items children.now.next.items own.now.nodes.items own.now.cliques.items totals.now.nodes.items totals.now.cliques.items }
+    requires { IsSummed profile.now tree.now.cliques tree.now.entries.items children.now.first.items children.now.next.items own.now totals.now.nodes.items totals.now.cliques.items }
     ensures own { IfOk result (λ kind. Gives profile.now (λ v. v.own) OfSite (length profile.now.statics.sites) kind.own.items) }
     ensures totals { IfOk result (λ kind. Gives profile.now (λ v. v.total) OfSite (length profile.now.statics.sites) kind.totals.items) }
 {
@@ -91,12 +91,12 @@ fn of_keys(
     profile: &Profile,
     tree: &Tree,
     children: &Children,
-    own: &Own,
+    own: &[Sums],
     totals: &Own,
     keys: &[Option<u32>],
     count: usize,
 ) -> Result<Kind, NoMemory>
-    requires summed { IsSummed profile.now tree.now.cliques tree.now.entries.items children.now.first.items children.now.next.items own.now.nodes.items own.now.cliques.items totals.now.nodes.items totals.now.cliques.items }
+    requires summed { IsSummed profile.now tree.now.cliques tree.now.entries.items children.now.first.items children.now.next.items own.now totals.now.nodes.items totals.now.cliques.items }
     requires each { length keys.now ≡ length profile.now.nodes }
     requires below { (d q : ℕ) → d < length profile.now.nodes → slice_index_or keys.now d None ≡ Some q → q < count }
     ensures each_own { IfOk result (λ kind. length kind.own.items ≡ count) }
@@ -106,7 +106,7 @@ fn of_keys(
         ≡ path_total tree.now.cliques tree.now.entries.items profile.now.links (λ d. same_option (Some q) (slice_index_or keys.now d None)) m) }
 {
     let links = profile.links();
-    let own = own_by_key(alloc, tree, links, keys, count, &own.nodes)?;
+    let own = own_by_key(alloc, tree, links, keys, count, own)?;
     let totals = totals_by_key(alloc, tree, links, children, keys, count, &totals.nodes)?;
     Ok(Kind { own, totals })
 }

@@ -18,7 +18,7 @@ use Rattle.md_deepfile.proofs.Whole.{rows, AllFields, Version, first, second, fi
 use Rattle.md_deepfile.proofs.Rows.{modules_valid, modules_fine, procs_valid, procs_fine, sites_valid, sites_fine, contexts_valid, contexts_fine}
 use Rattle.md_deepfile.proofs.LinkRows.{AreLinks, links_valid, links_fine, all_reached, reached_all}
 
-record IsFineProfile (k : ℕ) (f : ProfileRows) : Type 0 where
+pub record IsFineProfile (k : ℕ) (f : ProfileRows) : Type 0 where
   pub valid : IsValid f
   pub room : HasRoom f
   pub counts : All (λ l. CountsFit k l.own) f.links
@@ -67,7 +67,7 @@ fields_valid_at k f root others are fields fine links =
       counts = counts;
     }
 
-fields_valid : (k : ℕ) (f : ProfileRows) → AllFields k f → IsFineProfile k f
+pub fields_valid : (k : ℕ) (f : ProfileRows) → AllFields k f → IsFineProfile k f
 fields_valid k f fields =
     fields_valid_at k f fields.first fields.others fields.links_are fields fields.root
     (links_valid k f.statics.modules f.statics.procs f.statics.sites f.nodes fields.first f.finished fields.others fields.links)
@@ -106,7 +106,7 @@ valid_fields_at k f root others are fine =
       reached = reached_all k f fine.valid.all_reached;
     }
 
-valid_fields_of : (k : ℕ) (f : ProfileRows) (links : List LinkRow) → f.links ≡ links → IsFineProfile k f → AllFields k f
+pub valid_fields_of : (k : ℕ) (f : ProfileRows) (links : List LinkRow) → f.links ≡ links → IsFineProfile k f → AllFields k f
 valid_fields_of k f [] are fine = absurd (let some : 0 < length f.links = fine.valid.rows.some_links in omega (arith, some, ap length are))
 valid_fields_of k f (root ∷ others) are fine = valid_fields_at k f root others are fine
 
@@ -144,7 +144,7 @@ read_spells bs f are is =
     let t = file_takes bs f (read_accepts profile_file 0 bs f are is) in
     spells_as t.version t.k t.is bs f t.parts (fields_valid t.k f t.fields)
 
-fine_in_two : (f : ProfileRows) → IsValid f → HasRoom f → IsFineProfile 7 f
+pub fine_in_two : (f : ProfileRows) → IsValid f → HasRoom f → IsFineProfile 7 f
 fine_in_two f valid room = record { valid = valid; room = room; counts = All-weaker (λ (l : LinkRow). AreSmall l.own) (λ (l : LinkRow). CountsFit 7 l.own) (λ l small. seven_fit l.own small) f.links room.counts }
 
 fine_in_one : (f : ProfileRows) → IsValid f → HasRoom f → All (λ l. l.own.excps ≡ 0) f.links → IsFineProfile 6 f

@@ -11,7 +11,7 @@ use std::marker::Model;
 /// Contexts and links in their order. A set of the links' callers, sites and called procedures finds one that was there
 /// before at once, and each context has a mark whether a link leads to it from one of a lower number.
 #[derive(Drop)]
-pub(crate) struct Graph {
+pub struct Graph {
     nodes: Vec<ProcId>,
     links: Vec<LinkRow>,
     keys: IndexSet<(u32, u32, u32)>,
@@ -30,7 +30,7 @@ impl Model for Graph {
 
 impl Graph {
     /// No contexts and no links.
-    pub(crate) fn new(alloc: Global) -> Graph
+    pub fn new(alloc: Global) -> Graph
         ensures { result ≡ record { nodes = []; links = [] } }
     {
         Graph {
@@ -42,21 +42,21 @@ impl Graph {
     }
 
     /// The procedure of each context.
-    pub(crate) fn nodes(&self) -> &[ProcId]
+    pub fn nodes(&self) -> &[ProcId]
         ensures { result.now ≡ self.now.nodes }
     {
         self.nodes.as_slice()
     }
 
     /// How many links there are.
-    pub(crate) fn link_count(&self) -> usize
+    pub fn link_count(&self) -> usize
         ensures { result ≡ length self.now.links }
     {
         self.links.len()
     }
 
     /// Adds a context of this procedure.
-    pub(crate) fn add_context(&mut self, proc: ProcId) -> Result<(), NoMemory>
+    pub fn add_context(&mut self, proc: ProcId) -> Result<(), NoMemory>
         ensures { OnOk result (self.new ≡ record self.old { nodes = self.old.nodes ++ proc ∷ [] }) }
     {
         self.nodes.reserve(1)?;
@@ -66,7 +66,7 @@ impl Graph {
     }
 
     /// Adds the root link with these counts.
-    pub(crate) fn add_root(&mut self, own: Counts) -> Result<(), NoMemory>
+    pub fn add_root(&mut self, own: Counts) -> Result<(), NoMemory>
         ensures { OnOk result (self.new ≡ record self.old { links = self.old.links ++ record { caller = None; site = None; callee = 0; own = own } ∷ [] }) }
     {
         self.links.push(LinkRow {
@@ -80,7 +80,7 @@ impl Graph {
 
     /// Adds a link to a context that is there, and answers whether none of the same caller, site and procedure was there
     /// before. Otherwise nothing is added.
-    pub(crate) fn add_link(
+    pub fn add_link(
         &mut self,
         caller: u32,
         site: u32,
@@ -110,7 +110,7 @@ impl Graph {
     }
 
     /// The lowest context above 0 to which no link leads from one of a lower number.
-    pub(crate) fn first_orphan(&self) -> Option<usize>
+    pub fn first_orphan(&self) -> Option<usize>
         ensures { result ≡ orphan_from self.now.links 1 (length self.now.nodes - 1) }
     {
         for context in 1..self.reached.len() {
@@ -122,7 +122,7 @@ impl Graph {
     }
 
     /// The contexts and the links. Takes no memory.
-    pub(crate) fn into_rows(self) -> (Vec<ProcId>, Vec<LinkRow>)
+    pub fn into_rows(self) -> (Vec<ProcId>, Vec<LinkRow>)
         ensures nodes { result.0.items ≡ self.nodes }
         ensures links { result.1.items ≡ self.links }
     {

@@ -20,7 +20,11 @@ mod writing;
 pub use damage::{DecodeFault, Kind};
 pub use decoder::{Decoder, decode};
 pub use encoder::encode;
+pub use graph::Graph;
+pub use links::joins;
 pub use loading::{LoadFault, load};
+pub use modules::Modules;
+pub use procs::Procs;
 pub use writing::write_profile;
 
 #[cfg(test)]

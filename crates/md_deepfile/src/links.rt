@@ -216,7 +216,7 @@ impl Reader {
 }
 
 /// Whether a site belongs to one procedure and may call another.
-fn joins(site: &Site, caller: ProcId, callee: ProcId) -> bool
+pub fn joins(site: &Site, caller: ProcId, callee: ProcId) -> bool
     ensures { result ≡ fits (Some caller) (Some site.now) (Some callee) }
 {
     site.owner.number() == caller.number() && may_be(site.kind, callee)

@@ -12,7 +12,7 @@ use std::marker::Model;
 
 /// Names of modules in their order. A set of their bytes finds one that was there before at once.
 #[derive(Drop)]
-pub(crate) struct Modules {
+pub struct Modules {
     names: Vec<Name>,
     keys: IndexSet<Vec<u8>>,
 }
@@ -31,7 +31,7 @@ impl Modules {
     ghost use Rattle.std.specs.Prelude.{length};
 
     /// No modules.
-    pub(crate) fn new(alloc: Global) -> Modules
+    pub fn new(alloc: Global) -> Modules
         ensures { result ≡ [] }
     {
         Modules {
@@ -41,14 +41,14 @@ impl Modules {
     }
 
     /// How many there are.
-    pub(crate) fn len(&self) -> usize
+    pub fn len(&self) -> usize
         ensures { result ≡ length self.now }
     {
         self.names.len()
     }
 
     /// Adds a module of this name, and answers whether it is a name that none had before. Otherwise nothing is added.
-    pub(crate) fn add(&mut self, alloc: Global, bytes: &[u8]) -> Result<bool, NoMemory>
+    pub fn add(&mut self, alloc: Global, bytes: &[u8]) -> Result<bool, NoMemory>
         ensures added { IfOk result (λ added. added ≡ (is_name bytes.now && not (list_any (bytes_eq bytes.now) self.old))) }
         ensures names { IfOk result (λ added. self.new ≡ (if added then self.old ++ bytes.now ∷ [] else self.old)) }
     {
@@ -68,7 +68,7 @@ impl Modules {
     }
 
     /// The names. Takes no memory.
-    pub(crate) fn into_names(self) -> Vec<Name>
+    pub fn into_names(self) -> Vec<Name>
         ensures { result.items ≡ self }
     {
         self.names

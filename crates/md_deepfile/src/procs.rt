@@ -13,7 +13,7 @@ use std::marker::Model;
 
 /// Procedures in their order. A set of their modules and names finds one that was there before at once.
 #[derive(Drop)]
-pub(crate) struct Procs {
+pub struct Procs {
     procs: Vec<Proc>,
     keys: IndexSet<(u32, Vec<u8>)>,
 }
@@ -34,7 +34,7 @@ impl Procs {
     ghost use Rattle.std.specs.Prelude.{length};
 
     /// No procedures.
-    pub(crate) fn new(alloc: Global) -> Procs
+    pub fn new(alloc: Global) -> Procs
         ensures { result ≡ [] }
     {
         Procs {
@@ -44,14 +44,14 @@ impl Procs {
     }
 
     /// How many there are.
-    pub(crate) fn len(&self) -> usize
+    pub fn len(&self) -> usize
         ensures { result ≡ length self.now }
     {
         self.procs.len()
     }
 
     /// Whether this is a name that no procedure of the module has.
-    pub(crate) fn is_new(&self, alloc: Global, home: u32, bytes: &[u8]) -> Result<bool, NoMemory>
+    pub fn is_new(&self, alloc: Global, home: u32, bytes: &[u8]) -> Result<bool, NoMemory>
         ensures { IfOk result (λ is_new. is_new ≡ (is_name bytes.now && not (list_any (is_proc home bytes.now) self.now))) }
     {
         if !is_program_name(bytes) {
@@ -62,7 +62,7 @@ impl Procs {
     }
 
     /// Adds a procedure, whose name no procedure of the module has.
-    pub(crate) fn push(
+    pub fn push(
         &mut self,
         alloc: Global,
         home: u32,
@@ -85,7 +85,7 @@ impl Procs {
     }
 
     /// The procedures. Takes no memory.
-    pub(crate) fn into_procs(self) -> Vec<Proc>
+    pub fn into_procs(self) -> Vec<Proc>
         ensures { result.items ≡ self }
     {
         self.procs

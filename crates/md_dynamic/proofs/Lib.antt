@@ -1,5 +1,7 @@
 pub mod Growth
-pub mod Places
+pub mod Offsets
+pub mod Positions
 pub mod SpanSteps
 pub mod Validity
 mod Worked
+mod WorkedTables

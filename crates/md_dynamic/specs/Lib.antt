@@ -1,4 +1,3 @@
-pub mod Fills
 pub mod Links
 pub mod OfHistory
 pub mod Profile

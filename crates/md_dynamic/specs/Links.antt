@@ -1,5 +1,5 @@
 -- Rows of links.
-use Rattle.std.specs.Prelude.{ℕ, Some, None}
+use Rattle.std.specs.Prelude.{ℕ, suc, Bool, List, [], ◌∷◌, Option, Some, None, if◌then◌else◌}
 use Rattle.md_base.specs.declared.measure.Counts.{Counts}
 use Rattle.md_dynamic.specs.declared.link.LinkRow.{LinkRow}
 
@@ -14,3 +14,11 @@ link_row node site to calls = record { caller = Some node; site = Some site; cal
 -- the root link before the run
 abbrev pub root_row : LinkRow
 root_row = record { caller = None; site = None; callee = 0; own = only_calls 0 }
+
+-- the number of the first link that passes the test, counted from n
+abbrev pub number_from : (LinkRow → Bool) → ℕ → List LinkRow → Option ℕ
+number_from test n [] = None
+number_from test n (l ∷ ls) = if test l then Some n else number_from test (suc n) ls
+
+abbrev pub number_of : (LinkRow → Bool) → List LinkRow → Option ℕ
+number_of test ls = number_from test 0 ls

@@ -1,23 +1,23 @@
--- What the tables hold, as lists by number: contexts with their procedures and slots, links, and active contexts.
-use Rattle.std.specs.Prelude.{ℕ, ◌≡◌, ◌+◌, ◌<◌, ◌≤◌, ◌^◌, List, [], ◌∷◌, ◌++◌, length, map, replicate, Option, Some, None, IsSomeAnd, MatchOption, All, ◌≢◌, option_and_then, slice_get}
+-- What the tables hold, as lists by number: contexts with their procedures, links, and active contexts.
+use Rattle.std.specs.Prelude.{ℕ, ◌≡◌, ◌+◌, ◌<◌, ◌≤◌, ◌^◌, ◌&&◌, Bool, List, [], ◌∷◌, ◌++◌, length, replicate, Option, Some, None, IfSome, IsSomeAnd, MatchOption, slice_get}
+use Rattle.std.specs.Map.{lookup}
 use Rattle.md_static.specs.declared.entry.Site.{Site}
 use Rattle.md_static.specs.Tables.{Static, callee_of}
 use Rattle.md_static.specs.Sites.{sites_of, place_of}
 use Rattle.md_static.specs.Sound.{IsSound}
+use Rattle.md_trace.specs.Context.{same_option}
 use Rattle.md_dynamic.specs.declared.link.LinkRow.{LinkRow}
+use Rattle.md_dynamic.specs.declared.slot.CalleeKey.{CalleeKey}
 use Rattle.md_dynamic.specs.declared.slot.Slot.{Slot}
-use Rattle.md_dynamic.specs.declared.slot.Slot.TheVariants.{Plain, Many}
 use Rattle.md_dynamic.specs.declared.span.Span.{Span}
-use Rattle.md_dynamic.specs.Fills.{FillsSlot}
-use Rattle.md_dynamic.specs.Links.{link_row, root_row}
-use Rattle.md_dynamic.specs.Slots.{empty_slot}
+use Rattle.md_dynamic.specs.Links.{link_row, root_row, number_of}
+use Rattle.md_dynamic.specs.Slots.{slot_of, slots_before, is_key}
 use Rattle.md_dynamic.specs.Spans.{AreSpans}
 
--- the program's tables; each context's procedure and slots; the links; and each procedure's active context
+-- the program's tables; each context's procedure; the links; and each procedure's active context
 pub record Rows : Type 0 where
   pub statics : Static
   pub nodes : List ℕ
-  pub slots : List (List Slot)
   pub links : List LinkRow
   pub active : List (Option ℕ)
 
@@ -25,59 +25,50 @@ pub record Rows : Type 0 where
 abbrev pub Owns : Rows → ℕ → ℕ → Type 0
 Owns r node site = IsSomeAnd (slice_get r.statics.sites site) (λ x. slice_get r.nodes node ≡ Some x.owner)
 
--- the place of a site among the slots of a context of this procedure
-abbrev pub place_at : List Site → Option ℕ → ℕ → ℕ
-place_at sites None s = 0
-place_at sites (Some p) s = place_of sites p s
+-- the site is a plain one, or a higher-order one
+abbrev pub IsPlainSite : Rows → ℕ → Type 0
+IsPlainSite r site = IsSomeAnd (slice_get r.statics.sites site) (λ x. IsSomeAnd (callee_of x.kind) (λ c. Unit {0}))
 
-abbrev pub place_in : Rows → ℕ → ℕ → ℕ
-place_in r node site = place_at r.statics.sites (slice_get r.nodes node) site
+abbrev pub IsHigherOrderSite : Rows → ℕ → Type 0
+IsHigherOrderSite r site = IsSomeAnd (slice_get r.statics.sites site) (λ x. callee_of x.kind ≡ None)
 
--- the slot of a site in a context
-abbrev pub slot_in : Rows → ℕ → ℕ → Option Slot
-slot_in r node site = option_and_then (λ xs. slice_get xs (place_in r node site)) (slice_get r.slots node)
+-- the link is one of site s in context v
+abbrev pub is_from : ℕ → ℕ → LinkRow → Bool
+is_from v s l = same_option (Some v) l.caller && same_option (Some s) l.site
 
-abbrev pub plain_link : Option Slot → Option ℕ
-plain_link None = None
-plain_link (Some (Plain o)) = o
-plain_link (Some (Many xs)) = None
+-- and it leads to a context of procedure q
+abbrev pub is_call : List ℕ → ℕ → ℕ → ℕ → LinkRow → Bool
+is_call nodes v s q l = is_from v s l && same_option (Some q) (slice_get nodes l.callee)
 
-abbrev pub many_links : Option Slot → List (ℕ × ℕ)
-many_links None = []
-many_links (Some (Plain o)) = []
-many_links (Some (Many xs)) = xs
-
--- the link that a plain site's slot has
+-- the link of a plain site in a context, if there is one
 abbrev pub link_in : Rows → ℕ → ℕ → Option ℕ
-link_in r node site = plain_link (slot_in r node site)
+link_in r node site = number_of (is_from node site) r.links
 
--- the links that a higher-order site's slot has, each with its procedure
-abbrev pub list_in : Rows → ℕ → ℕ → List (ℕ × ℕ)
-list_in r node site = many_links (slot_in r node site)
+-- the link of a callee at a higher-order site in a context, if there is one
+abbrev pub callee_in : Rows → ℕ → ℕ → ℕ → Option ℕ
+callee_in r node site q = number_of (is_call r.nodes node site q) r.links
 
 -- the site may call this procedure
 abbrev pub MayLead : Rows → ℕ → ℕ → Type 0
 MayLead r site q = IsSomeAnd (slice_get r.statics.sites site) (λ x. MatchOption (callee_of x.kind) (q < length r.statics.procs) (λ c. q ≡ c))
 
--- a plain site's slot is empty, or a higher-order site's list does not have this procedure yet
+-- a plain site has no link in the context yet, or a higher-order site none of this procedure
 abbrev pub IsFresh : Rows → ℕ → ℕ → ℕ → Type 0
-IsFresh r node site q = IsSomeAnd (slice_get r.statics.sites site) (λ x. MatchOption (callee_of x.kind) (All (λ e. e.0 ≢ q) (list_in r node site)) (λ c. link_in r node site ≡ None))
+IsFresh r node site q = IsSomeAnd (slice_get r.statics.sites site) (λ x. MatchOption (callee_of x.kind) (callee_in r node site q ≡ None) (λ c. link_in r node site ≡ None))
 
--- one more link, which leads to a context that is there, in its slot; nothing else
+-- one more link, which leads to a context that is there; nothing else
 pub record AddsLink (old new : Rows) (node site q to calls k : ℕ) : Type 0 where
   pub number : k ≡ length old.links
   pub statics : new.statics ≡ old.statics
   pub nodes : new.nodes ≡ old.nodes
-  pub slots : FillsSlot old.slots new.slots node (place_in old node site) q k
   pub links : new.links ≡ old.links ++ link_row node site to calls ∷ []
   pub active : new.active ≡ old.active
 
--- one more context of q, with empty slots, and one more link, which leads to it, in its slot; nothing else
+-- one more context of q, and one more link, which leads to it; nothing else
 pub record AddsContext (old new : Rows) (node site q calls k : ℕ) : Type 0 where
   pub number : k ≡ length old.links
   pub statics : new.statics ≡ old.statics
   pub nodes : new.nodes ≡ old.nodes ++ q ∷ []
-  pub slots : (mid : List (List Slot)) × FillsSlot old.slots mid node (place_in old node site) q k × (new.slots ≡ mid ++ map empty_slot (sites_of q old.statics.sites) ∷ [])
   pub links : new.links ≡ old.links ++ link_row node site (length old.nodes) calls ∷ []
   pub active : new.active ≡ old.active
 
@@ -93,23 +84,52 @@ add_cost r q (Some to) = 3
 
 -- a run that has not begun
 abbrev pub first_rows : Static → ℕ → Rows
-first_rows s main = record {
-  statics = s;
-  nodes = main ∷ [];
-  slots = map empty_slot (sites_of main s.sites) ∷ [];
-  links = root_row ∷ [];
-  active = replicate (length s.procs) None;
-}
+first_rows s main = record { statics = s; nodes = main ∷ []; links = root_row ∷ []; active = replicate (length s.procs) None }
+
+-- ---- how links are found
+
+-- where the slot of a site in a context stands among all slots, by the context's procedure
+abbrev pub place_at : List Site → List ℕ → ℕ → ℕ → ℕ → ℕ
+place_at sites nodes v p s = slots_before sites nodes v + place_of sites p s
+
+-- the same by the rows; a context that isn't there has none
+abbrev pub place_by : List Site → List ℕ → ℕ → Option ℕ → ℕ → ℕ
+place_by sites nodes v None s = 0
+place_by sites nodes v (Some p) s = place_at sites nodes v p s
+
+abbrev pub place_in : Rows → ℕ → ℕ → ℕ
+place_in r node site = place_by r.statics.sites r.nodes node (slice_get r.nodes node) site
+
+-- the slots of each context begin behind those of the contexts before it
+pub record AreFirsts (sites : List Site) (nodes firsts : List ℕ) : Type 0 where
+  pub each : length firsts ≡ length nodes
+  pub right : (v : ℕ) → v < length nodes → slice_get firsts v ≡ Some (slots_before sites nodes v)
+
+-- each context has its slots, and that of a plain site has the link of the site there, or none exactly where there is none
+pub record AreSlots (sites : List Site) (nodes : List ℕ) (slots : List Slot) (links : List LinkRow) : Type 0 where
+  pub each : length slots ≡ slots_before sites nodes (length nodes)
+  pub right : (v s c : ℕ) (x : Site) → slice_get sites s ≡ Some x → callee_of x.kind ≡ Some c → slice_get nodes v ≡ Some x.owner
+      → slice_get slots (place_at sites nodes v x.owner s) ≡ Some (slot_of (number_of (is_from v s) links))
+
+-- the map of callees has the links of higher-order sites, each under its context, site and procedure
+abbrev pub AreCallees : List Site → List ℕ → List (CalleeKey × ℕ) → List LinkRow → Type 0
+AreCallees sites nodes callees links =
+    (v s q : ℕ) (x : Site) → slice_get sites s ≡ Some x → callee_of x.kind ≡ None → lookup (is_key v s q) callees ≡ number_of (is_call nodes v s q) links
+
+-- the ends of each link are there
+abbrev pub HasItsEnds : List ℕ → LinkRow → Type 0
+HasItsEnds nodes l = IfSome l.caller (λ v. v < length nodes) × (l.callee < length nodes)
 
 -- what always holds of the tables
-pub record AreTables (s : Static) (spans : List Span) (nodes : List ℕ) (slots : List (List Slot)) (links : List LinkRow) (active : List (Option ℕ)) : Type 0 where
+pub record AreTables (s : Static) (spans : List Span) (nodes firsts : List ℕ) (slots : List Slot) (callees : List (CalleeKey × ℕ)) (links : List LinkRow) (active : List (Option ℕ)) : Type 0 where
   pub sound : IsSound s
   pub spans_right : AreSpans s.sites (length s.procs) spans
   pub nodes_there : (v p : ℕ) → slice_get nodes v ≡ Some p → p < length s.procs
-  pub slots_each : length slots ≡ length nodes
-  pub sizes : (v p : ℕ) (xs : List Slot) → slice_get nodes v ≡ Some p → slice_get slots v ≡ Some xs → length xs ≡ length (sites_of p s.sites)
+  pub firsts_are : AreFirsts s.sites nodes firsts
+  pub slots_are : AreSlots s.sites nodes slots links
+  pub callees_are : AreCallees s.sites nodes callees links
+  pub ends : (k : ℕ) (l : LinkRow) → slice_get links k ≡ Some l → HasItsEnds nodes l
   pub pointers : length active ≡ length s.procs
   pub active_there : (q v : ℕ) → slice_get active q ≡ Some (Some v) → slice_get nodes v ≡ Some q
-  pub short : (v k : ℕ) (xs : List Slot) (ys : List (ℕ × ℕ)) → slice_get slots v ≡ Some xs → slice_get xs k ≡ Some (Many ys) → length ys ≤ length links
   pub fewer : length nodes ≤ length links
   pub few : length links < 2 ^ 32

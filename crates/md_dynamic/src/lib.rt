@@ -10,6 +10,5 @@ mod tables;
 
 pub use link::LinkRow;
 pub use profile::{CheckFault, Profile};
-pub use slot::{Callees, Slot, Slots};
 pub use span::Span;
 pub use tables::Tables;

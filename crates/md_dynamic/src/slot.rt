@@ -1,127 +1,113 @@
-// Where a context finds the links of its call sites.
-ghost use Rattle.std.specs.Prelude.{◌≡◌, ◌<◌, ◌+◌, ◌++◌, [], ◌∷◌, length, slice_get, slice_set, map, OnOk, OnErr, IfOk, IfSome, Some};
-ghost use Rattle.md_dynamic.specs.Slots.{empty_slot_of};
+// Where the links of call sites are found.
+ghost use Rattle.std.specs.Prelude.{ℕ, ◌≡◌, ◌<◌, ◌≤◌, ◌+◌, ◌++◌, cond, IfOk, length, MatchOption, None, OnErr, OnOk, Option, replicate, slice_set, Some, vec_capacity, vec_len};
+ghost use Rattle.std.specs.Map.{lookup};
+ghost use Rattle.md_static.specs.Tables.{callee_of};
+ghost use Rattle.md_dynamic.specs.Slots.{is_key, slot_link, slot_of};
 
-use md_base::{CsdId, NoMemory, ProcId, Steps};
-use md_static::{Site, SiteKind};
+use indexmap::IndexMap;
+use md_base::{CsdId, NoMemory, PdId, ProcId, SiteId, Steps};
+use md_static::SiteKind;
 use std::alloc::Global;
-use std::marker::Model;
 use std::sync::ledger::Ledger;
 
-/// The links of a higher-order site in one context, each with the procedure that it calls, in order of first use.
-#[derive(Debug, Drop)]
-pub struct Callees {
-    items: Vec<(ProcId, CsdId)>,
+/// What a context keeps for a call site of its procedure: the link of a plain site, or none before the first call. It takes
+/// four bytes, since no link has the last number.
+#[derive(Clone, Copy, Debug)]
+pub(crate) struct Slot {
+    number: u32,
 }
 
-impl Model for Callees {
-    ghost use Rattle.std.specs.Prelude.{ℕ, List};
-
-    ghost Value = { List (ℕ × ℕ) };
-
-    ghost view = { λ c. c.items.items };
-}
-
-impl Callees {
-    /// No links. Takes no memory.
-    pub fn new(alloc: Global) -> Callees
-        ensures { result ≡ [] }
+impl Slot {
+    /// A slot without a link.
+    pub(crate) fn empty() -> Slot
+        ensures { result ≡ slot_of None }
     {
-        Callees {
-            items: Vec::new(alloc),
+        Slot { number: u32::MAX }
+    }
+
+    /// A slot with this link.
+    pub(crate) fn of(link: CsdId) -> Slot
+        ensures { result ≡ slot_of (Some link) }
+    {
+        Slot {
+            number: link.number(),
         }
     }
 
-    /// The link at a place, with its procedure.
-    pub fn at(&self, place: usize) -> Option<(ProcId, CsdId)>
-        ensures { result ≡ slice_get self.now place }
+    /// The link, if there is one.
+    pub(crate) fn link(self) -> Option<CsdId>
+        ensures { result ≡ slot_link self }
     {
-        self.items.get(place).copied()
-    }
-
-    /// Adds a link at the end.
-    pub fn push(&mut self, callee: ProcId, link: CsdId) -> Result<(), NoMemory>
-        ensures ok { OnOk result (self.new ≡ self.old ++ (callee, link) ∷ []) }
-        ensures err { OnErr result (self.new ≡ self.old) }
-    {
-        self.items.push((callee, link))?;
-        Ok(())
-    }
-}
-
-/// What a context keeps for one of its call sites.
-#[derive(Debug, Drop)]
-pub enum Slot {
-    /// The link of a plain site, or none before the first call.
-    Plain(Option<CsdId>),
-    /// The links of a higher-order site.
-    Many(Callees),
-}
-
-/// The slots of one context, one for each call site of its procedure, in order.
-#[derive(Debug, Drop)]
-pub struct Slots {
-    items: Vec<Slot>,
-}
-
-impl Model for Slots {
-    ghost use Rattle.std.specs.Prelude.{List};
-    ghost use Rattle.md_dynamic.specs.declared.slot.Slot.{Slot};
-
-    ghost Value = { List Slot };
-
-    ghost view = { λ s. s.items.items };
-}
-
-impl Slots {
-    ghost use Rattle.std.specs.Prelude.{◌≡◌, ◌<◌, ◌+◌, length, slice_get, slice_set, map, OnOk, OnErr, IfOk, IfSome, is_ok, if◌then◌else◌};
-    ghost use Rattle.md_dynamic.specs.Slots.{empty_slot, filled};
-
-    /// The slots of a new context, for the call sites of its procedure: one table step each.
-    pub fn empty<L: Ledger>(
-        alloc: Global,
-        sites: &[Site],
-        steps: &mut Steps<L>,
-    ) -> Result<Slots, NoMemory>
-        ensures slots { IfOk result (λ slots. slots ≡ map empty_slot sites.now) }
-        ensures cost { steps.new ≡ (if is_ok result then steps.old + length sites.now else steps.old) }
-    {
-        let mut items = Vec::with_capacity(alloc, sites.len())?;
-        for site in sites {
-            steps.tick();
-            items.push_reserved(empty_slot(alloc, site.kind));
+        if self.number == u32::MAX {
+            None
+        } else {
+            Some(CsdId::new(self.number))
         }
-        Ok(Slots { items })
-    }
-
-    /// The slot at a place.
-    pub fn at(&self, place: usize) -> &Slot
-        requires { place < length self.now }
-        ensures { slice_get self.now place ≡ Some result.now }
-    {
-        &self.items[place]
-    }
-
-    /// Puts a link into the slot at a place, or last into its list.
-    pub fn fill(&mut self, place: usize, callee: ProcId, link: CsdId) -> Result<(), NoMemory>
-        requires { place < length self.old }
-        ensures ok { OnOk result (IfSome (slice_get self.old place) (λ slot. self.new ≡ slice_set self.old place (filled slot callee link))) }
-        ensures err { OnErr result (self.new ≡ self.old) }
-    {
-        match &mut self.items[place] {
-            Slot::Plain(found) => *found = Some(link),
-            Slot::Many(callees) => callees.push(callee, link)?,
-        }
-        Ok(())
     }
 }
 
-/// The slot of a site before its first call.
-fn empty_slot(alloc: Global, kind: SiteKind) -> Slot
-    ensures { result ≡ empty_slot_of kind }
+/// What tells the links of higher-order sites apart: the context that calls, the site, and the procedure that is called.
+#[derive(Clone, Copy, Debug, PartialEq, Eq, Hash)]
+pub(crate) struct CalleeKey {
+    pub(crate) node: PdId,
+    pub(crate) site: SiteId,
+    pub(crate) callee: ProcId,
+}
+
+/// Puts a link into its slot where its site is plain, and among the callees where it is higher-order.
+pub(crate) fn enter(
+    slots: &mut Vec<Slot>,
+    callees: &mut IndexMap<CalleeKey, CsdId>,
+    kind: SiteKind,
+    place: usize,
+    key: CalleeKey,
+    link: CsdId,
+) -> Result<(), NoMemory>
+    requires { place < length slots.old.items }
+    ensures slots { OnOk result (MatchOption (callee_of kind) (slots.new.items ≡ slots.old.items) (λ c. slots.new.items ≡ slice_set slots.old.items place (slot_of (Some link)))) }
+    ensures callees { OnOk result (MatchOption (callee_of kind)
+        ((v s q : ℕ) → lookup (is_key v s q) callees.new.entries ≡ cond (is_key key.node key.site key.callee (record { node = v; site = s; callee = q })) (Some link) (lookup (is_key v s q) callees.old.entries))
+        (λ c. callees.new.entries ≡ callees.old.entries)) }
+    ensures err { OnErr result (slots.new.items ≡ slots.old.items) }
+    ensures err_callees { OnErr result (callees.new.entries ≡ callees.old.entries) }
+    ensures len { vec_len slots.new ≡ vec_len slots.old }
+    ensures room { vec_capacity slots.new ≡ vec_capacity slots.old }
 {
     match kind {
-        SiteKind::Plain(_) => Slot::Plain(None),
-        SiteKind::HigherOrder => Slot::Many(Callees::new(alloc)),
+        SiteKind::Plain(_) => slots[place] = Slot::of(link),
+        SiteKind::HigherOrder => {
+            callees.insert(key, link)?;
+        }
+    }
+    Ok(())
+}
+
+/// The link of a callee, if there is one.
+pub(crate) fn find(callees: &IndexMap<CalleeKey, CsdId>, key: CalleeKey) -> Option<CsdId>
+    ensures { result ≡ lookup (is_key key.node key.site key.callee) callees.now.entries }
+{
+    callees.get(&key).copied()
+}
+
+/// That many slots without links.
+pub(crate) fn empty_slots(alloc: Global, count: u32) -> Result<Vec<Slot>, NoMemory>
+    ensures { IfOk result (λ slots. slots.items ≡ replicate count (slot_of None)) }
+{
+    let mut slots = Vec::with_capacity(alloc, count as usize)?;
+    for _ in 0..count {
+        slots.push_reserved(Slot::empty());
+    }
+    Ok(slots)
+}
+
+/// Puts the slots of a new context behind all others: one table step for each.
+pub(crate) fn push_empty<L: Ledger>(slots: &mut Vec<Slot>, count: u32, steps: &mut Steps<L>)
+    requires { length slots.old.items + count ≤ vec_capacity slots.old }
+    ensures slots { slots.new.items ≡ slots.old.items ++ replicate count (slot_of None) }
+    ensures cost { steps.new ≡ steps.old + count }
+{
+    for _ in 0..count {
+        steps.tick();
+        slots.push_reserved(Slot::empty());
     }
 }

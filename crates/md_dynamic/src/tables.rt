@@ -1,36 +1,37 @@
 // Contexts and links by number, and one active context per procedure.
-ghost use Rattle.std.specs.Prelude.{ℕ, ◌≡◌, ◌<◌, ◌≤◌, ◌+◌, ◌++◌, [], ◌∷◌, length, slice_get, slice_set, map, replicate, IfSome, IfOk, OnOk, OnErr, Some, None, IsSomeAnd, take, drop, vec_len, vec_capacity};
-ghost use Rattle.std.specs.Option.{option_map};
-ghost use Rattle.md_trace.specs.Count.{with_more};
+ghost use Rattle.std.specs.Prelude.{ℕ, ◌≡◌, ◌<◌, ◌≤◌, ◌+◌, length, take, drop, slice_get, replicate, IfOk, Some};
 ghost use Rattle.md_static.specs.Sites.{sites_of};
-ghost use Rattle.md_static.specs.Sound.{IsSound};
-ghost use Rattle.md_dynamic.specs.Slots.{empty_slot};
 ghost use Rattle.md_dynamic.specs.Links.{link_row, root_row};
-ghost use Rattle.md_dynamic.specs.Fills.{FillsSlot};
 
 use crate::link::LinkRow;
 use crate::profile::Profile;
-use crate::slot::{Slot, Slots};
+use crate::slot::{CalleeKey, Slot, empty_slots, enter, find, push_empty};
 use crate::span::{Span, spans_of};
+use indexmap::IndexMap;
 use md_base::{Counts, CsdId, Measure, NoMemory, PdId, ProcId, SiteId, Steps};
 use md_static::{Site, Statics};
 use std::alloc::Global;
-use std::marker::{Brand, Model};
-use std::sync::ledger::{Blank, Ledger};
+use std::marker::Model;
+use std::sync::ledger::Ledger;
 
 /// The contexts and links of a run. Context 0 is that of the main procedure, and link 0, the root link, leads to it.
 ///
+/// The slots of all contexts stand in one vector, and each context keeps where its own begin; the links of all higher-order
+/// sites stand in one map. So a context with its link and one slot takes 64 bytes, beside the room that vectors grow by.
+///
 /// Each call takes a number of table steps: a step is one read, one write or one adding of a row, a slot or an active
-/// pointer, or one step along the links of a higher-order site.
+/// pointer, or one look-up or one adding in the map.
 #[derive(Drop)]
 pub struct Tables {
     statics: Statics,
     spans: Vec<Span>,
     nodes: Vec<ProcId>,
-    slots: Vec<Slots>,
+    /// Where the slots of each context begin.
+    firsts: Vec<usize>,
+    slots: Vec<Slot>,
+    callees: IndexMap<CalleeKey, CsdId>,
     links: Vec<LinkRow>,
     active: Vec<Option<PdId>>,
-    alloc: Global,
 }
 
 impl Model for Tables {
@@ -38,22 +39,21 @@ impl Model for Tables {
 
     ghost Value = { Rows };
 
-    ghost view = { λ t. record { statics = t.statics; nodes = t.nodes.items; slots = t.slots.items; links = t.links.items; active = t.active.items } };
+    ghost view = { λ t. record { statics = t.statics; nodes = t.nodes.items; links = t.links.items; active = t.active.items } };
 
-    ghost invariant = { λ t. AreTables t.statics t.spans.items t.nodes.items t.slots.items t.links.items t.active.items };
+    ghost invariant = { λ t. AreTables t.statics t.spans.items t.nodes.items t.firsts.items t.slots.items t.callees.entries t.links.items t.active.items };
 }
 
 impl Tables {
-    ghost use Rattle.std.specs.Prelude.{◌≡◌, ◌<◌, ◌≤◌, ◌+◌, ◌++◌, [], ◌∷◌, length, slice_get, slice_set, map, replicate, IfSome, IfOk, OnOk, OnErr, Some, None, IsSomeAnd, is_ok, if◌then◌else◌};
+    ghost use Rattle.std.specs.Prelude.{◌≡◌, ◌<◌, ◌≤◌, ◌+◌, length, slice_get, slice_set, IfSome, IfOk, OnOk, OnErr, Some};
     ghost use Rattle.std.specs.Option.{option_map};
     ghost use Rattle.md_trace.specs.Count.{with_more};
     ghost use Rattle.md_static.specs.Sites.{sites_of};
     ghost use Rattle.md_static.specs.Sound.{IsSound};
-    ghost use Rattle.md_dynamic.specs.Slots.{empty_slot};
-    ghost use Rattle.md_dynamic.specs.Rows.{Rows, Owns, MayLead, IsFresh, Adds, AddsLink, AddsContext, add_cost, first_rows, place_in, link_in, list_in};
+    ghost use Rattle.md_dynamic.specs.Rows.{Rows, Owns, IsPlainSite, IsHigherOrderSite, MayLead, IsFresh, Adds, AddsLink, AddsContext, add_cost, first_rows, place_in, link_in, callee_in};
 
     /// The tables of a run that has not begun: context 0 of the main procedure, link 0 to it with counts of 0, empty
-    /// slots and lists, and no active context.
+    /// slots, no callees, and no active context.
     pub fn new(alloc: Global, statics: Statics, main: ProcId) -> Result<Tables, NoMemory>
         requires sound { IsSound statics }
         requires main_there { main < length statics.procs }
@@ -61,20 +61,21 @@ impl Tables {
     {
         let procs = statics.procs().len();
         let spans = spans_of(alloc, procs, statics.sites())?;
-        let own = own_sites(statics.sites(), spans[main.number() as usize]);
-        let empty = empty_slots::<Brand>(alloc, own, Blank::new(1))?;
+        let own = spans[main.number() as usize].count;
+        let slots = empty_slots(alloc, own)?;
         let nodes = vec![in alloc; main]?;
-        let slots = vec![in alloc; empty]?;
+        let firsts = vec![in alloc; 0usize]?;
         let links = vec![in alloc; root_link()]?;
         let active = no_pointers(alloc, procs)?;
         Ok(Tables {
             statics,
             spans,
             nodes,
+            firsts,
             slots,
+            callees: IndexMap::new(alloc),
             links,
             active,
-            alloc,
         })
     }
 
@@ -131,37 +132,31 @@ impl Tables {
 
     /// The link of a plain site in a context, or none where its slot is empty. Two table steps.
     pub fn slot<L: Ledger>(&self, node: PdId, site: SiteId, steps: &mut Steps<L>) -> Option<CsdId>
-        requires { Owns self.now node site }
+        requires owned { Owns self.now node site }
+        requires plain { IsPlainSite self.now site }
         ensures value { result ≡ link_in self.now node site }
         ensures cost { steps.new ≡ steps.old + 2 }
     {
         steps.tick();
         steps.tick();
-        match self.slots[node.number() as usize].at(self.place(node, site)) {
-            Slot::Plain(link) => *link,
-            Slot::Many(_) => None,
-        }
+        self.slots[self.place(node, site)].link()
     }
 
-    /// The link at a place in the list of a higher-order site in a context, with its procedure; none past the end.
-    /// One table step.
-    pub fn callee_at<L: Ledger>(
+    /// The link of a callee at a higher-order site in a context, or none where the map has none. One table step.
+    pub fn find<L: Ledger>(
         &self,
         node: PdId,
         site: SiteId,
-        place: u32,
+        callee: ProcId,
         steps: &mut Steps<L>,
-    ) -> Option<(ProcId, CsdId)>
-        requires { Owns self.now node site }
-        ensures value { result ≡ slice_get (list_in self.now node site) place }
-        ensures short { length (list_in self.now node site) ≤ length self.now.links }
+    ) -> Option<CsdId>
+        requires owned { Owns self.now node site }
+        requires higher_order { IsHigherOrderSite self.now site }
+        ensures value { result ≡ callee_in self.now node site callee }
         ensures cost { steps.new ≡ steps.old + 1 }
     {
         steps.tick();
-        match self.slots[node.number() as usize].at(self.place(node, site)) {
-            Slot::Plain(_) => None,
-            Slot::Many(callees) => callees.at(place as usize),
-        }
+        find(&self.callees, CalleeKey { node, site, callee })
     }
 
     /// Adds to a measure of a link, up to 4,294,967,295. Two table steps.
@@ -177,8 +172,9 @@ impl Tables {
     }
 
     /// Adds a link of a site in a context, with that many calls and other counts of 0, and puts it into the site's slot
-    /// or last into its list. It leads to `to`, or to a new context of `callee` where there is none. Three table steps,
-    /// or four and one for each call site of the callee where the context is new.
+    /// or into the map of callees. It leads to `to`, or to a new context of `callee` where there is none. Three table steps,
+    /// or four and one for each call site of the callee where the context is new. Memory is taken first; where it is refused
+    /// all is as before.
     pub fn add<L: Ledger>(
         &mut self,
         node: PdId,
@@ -200,8 +196,6 @@ impl Tables {
         ensures cost_refused { OnErr result (steps.new ≤ steps.old + add_cost self.old callee to) }
         ensures forward { steps.old ≤ steps.new }
     {
-        // What always holds of the tables says that what a site calls is there.
-        let _ = &self.statics;
         match to {
             Some(end) => self.add_link(node, site, callee, end, calls, steps),
             None => self.add_context(node, site, callee, calls, steps),
@@ -219,6 +213,8 @@ impl Tables {
         steps: &mut Steps<L>,
     ) -> Result<CsdId, NoMemory>
         requires owned { Owns self.old node site }
+        requires fresh { IsFresh self.old node site callee }
+        requires of_callee { slice_get self.old.nodes to ≡ Some callee }
         requires room { length self.old.links < 4294967295 }
         ensures ok { IfOk result (λ link. AddsLink self.old self.new node site callee to calls link) }
         ensures err { OnErr result (self.new ≡ self.old) }
@@ -228,11 +224,13 @@ impl Tables {
         ensures forward { steps.old ≤ steps.new }
     {
         let place = self.place(node, site);
+        let kind = self.site(site).kind;
         let link = CsdId::new(self.links.len() as u32);
+        let key = CalleeKey { node, site, callee };
         self.links.reserve(1)?;
         steps.tick();
         steps.tick();
-        fill_slot(&mut self.slots, node.number() as usize, place, callee, link)?;
+        enter(&mut self.slots, &mut self.callees, kind, place, key, link)?;
         steps.tick();
         self.links.push_reserved(row(node, site, to, calls));
         Ok(link)
@@ -248,7 +246,8 @@ impl Tables {
         steps: &mut Steps<L>,
     ) -> Result<CsdId, NoMemory>
         requires owned { Owns self.old node site }
-        requires there { callee < length self.old.statics.procs }
+        requires may_lead { MayLead self.old site callee }
+        requires fresh { IsFresh self.old node site callee }
         requires room { length self.old.links < 4294967295 }
         ensures ok { IfOk result (λ link. AddsContext self.old self.new node site callee calls link) }
         ensures err { OnErr result (self.new ≡ self.old) }
@@ -257,66 +256,45 @@ impl Tables {
         ensures cost_refused { OnErr result (steps.new ≤ steps.old + (4 + length (sites_of callee self.old.statics.sites))) }
         ensures forward { steps.old ≤ steps.new }
     {
-        let empty = self.empty_for(callee, steps)?;
-        self.add_with(node, site, callee, empty, calls, steps)
-    }
-
-    /// Adds a context with these slots, and a link that leads to it.
-    fn add_with<L: Ledger>(
-        &mut self,
-        node: PdId,
-        site: SiteId,
-        callee: ProcId,
-        empty: Slots,
-        calls: u32,
-        steps: &mut Steps<L>,
-    ) -> Result<CsdId, NoMemory>
-        requires owned { Owns self.old node site }
-        requires there { callee < length self.old.statics.procs }
-        requires slots { empty ≡ map empty_slot (sites_of callee self.old.statics.sites) }
-        requires room { length self.old.links < 4294967295 }
-        ensures ok { IfOk result (λ link. AddsContext self.old self.new node site callee calls link) }
-        ensures err { OnErr result (self.new ≡ self.old) }
-        ensures statics { self.new.statics ≡ self.old.statics }
-        ensures cost { OnOk result (steps.new ≡ steps.old + 4) }
-        ensures cost_refused { OnErr result (steps.new ≤ steps.old + 4) }
-        ensures forward { steps.old ≤ steps.new }
-    {
         let place = self.place(node, site);
+        let kind = self.site(site).kind;
+        let own = self.own_count(callee);
         let link = CsdId::new(self.links.len() as u32);
         let end = PdId::new(self.nodes.len() as u32);
+        let first = self.slots.len();
+        let key = CalleeKey { node, site, callee };
         self.links.reserve(1)?;
         self.nodes.reserve(1)?;
-        self.slots.reserve(1)?;
+        self.firsts.reserve(1)?;
+        self.slots.reserve(own as usize)?;
         steps.tick();
         steps.tick();
-        fill_slot(&mut self.slots, node.number() as usize, place, callee, link)?;
+        enter(&mut self.slots, &mut self.callees, kind, place, key, link)?;
         steps.tick();
         self.nodes.push_reserved(callee);
-        self.slots.push_reserved(empty);
+        self.firsts.push_reserved(first);
+        push_empty(&mut self.slots, own, steps);
         steps.tick();
         self.links.push_reserved(row(node, site, end, calls));
         Ok(link)
     }
 
-    /// The slots of a new context of a procedure: a table step each.
-    fn empty_for<L: Ledger>(&self, callee: ProcId, steps: &mut Steps<L>) -> Result<Slots, NoMemory>
-        requires { callee < length self.now.statics.procs }
-        ensures slots { IfOk result (λ slots. slots ≡ map empty_slot (sites_of callee self.now.statics.sites)) }
-        ensures cost { steps.new ≡ (if is_ok result then steps.old + length (sites_of callee self.now.statics.sites) else steps.old) }
+    /// How many call sites a procedure has.
+    fn own_count(&self, proc: ProcId) -> u32
+        requires { proc < length self.now.statics.procs }
+        ensures { result ≡ length (sites_of proc self.now.statics.sites) }
     {
-        let span = self.spans[callee.number() as usize];
-        Slots::empty(self.alloc, own_sites(self.statics.sites(), span), steps)
+        self.spans[proc.number() as usize].count
     }
 
-    /// The place of a site's slot among the slots of a context.
+    /// The place of a site's slot in a context among all slots.
     fn place(&self, node: PdId, site: SiteId) -> usize
         requires { Owns self.now node site }
-        ensures value { result ≡ place_in self.now node site }
-        ensures within { IsSomeAnd (slice_get self.now.slots node) (λ xs. result < length xs) }
+        ensures { result ≡ place_in self.now node site }
     {
         let proc = self.nodes[node.number() as usize];
-        (site.number() - self.spans[proc.number() as usize].first) as usize
+        let own_place = site.number() - self.spans[proc.number() as usize].first;
+        self.firsts[node.number() as usize] + own_place as usize
     }
 }
 
@@ -339,23 +317,6 @@ fn no_pointers(alloc: Global, procs: usize) -> Result<Vec<Option<PdId>>, NoMemor
     Ok(vec![in alloc; None; procs]?)
 }
 
-/// Puts a link into a slot of a context, or last into its list.
-fn fill_slot(
-    slots: &mut Vec<Slots>,
-    node: usize,
-    place: usize,
-    callee: ProcId,
-    link: CsdId,
-) -> Result<(), NoMemory>
-    requires { IsSomeAnd (slice_get slots.old.items node) (λ xs. place < length xs) }
-    ensures ok { OnOk result (FillsSlot slots.old.items slots.new.items node place callee link) }
-    ensures err { OnErr result (slots.new.items ≡ slots.old.items) }
-    ensures len { vec_len slots.new ≡ vec_len slots.old }
-    ensures room { vec_capacity slots.new ≡ vec_capacity slots.old }
-{
-    slots[node].fill(place, callee, link)
-}
-
 /// A link with that many calls and other counts of 0.
 fn row(node: PdId, site: SiteId, to: PdId, calls: u32) -> LinkRow
     ensures { result ≡ link_row node site to calls }
@@ -371,26 +332,6 @@ fn row(node: PdId, site: SiteId, to: PdId, calls: u32) -> LinkRow
     }
 }
 
-/// The call sites of a span.
-fn own_sites<'a>(sites: &'a [Site], span: Span) -> &'a [Site]
-    requires { span.first + span.count ≤ length sites.now }
-    ensures { result.now ≡ take span.count (drop span.first sites.now) }
-{
-    let first = span.first as usize;
-    &sites[first..first + span.count as usize]
-}
-
-/// The slots of a context, made without counting.
-fn empty_slots<L: Ledger>(alloc: Global, sites: &[Site], blank: Blank) -> Result<Slots, NoMemory>
-    requires name { blank.name ≡ L.name }
-    requires parts { blank.parts ≡ L.parts }
-    requires some { 0 < blank.parts }
-    ensures { IfOk result (λ slots. slots ≡ map empty_slot sites.now) }
-{
-    let mut steps = Steps::<L>::open(blank);
-    Slots::empty(alloc, sites, &mut steps)
-}
-
 impl Tables {
     /// The profile of what the tables hold. Takes no memory.
     pub fn freeze(self, finished: bool) -> Profile
@@ -400,10 +341,11 @@ impl Tables {
             statics,
             spans: _,
             nodes,
+            firsts: _,
             slots: _,
+            callees: _,
             links,
             active: _,
-            alloc: _,
         } = self;
         Profile::from_parts(statics, nodes, links, finished)
     }

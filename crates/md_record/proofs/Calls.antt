@@ -25,12 +25,11 @@ use Rattle.md_trace.proofs.Numbered.{numbered-new}
 use Rattle.md_trace.proofs.Placing.{length-placed}
 use Rattle.md_trace.proofs.Setwise.{newest, set-call, set-call-other}
 use Rattle.md_dynamic.specs.declared.link.LinkRow.{LinkRow}
-use Rattle.md_dynamic.specs.declared.slot.Slot.{Slot}
 use Rattle.md_dynamic.specs.Links.{link_row, only_calls}
 use Rattle.md_dynamic.specs.Rows.{Rows}
 use Rattle.md_record.specs.Kept.{Kept, Stands}
 use Rattle.md_record.specs.Marks.{BelongsTo}
-use Rattle.md_record.specs.Parts.{RowsAre, SlotsAre, ActiveIs, AreSteps, nearest}
+use Rattle.md_record.specs.Parts.{RowsAre, ActiveIs, AreSteps, nearest}
 use Rattle.md_record.proofs.Events.{Points, RunsAt}
 use Rattle.md_record.proofs.PointerSteps.{nearest-same, nearest-other, active-set, steps-more, steps-length, chain-pushed}
 use Rattle.md_record.proofs.Returns.{right-of}
@@ -49,7 +48,6 @@ pub record Shows (t : SiteTable) (h : List Event) (k0 k2 : Kept) (s : Option ℕ
   pub statics : k2.rows.statics ≡ k0.rows.statics
   pub contexts_are : k2.rows.nodes ≡ contexts t.main (begun t.main h s q ∷ placed_of t.main h)
   pub rows_are : RowsAre t.main (the_call h s q ∷ h) (links t.main (begun t.main h s q ∷ placed_of t.main h)) k2.rows.links
-  pub slots_are : SlotsAre k0.rows.statics.sites k2.rows.nodes k2.rows.slots (links t.main (begun t.main h s q ∷ placed_of t.main h))
   pub active_is : k2.rows.active ≡ set k0.rows.active q (Some to)
   pub to_is : to ≡ (begun t.main h s q).context
   pub link_is : slice_get (links t.main (begun t.main h s q ∷ placed_of t.main h)) j ≡ Some (leading (begun t.main h s q).link (begun t.main h s q).context)
@@ -67,7 +65,6 @@ stands-call t h k0 k2 s q j to st may new =
     let chained : current_chain m (the_call h s q ∷ h) ≡ x ∷ c = chain-call t m (length (activations h)) (current h) s q h order may in
     let S : Static → Type 0 = λ z. IsSound z in
     let T : Static → Type 0 = λ z. t ≡ site_table z t.main in
-    let X : Static → Type 0 = λ z. SlotsAre z.sites k2.rows.nodes k2.rows.slots (links m (x ∷ xs)) in
     let procs : t.procedures ≡ length k0.rows.statics.procs = ap (λ (z : SiteTable). z.procedures) st.table in
     let below : q < length k0.rows.statics.procs = omega (arith, callee-below t h (current h) s q st.history may.3, procs) in
     let due : Some to ≡ nearest q (x ∷ c) = ap Some new.to_is ∙ sym (nearest-same q x c refl) in
@@ -87,7 +84,6 @@ stands-call t h k0 k2 s q j to st may new =
       table = subst T (sym new.statics) st.table;
       contexts_are = new.contexts_are;
       rows_are = new.rows_are;
-      slots_are = subst X (sym new.statics) new.slots_are;
       active_is = subst B (sym new.statics) (subst A (sym chained) active);
       chain_is = subst D (sym chained) (subst C (sym turned) steps);
       room_is = omega (arith, len, new.fits, new.room, st.room_is);
@@ -171,15 +167,10 @@ shows-found t h k0 k2 r1 s q j to st may at counts points chained more fits =
     let R : List LinkRow → Type 0 = λ rs. RowsAre m (the_call h s q ∷ h) ls rs in
     let L : List Leading → Type 0 = λ l. RowsAre m (the_call h s q ∷ h) l k2.rows.links in
     let nodes : k2.rows.nodes ≡ k0.rows.nodes = ap (λ (r : Rows). r.nodes) points ∙ rows.1.nodes in
-    let slots : k2.rows.slots ≡ k0.rows.slots = ap (λ (r : Rows). r.slots) points ∙ rows.1.slots in
-    let Y : List ℕ → Type 0 = λ n. SlotsAre k0.rows.statics.sites n k0.rows.slots ls in
-    let Z : List (List Slot) → Type 0 = λ z. SlotsAre k0.rows.statics.sites k2.rows.nodes z ls in
-    let W : List Leading → Type 0 = λ l. SlotsAre k0.rows.statics.sites k2.rows.nodes k2.rows.slots l in
     record {
       statics = ap (λ (r : Rows). r.statics) points ∙ rows.1.statics;
       contexts_are = nodes ∙ st.contexts_are ∙ sym (contexts-stay m x xs below);
       rows_are = subst L (sym stay) (subst R (ap (λ (r : Rows). r.links) (sym points)) (rows-are m (the_call h s q ∷ h) ls r1.links rows.0));
-      slots_are = subst W (sym stay) (subst Z (sym slots) (subst Y (sym nodes) st.slots_are));
       active_is = ap (λ (r : Rows). r.active) points ∙ ap (λ a. set a q (Some to)) rows.1.active;
       to_is = end;
       link_is = ap (λ zs. slice_get zs j) stay ∙ at ∙ ap Some both;

@@ -16,11 +16,8 @@ use Rattle.md_dynamic.specs.declared.link.LinkRow.{LinkRow}
 use Rattle.md_dynamic.specs.Links.{root_row}
 use Rattle.md_dynamic.specs.Profile.{ProfileRows}
 use Rattle.md_dynamic.specs.Rows.{Rows, first_rows}
-use Rattle.md_dynamic.specs.Slots.{empty_slot}
 use Rattle.md_record.specs.Kept.{Kept, Stands}
-use Rattle.md_record.specs.Parts.{SlotsAre}
 use Rattle.md_dynamic.specs.OfHistory.{IsProfileOf, row_of}
-use Rattle.md_record.proofs.SlotSteps.{slots-new}
 
 all-map : {A B : Type 0} (P : B → Type 0) (f : A → B) (xs : List A) → All (λ x. P (f x)) xs → All P (map f xs)
 all-map P f xs all = λ k d below.
@@ -37,13 +34,6 @@ get-replicate (suc n) (suc k) x h = get-replicate n k x (omega arith)
 first-rows : (m j : ℕ) (x : Leading) → slice_get (links m []) j ≡ Some x → slice_get (root_row ∷ []) j ≡ Some (row_of m [] x)
 first-rows m zero x is = (let e : record { link = record { caller = None; site = None; procedure = m }; to = 0 } ≡ x = cc in ap (λ (z : Leading). Some (row_of m [] z)) e)
 first-rows m (suc j) x is = absurd (cc)
-
-root-caller : (m j : ℕ) (x : Leading) (v : ℕ) → slice_get (links m []) j ≡ Some x → x.link.caller ≡ Some v → v < 0
-root-caller m zero x v is calls = absurd (let e : record { link = record { caller = None; site = None; procedure = m }; to = 0 } ≡ x = cc in let f : None ≡ Some v = ap (λ (z : Leading). z.link.caller) e ∙ calls in cc)
-root-caller m (suc j) x v is calls = absurd (cc)
-
-no-slots : (sites : List Site) (ls : List Leading) → SlotsAre sites [] [] ls
-no-slots sites ls = record { each = refl; right = λ v s x there mine. absurd (cc) }
 
 pub stands-new : (k : Kept) (s : Static) (m : ℕ) → IsSound s → m < length s.procs → k.rows ≡ first_rows s m → k.chain ≡ [] → Stands k (site_table s m) []
 stands-new k s m sound main rows chain =
@@ -62,7 +52,6 @@ stands-new k s m sound main rows chain =
       table = refl;
       contexts_are = refl;
       rows_are = record { each = refl; right = λ j x is. first-rows m j x is };
-      slots_are = slots-new s.sites [] (m ∷ []) [] (map empty_slot (sites_of m s.sites) ∷ []) (links m []) m (no-slots s.sites (links m [])) sound.owners_rise refl refl (λ j x v is calls. root-caller m j x v is calls);
       active_is = record { each = length-replicate (length s.procs) None; right = λ q below. get-replicate (length s.procs) q None below };
       chain_is = tt;
       room_is = omega arith;

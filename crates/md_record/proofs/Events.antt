@@ -32,11 +32,10 @@ Points old new q to = new ≡ record old { active = set old.active q to }
 pub record SameButActive (old new : Rows) : Type 0 where
   pub statics : new.statics ≡ old.statics
   pub nodes : new.nodes ≡ old.nodes
-  pub slots : new.slots ≡ old.slots
   pub links : new.links ≡ old.links
 
 points-same : (old new : Rows) (q : ℕ) (to : Option ℕ) → Points old new q to → SameButActive old new
-points-same old new q to is = record { statics = ap (λ (r : Rows). r.statics) is; nodes = ap (λ (r : Rows). r.nodes) is; slots = ap (λ (r : Rows). r.slots) is; links = ap (λ (r : Rows). r.links) is }
+points-same old new q to is = record { statics = ap (λ (r : Rows). r.statics) is; nodes = ap (λ (r : Rows). r.nodes) is; links = ap (λ (r : Rows). r.links) is }
 
 rows-into : (m : ℕ) (h : List Event) (ls : List Leading) (r1 r2 : Rows) → r2.links ≡ r1.links → RowsBy (counts_in m h) ls r1.links → RowsAre m h ls r2.links
 rows-into m h ls r1 r2 same are = let P : List LinkRow → Type 0 = λ x. RowsAre m h ls x in subst P (sym same) (rows-are m h ls r1.links are)
@@ -55,7 +54,7 @@ kept-exit t h k0 k2 r1 a top middle q old st b at below may counts points popped
     let same = points-same r1 k2.rows q old points in
     let active : k2.rows.active ≡ set k0.rows.active q old = ap (λ (r : Rows). r.active) points ∙ ap (λ xs. set xs q old) rows.1.active in
     let after = left t h k0 a top middle q old k2.rows.active k2.chain st b at below may active popped in
-    stands-same t h (Exit a ∷ h) k0 k2 st (st.history, may) refl (same.statics ∙ rows.1.statics) (same.nodes ∙ rows.1.nodes) (same.slots ∙ rows.1.slots)
+    stands-same t h (Exit a ∷ h) k0 k2 st (st.history, may) refl (same.statics ∙ rows.1.statics) (same.nodes ∙ rows.1.nodes)
     (rows-into m (Exit a ∷ h) ls r1 k2.rows same.links rows.0) after.0 after.1 (omega (arith, after.2, st.room_is, room))
 
 pub kept-fail : (t : SiteTable) (h : List Event) (k0 k2 : Kept) (r1 : Rows) (a top middle q : ℕ) (old : Option ℕ) → Stands k0 t h → BelongsTo top middle old t h a → slice_get k0.rows.nodes top ≡ Some q → q < length k0.rows.statics.procs →
@@ -72,7 +71,7 @@ kept-fail t h k0 k2 r1 a top middle q old st b at below may counts points popped
     let same = points-same r1 k2.rows q old points in
     let active : k2.rows.active ≡ set k0.rows.active q old = ap (λ (r : Rows). r.active) points ∙ ap (λ xs. set xs q old) rows.1.active in
     let after = left t h k0 a top middle q old k2.rows.active k2.chain st b at below may active popped in
-    stands-same t h (Fail a ∷ h) k0 k2 st (st.history, may) refl (same.statics ∙ rows.1.statics) (same.nodes ∙ rows.1.nodes) (same.slots ∙ rows.1.slots)
+    stands-same t h (Fail a ∷ h) k0 k2 st (st.history, may) refl (same.statics ∙ rows.1.statics) (same.nodes ∙ rows.1.nodes)
     (rows-into m (Fail a ∷ h) ls r1 k2.rows same.links rows.0) after.0 after.1 (omega (arith, after.2, st.room_is, room))
 
 pub kept-excp : (t : SiteTable) (h : List Event) (k0 k2 : Kept) (r1 : Rows) (a top middle q : ℕ) (old : Option ℕ) → Stands k0 t h → BelongsTo top middle old t h a → slice_get k0.rows.nodes top ≡ Some q → q < length k0.rows.statics.procs →
@@ -89,7 +88,7 @@ kept-excp t h k0 k2 r1 a top middle q old st b at below may counts points popped
     let same = points-same r1 k2.rows q old points in
     let active : k2.rows.active ≡ set k0.rows.active q old = ap (λ (r : Rows). r.active) points ∙ ap (λ xs. set xs q old) rows.1.active in
     let after = left t h k0 a top middle q old k2.rows.active k2.chain st b at below may active popped in
-    stands-same t h (Excp a ∷ h) k0 k2 st (st.history, may) refl (same.statics ∙ rows.1.statics) (same.nodes ∙ rows.1.nodes) (same.slots ∙ rows.1.slots)
+    stands-same t h (Excp a ∷ h) k0 k2 st (st.history, may) refl (same.statics ∙ rows.1.statics) (same.nodes ∙ rows.1.nodes)
     (rows-into m (Excp a ∷ h) ls r1 k2.rows same.links rows.0) after.0 after.1 (omega (arith, after.2, st.room_is, room))
 
 pub kept-redo : (t : SiteTable) (h : List Event) (k0 k2 : Kept) (r1 : Rows) (a top middle q : ℕ) (old : Option ℕ) → Stands k0 t h → BelongsTo top middle old t h a → slice_get k0.rows.nodes top ≡ Some q → q < length k0.rows.statics.procs →
@@ -107,7 +106,7 @@ kept-redo t h k0 k2 r1 a top middle q old st b at below may counts points pushed
     let active : k2.rows.active ≡ set k0.rows.active q (Some top) = ap (λ (r : Rows). r.active) points ∙ ap (λ xs. set xs q (Some top)) rows.1.active in
     let after = back t h k0 a top middle q old k2.rows.active k2.chain st b at below may active pushed in
     let most = chain-longest t m h a st.history (let there = numbered-below xs a y b.there in omega (arith, there, length-placed m (activations h))) in
-    stands-same t h (Redo a ∷ h) k0 k2 st (st.history, may) refl (same.statics ∙ rows.1.statics) (same.nodes ∙ rows.1.nodes) (same.slots ∙ rows.1.slots)
+    stands-same t h (Redo a ∷ h) k0 k2 st (st.history, may) refl (same.statics ∙ rows.1.statics) (same.nodes ∙ rows.1.nodes)
     (rows-into m (Redo a ∷ h) ls r1 k2.rows same.links rows.0) after.0 after.1 (omega (arith, most, st.room_is, room))
 
 -- the last link of the kept chain is that of the activation that runs
@@ -151,5 +150,5 @@ kept-alloc t h k0 k2 r1 a w j st at link may one more chain_same room =
     (λ i z is ne. set-alloc-other t m (has_link z.link) h a w y at.there (apart i z is ne) ∙ (let e : mid z ≡ f z = rw (apart i z is ne) in sym e)) in
     let A : List (Option ℕ) → Type 0 = λ x. ActiveIs (length k0.rows.statics.procs) (current_chain m h) x in
     let S : List (ℕ × ℕ) → Type 0 = λ es. AreSteps ls (current_chain m h) (reverse es) in
-    stands-same t h (Alloc a w ∷ h) k0 k2 st (st.history, may) refl (second.1.statics ∙ first.1.statics) (second.1.nodes ∙ first.1.nodes) (second.1.slots ∙ first.1.slots)
+    stands-same t h (Alloc a w ∷ h) k0 k2 st (st.history, may) refl (second.1.statics ∙ first.1.statics) (second.1.nodes ∙ first.1.nodes)
     (rows-are m (Alloc a w ∷ h) ls k2.rows.links second.0) (subst A (sym (second.1.active ∙ first.1.active)) st.active_is) (subst S (sym chain_same) st.chain_is) (omega (arith, st.room_is, room, current-longest m h))

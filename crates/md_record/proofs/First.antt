@@ -13,7 +13,8 @@ use Rattle.md_dynamic.specs.Rows.{Rows}
 use Rattle.md_record.specs.Kept.{Kept, Stands}
 use Rattle.md_record.specs.Leads.{CountsOn}
 use Rattle.md_record.specs.Parts.{nearest}
-use Rattle.md_record.proofs.Callings.{first-context, found-row}
+use Rattle.md_record.proofs.Callings.{found-row}
+use Rattle.md_record.proofs.LinkRows.{first-context}
 use Rattle.md_record.proofs.Calls.{the_call, begun, Shows, shows-found}
 use Rattle.md_record.proofs.Events.{Points}
 use Rattle.md_record.proofs.Finishing.{row-end}

@@ -1,5 +1,5 @@
 -- Finding or adding the link of a callee, and counting the call on it.
-use Rattle.std.proofs.Common.{ℕ, ◌+◌, ◌-◌, ◌≡◌, ◌≤◌, inl, inr, List, [], ◌∷◌, ◌++◌, length, Option, Some, None, IfSome, IsSomeAnd, MatchOption, slice_get, set, refl, sym, ap, ◌∙◌, subst, arith}
+use Rattle.std.proofs.Common.{ℕ, ◌+◌, ◌-◌, ◌≡◌, ◌<◌, ◌≤◌, inl, inr, List, [], ◌∷◌, ◌++◌, length, Option, Some, None, IfSome, IsSomeAnd, MatchOption, slice_get, set, refl, sym, ap, ◌∙◌, subst, arith}
 use Rattle.std.proofs.lemmas.Bool.{ne_eqb}
 use Rattle.std.proofs.lemmas.List.{set_at, length-append}
 use Rattle.md_base.specs.declared.measure.Measure.TheVariants.{Calls}
@@ -7,15 +7,14 @@ use Rattle.md_static.specs.declared.entry.Site.{Site}
 use Rattle.md_static.specs.Sites.{sites_of}
 use Rattle.md_static.specs.Tables.{callee_of}
 use Rattle.md_trace.specs.Count.{with_more}
-use Rattle.md_trace.proofs.Lists.{get-push-new}
-use Rattle.md_closure.specs.Callees.{HasLinkAt, FindsOrAdds}
+use Rattle.md_trace.proofs.Lists.{get-push-new, get-within}
+use Rattle.md_dynamic.proofs.Positions.{number-below}
+use Rattle.md_closure.specs.Callees.{FindsOrAdds}
 use Rattle.md_closure.proofs.Fresh.{fresh-from}
 use Rattle.md_dynamic.specs.declared.link.LinkRow.{LinkRow}
-use Rattle.md_dynamic.specs.declared.slot.Slot.{Slot}
-use Rattle.md_dynamic.specs.Fills.{FillsSlot}
 use Rattle.md_dynamic.specs.Links.{link_row}
-use Rattle.md_dynamic.specs.Rows.{Rows, Adds, add_cost, list_in, link_in, place_in}
-use Rattle.md_record.specs.Leads.{CountsOn, LeadsBy, IsPlaceOf, new_sites}
+use Rattle.md_dynamic.specs.Rows.{Rows, Adds, add_cost, is_from, is_call, link_in, callee_in}
+use Rattle.md_record.specs.Leads.{CountsOn, LeadsBy, new_sites}
 
 -- a link just added, counted once
 counted-new : (r1 r2 : Rows) (old : List LinkRow) (node site to k : ℕ) → r1.links ≡ old ++ link_row node site to 0 ∷ [] → k ≡ length old → CountsOn r1 r2 k Calls 1 → r2 ≡ record r1 { links = old ++ link_row node site to 1 ∷ [] }
@@ -34,37 +33,34 @@ adds-counted r0 r1 r2 node site q None k adds counts =
       number = adds.number;
       statics = ap (λ (r : Rows). r.statics) e ∙ adds.statics;
       nodes = ap (λ (r : Rows). r.nodes) e ∙ adds.nodes;
-      slots = (adds.slots.0, adds.slots.1, ap (λ (r : Rows). r.slots) e ∙ adds.slots.2);
       links = ap (λ (r : Rows). r.links) e;
       active = ap (λ (r : Rows). r.active) e ∙ adds.active;
     }
 adds-counted r0 r1 r2 node site q (Some to) k adds counts =
     let e = counted-new r1 r2 r0.links node site to k adds.links adds.number counts in
-    let P : List (List Slot) → Type 0 = λ z. FillsSlot r0.slots z node (place_in r0 node site) q k in
     record {
       number = adds.number;
       statics = ap (λ (r : Rows). r.statics) e ∙ adds.statics;
       nodes = ap (λ (r : Rows). r.nodes) e ∙ adds.nodes;
-      slots = subst P (sym (ap (λ (r : Rows). r.slots) e)) adds.slots;
       links = ap (λ (r : Rows). r.links) e;
       active = ap (λ (r : Rows). r.active) e ∙ adds.active;
     }
 
--- a higher-order site has a link that is in its list
-many-has : (r : Rows) (node site q k : ℕ) (o : Option Site) → IsSomeAnd o (λ x. callee_of x.kind ≡ None) → (place : ℕ) × HasLinkAt (list_in r node site) q place k →
-    IsSomeAnd o (λ x. MatchOption (callee_of x.kind) ((place : ℕ) × HasLinkAt (list_in r node site) q place k) (λ c. link_in r node site ≡ Some k))
+-- a higher-order site has a link of a callee
+many-has : (r : Rows) (node site q k : ℕ) (o : Option Site) → IsSomeAnd o (λ x. callee_of x.kind ≡ None) → callee_in r node site q ≡ Some k →
+    IsSomeAnd o (λ x. MatchOption (callee_of x.kind) (callee_in r node site q ≡ Some k) (λ c. link_in r node site ≡ Some k))
 many-has r node site q k None is at = absurd is
 many-has r node site q k (Some x) is at =
-    let P : Option ℕ → Type 0 = λ c. MatchOption c ((place : ℕ) × HasLinkAt (list_in r node site) q place k) (λ d. link_in r node site ≡ Some k) in
+    let P : Option ℕ → Type 0 = λ c. MatchOption c (callee_in r node site q ≡ Some k) (λ d. link_in r node site ≡ Some k) in
     subst P (sym is) at
 
 pub many-leads : (r0 r1 r2 : Rows) (node site q k taken : ℕ) (old : Option ℕ) → IsSomeAnd (slice_get r0.statics.sites site) (λ x. callee_of x.kind ≡ None) → slice_get r0.active q ≡ Some old →
     FindsOrAdds r0 r1 node site q k taken → CountsOn r1 r2 k Calls 1 → LeadsBy r0 r2 node site q old k
 many-leads r0 r1 r2 node site q k taken old kind active (inl found) counts =
     let P : Rows → Type 0 = λ z. CountsOn z r2 k Calls 1 in
-    inl (many-has r0 node site q k (slice_get r0.statics.sites site) kind (found.0, found.1), subst P found.2 counts)
+    inl (many-has r0 node site q k (slice_get r0.statics.sites site) kind found.0, subst P found.1 counts)
 many-leads r0 r1 r2 node site q k taken old kind active (inr new) counts =
-    let Q : Option (Option ℕ) → Type 0 = λ o. IfSome o (λ to. Adds r0 r1 node site q to 0 k × (taken ≡ (length (list_in r0 node site) + 1) + (1 + add_cost r0 q to))) in
+    let Q : Option (Option ℕ) → Type 0 = λ o. IfSome o (λ to. Adds r0 r1 node site q to 0 k × (taken ≡ 2 + add_cost r0 q to)) in
     let adds = subst Q active new.1 in
     inr (fresh-from r0 node site q (slice_get r0.statics.sites site) kind new.0, adds-counted r0 r1 r2 node site q old k adds.0 counts)
 
@@ -77,12 +73,26 @@ added-cost r0 r2 node site q k None adds = (let n = sites-new r0 r2 q (ap length
 added-cost r0 r2 node site q k (Some to) adds = omega arith
 
 pub many-cost : (r0 r1 r2 : Rows) (node site q k taken before mid after : ℕ) (old : Option ℕ) → slice_get r0.active q ≡ Some old → FindsOrAdds r0 r1 node site q k taken → CountsOn r1 r2 k Calls 1 →
-    taken ≡ mid - before → before ≤ mid → after ≡ mid + 2 → (n : ℕ) × IsPlaceOf r0 node site q k n × (after ≤ before + (n + (7 + new_sites r0 r2 q)))
-many-cost r0 r1 r2 node site q k taken before mid after old active (inl found) counts took forward last =
-    (found.0 + 1, inl (found.0, found.1, refl), omega (arith, took, found.3, last))
+    taken ≡ mid - before → before ≤ mid → after ≡ mid + 2 → after ≤ before + (8 + new_sites r0 r2 q)
+many-cost r0 r1 r2 node site q k taken before mid after old active (inl found) counts took forward last = omega (arith, took, found.2, last)
 many-cost r0 r1 r2 node site q k taken before mid after old active (inr new) counts took forward last =
-    let n = length (list_in r0 node site) + 1 in
-    let Q : Option (Option ℕ) → Type 0 = λ o. IfSome o (λ to. Adds r0 r1 node site q to 0 k × (taken ≡ (length (list_in r0 node site) + 1) + (1 + add_cost r0 q to))) in
+    let Q : Option (Option ℕ) → Type 0 = λ o. IfSome o (λ to. Adds r0 r1 node site q to 0 k × (taken ≡ 2 + add_cost r0 q to)) in
     let adds = subst Q active new.1 in
-    let cost = added-cost r0 r2 node site q k old (adds-counted r0 r1 r2 node site q old k adds.0 counts) in
-    (n, inr (new.0, refl), omega (arith, took, adds.1, last, cost))
+    omega (arith, took, adds.1, last, added-cost r0 r2 node site q k old (adds-counted r0 r1 r2 node site q old k adds.0 counts))
+
+-- a link that was found is there
+pub link-below : (r : Rows) (node site k : ℕ) → link_in r node site ≡ Some k → k < length r.links
+link-below r node site k is = let at = number-below (is_from node site) r.links k is in get-within r.links k at.0 at.1
+
+added-below : (r0 r1 : Rows) (node site q k : ℕ) (to : Option ℕ) → Adds r0 r1 node site q to 0 k → k < length r1.links
+added-below r0 r1 node site q k None adds = omega (arith, adds.number, ap length adds.links, length-append r0.links (link_row node site (length r0.nodes) 0 ∷ []))
+added-below r0 r1 node site q k (Some to) adds = omega (arith, adds.number, ap length adds.links, length-append r0.links (link_row node site to 0 ∷ []))
+
+pub many-below : (r0 r1 : Rows) (node site q k taken : ℕ) (old : Option ℕ) → slice_get r0.active q ≡ Some old → FindsOrAdds r0 r1 node site q k taken → k < length r1.links
+many-below r0 r1 node site q k taken old active (inl found) =
+    let at = number-below (is_call r0.nodes node site q) r0.links k found.0 in
+    subst (λ (r : Rows). k < length r.links) (sym found.1) (get-within r0.links k at.0 at.1)
+many-below r0 r1 node site q k taken old active (inr new) =
+    let Q : Option (Option ℕ) → Type 0 = λ o. IfSome o (λ to. Adds r0 r1 node site q to 0 k × (taken ≡ 2 + add_cost r0 q to)) in
+    let adds = subst Q active new.1 in
+    added-below r0 r1 node site q k old adds.0

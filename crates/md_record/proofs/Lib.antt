@@ -1,5 +1,4 @@
 pub mod Added
-pub mod CalleeLists
 pub mod CallCosts
 pub mod Callings
 pub mod Calls
@@ -8,12 +7,12 @@ pub mod Events
 pub mod Finishing
 pub mod First
 pub mod Leading
+pub mod LinkRows
 pub mod Made
 pub mod PointerSteps
 pub mod Returns
 pub mod Room
 pub mod RowSteps
-pub mod SlotSteps
 pub mod Uses
 pub mod ValidProfiles
 mod Worked

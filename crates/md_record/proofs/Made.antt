@@ -16,7 +16,7 @@ use Rattle.md_trace.proofs.Lists.{get-within, get-push-either}
 use Rattle.md_trace.proofs.Numbered.{numbered-new, numbered-more, numbered-below, numbered-either, numbered-there}
 use Rattle.md_trace.proofs.Placing.{length-placed, procedure_of-placed}
 use Rattle.md_trace.proofs.Setwise.{newest}
-use Rattle.md_record.proofs.Callings.{first-context}
+use Rattle.md_record.proofs.LinkRows.{first-context}
 
 -- an activation of procedure p, called by a context of a lower number, made context v
 pub record Made (xs : List Placed) (v p : ℕ) : Type 0 where

@@ -14,19 +14,18 @@ use Rattle.md_trace.proofs.LinkFacts.{AreRight, are-right, are-calls}
 use Rattle.md_trace.proofs.Longest.{chain-longest, current-longest}
 use Rattle.md_trace.proofs.Numbered.{numbered-below}
 use Rattle.md_trace.proofs.Placing.{length-placed, parent_of-placed}
-use Rattle.md_dynamic.specs.declared.slot.Slot.{Slot}
 use Rattle.md_record.specs.Kept.{Kept, Stands}
 use Rattle.md_record.specs.Marks.{BelongsTo}
-use Rattle.md_record.specs.Parts.{RowsAre, SlotsAre, ActiveIs, AreSteps, nearest}
+use Rattle.md_record.specs.Parts.{RowsAre, ActiveIs, AreSteps, nearest}
 use Rattle.md_record.proofs.PointerSteps.{nearest-same, nearest-other, active-set, steps-length, chain-pushed, ends-with, chain-popped}
 use Rattle.std.proofs.lemmas.List.{length-reverse}
 
 -- a history whose activations are those of before: what is to be shown anew
 pub stands-same : (t : SiteTable) (h h2 : List Event) (k0 k2 : Kept) → Stands k0 t h → IsPortHistory t h2 → placed_of t.main h2 ≡ placed_of t.main h →
-    k2.rows.statics ≡ k0.rows.statics → k2.rows.nodes ≡ k0.rows.nodes → k2.rows.slots ≡ k0.rows.slots →
+    k2.rows.statics ≡ k0.rows.statics → k2.rows.nodes ≡ k0.rows.nodes →
     RowsAre t.main h2 (links t.main (placed_of t.main h)) k2.rows.links → ActiveIs (length k0.rows.statics.procs) (current_chain t.main h2) k2.rows.active →
     AreSteps (links t.main (placed_of t.main h)) (current_chain t.main h2) (reverse k2.chain) → longest t.main h2 ≤ k2.room → Stands k2 t h2
-stands-same t h h2 k0 k2 st is same statics nodes slots rows active steps room =
+stands-same t h h2 k0 k2 st is same statics nodes rows active steps room =
     let m = t.main in
     let S : Static → Type 0 = λ s. IsSound s in
     let T : Static → Type 0 = λ s. t ≡ site_table s t.main in
@@ -34,17 +33,12 @@ stands-same t h h2 k0 k2 st is same statics nodes slots rows active steps room =
     let ls : links m (placed_of m h2) ≡ links m (placed_of m h) = ap (links m) same in
     let R : List Leading → Type 0 = λ l. RowsAre m h2 l k2.rows.links in
     let C : List Leading → Type 0 = λ l. AreSteps l (current_chain m h2) (reverse k2.chain) in
-    let X : Static → Type 0 = λ s. SlotsAre s.sites k0.rows.nodes k0.rows.slots (links m (placed_of m h)) in
-    let Y : List ℕ → Type 0 = λ n. SlotsAre k2.rows.statics.sites n k0.rows.slots (links m (placed_of m h)) in
-    let Z : List (List Slot) → Type 0 = λ x. SlotsAre k2.rows.statics.sites k2.rows.nodes x (links m (placed_of m h)) in
-    let L : List Leading → Type 0 = λ l. SlotsAre k2.rows.statics.sites k2.rows.nodes k2.rows.slots l in
     record {
       history = is;
       sound = subst S (sym statics) st.sound;
       table = subst T (sym statics) st.table;
       contexts_are = nodes ∙ st.contexts_are ∙ ap (contexts m) (sym same);
       rows_are = subst R (sym ls) rows;
-      slots_are = subst L (sym ls) (subst Z (sym slots) (subst Y (sym nodes) (subst X (sym statics) st.slots_are)));
       active_is = subst A (sym statics) active;
       chain_is = subst C (sym ls) steps;
       room_is = room;

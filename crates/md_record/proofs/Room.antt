@@ -23,9 +23,9 @@ full-chain t h k s q st may full at =
     let len : length k.chain ≡ length (current_chain m h) = sym (length-reverse k.chain) ∙ steps-length (links m (placed_of m h)) (current_chain m h) (reverse k.chain) st.chain_is in
     absurd (omega (arith, chained, len, at.chain_fits, st.room_is, full))
 
--- a slot without the link tells that it is not there
-pub missing-link : (t : SiteTable) (h : List Event) (k : Kept) (s q v : ℕ) → Calling t h k s q v → IsFresh k.rows v s q → IsAtHand t.main h (Some s) q → ⊥
-missing-link t h k s q v c fresh at = false≢true (sym (fresh-link t h k s q v c fresh) ∙ at.link_there)
+-- a site without the link tells that it is not there
+pub missing-link : (t : SiteTable) (h : List Event) (k : Kept) (s q v : ℕ) → Stands k t h → Calling t h k s q v → IsFresh k.rows v s q → IsAtHand t.main h (Some s) q → ⊥
+missing-link t h k s q v st c fresh at = false≢true (sym (fresh-link t h k s q v st c fresh) ∙ at.link_there)
 
 -- what holds holds of an error
 pub on-err : {T E : Type 0} (r : Result T E) (P : Type 0) → P → OnErr r P

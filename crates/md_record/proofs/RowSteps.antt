@@ -41,7 +41,6 @@ CountsLink old new j measure by = IfSome (slice_get old.links j) (λ row. new �
 pub record SameButLinks (old new : Rows) : Type 0 where
   pub statics : new.statics ≡ old.statics
   pub nodes : new.nodes ≡ old.nodes
-  pub slots : new.slots ≡ old.slots
   pub active : new.active ≡ old.active
 
 pub counted : (r0 r1 : Rows) (ls : List Leading) (f g : Leading → Counts) (j : ℕ) (l : Leading) (measure : Measure) (by : ℕ) → RowsBy f ls r0.links → slice_get ls j ≡ Some l → CountsLink r0 r1 j measure by →
@@ -62,7 +61,7 @@ counted r0 r1 ls f g j l measure by are at counts changed others =
               ap (λ xs. slice_get xs i) rows ∙ get-set-other r0.links j i new other ∙ are.right i z there ∙ ap (λ c. let w : LinkRow = record (row_by f z) { own = c } in Some w) (sym (others i z there other))
         ];
       },
-      record { statics = ap (λ (r : Rows). r.statics) is; nodes = ap (λ (r : Rows). r.nodes) is; slots = ap (λ (r : Rows). r.slots) is; active = ap (λ (r : Rows). r.active) is },
+      record { statics = ap (λ (r : Rows). r.statics) is; nodes = ap (λ (r : Rows). r.nodes) is; active = ap (λ (r : Rows). r.active) is },
     )
 
 -- an activation with a link passes the test of that link, and not that of another

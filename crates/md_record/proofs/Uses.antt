@@ -64,7 +64,7 @@ count-frame r0 r1 j by measure below counts =
     let new : LinkRow = record row.0 { own = with_more row.0.own measure by } in
     let P : Option LinkRow → Type 0 = λ o. IfSome o (λ w. r1 ≡ record r0 { links = set r0.links j (record w { own = with_more w.own measure by }) }) in
     let is : r1 ≡ record r0 { links = set r0.links j new } = subst P row.1 counts in (
-      record { statics = ap (λ (r : Rows). r.statics) is; nodes = ap (λ (r : Rows). r.nodes) is; slots = ap (λ (r : Rows). r.slots) is; active = ap (λ (r : Rows). r.active) is },
+      record { statics = ap (λ (r : Rows). r.statics) is; nodes = ap (λ (r : Rows). r.nodes) is; active = ap (λ (r : Rows). r.active) is },
       ap (λ (r : Rows). length r.links) is ∙ length-set r0.links j new,
     )
 

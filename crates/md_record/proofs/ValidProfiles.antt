@@ -21,7 +21,7 @@ use Rattle.md_dynamic.specs.Profile.{ProfileRows}
 use Rattle.md_dynamic.specs.Valid.{IsRoot, MayCall, Joins, Fits, link_key, is_below, leads_down, AllReached, AreValid, IsValid}
 use Rattle.md_record.specs.Kept.{Kept, Stands}
 use Rattle.md_dynamic.specs.OfHistory.{row_of}
-use Rattle.md_record.proofs.Callings.{first-context, end-procedure}
+use Rattle.md_record.proofs.LinkRows.{first-context, end-procedure}
 use Rattle.md_record.proofs.Made.{made-by, sited-by, few-calls, contexts-few}
 use Rattle.md_record.proofs.Returns.{right-of}
 

@@ -11,12 +11,10 @@ use Rattle.md_trace.specs.PortHistory.{SiteTable}
 use Rattle.md_trace.specs.Context.{placed_of, current_chain}
 use Rattle.md_trace.specs.Links.{Leading, links}
 use Rattle.md_dynamic.specs.declared.link.LinkRow.{LinkRow}
-use Rattle.md_dynamic.specs.declared.slot.Slot.{Slot}
-use Rattle.md_dynamic.specs.declared.slot.Slot.TheVariants.{Plain}
 use Rattle.md_dynamic.specs.OfHistory.{row_of}
 use Rattle.md_record.specs.Kept.{Kept, Stands}
 use Rattle.md_record.specs.Marks.{BelongsTo}
-use Rattle.md_record.specs.Parts.{nearest, slot_at, slot_for, callees_of}
+use Rattle.md_record.specs.Parts.{nearest}
 
 -- main/2 calls count/1 on line 3, which calls itself on line 5
 abbrev main : Proc
@@ -47,7 +45,6 @@ kept counts pointer = record {
   rows = record {
     statics = counting;
     nodes = 0 ∷ 1 ∷ [];
-    slots = (Plain (Some 1) ∷ []) ∷ (Plain None ∷ []) ∷ [];
     links = record { caller = None; site = None; callee = 0; own = own 0 0 } ∷ record { caller = Some 0; site = Some 0; callee = 1; own = counts } ∷ [];
     active = Some 0 ∷ pointer ∷ [];
   };
@@ -63,36 +60,6 @@ rows_right zero x is = (let e : record { link = record { caller = None; site = N
 rows_right (suc zero) x is = (let e : record { link = record { caller = Some 0; site = Some 0; procedure = 1 }; to = 1 } ≡ x = cc in ap (λ (z : Leading). Some (row_of 0 thrown z)) e)
 rows_right (suc (suc j)) x is = absurd (cc)
 
-abbrev its_slots : List (List Slot)
-its_slots = (kept (own 0 1) None).rows.slots
-
-abbrev its_nodes : List ℕ
-its_nodes = 0 ∷ 1 ∷ []
-
--- two numbers that differ are two answers
-apart : {P : Type 0} (a b : ℕ) → (a ≡ b → ⊥) → Some a ≡ Some b → P
-apart a b other is = absurd (other (cc))
-
--- the slot of main's site, and that of count's
-slot_of_main : (v : ℕ) → slice_get its_nodes v ≡ Some 0 → slot_at counting.sites its_slots 0 v 0 ≡ Some (slot_for (OneCallee 1) (callees_of its_links v 0))
-slot_of_main zero at = refl
-slot_of_main (suc zero) at = apart 1 0 (omega arith) at
-slot_of_main (suc (suc v)) at = absurd (cc)
-
-slot_of_count : (v : ℕ) → slice_get its_nodes v ≡ Some 1 → slot_at counting.sites its_slots 1 v 1 ≡ Some (slot_for (OneCallee 1) (callees_of its_links v 1))
-slot_of_count zero at = apart 0 1 (omega arith) at
-slot_of_count (suc zero) at = refl
-slot_of_count (suc (suc v)) at = absurd (cc)
-
--- the slot of a site in a context of its owner
-abbrev HasSlot : ℕ → ℕ → Site → Type 0
-HasSlot v s x = slice_get its_nodes v ≡ Some x.owner → slot_at counting.sites its_slots x.owner v s ≡ Some (slot_for x.kind (callees_of its_links v s))
-
-slots_right : (v s : ℕ) (x : Site) → slice_get counting.sites s ≡ Some x → HasSlot v s x
-slots_right v zero x is = (let e : at_line 0 3 ≡ x = cc in let P : Site → Type 0 = λ y. HasSlot v 0 y in subst P e (slot_of_main v))
-slots_right v (suc zero) x is = (let e : at_line 1 5 ≡ x = cc in let P : Site → Type 0 = λ y. HasSlot v 1 y in subst P e (slot_of_count v))
-slots_right v (suc (suc s)) x is = absurd (cc)
-
 active_right : (q : ℕ) → q < 2 → slice_get (Some 0 ∷ None ∷ []) q ≡ Some (nearest q (current_chain 0 thrown))
 active_right zero h = refl
 active_right (suc zero) h = refl
@@ -106,7 +73,6 @@ stands = record {
   table = refl;
   contexts_are = refl;
   rows_are = record { each = refl; right = rows_right };
-  slots_are = record { each = refl; right = slots_right };
   active_is = record { each = refl; right = active_right };
   chain_is = (refl, refl, tt);
   room_is = search rules;

@@ -1,21 +1,21 @@
 -- Where the link of a call is found, or added, in the tables.
-use Rattle.std.specs.Prelude.{ℕ, ◌≡◌, ◌≢◌, ◌<◌, ◌≤◌, ◌+◌, ◌⊎◌, All, ◌==◌, Option, Some, IfSome, IsSomeAnd, MatchOption, length, slice_get, slice_set, if◌then◌else◌}
+use Rattle.std.specs.Prelude.{ℕ, ◌≡◌, ◌≤◌, ◌+◌, ◌⊎◌, ◌==◌, Option, Some, IfSome, IsSomeAnd, MatchOption, length, slice_get, slice_set, if◌then◌else◌}
 use Rattle.md_base.specs.declared.measure.Measure.{Measure}
 use Rattle.md_base.specs.declared.measure.Measure.TheVariants.{Calls}
 use Rattle.md_static.specs.Sites.{sites_of}
 use Rattle.md_static.specs.Tables.{callee_of}
 use Rattle.md_trace.specs.Count.{with_more}
-use Rattle.md_closure.specs.Callees.{HasLinkAt, find_or_add_cost}
-use Rattle.md_dynamic.specs.Rows.{Rows, IsFresh, Adds, link_in, list_in}
+use Rattle.md_closure.specs.Callees.{find_or_add_cost}
+use Rattle.md_dynamic.specs.Rows.{Rows, IsFresh, Adds, link_in, callee_in}
 
 -- one more on a measure of a link, and nothing else
 abbrev pub CountsOn : Rows → Rows → ℕ → Measure → ℕ → Type 0
 CountsOn old new j measure by = IfSome (slice_get old.links j) (λ row. new ≡ record old { links = slice_set old.links j (record row { own = with_more row.own measure by }) })
 
--- the slot of the site has this link of q already
+-- the site has this link of q already
 abbrev pub HasLink : Rows → ℕ → ℕ → ℕ → ℕ → Type 0
 HasLink r node site q k =
-    IsSomeAnd (slice_get r.statics.sites site) (λ x. MatchOption (callee_of x.kind) ((place : ℕ) × HasLinkAt (list_in r node site) q place k) (λ c. link_in r node site ≡ Some k))
+    IsSomeAnd (slice_get r.statics.sites site) (λ x. MatchOption (callee_of x.kind) (callee_in r node site q ≡ Some k) (λ c. link_in r node site ≡ Some k))
 
 -- the call is counted on the link that is there, or on a new one, which leads to `to`, or to a new context
 abbrev pub LeadsBy : Rows → Rows → ℕ → ℕ → ℕ → Option ℕ → ℕ → Type 0
@@ -25,27 +25,12 @@ LeadsBy old new node site q to k = (HasLink old node site q k × CountsOn old ne
 abbrev pub new_sites : Rows → Rows → ℕ → ℕ
 new_sites old new q = if length new.nodes == length old.nodes then 0 else length (sites_of q old.statics.sites)
 
--- every link that the slots of a context have is there
-pub record LinksThere (r : Rows) (node site : ℕ) : Type 0 where
-  pub plain : (k : ℕ) → link_in r node site ≡ Some k → k < length r.links
-  pub many : (place q k : ℕ) → slice_get (list_in r node site) place ≡ Some (q, k) → k < length r.links
+-- The table steps of finding or adding a link: six at a plain site, eight at a higher-order site, and one for each call
+-- site of q where a context is added.
+abbrev pub LeadCost : Rows → Rows → ℕ → ℕ → ℕ → ℕ → Type 0
+LeadCost old new site q before after =
+    IsSomeAnd (slice_get old.statics.sites site) (λ x. MatchOption (callee_of x.kind) (after ≤ before + (8 + new_sites old new q)) (λ c. after ≤ before + (6 + new_sites old new q)))
 
--- the place of q's link in the list of the site, counted from 1; a link that is not there yet is put last
-abbrev pub IsPlaceOf : Rows → ℕ → ℕ → ℕ → ℕ → ℕ → Type 0
-IsPlaceOf r node site q k n =
-    ((place : ℕ) × HasLinkAt (list_in r node site) q place k × (n ≡ place + 1)) ⊎ (All (λ e. e.0 ≢ q) (list_in r node site) × (n ≡ length (list_in r node site) + 1))
-
--- The table steps of finding or adding the link k: six at a plain site; seven at a higher-order site, and the place of the
--- link in its list; and one for each call site of q where a context is added.
-abbrev pub LeadCost : Rows → Rows → ℕ → ℕ → ℕ → ℕ → ℕ → ℕ → Type 0
-LeadCost old new node site q k before after =
-    IsSomeAnd (slice_get old.statics.sites site) (λ x. MatchOption (callee_of x.kind)
-    ((n : ℕ) × IsPlaceOf old node site q k n × (after ≤ before + (n + (7 + new_sites old new q))))
-    (λ c. after ≤ before + (6 + new_sites old new q)))
-
--- where memory is refused: six at a plain site; the whole list of the site and six at a higher-order site; and one for each
--- call site of q
-abbrev pub LeadRefusedCost : Rows → ℕ → ℕ → ℕ → ℕ → ℕ → Type 0
-LeadRefusedCost r node site q before after =
-    IsSomeAnd (slice_get r.statics.sites site) (λ x. MatchOption (callee_of x.kind) (after ≤ before + find_or_add_cost r node site q)
-    (λ c. after ≤ before + (6 + length (sites_of q r.statics.sites))))
+-- where memory is refused: six, and one for each call site of q
+abbrev pub LeadRefusedCost : Rows → ℕ → ℕ → ℕ → Type 0
+LeadRefusedCost r q before after = after ≤ before + find_or_add_cost r q

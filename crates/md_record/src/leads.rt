@@ -1,10 +1,8 @@
 // The link of a call: found in its site's slot, or added.
-ghost use Rattle.std.specs.Prelude.{ℕ, ◌≡◌, ◌≤◌, ◌<◌, ◌+◌, ◌-◌, length, slice_get, IfOk, OnOk, OnErr, IfSome, IsSomeAnd, Some, None};
-ghost use Rattle.md_static.specs.Sites.{sites_of};
+ghost use Rattle.std.specs.Prelude.{◌≡◌, ◌≤◌, ◌<◌, ◌+◌, length, slice_get, IfOk, OnOk, OnErr, IfSome, IsSomeAnd, Some};
 ghost use Rattle.md_static.specs.Tables.{callee_of};
-ghost use Rattle.md_dynamic.specs.Rows.{Owns, MayLead, IsFresh, list_in};
-ghost use Rattle.md_record.specs.Leads.{LeadsBy, LinksThere, IsPlaceOf, LeadCost, LeadRefusedCost, new_sites};
-ghost use Rattle.md_closure.specs.Callees.{find_or_add_cost};
+ghost use Rattle.md_dynamic.specs.Rows.{Owns, IsHigherOrderSite, MayLead, IsFresh};
+ghost use Rattle.md_record.specs.Leads.{LeadsBy, LeadCost, LeadRefusedCost, new_sites};
 
 use md_base::{CsdId, Measure, NoMemory, PdId, ProcId, SiteId, Steps};
 use md_closure::find_or_add;
@@ -28,14 +26,13 @@ pub(crate) fn lead<L: Ledger>(
     requires there { callee < length tables.old.statics.procs }
     requires active { slice_get tables.old.active callee ≡ Some old.now }
     requires of_callee { IfSome old.now (λ v. slice_get tables.old.nodes v ≡ Some callee) }
-    requires links_there { LinksThere tables.old node site }
     requires room { length tables.old.links < 4294967295 }
     ensures ok { IfOk result (λ link. LeadsBy tables.old tables.new node site callee old.now link) }
     ensures err { OnErr result (tables.new ≡ tables.old) }
     ensures statics { tables.new.statics ≡ tables.old.statics }
     ensures fresh { OnErr result (IsFresh tables.old node site callee) }
-    ensures cost { IfOk result (λ link. LeadCost tables.old tables.new node site callee link steps.old steps.new) }
-    ensures cost_refused { OnErr result (LeadRefusedCost tables.old node site callee steps.old steps.new) }
+    ensures cost { OnOk result (LeadCost tables.old tables.new site callee steps.old steps.new) }
+    ensures cost_refused { OnErr result (LeadRefusedCost tables.old callee steps.old steps.new) }
 {
     match tables.site(site).kind {
         SiteKind::Plain(_) => lead_plain(tables, node, site, callee, *old, steps),
@@ -56,14 +53,13 @@ fn lead_plain<L: Ledger>(
     requires may_lead { MayLead tables.old site callee }
     requires plain { IsSomeAnd (slice_get tables.old.statics.sites site) (λ x. callee_of x.kind ≡ Some callee) }
     requires of_callee { IfSome old (λ v. slice_get tables.old.nodes v ≡ Some callee) }
-    requires links_there { LinksThere tables.old node site }
     requires room { length tables.old.links < 4294967295 }
     ensures ok { IfOk result (λ link. LeadsBy tables.old tables.new node site callee old link) }
     ensures err { OnErr result (tables.new ≡ tables.old) }
     ensures statics { tables.new.statics ≡ tables.old.statics }
     ensures fresh { OnErr result (IsFresh tables.old node site callee) }
     ensures cost { OnOk result (steps.new ≤ steps.old + (6 + new_sites tables.old tables.new callee)) }
-    ensures cost_refused { OnErr result (steps.new ≤ steps.old + (6 + length (sites_of callee tables.old.statics.sites))) }
+    ensures cost_refused { OnErr result (LeadRefusedCost tables.old callee steps.old steps.new) }
 {
     match tables.slot(node, site, steps) {
         Some(link) => {
@@ -74,7 +70,8 @@ fn lead_plain<L: Ledger>(
     }
 }
 
-/// The same at a higher-order site.
+/// The same at a higher-order site: at most eight table steps, and one for each call site of the callee where its context is
+/// new.
 fn lead_many<L: Ledger>(
     tables: &mut Tables,
     node: PdId,
@@ -85,16 +82,15 @@ fn lead_many<L: Ledger>(
 ) -> Result<CsdId, NoMemory>
     requires owned { Owns tables.old node site }
     requires there { callee < length tables.old.statics.procs }
-    requires higher_order { IsSomeAnd (slice_get tables.old.statics.sites site) (λ x. callee_of x.kind ≡ None) }
+    requires higher_order { IsHigherOrderSite tables.old site }
     requires active { slice_get tables.old.active callee ≡ Some old }
-    requires links_there { LinksThere tables.old node site }
     requires room { length tables.old.links < 4294967295 }
     ensures ok { IfOk result (λ link. LeadsBy tables.old tables.new node site callee old link) }
     ensures err { OnErr result (tables.new ≡ tables.old) }
     ensures statics { tables.new.statics ≡ tables.old.statics }
     ensures fresh { OnErr result (IsFresh tables.old node site callee) }
-    ensures cost { IfOk result (λ link. (n : ℕ) × IsPlaceOf tables.old node site callee link n × (steps.new ≤ steps.old + (n + (7 + new_sites tables.old tables.new callee)))) }
-    ensures cost_refused { OnErr result (steps.new ≤ steps.old + find_or_add_cost tables.old node site callee) }
+    ensures cost { OnOk result (steps.new ≤ steps.old + (8 + new_sites tables.old tables.new callee)) }
+    ensures cost_refused { OnErr result (LeadRefusedCost tables.old callee steps.old steps.new) }
 {
     let link = find_or_add(tables, node, site, callee, steps)?;
     tables.count(link, Measure::Calls, 1, steps);

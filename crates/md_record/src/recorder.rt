@@ -37,7 +37,7 @@ impl Recorder {
     ghost use Rattle.md_static.specs.Tables.{site_table};
     ghost use Rattle.md_record.specs.Kept.{Kept, Stands, IsAsBefore};
     ghost use Rattle.md_record.specs.Belongs.{Belongs};
-    ghost use Rattle.md_record.specs.Costs.{CallCost, SiteCost, RefusedCost, SiteRefusedCost};
+    ghost use Rattle.md_record.specs.Costs.{CallCost, SiteCost, RefusedCost};
     ghost use Rattle.md_record.specs.Memory.{TakesMemory};
     ghost use Rattle.md_dynamic.specs.OfHistory.{IsProfileOf};
     ghost use Rattle.md_dynamic.specs.Valid.{IsValid};
@@ -84,7 +84,7 @@ impl Recorder {
         ensures as_before { OnErr result (IsAsBefore self.old self.new) }
         ensures statics { self.new.rows.statics ≡ self.old.rows.statics }
         ensures needed { OnErr result (TakesMemory (Stands self.old) site callee) }
-        ensures cost { IfOk result (λ saved. CallCost self.old self.new site callee saved.middle steps.old steps.new) }
+        ensures cost { OnOk result (CallCost self.old self.new site callee steps.old steps.new) }
         ensures cost_refused { OnErr result (RefusedCost self.old site callee steps.old steps.new) }
     {
         match site {
@@ -136,8 +136,8 @@ impl Recorder {
         ensures as_before { OnErr result (IsAsBefore self.old self.new) }
         ensures statics { self.new.rows.statics ≡ self.old.rows.statics }
         ensures needed { OnErr result (TakesMemory (Stands self.old) (Some site) callee) }
-        ensures cost { IfOk result (λ saved. SiteCost self.old self.new site callee saved.middle steps.old steps.new) }
-        ensures cost_refused { OnErr result (SiteRefusedCost self.old site callee steps.old steps.new) }
+        ensures cost { OnOk result (SiteCost self.old self.new site callee steps.old steps.new) }
+        ensures cost_refused { OnErr result (RefusedCost self.old (Some site) callee steps.old steps.new) }
     {
         let node = self.current();
         self.chain.reserve(1)?;

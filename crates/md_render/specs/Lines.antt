@@ -10,7 +10,9 @@ use Rattle.md_query.specs.declared.row.Row.{Row}
 use Rattle.md_query.specs.declared.row.Row.TheVariants as row
 use Rattle.md_query.specs.declared.row.Title.{Title}
 use Rattle.md_query.specs.declared.row.Title.TheVariants as title
+use Rattle.md_cost.specs.declared.sums.Sums.{Sums}
 use Rattle.md_render.specs.declared.form.Form.{Form}
+use Rattle.md_render.specs.declared.form.Form.TheVariants.{Text}
 use Rattle.md_render.specs.Names.{Names, module_name, full_name, caller_at, callee_at, clique_at}
 use Rattle.md_render.specs.Words.{clique_words, proc_words, module_words, measure_word, what_word, counts_words, own_words, both_words, context_words, placed_words, link_words}
 
@@ -79,6 +81,10 @@ row_words form n (row.Proc q own total) = named_words form n.statics q ++ both_w
 row_words form n (row.Of c own total) = context_of_words form n c ++ both_words own total
 row_words form n (row.Site s own total) = site_words form n.statics s ++ both_words own total
 row_words form n (row.Module k procs own total) = module_size_words form (module_name n.statics k) procs ++ both_words own total
+
+-- the line of a procedure with these costs, as text
+abbrev pub proc_line : Static → ℕ → (own total : Sums) → List ℕ
+proc_line s q own total = (named_words Text s q ++ both_words own total) ++ 10 ∷ []
 
 abbrev pub row_line : Form → Names → Row → List ℕ
 row_line form n r = row_words form n r ++ 10 ∷ []

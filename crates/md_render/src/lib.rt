@@ -11,4 +11,5 @@ mod tests;
 mod title;
 mod whole;
 
+pub use line::add_proc_line;
 pub use whole::{html, text};

@@ -1,7 +1,7 @@
 // The lines of a page, one for each row.
 ghost use Rattle.std.specs.Prelude.{◌≡◌, ◌++◌, codes, decimal, OnOk};
 ghost use Rattle.md_render.specs.Kept.{names_in};
-ghost use Rattle.md_render.specs.Lines.{finished_words, entered_words, leaving_words, inside_words, context_of_words, named_words, called_words, site_words, module_size_words, row_words, row_lines};
+ghost use Rattle.md_render.specs.Lines.{finished_words, entered_words, leaving_words, inside_words, context_of_words, named_words, called_words, site_words, module_size_words, row_words, row_lines, proc_line};
 ghost use Rattle.md_render.specs.Names.{caller_at};
 
 use crate::form::{Form, add_clique, add_module, add_proc};
@@ -9,8 +9,8 @@ use crate::lookup::{callee_at, caller_at, clique_at, module_name, site_of};
 use crate::number::{add, add_both, add_counts, add_number, add_own};
 use crate::place::{add_context, add_full_name, add_link, add_placed};
 use crate::title::what_word;
-use md_base::{CsdId, PdId, SiteId};
-use md_cost::Loaded;
+use md_base::{CsdId, PdId, ProcId, SiteId};
+use md_cost::{Loaded, Sums};
 use md_query::Row;
 use md_static::{SiteKind, Statics};
 use std::alloc::AllocError;
@@ -28,6 +28,22 @@ pub(crate) fn add_lines(
         add_row(out, form, loaded, row)?;
         out.push(b'\n')?;
     }
+    Ok(())
+}
+
+/// Adds the line of a procedure of these tables with these costs, as text.
+pub fn add_proc_line(
+    out: &mut Vec<u8>,
+    statics: &Statics,
+    id: ProcId,
+    own: Sums,
+    total: Sums,
+) -> Result<(), AllocError>
+    ensures { OnOk result (out.new.items ≡ out.old.items ++ proc_line statics.now id own total) }
+{
+    add_named(out, Form::Text, statics, id.number())?;
+    add_both(out, own, total)?;
+    out.push(b'\n')?;
     Ok(())
 }
 

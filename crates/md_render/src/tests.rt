@@ -1,5 +1,5 @@
 // Pages over a small loaded profile, worked out by hand.
-use crate::{html, text};
+use crate::{add_proc_line, html, text};
 use md_base::{Counts, CsdId, Measure, Name, PdId, ProcId, SiteId};
 use md_cost::{Loaded, Sums, propagate};
 use md_dynamic::{LinkRow, Profile};
@@ -194,5 +194,18 @@ fn each_title_says_what_the_page_is_of(rt: HostRuntime) -> Result<(), Fail> {
         let page = Page::from_parts(title, Vec::new(alloc));
         assert_eq!(rt; text(alloc, &loaded, &page)?.as_slice(), want);
     }
+    Ok(())
+}
+
+const PROC_LINE: &[u8] =
+    b"proc 1 a_b.step/0 own 1 2 3 4 5 6 total 18446744073709551615 0 0 0 0 10 excps 7\n";
+
+#[test]
+fn a_procedure_has_a_line_of_its_own(rt: HostRuntime) -> Result<(), Fail> {
+    let alloc = rt.alloc();
+    let statics = statics(alloc)?;
+    let mut out = Vec::new(alloc);
+    add_proc_line(&mut out, &statics, ProcId::new(1), FEW, MOST)?;
+    assert_eq!(rt; out.as_slice(), PROC_LINE);
     Ok(())
 }

@@ -14,7 +14,7 @@ use Rattle.md_det.specs.declared.fault.DetFault.{DetFault}
 use Rattle.md_det.specs.declared.fault.DetFault.TheVariants as determinism
 use Rattle.md_det.specs.Faults.{det_fault}
 use Rattle.md_tool.specs.declared.fault.Fault.{Fault}
-use Rattle.md_tool.specs.declared.fault.Fault.TheVariants.{Usage, Read, TooLong, OutOfSteps, Thrown, Damaged, TooLarge, TwoEntries, NoSuchPage, Write, NoMemory, Network}
+use Rattle.md_tool.specs.declared.fault.Fault.TheVariants.{Usage, Read, TooLong, OutOfSteps, Thrown, Damaged, TooLarge, TwoEntries, DamagedLine, AnotherProgram, NoSuchPage, Write, NoMemory, Network}
 use Rattle.md_tool.specs.declared.fault.Fault.TheVariants.{Refused as RefusedAt}
 use Rattle.md_tool.specs.Accepted.{Accepts, IsAccepted, HasModeFault, HasDetFault, HasFaultOfModes, HasFaultOfDeterminism, ProgramHas, TextFault, refusal_of, modes_refusal, determinism_refusal}
 
@@ -98,6 +98,8 @@ text_fault text program Network spelled is_read has = of_text program Network ha
 text_fault text program (Damaged at kind) spelled is_read has = of_text program (Damaged at kind) has
 text_fault text program (TooLarge most) spelled is_read has = of_text program (TooLarge most) has
 text_fault text program (TwoEntries clique x y) spelled is_read has = of_text program (TwoEntries clique x y) has
+text_fault text program (DamagedLine n) spelled is_read has = of_text program (DamagedLine n) has
+text_fault text program AnotherProgram spelled is_read has = of_text program AnotherProgram has
 text_fault text program NoSuchPage spelled is_read has = of_text program NoSuchPage has
 text_fault text program Read spelled is_read has = of_text program Read has
 text_fault text program TooLong spelled is_read has = of_text program TooLong has

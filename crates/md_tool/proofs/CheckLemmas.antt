@@ -4,7 +4,7 @@ use Rattle.std.specs.Prelude.{Result, Ok, Err}
 use Rattle.md_base.specs.Files.{Files}
 use Rattle.md_hlds.specs.Hlds.{Hlds}
 use Rattle.md_tool.specs.declared.fault.Fault.{Fault}
-use Rattle.md_tool.specs.declared.fault.Fault.TheVariants.{Usage, Read, TooLong, Refused, OutOfSteps, Thrown, Damaged, TooLarge, TwoEntries, NoSuchPage, Write, NoMemory, Network}
+use Rattle.md_tool.specs.declared.fault.Fault.TheVariants.{Usage, Read, TooLong, Refused, OutOfSteps, Thrown, Damaged, TooLarge, TwoEntries, DamagedLine, AnotherProgram, NoSuchPage, Write, NoMemory, Network}
 use Rattle.md_tool.specs.Accepted.{Accepts}
 use Rattle.md_tool.specs.Due.{IsText, CheckEnds, WriteEnds, check_output}
 
@@ -41,6 +41,8 @@ check_shown held file text print program before now reads writes (Err Network) i
 check_shown held file text print program before now reads writes (Err (Damaged at kind)) is_text a h = absurd h
 check_shown held file text print program before now reads writes (Err (TooLarge most)) is_text a h = absurd h
 check_shown held file text print program before now reads writes (Err (TwoEntries clique x y)) is_text a h = absurd h
+check_shown held file text print program before now reads writes (Err (DamagedLine n)) is_text a h = absurd h
+check_shown held file text print program before now reads writes (Err AnotherProgram) is_text a h = absurd h
 check_shown held file text print program before now reads writes (Err NoSuchPage) is_text a h = absurd h
 check_shown held file text print program before now reads writes (Err Read) is_text a h = absurd h
 check_shown held file text print program before now reads writes (Err TooLong) is_text a h = absurd h

@@ -7,7 +7,7 @@ use Rattle.md_profile.specs.declared.profiled.Profiled.{Profiled}
 use Rattle.md_query.specs.Asked.{Menu}
 use Rattle.md_query.specs.PageOf.{page_of}
 use Rattle.md_tool.specs.declared.fault.Fault.{Fault}
-use Rattle.md_tool.specs.declared.fault.Fault.TheVariants.{Usage, Read, TooLong, Refused, OutOfSteps, Thrown, Damaged, TooLarge, TwoEntries, NoSuchPage, Write, NoMemory, Network}
+use Rattle.md_tool.specs.declared.fault.Fault.TheVariants.{Usage, Read, TooLong, Refused, OutOfSteps, Thrown, Damaged, TooLarge, TwoEntries, DamagedLine, AnotherProgram, NoSuchPage, Write, NoMemory, Network}
 use Rattle.md_tool.specs.Accepted.{TextFault}
 use Rattle.md_tool.specs.Due.{WriteEnds}
 use Rattle.md_tool.specs.Ends.{TellsEnd, end_of, ran_end}
@@ -35,6 +35,8 @@ summed n out out' outs profiled r c paged told = by r told
     by (Err (Damaged at kind)) told = absurd told
     by (Err (TooLarge most)) told = absurd told
     by (Err (TwoEntries clique x y)) told = absurd told
+    by (Err (DamagedLine n)) told = absurd told
+    by (Err AnotherProgram) told = absurd told
     by (Err NoSuchPage) told = absurd told
     by (Err Write) told = absurd told
     by (Err NoMemory) told = absurd told
@@ -53,6 +55,8 @@ unsummed n out out' outs profiled (Thrown bytes) c h = absurd h
 unsummed n out out' outs profiled (Damaged at kind) c h = absurd h
 unsummed n out out' outs profiled (TooLarge most) c h = absurd h
 unsummed n out out' outs profiled (TwoEntries clique x y) c h = absurd h
+unsummed n out out' outs profiled (DamagedLine line) c h = absurd h
+unsummed n out out' outs profiled AnotherProgram c h = absurd h
 unsummed n out out' outs profiled NoSuchPage c h = absurd (let none = h.none in cc)
 unsummed n out out' outs profiled Write c h = (h.0, record { accepted = c.accepted; paged = h.1 })
 unsummed n out out' outs profiled NoMemory c (inl h) = inl h
@@ -69,6 +73,8 @@ unaccepted n out outs (Thrown bytes) h = absurd h
 unaccepted n out outs (Damaged at kind) h = absurd h
 unaccepted n out outs (TooLarge most) h = absurd h
 unaccepted n out outs (TwoEntries clique x y) h = absurd h
+unaccepted n out outs (DamagedLine line) h = absurd h
+unaccepted n out outs AnotherProgram h = absurd h
 unaccepted n out outs NoSuchPage h = absurd h
 unaccepted n out outs Write h = absurd h
 unaccepted n out outs NoMemory h = inl refl

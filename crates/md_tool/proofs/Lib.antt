@@ -4,6 +4,7 @@ pub mod StreamLemmas
 pub mod CheckLemmas
 pub mod RunLemmas
 pub mod KeepLemmas
+pub mod PairLemmas
 pub mod ReportLemmas
 pub mod StoredLemmas
 pub mod ServeLemmas
@@ -11,3 +12,4 @@ pub mod GenShort
 pub mod GenLemmas
 pub mod TopLemmas
 pub mod StatusLemmas
+pub mod TextLemmas

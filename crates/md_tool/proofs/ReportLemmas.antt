@@ -1,7 +1,7 @@
 -- From the profile of a run to a report on its file.
 use Rattle.std.proofs.Common.{◌≡◌, ◌∙◌, refl, ap, sym, subst, inl, inr, ℕ, ◌<◌, ◌≤◌, ◌^◌, ◌-◌, List, ◌++◌, length, Option, Some, arith}
 use Rattle.std.specs.Prelude.{Result, Ok, Err, codes}
-use Rattle.md_base.specs.Outside.{added, PartAdded}
+use Rattle.md_base.specs.Outside.{added}
 use Rattle.md_base.specs.Files.{Files}
 use Rattle.md_cost.specs.FileView.{IsFileView}
 use Rattle.md_cost.specs.View.{View}
@@ -9,7 +9,6 @@ use Rattle.md_dynamic.specs.Profile.{ProfileRows}
 use Rattle.md_events.specs.Laws.{IsWithinBounds}
 use Rattle.md_hlds.specs.Hlds.{Hlds, Procedure, procedure_called}
 use Rattle.md_hlds.specs.Run.{run, main_name}
-use Rattle.md_machine.specs.declared.ran.Ran.{Ran}
 use Rattle.md_ports.specs.Ports.{statics_of}
 use Rattle.md_profile.specs.OfRun.{CanBeProfiled, IsProfiled, IsViewOfRun}
 use Rattle.md_reader.specs.Grammar.{Spells}
@@ -21,13 +20,13 @@ use Rattle.md_query.specs.Page.{PageRows}
 use Rattle.md_query.specs.PageOf.{page_of}
 use Rattle.md_render.specs.Text.{text_of}
 use Rattle.md_tool.specs.declared.fault.Fault.{Fault}
-use Rattle.md_tool.specs.declared.fault.Fault.TheVariants.{Usage, Read, TooLong, Refused, OutOfSteps, Thrown, Damaged, TooLarge, TwoEntries, NoSuchPage, Write, NoMemory, Network}
+use Rattle.md_tool.specs.declared.fault.Fault.TheVariants.{Usage, Read, TooLong, Refused, OutOfSteps, Thrown, Damaged, TooLarge, TwoEntries, DamagedLine, AnotherProgram, NoSuchPage, Write, NoMemory, Network}
 use Rattle.md_tool.specs.Accepted.{Accepts}
 use Rattle.md_tool.specs.Due.{IsText, WriteEnds}
-use Rattle.md_tool.specs.Ends.{RunEnd, Finished, Threw, RanOut, TellsEnd, end_of, ran_end}
-use Rattle.md_tool.specs.Paged.{IsPaged, IsPagedInPart, LacksPage, PageEnds, PageFails}
+use Rattle.md_tool.specs.Ends.{TellsEnd, end_of, ran_end}
+use Rattle.md_tool.specs.Paged.{IsPaged, PageEnds, PageFails}
 use Rattle.md_tool.specs.Ran.{IsProfiledText}
-use Rattle.md_tool.specs.Reported.{reported_output, IsReported, IsPageless, IsOutputPart, IsPagePart, ShowEnds, HasReported, ReportEnds}
+use Rattle.md_tool.specs.Reported.{reported_output, IsReported, ShowEnds, ReportEnds}
 use Rattle.md_tool.proofs.RunLemmas.{end_is}
 use Rattle.md_tool.proofs.StreamLemmas.{all_added}
 
@@ -44,6 +43,8 @@ page_written f query page before now writes (Err Network) v is paged h = absurd 
 page_written f query page before now writes (Err (Damaged at kind)) v is paged h = absurd h
 page_written f query page before now writes (Err (TooLarge most)) v is paged h = absurd h
 page_written f query page before now writes (Err (TwoEntries clique x y)) v is paged h = absurd h
+page_written f query page before now writes (Err (DamagedLine n)) v is paged h = absurd h
+page_written f query page before now writes (Err AnotherProgram) v is paged h = absurd h
 page_written f query page before now writes (Err Read) v is paged h = absurd h
 page_written f query page before now writes (Err TooLong) v is paged h = absurd h
 page_written f query page before now writes (Err (Refused line w)) v is paged h = absurd h
@@ -61,6 +62,8 @@ page_failed f query before writes Network v is h = absurd h
 page_failed f query before writes (Damaged at kind) v is h = absurd h
 page_failed f query before writes (TooLarge most) v is h = absurd h
 page_failed f query before writes (TwoEntries clique x y) v is h = absurd h
+page_failed f query before writes (DamagedLine n) v is h = absurd h
+page_failed f query before writes AnotherProgram v is h = absurd h
 page_failed f query before writes Read v is h = absurd h
 page_failed f query before writes TooLong v is h = absurd h
 page_failed f query before writes (Refused line w) v is h = absurd h
@@ -83,6 +86,8 @@ page_meant IsA IsB query before now writes (Err Network) so h = absurd h
 page_meant IsA IsB query before now writes (Err (Damaged at kind)) so h = absurd h
 page_meant IsA IsB query before now writes (Err (TooLarge most)) so h = absurd h
 page_meant IsA IsB query before now writes (Err (TwoEntries clique x y)) so h = absurd h
+page_meant IsA IsB query before now writes (Err (DamagedLine n)) so h = absurd h
+page_meant IsA IsB query before now writes (Err AnotherProgram) so h = absurd h
 page_meant IsA IsB query before now writes (Err Read) so h = absurd h
 page_meant IsA IsB query before now writes (Err TooLong) so h = absurd h
 page_meant IsA IsB query before now writes (Err (Refused line w)) so h = absurd h
@@ -112,6 +117,8 @@ shown program steps query profiled out out' err err' outs errs r p written paged
     by (Err (Damaged at kind)) told = absurd told
     by (Err (TooLarge most)) told = absurd told
     by (Err (TwoEntries clique x y)) told = absurd told
+    by (Err (DamagedLine n)) told = absurd told
+    by (Err AnotherProgram) told = absurd told
     by (Err Read) told = absurd told
     by (Err TooLong) told = absurd told
     by (Err (Refused line w)) told = absurd told
@@ -138,6 +145,8 @@ unpaged program steps query profiled out out' err err' outs errs fault p written
     by (Damaged at kind) h = absurd h
     by (TooLarge most) h = absurd h
     by (TwoEntries clique x y) h = absurd h
+    by (DamagedLine n) h = absurd h
+    by AnotherProgram h = absurd h
     by Read h = absurd h
     by TooLong h = absurd h
     by (Refused line w) h = absurd h
@@ -159,6 +168,8 @@ unwritten program steps query profiled out err err' outs errs fault p ends = by 
     by (Damaged at kind) h = absurd h
     by (TooLarge most) h = absurd h
     by (TwoEntries clique x y) h = absurd h
+    by (DamagedLine n) h = absurd h
+    by AnotherProgram h = absurd h
     by Read h = absurd h
     by TooLong h = absurd h
     by (Refused line w) h = absurd h
@@ -197,6 +208,8 @@ reported held file text query steps out out' err err' reads outs errs profiled (
 reported held file text query steps out out' err err' reads outs errs profiled (Err (Damaged at kind)) is_text c h = absurd h
 reported held file text query steps out out' err err' reads outs errs profiled (Err (TooLarge most)) is_text c h = absurd h
 reported held file text query steps out out' err err' reads outs errs profiled (Err (TwoEntries clique x y)) is_text c h = absurd h
+reported held file text query steps out out' err err' reads outs errs profiled (Err (DamagedLine n)) is_text c h = absurd h
+reported held file text query steps out out' err err' reads outs errs profiled (Err AnotherProgram) is_text c h = absurd h
 reported held file text query steps out out' err err' reads outs errs profiled (Err Read) is_text c h = absurd h
 reported held file text query steps out out' err err' reads outs errs profiled (Err TooLong) is_text c h = absurd h
 reported held file text query steps out out' err err' reads outs errs profiled (Err (Refused line w)) is_text c h = absurd h

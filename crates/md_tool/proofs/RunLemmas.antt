@@ -1,5 +1,5 @@
 -- What the machine asks of an accepted text, and the end that the code tells.
-use Rattle.std.proofs.Common.{◌≡◌, ◌∙◌, refl, ap, sym, subst, inl, inr, ℕ, ◌<◌, ◌^◌, List, [], Bool, true, false, Option, None, Some}
+use Rattle.std.proofs.Common.{◌≡◌, ◌∙◌, refl, ap, subst, ℕ, ◌<◌, ◌^◌, List, [], Bool, true, false, Option, None, Some}
 use Rattle.std.specs.Prelude.{is_some, unwrap_or}
 use Rattle.md_hlds.specs.Hlds.{Hlds}
 use Rattle.md_hlds.specs.Run.{run, is_finished, error}

@@ -11,7 +11,7 @@ use Rattle.md_http.specs.declared.serving.ServeFault.{ServeFault}
 use Rattle.md_http.specs.declared.serving.ServeFault.TheVariants as faults
 use Rattle.md_http.specs.declared.serving.Tally.{Tally}
 use Rattle.md_tool.specs.declared.fault.Fault.{Fault}
-use Rattle.md_tool.specs.declared.fault.Fault.TheVariants.{Usage, Read, TooLong, Refused, OutOfSteps, Thrown, Damaged, TooLarge, TwoEntries, NoSuchPage, Network, Write, NoMemory}
+use Rattle.md_tool.specs.declared.fault.Fault.TheVariants.{Usage, Read, TooLong, Refused, OutOfSteps, Thrown, Damaged, TooLarge, TwoEntries, DamagedLine, AnotherProgram, NoSuchPage, Network, Write, NoMemory}
 use Rattle.md_tool.specs.Due.{WriteEnds}
 use Rattle.md_tool.specs.Served.{BindEnds, ConnectionsEnd, ServeEnds, ServesTold, fault_of, tally_line}
 use Rattle.md_tool.specs.Stored.{IsLoadedFrom, ViewFails}
@@ -33,6 +33,8 @@ unloaded held name requests net out reads outs nets (Thrown bytes) h = absurd h
 unloaded held name requests net out reads outs nets (Damaged at kind) h = (h, record { net_is = refl; out_is = refl })
 unloaded held name requests net out reads outs nets (TooLarge most) h = (h.0, h.1, record { net_is = refl; out_is = refl })
 unloaded held name requests net out reads outs nets (TwoEntries clique x y) h = (h, record { net_is = refl; out_is = refl })
+unloaded held name requests net out reads outs nets (DamagedLine n) h = absurd h
+unloaded held name requests net out reads outs nets AnotherProgram h = absurd h
 unloaded held name requests net out reads outs nets NoSuchPage h = absurd h
 unloaded held name requests net out reads outs nets Network h = absurd h
 unloaded held name requests net out reads outs nets Write h = absurd h
@@ -50,6 +52,8 @@ unbound held name requests net net' out reads outs nets (Thrown bytes) same h = 
 unbound held name requests net net' out reads outs nets (Damaged at kind) same h = absurd h
 unbound held name requests net net' out reads outs nets (TooLarge most) same h = absurd h
 unbound held name requests net net' out reads outs nets (TwoEntries clique x y) same h = absurd h
+unbound held name requests net net' out reads outs nets (DamagedLine n) same h = absurd h
+unbound held name requests net net' out reads outs nets AnotherProgram same h = absurd h
 unbound held name requests net net' out reads outs nets NoSuchPage same h = absurd h
 unbound held name requests net net' out reads outs nets Network same h = (h, (refl, inl same))
 unbound held name requests net net' out reads outs nets Write same h = absurd h
@@ -68,6 +72,8 @@ unserved held name requests net net' out reads outs some all loaded v (Thrown by
 unserved held name requests net net' out reads outs some all loaded v (Damaged at kind) l is rises h = absurd h
 unserved held name requests net net' out reads outs some all loaded v (TooLarge most) l is rises h = absurd h
 unserved held name requests net net' out reads outs some all loaded v (TwoEntries clique x y) l is rises h = absurd h
+unserved held name requests net net' out reads outs some all loaded v (DamagedLine n) l is rises h = absurd h
+unserved held name requests net net' out reads outs some all loaded v AnotherProgram l is rises h = absurd h
 unserved held name requests net net' out reads outs some all loaded v NoSuchPage l is rises h = absurd h
 unserved held name requests net net' out reads outs some all loaded v Network l is rises h = (rises h.0, (refl, inr (record { profile = loaded.profile; spelled = l.spelled; view = v; is_view = is; served = h.1 })))
 unserved held name requests net net' out reads outs some all loaded v Write l is rises h = absurd h
@@ -87,6 +93,8 @@ served held name requests net net' out out' reads outs some all loaded v tally (
 served held name requests net net' out out' reads outs some all loaded v tally (Err (Damaged at kind)) l is h shown = absurd shown
 served held name requests net net' out out' reads outs some all loaded v tally (Err (TooLarge most)) l is h shown = absurd shown
 served held name requests net net' out out' reads outs some all loaded v tally (Err (TwoEntries clique x y)) l is h shown = absurd shown
+served held name requests net net' out out' reads outs some all loaded v tally (Err (DamagedLine n)) l is h shown = absurd shown
+served held name requests net net' out out' reads outs some all loaded v tally (Err AnotherProgram) l is h shown = absurd shown
 served held name requests net net' out out' reads outs some all loaded v tally (Err NoSuchPage) l is h shown = absurd shown
 served held name requests net net' out out' reads outs some all loaded v tally (Err Network) l is h shown = absurd shown
 served held name requests net net' out out' reads outs some all loaded v tally (Err Write) l is h shown = (shown.0, record { tally = tally; served = record { profile = loaded.profile; spelled = l.spelled; view = v; is_view = is; served = h }; told = shown.1 })

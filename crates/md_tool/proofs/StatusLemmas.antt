@@ -1,21 +1,23 @@
 -- What a status says, from what a whole call came to.
-use Rattle.std.proofs.Common.{◌≡◌, refl, sym, subst, inl, inr, ◌⊎◌, ℕ, List, Bool, true, Option, None, Some}
+use Rattle.std.proofs.Common.{◌≡◌, sym, subst, inl, inr, ◌⊎◌, ℕ, List, Bool, true, Option, None, Some}
 use Rattle.std.specs.Prelude.{Result, Ok, Err}
 use Rattle.md_base.specs.Outside.{PartAdded}
 use Rattle.md_base.specs.Files.{Files}
 use Rattle.md_base.specs.Nets.{Connections}
-use Rattle.md_deepfile.specs.Bytes.{file_bytes}
+use Rattle.md_hlds.specs.Hlds.{Hlds}
 use Rattle.md_query.specs.Asked.{Asked}
 use Rattle.md_render.specs.Text.{text_of}
-use Rattle.md_words.specs.Form.{Form, Check, Run, Report, Page, Serve, Gen, Migrate}
+use Rattle.md_words.specs.Form.{Form, Check, Run, Report, Page, Serve, Gen, Migrate, Feedback, Dump, Undump}
 use Rattle.md_tool.specs.declared.fault.Fault.{Fault}
-use Rattle.md_tool.specs.declared.fault.Fault.TheVariants.{Usage, Read, TooLong, Refused, OutOfSteps, Thrown, Damaged, TooLarge, TwoEntries, NoSuchPage, Write, NoMemory, Network}
+use Rattle.md_tool.specs.declared.fault.Fault.TheVariants.{Usage, Read, TooLong, Refused, OutOfSteps, Thrown, Damaged, TooLarge, TwoEntries, DamagedLine, AnotherProgram, NoSuchPage, Write, NoMemory, Network}
 use Rattle.md_tool.specs.Ends.{RunEnd, Finished, Threw, RanOut}
 use Rattle.md_tool.specs.Due.{CheckEnds}
-use Rattle.md_tool.specs.Profiled.{HasRun, HasProfileInPart, RunEnds}
+use Rattle.md_tool.specs.Candidates.{IsFeedbackOfRun}
+use Rattle.md_tool.specs.Kept.{HasRun, HasKeptInPart, IsRunFile, RunEnds}
 use Rattle.md_tool.specs.Reported.{HasReported, HasPageInPart, ReportEnds}
 use Rattle.md_tool.specs.Served.{ServeEnds}
 use Rattle.md_tool.specs.Stored.{StoredEnds, MigrateEnds}
+use Rattle.md_tool.specs.Texts.{DumpEnds, UndumpEnds}
 use Rattle.md_tool.specs.Generated.{GenEnds}
 use Rattle.md_tool.specs.Fault.{status_of, fault_line}
 use Rattle.md_tool.specs.Told.{CommandEnds, EndIsTold, TopEnds, named, file_of}
@@ -26,58 +28,61 @@ use Rattle.md_tool.proofs.StreamLemmas.{all_added}
 -- ---- a run of a file
 
 -- all of it is a part of it
-whole_profile : (held held' : Option Files) (file : List ℕ) (steps : ℕ) (name : List ℕ) (out out' : Option (List ℕ)) (end : RunEnd) → HasRun held held' file steps name out out' end
-    → HasProfileInPart held held' file steps name out out'
-whole_profile held held' file steps name out out' end h = record {
+whole_kept : (IsDue : Hlds → List ℕ → Type 0) (held held' : Option Files) (file : List ℕ) (steps : ℕ) (name : List ℕ) (out out' : Option (List ℕ)) (end : RunEnd) → HasRun IsDue held held' file steps name out out' end
+    → HasKeptInPart IsDue held held' file steps name out out'
+whole_kept IsDue held held' file steps name out out' end h = record {
   text = h.text;
   is_text = h.is_text;
   accepted = h.accepted;
   kept = record {
     output_is = h.kept.output_is;
-    profile = h.kept.profile;
-    is_profile = h.kept.is_profile;
-    valid = h.kept.valid;
-    stored = all_held name (file_bytes h.kept.profile) held held' h.kept.stored;
+    bytes = h.kept.bytes;
+    is_due = h.kept.is_due;
+    stored = all_held name h.kept.bytes held held' h.kept.stored;
   };
 }
 
 -- its end was told
-run_told : (held held' : Option Files) (file : List ℕ) (steps : ℕ) (name : List ℕ) (out out' : Option (List ℕ)) (reads writes outs : Type 0) (fault : Fault) → RunEnds held held' file steps name out out' reads writes outs (Err fault) → MeansRun held held' file steps name out out' reads writes outs (status_of fault)
-run_told held held' file steps name out out' reads writes outs Usage h = absurd h
-run_told held held' file steps name out out' reads writes outs Network h = absurd h
-run_told held held' file steps name out out' reads writes outs Read h = h
-run_told held held' file steps name out out' reads writes outs TooLong h = (LongerText h.0 h.1.out_is, h.1.held_is)
-run_told held held' file steps name out out' reads writes outs (Refused line w) h = (AtLine line w h.0, h.1)
-run_told held held' file steps name out out' reads writes outs OutOfSteps h = h
-run_told held held' file steps name out out' reads writes outs (Thrown bytes) h = (bytes.items, h)
-run_told held held' file steps name out out' reads writes outs (Damaged at kind) h = absurd h
-run_told held held' file steps name out out' reads writes outs (TooLarge most) h = absurd h
-run_told held held' file steps name out out' reads writes outs (TwoEntries clique x y) h = absurd h
-run_told held held' file steps name out out' reads writes outs NoSuchPage h = absurd h
-run_told held held' file steps name out out' reads writes outs Write h = h
-run_told held held' file steps name out out' reads writes outs NoMemory h = h
+run_told : (IsDue : Hlds → List ℕ → Type 0) (held held' : Option Files) (file : List ℕ) (steps : ℕ) (name : List ℕ) (out out' : Option (List ℕ)) (reads writes outs : Type 0) (fault : Fault) → RunEnds IsDue held held' file steps name out out' reads writes outs (Err fault) → MeansRun IsDue held held' file steps name out out' reads writes outs (status_of fault)
+run_told IsDue held held' file steps name out out' reads writes outs Usage h = absurd h
+run_told IsDue held held' file steps name out out' reads writes outs Network h = absurd h
+run_told IsDue held held' file steps name out out' reads writes outs Read h = h
+run_told IsDue held held' file steps name out out' reads writes outs TooLong h = (LongerText h.0 h.1.out_is, h.1.held_is)
+run_told IsDue held held' file steps name out out' reads writes outs (Refused line w) h = (AtLine line w h.0, h.1)
+run_told IsDue held held' file steps name out out' reads writes outs OutOfSteps h = h
+run_told IsDue held held' file steps name out out' reads writes outs (Thrown bytes) h = (bytes.items, h)
+run_told IsDue held held' file steps name out out' reads writes outs (Damaged at kind) h = absurd h
+run_told IsDue held held' file steps name out out' reads writes outs (TooLarge most) h = absurd h
+run_told IsDue held held' file steps name out out' reads writes outs (TwoEntries clique x y) h = absurd h
+run_told IsDue held held' file steps name out out' reads writes outs (DamagedLine n) h = absurd h
+run_told IsDue held held' file steps name out out' reads writes outs AnotherProgram h = absurd h
+run_told IsDue held held' file steps name out out' reads writes outs NoSuchPage h = absurd h
+run_told IsDue held held' file steps name out out' reads writes outs Write h = h
+run_told IsDue held held' file steps name out out' reads writes outs NoMemory h = h
 
 -- its end could not be told for want of memory
-run_untold : (held held' : Option Files) (file : List ℕ) (steps : ℕ) (name : List ℕ) (out out' : Option (List ℕ)) (reads writes outs : Type 0) (fault : Fault) → RunEnds held held' file steps name out out' reads writes outs (Err fault) → MeansRun held held' file steps name out out' reads writes outs 8
-run_untold held held' file steps name out out' reads writes outs Usage h = absurd h
-run_untold held held' file steps name out out' reads writes outs Network h = absurd h
-run_untold held held' file steps name out out' reads writes outs Read h = inl h.1
-run_untold held held' file steps name out out' reads writes outs TooLong h = inl h.1
-run_untold held held' file steps name out out' reads writes outs (Refused line w) h = inl (record { held_is = h.1; out_is = h.0.untouched })
-run_untold held held' file steps name out out' reads writes outs OutOfSteps h = inr (inr (whole_profile held held' file steps name out out' RanOut h))
-run_untold held held' file steps name out out' reads writes outs (Thrown bytes) h = inr (inr (whole_profile held held' file steps name out out' (Threw bytes.items) h))
-run_untold held held' file steps name out out' reads writes outs (Damaged at kind) h = absurd h
-run_untold held held' file steps name out out' reads writes outs (TooLarge most) h = absurd h
-run_untold held held' file steps name out out' reads writes outs (TwoEntries clique x y) h = absurd h
-run_untold held held' file steps name out out' reads writes outs NoSuchPage h = absurd h
-run_untold held held' file steps name out out' reads writes outs Write (inl h) = inr (inl h.1)
-run_untold held held' file steps name out out' reads writes outs Write (inr h) = inr (inr h.1)
-run_untold held held' file steps name out out' reads writes outs NoMemory h = h
+run_untold : (IsDue : Hlds → List ℕ → Type 0) (held held' : Option Files) (file : List ℕ) (steps : ℕ) (name : List ℕ) (out out' : Option (List ℕ)) (reads writes outs : Type 0) (fault : Fault) → RunEnds IsDue held held' file steps name out out' reads writes outs (Err fault) → MeansRun IsDue held held' file steps name out out' reads writes outs 8
+run_untold IsDue held held' file steps name out out' reads writes outs Usage h = absurd h
+run_untold IsDue held held' file steps name out out' reads writes outs Network h = absurd h
+run_untold IsDue held held' file steps name out out' reads writes outs Read h = inl h.1
+run_untold IsDue held held' file steps name out out' reads writes outs TooLong h = inl h.1
+run_untold IsDue held held' file steps name out out' reads writes outs (Refused line w) h = inl (record { held_is = h.1; out_is = h.0.untouched })
+run_untold IsDue held held' file steps name out out' reads writes outs OutOfSteps h = inr (inr (whole_kept IsDue held held' file steps name out out' RanOut h))
+run_untold IsDue held held' file steps name out out' reads writes outs (Thrown bytes) h = inr (inr (whole_kept IsDue held held' file steps name out out' (Threw bytes.items) h))
+run_untold IsDue held held' file steps name out out' reads writes outs (Damaged at kind) h = absurd h
+run_untold IsDue held held' file steps name out out' reads writes outs (TooLarge most) h = absurd h
+run_untold IsDue held held' file steps name out out' reads writes outs (TwoEntries clique x y) h = absurd h
+run_untold IsDue held held' file steps name out out' reads writes outs (DamagedLine n) h = absurd h
+run_untold IsDue held held' file steps name out out' reads writes outs AnotherProgram h = absurd h
+run_untold IsDue held held' file steps name out out' reads writes outs NoSuchPage h = absurd h
+run_untold IsDue held held' file steps name out out' reads writes outs Write (inl h) = inr (inl h.1)
+run_untold IsDue held held' file steps name out out' reads writes outs Write (inr h) = inr (inr h.1)
+run_untold IsDue held held' file steps name out out' reads writes outs NoMemory h = h
 
-run_fault : (held held' : Option Files) (file : List ℕ) (steps : ℕ) (name : List ℕ) (out out' : Option (List ℕ)) (reads writes outs : Type 0) (fault : Fault) (status : ℕ) → RunEnds held held' file steps name out out' reads writes outs (Err fault)
-    → (status ≡ status_of fault) ⊎ (status ≡ 8) → MeansRun held held' file steps name out out' reads writes outs status
-run_fault held held' file steps name out out' reads writes outs fault status h (inl same) = subst (MeansRun held held' file steps name out out' reads writes outs) (sym same) (run_told held held' file steps name out out' reads writes outs fault h)
-run_fault held held' file steps name out out' reads writes outs fault status h (inr same) = subst (MeansRun held held' file steps name out out' reads writes outs) (sym same) (run_untold held held' file steps name out out' reads writes outs fault h)
+run_fault : (IsDue : Hlds → List ℕ → Type 0) (held held' : Option Files) (file : List ℕ) (steps : ℕ) (name : List ℕ) (out out' : Option (List ℕ)) (reads writes outs : Type 0) (fault : Fault) (status : ℕ) → RunEnds IsDue held held' file steps name out out' reads writes outs (Err fault)
+    → (status ≡ status_of fault) ⊎ (status ≡ 8) → MeansRun IsDue held held' file steps name out out' reads writes outs status
+run_fault IsDue held held' file steps name out out' reads writes outs fault status h (inl same) = subst (MeansRun IsDue held held' file steps name out out' reads writes outs) (sym same) (run_told IsDue held held' file steps name out out' reads writes outs fault h)
+run_fault IsDue held held' file steps name out out' reads writes outs fault status h (inr same) = subst (MeansRun IsDue held held' file steps name out out' reads writes outs) (sym same) (run_untold IsDue held held' file steps name out out' reads writes outs fault h)
 
 -- ---- a check of a file
 
@@ -89,6 +94,8 @@ check_told held file print before now reads writes Network h = absurd h
 check_told held file print before now reads writes (Damaged at kind) h = absurd h
 check_told held file print before now reads writes (TooLarge most) h = absurd h
 check_told held file print before now reads writes (TwoEntries clique x y) h = absurd h
+check_told held file print before now reads writes (DamagedLine n) h = absurd h
+check_told held file print before now reads writes AnotherProgram h = absurd h
 check_told held file print before now reads writes NoSuchPage h = absurd h
 check_told held file print before now reads writes Read h = h
 check_told held file print before now reads writes TooLong h = LongerText h.0 h.1
@@ -106,6 +113,8 @@ check_untold held file print before now reads writes Network h = absurd h
 check_untold held file print before now reads writes (Damaged at kind) h = absurd h
 check_untold held file print before now reads writes (TooLarge most) h = absurd h
 check_untold held file print before now reads writes (TwoEntries clique x y) h = absurd h
+check_untold held file print before now reads writes (DamagedLine n) h = absurd h
+check_untold held file print before now reads writes AnotherProgram h = absurd h
 check_untold held file print before now reads writes NoSuchPage h = absurd h
 check_untold held file print before now reads writes Read h = inl h.1
 check_untold held file print before now reads writes TooLong h = inl h.1
@@ -157,6 +166,8 @@ report_told held file query steps out out' err between err' reads outs errs (Thr
 report_told held file query steps out out' err between err' reads outs errs (Damaged at kind) h line = absurd h
 report_told held file query steps out out' err between err' reads outs errs (TooLarge most) h line = absurd h
 report_told held file query steps out out' err between err' reads outs errs (TwoEntries clique x y) h line = absurd h
+report_told held file query steps out out' err between err' reads outs errs (DamagedLine n) h line = absurd h
+report_told held file query steps out out' err between err' reads outs errs AnotherProgram h line = absurd h
 report_told held file query steps out out' err between err' reads outs errs NoSuchPage h line = record { between = between; pageless = h; line_is = line }
 report_told held file query steps out out' err between err' reads outs errs Write (inl h) line = inl (h.0, record { text = h.1.text; is_text = h.1.is_text; accepted = h.1.accepted }, h.1.written.no_page)
 report_told held file query steps out out' err between err' reads outs errs Write (inr h) line = inr (h.0, part_of_page held file query steps out out' err between h.1)
@@ -176,6 +187,8 @@ report_untold held file query steps out out' err between err' reads outs errs (T
 report_untold held file query steps out out' err between err' reads outs errs (Damaged at kind) h = absurd h
 report_untold held file query steps out out' err between err' reads outs errs (TooLarge most) h = absurd h
 report_untold held file query steps out out' err between err' reads outs errs (TwoEntries clique x y) h = absurd h
+report_untold held file query steps out out' err between err' reads outs errs (DamagedLine n) h = absurd h
+report_untold held file query steps out out' err between err' reads outs errs AnotherProgram h = absurd h
 report_untold held file query steps out out' err between err' reads outs errs NoSuchPage h = inl h.pageless.lacks.untouched
 report_untold held file query steps out out' err between err' reads outs errs Write (inl h) = inl h.1.written.no_page
 report_untold held file query steps out out' err between err' reads outs errs Write (inr h) = inr (part_of_page held file query steps out out' err between h.1)
@@ -230,6 +243,8 @@ usage_fault before now status Network same why (inl is) = absurd why
 usage_fault before now status (Damaged at kind) same why (inl is) = absurd why
 usage_fault before now status (TooLarge most) same why (inl is) = absurd why
 usage_fault before now status (TwoEntries clique x y) same why (inl is) = absurd why
+usage_fault before now status (DamagedLine n) same why (inl is) = absurd why
+usage_fault before now status AnotherProgram same why (inl is) = absurd why
 usage_fault before now status NoSuchPage same why (inl is) = absurd why
 usage_fault before now status TooLong same why (inl is) = absurd why
 usage_fault before now status (Refused line w) same why (inl is) = absurd why
@@ -243,8 +258,8 @@ end_means : (form : Option Form) (held held' : Option Files) (net net' : Option 
     → CommandEnds form held held' net net' out out' err between reads writes outs errs nets end → EndIsTold end (named form) between err' errs status → Means form held held' net net' out out' err err' reads writes outs errs nets status
 end_means None held held' net net' out out' err between err' reads writes outs errs nets status (Ok done) command told = absurd (usage_end (Ok done) command.0)
 end_means None held held' net net' out out' err between err' reads writes outs errs nets status (Err fault) command told = usage_fault out out' status fault command.1.out_is (usage_end (Err fault) command.0) told.told
-end_means (Some (Run file steps name)) held held' net net' out out' err between err' reads writes outs errs nets status (Ok done) command told = subst (MeansRun held held' file steps name out out' reads writes outs) (sym told.0) command.0
-end_means (Some (Run file steps name)) held held' net net' out out' err between err' reads writes outs errs nets status (Err fault) command told = run_fault held held' file steps name out out' reads writes outs fault status command.0 told.told
+end_means (Some (Run file steps name)) held held' net net' out out' err between err' reads writes outs errs nets status (Ok done) command told = subst (MeansRun (IsRunFile steps) held held' file steps name out out' reads writes outs) (sym told.0) command.0
+end_means (Some (Run file steps name)) held held' net net' out out' err between err' reads writes outs errs nets status (Err fault) command told = run_fault (IsRunFile steps) held held' file steps name out out' reads writes outs fault status command.0 told.told
 end_means (Some (Check file print)) held held' net net' out out' err between err' reads writes outs errs nets status (Ok done) command told = subst (MeansCheck held file print out out' reads outs) (sym told.0) command.0
 end_means (Some (Check file print)) held held' net net' out out' err between err' reads writes outs errs nets status (Err fault) command told = check_fault held file print out out' reads outs fault status command.0 told.told
 end_means (Some (Report file query steps)) held held' net net' out out' err between err' reads writes outs errs nets status (Ok done) command told = report_done held file query steps out out' err between err' reads outs errs status command.0 told
@@ -253,6 +268,10 @@ end_means (Some (Page name query)) held held' net net' out out' err between err'
 end_means (Some (Serve name port requests)) held held' net net' out out' err between err' reads writes outs errs nets status end command told = ended (ServeEnds held name requests net net' out out' reads outs nets) end name between err' errs status command.0 told
 end_means (Some (Gen n summary)) held held' net net' out out' err between err' reads writes outs errs nets status end command told = ended (GenEnds n summary out out' outs) end (file_of (Gen n summary)) between err' errs status command.0 told
 end_means (Some (Migrate name new)) held held' net net' out out' err between err' reads writes outs errs nets status end command told = ended (MigrateEnds held held' name new out out' reads writes outs) end name between err' errs status command.0 told
+end_means (Some (Feedback file new steps least)) held held' net net' out out' err between err' reads writes outs errs nets status (Ok done) command told = subst (MeansRun (IsFeedbackOfRun least steps) held held' file steps new out out' reads writes outs) (sym told.0) command.0
+end_means (Some (Feedback file new steps least)) held held' net net' out out' err between err' reads writes outs errs nets status (Err fault) command told = run_fault (IsFeedbackOfRun least steps) held held' file steps new out out' reads writes outs fault status command.0 told.told
+end_means (Some (Dump name)) held held' net net' out out' err between err' reads writes outs errs nets status end command told = ended (DumpEnds held name out out' reads outs) end name between err' errs status command.0 told
+end_means (Some (Undump text new)) held held' net net' out out' err between err' reads writes outs errs nets status end command told = ended (UndumpEnds held held' text new out out' reads writes outs) end text between err' errs status command.0 told
 
 pub top_means : (form : Option Form) (held held' : Option Files) (net net' : Option Connections) (out out' err err' : Option (List ℕ)) (reads writes outs errs nets : Type 0) (status : ℕ)
     → TopEnds form held held' net net' out out' err err' reads writes outs errs nets status → Means form held held' net net' out out' err err' reads writes outs errs nets status
@@ -270,6 +289,9 @@ keeps (Some (Page name query)) held held' net net' out out' err err' reads write
 keeps (Some (Serve name port requests)) held held' net net' out out' err err' reads writes outs errs nets r h so = h.1
 keeps (Some (Gen n summary)) held held' net net' out out' err err' reads writes outs errs nets r h so = h.1
 keeps (Some (Migrate name new)) held held' net net' out out' err err' reads writes outs errs nets r h so = absurd (cc)
+keeps (Some (Feedback file new steps least)) held held' net net' out out' err err' reads writes outs errs nets r h so = absurd (cc)
+keeps (Some (Dump name)) held held' net net' out out' err err' reads writes outs errs nets r h so = h.1
+keeps (Some (Undump text new)) held held' net net' out out' err err' reads writes outs errs nets r h so = absurd (cc)
 
 pub store_kept : (form : Option Form) (held held' : Option Files) (net net' : Option Connections) (out out' err err' : Option (List ℕ)) (reads writes outs errs nets : Type 0) (status : ℕ)
     → TopEnds form held held' net net' out out' err err' reads writes outs errs nets status → keeps_store form ≡ true → held' ≡ held

@@ -1,16 +1,17 @@
 -- What comes of a stored profile.
-use Rattle.std.proofs.Common.{◌≡◌, refl, inl, inr, ℕ, List, Option}
+use Rattle.std.proofs.Common.{refl, inl, inr, ℕ, List, Option}
 use Rattle.std.specs.Prelude.{Result, Ok, Err}
 use Rattle.md_base.specs.Files.{Files}
 use Rattle.md_cost.specs.FileView.{IsFileView}
 use Rattle.md_cost.specs.Loading.{LoadedRows}
+use Rattle.md_deepfile.specs.Bytes.{file_bytes}
 use Rattle.md_dynamic.specs.Profile.{ProfileRows}
 use Rattle.md_query.specs.Asked.{Asked}
 use Rattle.md_tool.specs.declared.fault.Fault.{Fault}
-use Rattle.md_tool.specs.declared.fault.Fault.TheVariants.{Usage, Read, TooLong, Refused, OutOfSteps, Thrown, Damaged, TooLarge, TwoEntries, NoSuchPage, Write, NoMemory, Network}
+use Rattle.md_tool.specs.declared.fault.Fault.TheVariants.{Usage, Read, TooLong, Refused, OutOfSteps, Thrown, Damaged, TooLarge, TwoEntries, DamagedLine, AnotherProgram, NoSuchPage, Write, NoMemory, Network}
 use Rattle.md_tool.specs.Due.{WriteEnds, StoreEnds}
 use Rattle.md_tool.specs.Paged.{PageEnds}
-use Rattle.md_tool.specs.Stored.{IsStored, IsLoadedFrom, HasAnswered, LoadFails, ViewFails, StoredEnds, MigrateEnds, longest_profile, longest_migrated, migrated}
+use Rattle.md_tool.specs.Stored.{IsStored, IsLoadedFrom, LoadFails, ViewFails, StoredEnds, MigrateEnds, longest_profile, longest_migrated, migrated}
 
 -- the profile was loaded, and its page written as far as it was
 pub answered : (held : Option Files) (name : List ℕ) (query : Asked) (out out' : Option (List ℕ)) (reads outs : Type 0) (loaded : LoadedRows) (r : Result (Unit {0}) Fault)
@@ -26,6 +27,8 @@ answered held name query out out' reads outs loaded (Err (Thrown bytes)) l h = a
 answered held name query out out' reads outs loaded (Err (Damaged at kind)) l h = absurd h
 answered held name query out out' reads outs loaded (Err (TooLarge most)) l h = absurd h
 answered held name query out out' reads outs loaded (Err (TwoEntries clique x y)) l h = absurd h
+answered held name query out out' reads outs loaded (Err (DamagedLine n)) l h = absurd h
+answered held name query out out' reads outs loaded (Err AnotherProgram) l h = absurd h
 answered held name query out out' reads outs loaded (Err NoSuchPage) l h = record { profile = loaded.profile; spelled = l.spelled; ends = h }
 answered held name query out out' reads outs loaded (Err Write) l h = record { profile = loaded.profile; spelled = l.spelled; ends = h }
 answered held name query out out' reads outs loaded (Err NoMemory) l h = inr (record { profile = loaded.profile; spelled = l.spelled; ends = h })
@@ -42,6 +45,8 @@ unanswered held name query out reads outs (Thrown bytes) h = absurd h
 unanswered held name query out reads outs (Damaged at kind) h = (h, refl)
 unanswered held name query out reads outs (TooLarge most) h = (h.0, h.1, refl)
 unanswered held name query out reads outs (TwoEntries clique x y) h = (h, refl)
+unanswered held name query out reads outs (DamagedLine n) h = absurd h
+unanswered held name query out reads outs AnotherProgram h = absurd h
 unanswered held name query out reads outs NoSuchPage h = absurd h
 unanswered held name query out reads outs Write h = absurd h
 unanswered held name query out reads outs NoMemory h = inl refl
@@ -58,6 +63,8 @@ view_fails held name reads (Thrown bytes) h = absurd h
 view_fails held name reads (Damaged at kind) h = h
 view_fails held name reads (TooLarge most) h = h
 view_fails held name reads (TwoEntries clique x y) h = absurd h
+view_fails held name reads (DamagedLine n) h = absurd h
+view_fails held name reads AnotherProgram h = absurd h
 view_fails held name reads NoSuchPage h = absurd h
 view_fails held name reads Write h = absurd h
 view_fails held name reads NoMemory h = h
@@ -76,12 +83,14 @@ unread held name new out reads writes outs (Thrown bytes) h = absurd h
 unread held name new out reads writes outs (Damaged at kind) h = (h, record { held_is = refl; out_is = refl })
 unread held name new out reads writes outs (TooLarge most) h = (h.0, h.1, record { held_is = refl; out_is = refl })
 unread held name new out reads writes outs (TwoEntries clique x y) h = absurd h
+unread held name new out reads writes outs (DamagedLine n) h = absurd h
+unread held name new out reads writes outs AnotherProgram h = absurd h
 unread held name new out reads writes outs NoSuchPage h = absurd h
 unread held name new out reads writes outs Write h = absurd h
 unread held name new out reads writes outs NoMemory h = inl (record { held_is = refl; out_is = refl })
 
 pub unstored : (held held' : Option Files) (name new : List ℕ) (out : Option (List ℕ)) (reads writes outs : Type 0) (f : ProfileRows) (fault : Fault) → IsStored held name longest_migrated f
-    → StoreEnds new f held held' writes (Err fault) → MigrateEnds held held' name new out out reads writes outs (Err fault)
+    → StoreEnds new (file_bytes f) held held' writes (Err fault) → MigrateEnds held held' name new out out reads writes outs (Err fault)
 unstored held held' name new out reads writes outs f Usage s h = absurd h
 unstored held held' name new out reads writes outs f Network s h = absurd h
 unstored held held' name new out reads writes outs f Read s h = absurd h
@@ -92,12 +101,14 @@ unstored held held' name new out reads writes outs f (Thrown bytes) s h = absurd
 unstored held held' name new out reads writes outs f (Damaged at kind) s h = absurd h
 unstored held held' name new out reads writes outs f (TooLarge most) s h = absurd h
 unstored held held' name new out reads writes outs f (TwoEntries clique x y) s h = absurd h
+unstored held held' name new out reads writes outs f (DamagedLine n) s h = absurd h
+unstored held held' name new out reads writes outs f AnotherProgram s h = absurd h
 unstored held held' name new out reads writes outs f NoSuchPage s h = absurd h
 unstored held held' name new out reads writes outs f Write s h = inl (h.0, record { profile = f; spelled = s.spelled; stored = h.1; untold = refl })
 unstored held held' name new out reads writes outs f NoMemory s h = inr (inl (record { profile = f; spelled = s.spelled; stored = h; untold = refl }))
 
 pub stored : (held held' : Option Files) (name new : List ℕ) (out out' : Option (List ℕ)) (reads writes outs : Type 0) (f : ProfileRows) (r : Result (Unit {0}) Fault) → IsStored held name longest_migrated f
-    → StoreEnds new f held held' writes (Ok tt) → WriteEnds migrated out out' outs r → MigrateEnds held held' name new out out' reads writes outs r
+    → StoreEnds new (file_bytes f) held held' writes (Ok tt) → WriteEnds migrated out out' outs r → MigrateEnds held held' name new out out' reads writes outs r
 stored held held' name new out out' reads writes outs f (Ok done) s whole h = record { profile = f; spelled = s.spelled; stored = whole; told = h }
 stored held held' name new out out' reads writes outs f (Err Usage) s whole h = absurd h
 stored held held' name new out out' reads writes outs f (Err Network) s whole h = absurd h
@@ -109,6 +120,8 @@ stored held held' name new out out' reads writes outs f (Err (Thrown bytes)) s w
 stored held held' name new out out' reads writes outs f (Err (Damaged at kind)) s whole h = absurd h
 stored held held' name new out out' reads writes outs f (Err (TooLarge most)) s whole h = absurd h
 stored held held' name new out out' reads writes outs f (Err (TwoEntries clique x y)) s whole h = absurd h
+stored held held' name new out out' reads writes outs f (Err (DamagedLine n)) s whole h = absurd h
+stored held held' name new out out' reads writes outs f (Err AnotherProgram) s whole h = absurd h
 stored held held' name new out out' reads writes outs f (Err NoSuchPage) s whole h = absurd h
 stored held held' name new out out' reads writes outs f (Err Write) s whole h = inr (h.0, record { profile = f; spelled = s.spelled; stored = whole; told = h.1 })
 stored held held' name new out out' reads writes outs f (Err NoMemory) s whole h = inr (inr (record { profile = f; spelled = s.spelled; stored = whole; told = h }))

@@ -5,7 +5,7 @@ use Rattle.std.proofs.lemmas.Bool.{cases_lt}
 use Rattle.std.specs.Prelude.{Result, Ok, Err}
 use Rattle.md_base.specs.Outside.{Rose, added, PartAdded}
 use Rattle.md_tool.specs.declared.fault.Fault.{Fault}
-use Rattle.md_tool.specs.declared.fault.Fault.TheVariants.{Usage, Read, TooLong, Refused, OutOfSteps, Thrown, Damaged, TooLarge, TwoEntries, NoSuchPage, Write, NoMemory, Network}
+use Rattle.md_tool.specs.declared.fault.Fault.TheVariants.{Usage, Read, TooLong, Refused, OutOfSteps, Thrown, Damaged, TooLarge, TwoEntries, DamagedLine, AnotherProgram, NoSuchPage, Write, NoMemory, Network}
 use Rattle.md_tool.specs.Due.{WriteEnds}
 
 -- ---- a count that never falls
@@ -66,6 +66,8 @@ second_ends a b before between now second both (Err Network) rises first h = abs
 second_ends a b before between now second both (Err (Damaged at kind)) rises first h = absurd h
 second_ends a b before between now second both (Err (TooLarge most)) rises first h = absurd h
 second_ends a b before between now second both (Err (TwoEntries clique x y)) rises first h = absurd h
+second_ends a b before between now second both (Err (DamagedLine n)) rises first h = absurd h
+second_ends a b before between now second both (Err AnotherProgram) rises first h = absurd h
 second_ends a b before between now second both (Err NoSuchPage) rises first h = absurd h
 second_ends a b before between now second both (Err Read) rises first h = absurd h
 second_ends a b before between now second both (Err TooLong) rises first h = absurd h

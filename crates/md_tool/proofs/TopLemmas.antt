@@ -5,9 +5,9 @@ use Rattle.md_base.specs.Outside.{Rose, added}
 use Rattle.md_base.specs.Files.{Files}
 use Rattle.md_base.specs.Nets.{Connections}
 use Rattle.md_query.specs.Asked.{Asked}
-use Rattle.md_words.specs.Form.{Form, Check, Run, Report, Page, Serve, Gen, Migrate}
+use Rattle.md_words.specs.Form.{Form, Check, Run, Report, Page, Serve, Gen, Migrate, Feedback, Dump, Undump}
 use Rattle.md_tool.specs.declared.fault.Fault.{Fault}
-use Rattle.md_tool.specs.declared.fault.Fault.TheVariants.{Usage, Read, TooLong, Refused, OutOfSteps, Thrown, Damaged, TooLarge, TwoEntries, NoSuchPage, Write, NoMemory, Network}
+use Rattle.md_tool.specs.declared.fault.Fault.TheVariants.{Usage, Read, TooLong, Refused, OutOfSteps, Thrown, Damaged, TooLarge, TwoEntries, DamagedLine, AnotherProgram, NoSuchPage, Write, NoMemory, Network}
 use Rattle.md_tool.specs.Fault.{fault_line}
 use Rattle.md_tool.specs.Generated.{gen_text, GenEnds}
 use Rattle.md_tool.specs.Reported.{ReportEnds}
@@ -35,6 +35,9 @@ unknown (Some (Serve name port requests)) held net out err reads writes outs err
 unknown (Some (Gen n false)) held net out err reads writes outs errs nets = (none_added (gen_text n) out, refl, refl)
 unknown (Some (Gen n true)) held net out err reads writes outs errs nets = (inl refl, refl, refl)
 unknown (Some (Migrate name new)) held net out err reads writes outs errs nets = (inl (record { held_is = refl; out_is = refl }), refl)
+unknown (Some (Feedback file new steps least)) held net out err reads writes outs errs nets = (inl (record { held_is = refl; out_is = refl }), refl)
+unknown (Some (Dump name)) held net out err reads writes outs errs nets = (inl refl, refl, refl)
+unknown (Some (Undump text new)) held net out err reads writes outs errs nets = (inl (record { held_is = refl; out_is = refl }), refl)
 
 pub memory_told : (form : Option Form) (held : Option Files) (net : Option Connections) (out err err' : Option (List ℕ)) (reads writes outs errs nets : Type 0) (status : ℕ)
     → Tells NoMemory [] err err' errs status → TopEnds form held held net net out out err err' reads writes outs errs nets status
@@ -61,6 +64,8 @@ report_rises held file query steps out out' err err' reads outs some all (Err (T
 report_rises held file query steps out out' err err' reads outs some all (Err (Damaged at kind)) rises h = h
 report_rises held file query steps out out' err err' reads outs some all (Err (TooLarge most)) rises h = h
 report_rises held file query steps out out' err err' reads outs some all (Err (TwoEntries clique x y)) rises h = h
+report_rises held file query steps out out' err err' reads outs some all (Err (DamagedLine n)) rises h = h
+report_rises held file query steps out out' err err' reads outs some all (Err AnotherProgram) rises h = h
 report_rises held file query steps out out' err err' reads outs some all (Err NoSuchPage) rises h = h
 report_rises held file query steps out out' err err' reads outs some all (Err Write) rises (inl h) = inl (rises h.0, h.1)
 report_rises held file query steps out out' err err' reads outs some all (Err Write) rises (inr h) = inr h

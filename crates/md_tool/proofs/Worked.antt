@@ -4,7 +4,7 @@ use Rattle.std.specs.Prelude.{⊤}
 use Rattle.std.specs.Fmt.{digits}
 use Rattle.md_deepfile.specs.declared.damage.Kind.TheVariants as kind
 use Rattle.md_hlds.specs.Trace.{Answer, Throw}
-use Rattle.md_tool.specs.declared.fault.Fault.TheVariants.{Damaged, TooLarge, TwoEntries}
+use Rattle.md_tool.specs.declared.fault.Fault.TheVariants.{Damaged, TooLarge, TwoEntries, DamagedLine, AnotherProgram}
 use Rattle.md_tool.specs.declared.fault.Why.TheVariants as why
 use Rattle.md_tool.specs.declared.fault.Fault.TheVariants as faults
 use Rattle.md_tool.specs.Ends.{end_of, Finished, Threw, RanOut}

@@ -2,8 +2,6 @@
 use Rattle.std.specs.Prelude.{ℕ, ◌≡◌, ◌⊎◌, ◌≤◌, Bool, true, false, List, length, Option, Result, Ok, Err, codes}
 use Rattle.md_base.specs.Outside.{added, PartAdded}
 use Rattle.md_base.specs.Files.{Files, FileIs, FileIsLonger, HoldsPart, holding}
-use Rattle.md_deepfile.specs.Bytes.{file_bytes}
-use Rattle.md_dynamic.specs.Profile.{ProfileRows}
 use Rattle.md_hlds.specs.Hlds.{Hlds}
 use Rattle.md_printer.specs.Printed.{printed}
 use Rattle.md_tool.specs.declared.fault.Fault.{Fault}
@@ -75,12 +73,12 @@ CheckEnds held file print before now reads writes (Err Write) = writes × HasChe
 CheckEnds held file print before now reads writes (Err NoMemory) = (now ≡ before) ⊎ HasCheckedInPart held file print before now
 CheckEnds held file print before now reads writes (Err fault) = ⊥
 
--- ---- a profile that is stored
+-- ---- a file that is written
 
--- the profile was stored under the name, or the file is as it was or has a front of it: `writes` says that the store's
+-- the bytes were stored under the name, or the file is as it was or has a front of them: `writes` says that the store's
 -- count of faults in a write rose
-abbrev pub StoreEnds : (name : List ℕ) → ProfileRows → (held held' : Option Files) → (writes : Type 0) → Result (Unit {0}) Fault → Type 0
-StoreEnds name f held held' writes (Ok done) = held' ≡ holding name (file_bytes f) held
-StoreEnds name f held held' writes (Err Write) = writes × HoldsPart name (file_bytes f) held held'
-StoreEnds name f held held' writes (Err NoMemory) = HoldsPart name (file_bytes f) held held'
-StoreEnds name f held held' writes (Err fault) = ⊥
+abbrev pub StoreEnds : (name bytes : List ℕ) → (held held' : Option Files) → (writes : Type 0) → Result (Unit {0}) Fault → Type 0
+StoreEnds name bytes held held' writes (Ok done) = held' ≡ holding name bytes held
+StoreEnds name bytes held held' writes (Err Write) = writes × HoldsPart name bytes held held'
+StoreEnds name bytes held held' writes (Err NoMemory) = HoldsPart name bytes held held'
+StoreEnds name bytes held held' writes (Err fault) = ⊥

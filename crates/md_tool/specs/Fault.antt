@@ -6,7 +6,7 @@ use Rattle.md_deepfile.specs.declared.damage.Kind.TheVariants as kind
 use Rattle.md_hlds.specs.declared.types.Det.{Det}
 use Rattle.md_hlds.specs.declared.types.Det.TheVariants as det
 use Rattle.md_tool.specs.declared.fault.Fault.{Fault}
-use Rattle.md_tool.specs.declared.fault.Fault.TheVariants.{Usage, Read, TooLong, Refused, OutOfSteps, Thrown, Damaged, TooLarge, TwoEntries, NoSuchPage, Network, Write, NoMemory}
+use Rattle.md_tool.specs.declared.fault.Fault.TheVariants.{Usage, Read, TooLong, Refused, OutOfSteps, Thrown, Damaged, TooLarge, TwoEntries, DamagedLine, AnotherProgram, NoSuchPage, Network, Write, NoMemory}
 use Rattle.md_tool.specs.declared.fault.Why.{Why}
 use Rattle.md_tool.specs.declared.fault.Why.TheVariants as why
 
@@ -20,6 +20,8 @@ status_of (Thrown error) = 10
 status_of (Damaged at kind) = 5
 status_of (TooLarge most) = 5
 status_of (TwoEntries clique a b) = 5
+status_of (DamagedLine line) = 5
+status_of AnotherProgram = 11
 status_of NoSuchPage = 6
 status_of Network = 9
 status_of Write = 7
@@ -83,6 +85,9 @@ word_of_kind kind.Flag = codes "flag"
 abbrev pub damage_text : ℕ → List ℕ → List ℕ
 damage_text at kind = codes "damaged at " ++ (decimal at ++ (codes ": " ++ kind))
 
+abbrev pub damaged_line_text : ℕ → List ℕ
+damaged_line_text line = codes "damaged at line " ++ decimal line
+
 abbrev pub size_text : ℕ → List ℕ
 size_text most = codes "longer than " ++ (decimal most ++ codes " bytes")
 
@@ -100,6 +105,8 @@ fault_line (Thrown error) file = uncaught_line error.items
 fault_line (Damaged at kind) file = file_line file (damage_text at (word_of_kind kind))
 fault_line (TooLarge most) file = file_line file (size_text most)
 fault_line (TwoEntries clique a b) file = file_line file (entries_text clique a b)
+fault_line (DamagedLine line) file = file_line file (damaged_line_text line)
+fault_line AnotherProgram file = file_line file (codes "another program")
 fault_line NoSuchPage file = plain_line (codes "no such page")
 fault_line Network file = plain_line (codes "network fault")
 fault_line Write file = plain_line (codes "write fault")

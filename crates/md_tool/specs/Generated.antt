@@ -1,7 +1,6 @@
 -- The generated programs, and what `gen` owes.
 use Rattle.std.specs.Prelude.{ℕ, zero, suc, ◌≡◌, ◌⊎◌, ◌+◌, ◌==◌, Bool, true, false, List, [], ◌++◌, Option, Result, Ok, Err, codes, if◌then◌else◌}
 use Rattle.std.specs.Fmt.{decimal}
-use Rattle.md_base.specs.Outside.{added, PartAdded}
 use Rattle.md_hlds.specs.Run.{run}
 use Rattle.md_profile.specs.OfRun.{IsViewOfRun}
 use Rattle.md_query.specs.Asked.{Menu}

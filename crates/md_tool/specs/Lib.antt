@@ -4,10 +4,12 @@ pub mod Ends
 pub mod Ran
 pub mod Due
 pub mod Paged
-pub mod Profiled
+pub mod Kept
+pub mod Candidates
 pub mod Reported
 pub mod Stored
 pub mod Served
 pub mod Generated
 pub mod Told
 pub mod Meaning
+pub mod Texts

@@ -3,9 +3,10 @@ use Rattle.std.specs.Prelude.{ℕ, ◌≡◌, ◌⊎◌, Bool, true, false, ◌|
 use Rattle.md_base.specs.Outside.{PartAdded}
 use Rattle.md_base.specs.Files.{Files, FileIsLonger}
 use Rattle.md_base.specs.Nets.{Connections}
+use Rattle.md_hlds.specs.Hlds.{Hlds}
 use Rattle.md_profile.specs.OfRun.{IsViewOfRun}
 use Rattle.md_query.specs.Asked.{Asked}
-use Rattle.md_words.specs.Form.{Form, Check, Run, Report, Page, Serve, Gen, Migrate}
+use Rattle.md_words.specs.Form.{Form, Check, Run, Report, Page, Serve, Gen, Migrate, Feedback, Dump, Undump}
 use Rattle.md_tool.specs.declared.fault.Fault.{Fault}
 use Rattle.md_tool.specs.declared.fault.Fault.TheVariants.{Refused}
 use Rattle.md_tool.specs.declared.fault.Why.{Why}
@@ -15,10 +16,12 @@ use Rattle.md_tool.specs.Ends.{RunEnd, Finished, Threw, RanOut}
 use Rattle.md_tool.specs.Fault.{status_of, plain_line, uncaught_line}
 use Rattle.md_tool.specs.Generated.{GenEnds}
 use Rattle.md_tool.specs.Paged.{IsPagedInPart}
-use Rattle.md_tool.specs.Profiled.{AreUntouched, HasRun, HasRunInPart, HasProfileInPart}
+use Rattle.md_tool.specs.Candidates.{IsFeedbackOfRun}
+use Rattle.md_tool.specs.Kept.{AreUntouched, HasRun, HasRunInPart, HasKeptInPart, IsRunFile}
 use Rattle.md_tool.specs.Reported.{HasReported, HasNoPage}
 use Rattle.md_tool.specs.Served.{ServeEnds}
 use Rattle.md_tool.specs.Stored.{StoredEnds, MigrateEnds}
+use Rattle.md_tool.specs.Texts.{DumpEnds, UndumpEnds}
 
 -- a file's text isn't accepted as a program: it is too long, or has a fault at a line
 pub data RefusedText (held : Option Files) (file : List ℕ) (before now : Option (List ℕ)) : Type 0 where
@@ -33,17 +36,17 @@ choose false a b = b
 abbrev pub MeansUsage : Option (List ℕ) → Option (List ℕ) → ℕ → Type 0
 MeansUsage before now status = choose (status == 1 || status == 8) (now ≡ before) ⊥
 
--- What a status says of a run of a file. The three facts are that the store's count of faults in a read rose, that in a
+-- What a status says of a run of a file, of which what is due is kept. The three facts are that the store's count of faults in a read rose, that in a
 -- write, and that of `out`.
-abbrev pub MeansRun : (held held' : Option Files) → List ℕ → (steps : ℕ) → (name : List ℕ) → (out out' : Option (List ℕ)) → (reads writes outs : Type 0) → ℕ → Type 0
-MeansRun held held' file steps name out out' reads writes outs status =
-    choose (status == 0) (HasRun held held' file steps name out out' Finished)
+abbrev pub MeansRun : (IsDue : Hlds → List ℕ → Type 0) → (held held' : Option Files) → List ℕ → (steps : ℕ) → (name : List ℕ) → (out out' : Option (List ℕ)) → (reads writes outs : Type 0) → ℕ → Type 0
+MeansRun IsDue held held' file steps name out out' reads writes outs status =
+    choose (status == 0) (HasRun IsDue held held' file steps name out out' Finished)
     (choose (status == 2) (reads × AreUntouched held held' out out')
     (choose (status == 3) (RefusedText held file out out' × (held' ≡ held))
-    (choose (status == 4) (HasRun held held' file steps name out out' RanOut)
-    (choose (status == 7) ((outs × HasRunInPart held held' file steps out out') ⊎ (writes × HasProfileInPart held held' file steps name out out'))
-    (choose (status == 8) (AreUntouched held held' out out' ⊎ (HasRunInPart held held' file steps out out' ⊎ HasProfileInPart held held' file steps name out out'))
-    (choose (status == 10) ((bytes : List ℕ) × HasRun held held' file steps name out out' (Threw bytes))
+    (choose (status == 4) (HasRun IsDue held held' file steps name out out' RanOut)
+    (choose (status == 7) ((outs × HasRunInPart held held' file steps out out') ⊎ (writes × HasKeptInPart IsDue held held' file steps name out out'))
+    (choose (status == 8) (AreUntouched held held' out out' ⊎ (HasRunInPart held held' file steps out out' ⊎ HasKeptInPart IsDue held held' file steps name out out'))
+    (choose (status == 10) ((bytes : List ℕ) × HasRun IsDue held held' file steps name out out' (Threw bytes))
     ⊥))))))
 
 -- What a status says of a check of a file.
@@ -105,17 +108,23 @@ MeansEnd Ends status = ((status ≡ 0) × Ends (Ok tt)) ⊎ ((fault : Fault) × 
 abbrev pub Means : Option Form → (held held' : Option Files) → (net net' : Option Connections) → (out out' err err' : Option (List ℕ)) → (reads writes outs errs nets : Type 0) → ℕ → Type 0
 Means None held held' net net' out out' err err' reads writes outs errs nets status = MeansUsage out out' status
 Means (Some (Check file print)) held held' net net' out out' err err' reads writes outs errs nets status = MeansCheck held file print out out' reads outs status
-Means (Some (Run file steps name)) held held' net net' out out' err err' reads writes outs errs nets status = MeansRun held held' file steps name out out' reads writes outs status
+Means (Some (Run file steps name)) held held' net net' out out' err err' reads writes outs errs nets status = MeansRun (IsRunFile steps) held held' file steps name out out' reads writes outs status
 Means (Some (Report file query steps)) held held' net net' out out' err err' reads writes outs errs nets status = MeansReport held file query steps out out' err err' reads outs errs status
 Means (Some (Page name query)) held held' net net' out out' err err' reads writes outs errs nets status = MeansEnd (StoredEnds held name query out out' reads outs) status
 Means (Some (Serve name port requests)) held held' net net' out out' err err' reads writes outs errs nets status = MeansEnd (ServeEnds held name requests net net' out out' reads outs nets) status
 Means (Some (Gen n summary)) held held' net net' out out' err err' reads writes outs errs nets status = MeansEnd (GenEnds n summary out out' outs) status
 Means (Some (Migrate name new)) held held' net net' out out' err err' reads writes outs errs nets status = MeansEnd (MigrateEnds held held' name new out out' reads writes outs) status
+Means (Some (Feedback file new steps least)) held held' net net' out out' err err' reads writes outs errs nets status = MeansRun (IsFeedbackOfRun least steps) held held' file steps new out out' reads writes outs status
+Means (Some (Dump name)) held held' net net' out out' err err' reads writes outs errs nets status = MeansEnd (DumpEnds held name out out' reads outs) status
+Means (Some (Undump text new)) held held' net net' out out' err err' reads writes outs errs nets status = MeansEnd (UndumpEnds held held' text new out out' reads writes outs) status
 
 -- whether a command leaves the store as it was
 abbrev pub keeps_store : Option Form → Bool
 keeps_store (Some (Run file steps name)) = false
 keeps_store (Some (Migrate name new)) = false
+keeps_store (Some (Feedback file new steps least)) = false
+keeps_store (Some (Undump text new)) = false
+keeps_store (Some (Dump name)) = true
 keeps_store (Some (Check file print)) = true
 keeps_store (Some (Report file query steps)) = true
 keeps_store (Some (Page name query)) = true
@@ -128,6 +137,9 @@ abbrev pub keeps_net : Option Form → Bool
 keeps_net (Some (Serve name port requests)) = false
 keeps_net (Some (Run file steps name)) = true
 keeps_net (Some (Migrate name new)) = true
+keeps_net (Some (Feedback file new steps least)) = true
+keeps_net (Some (Dump name)) = true
+keeps_net (Some (Undump text new)) = true
 keeps_net (Some (Check file print)) = true
 keeps_net (Some (Report file query steps)) = true
 keeps_net (Some (Page name query)) = true

@@ -13,7 +13,7 @@ use Rattle.md_query.specs.Asked.{Asked}
 use Rattle.md_tool.specs.declared.fault.Fault.{Fault}
 use Rattle.md_tool.specs.declared.fault.Fault.TheVariants.{Read, TooLarge, Damaged, TwoEntries, NoSuchPage, Write, NoMemory}
 use Rattle.md_tool.specs.Paged.{PageEnds}
-use Rattle.md_tool.specs.Profiled.{AreUntouched}
+use Rattle.md_tool.specs.Kept.{AreUntouched}
 
 -- the longest profile file that is asked, and that is brought into the newer form, in bytes
 abbrev pub longest_profile : ℕ

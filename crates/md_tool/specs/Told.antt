@@ -3,16 +3,18 @@ use Rattle.std.specs.Prelude.{ℕ, ◌≡◌, ◌⊎◌, List, [], Option, None,
 use Rattle.md_base.specs.Outside.{added, PartAdded}
 use Rattle.md_base.specs.Files.{Files}
 use Rattle.md_base.specs.Nets.{Connections}
-use Rattle.md_words.specs.Form.{Form, Check, Run, Report, Page, Serve, Gen, Migrate}
+use Rattle.md_words.specs.Form.{Form, Check, Run, Report, Page, Serve, Gen, Migrate, Feedback, Dump, Undump}
 use Rattle.md_tool.specs.declared.fault.Fault.{Fault}
 use Rattle.md_tool.specs.declared.fault.Fault.TheVariants.{Usage, NoMemory}
 use Rattle.md_tool.specs.Fault.{status_of, fault_line}
 use Rattle.md_tool.specs.Due.{CheckEnds}
 use Rattle.md_tool.specs.Generated.{GenEnds}
-use Rattle.md_tool.specs.Profiled.{RunEnds}
+use Rattle.md_tool.specs.Candidates.{IsFeedbackOfRun}
+use Rattle.md_tool.specs.Kept.{IsRunFile, RunEnds}
 use Rattle.md_tool.specs.Reported.{ReportEnds}
 use Rattle.md_tool.specs.Served.{ServeEnds}
 use Rattle.md_tool.specs.Stored.{StoredEnds, MigrateEnds}
+use Rattle.md_tool.specs.Texts.{DumpEnds, UndumpEnds}
 
 -- A fault was told: its line was written, or a front of it where the stream's count of faults rose or memory was
 -- refused. The status is the fault's, or that of a want of memory.
@@ -32,12 +34,15 @@ pub record NothingChanged (held held' : Option Files) (out out' err err' : Optio
 abbrev pub CommandEnds : Option Form → (held held' : Option Files) → (net net' : Option Connections) → (out out' err err' : Option (List ℕ)) → (reads writes outs errs nets : Type 0) → Result (Unit {0}) Fault → Type 0
 CommandEnds None held held' net net' out out' err err' reads writes outs errs nets r = ((r ≡ Err Usage) ⊎ (r ≡ Err NoMemory)) × NothingChanged held held' out out' err err'
 CommandEnds (Some (Check file print)) held held' net net' out out' err err' reads writes outs errs nets r = CheckEnds held file print out out' reads outs r × (held' ≡ held) × (err' ≡ err)
-CommandEnds (Some (Run file steps name)) held held' net net' out out' err err' reads writes outs errs nets r = RunEnds held held' file steps name out out' reads writes outs r × (err' ≡ err)
+CommandEnds (Some (Run file steps name)) held held' net net' out out' err err' reads writes outs errs nets r = RunEnds (IsRunFile steps) held held' file steps name out out' reads writes outs r × (err' ≡ err)
 CommandEnds (Some (Report file query steps)) held held' net net' out out' err err' reads writes outs errs nets r = ReportEnds held file query steps out out' err err' reads outs errs r × (held' ≡ held)
 CommandEnds (Some (Page name query)) held held' net net' out out' err err' reads writes outs errs nets r = StoredEnds held name query out out' reads outs r × (held' ≡ held) × (err' ≡ err)
 CommandEnds (Some (Serve name port requests)) held held' net net' out out' err err' reads writes outs errs nets r = ServeEnds held name requests net net' out out' reads outs nets r × (held' ≡ held) × (err' ≡ err)
 CommandEnds (Some (Gen n summary)) held held' net net' out out' err err' reads writes outs errs nets r = GenEnds n summary out out' outs r × (held' ≡ held) × (err' ≡ err)
 CommandEnds (Some (Migrate name new)) held held' net net' out out' err err' reads writes outs errs nets r = MigrateEnds held held' name new out out' reads writes outs r × (err' ≡ err)
+CommandEnds (Some (Feedback file new steps least)) held held' net net' out out' err err' reads writes outs errs nets r = RunEnds (IsFeedbackOfRun least steps) held held' file steps new out out' reads writes outs r × (err' ≡ err)
+CommandEnds (Some (Dump name)) held held' net net' out out' err err' reads writes outs errs nets r = DumpEnds held name out out' reads outs r × (held' ≡ held) × (err' ≡ err)
+CommandEnds (Some (Undump text new)) held held' net net' out out' err err' reads writes outs errs nets r = UndumpEnds held held' text new out out' reads writes outs r × (err' ≡ err)
 
 -- the name in a line that tells of a fault: that of the command's file; a generated program is called `gen`
 abbrev pub file_of : Form → List ℕ
@@ -48,6 +53,9 @@ file_of (Page name query) = name
 file_of (Serve name port requests) = name
 file_of (Gen n summary) = codes "gen"
 file_of (Migrate name new) = name
+file_of (Feedback file new steps least) = file
+file_of (Dump name) = name
+file_of (Undump text new) = text
 
 abbrev pub named : Option Form → List ℕ
 named None = []

@@ -9,10 +9,12 @@ ghost use Rattle.md_tool.specs.Meaning.{Means, keeps_store, keeps_net};
 use crate::check::check_file;
 use crate::fault::Fault;
 use crate::generate::generate;
+use crate::pairs::feedback_file;
 use crate::report::report_file;
 use crate::run::run_file;
 use crate::serve::serve_file;
 use crate::stored::{migrate_file, page_of_file};
+use crate::texts::{dump_file, undump_file};
 use md_base::{Net, Sink, Store, WriteFault, write_whole};
 use md_words::{Command, command_of};
 use std::alloc::Global;
@@ -29,7 +31,10 @@ pub struct Status(pub u8);
 /// but writes what it writes to `err`, with a line that ends it, and then to `out` the page of the run that is asked for.
 /// `page NAME QUERY` writes the page of a stored profile, and `migrate NAME NEW` stores it in the newer form. `serve NAME --port P
 /// --requests N` serves the pages of a stored profile over HTTP to as many connections, and writes how many came and how many
-/// of them were answered. `gen N` writes a generated program, and `gen N --summary` the menu of its run. A fault is told by a line on `err` and by the status: 1
+/// of them were answered. `dump NAME` writes a stored profile as a text, and `undump TEXT NEW` stores the profile that such a
+/// text spells. `feedback FILE NEW` runs the program as `run` does, and stores which pairs of its calls could run side by side
+/// with profit: those with 100 calls in all for each own one, or as many as `--least` gives. `gen N` writes a generated
+/// program, and `gen N --summary` the menu of its run. A fault is told by a line on `err` and by the status: 1
 /// where the words are no command, 2 where a file can't be read, 3 where a text isn't accepted as a program, 4 where the run
 /// isn't finished, 5 where a file isn't a profile, 6 where a profile has no such page, 7 where something can't be written,
 /// 8 where memory was refused, 9 where the net failed, and 10 where an exception left the program's `main`.
@@ -125,6 +130,23 @@ fn do_command<S: Store, O: Sink, E: Sink, N: Net>(
         Command::Migrate { name, new } => {
             let end = migrate_file(alloc, *name, *new, store, out);
             tell_end(alloc, &end, *name, err)
+        }
+        Command::Feedback {
+            file,
+            new,
+            steps,
+            least,
+        } => {
+            let end = feedback_file(alloc, *file, *new, *steps, *least, store, out);
+            tell_end(alloc, &end, *file, err)
+        }
+        Command::Dump { name } => {
+            let end = dump_file(alloc, *name, store, out);
+            tell_end(alloc, &end, *name, err)
+        }
+        Command::Undump { text, new } => {
+            let end = undump_file(alloc, *text, *new, store, out);
+            tell_end(alloc, &end, *text, err)
         }
     }
 }

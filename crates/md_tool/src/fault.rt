@@ -1,6 +1,6 @@
 // Why a command ended without all that it was asked for, and the line that says so.
 ghost use Rattle.std.specs.Prelude.{◌≡◌, IfOk, string_bytes};
-ghost use Rattle.md_tool.specs.Fault.{status_of, fault_line, plain_line, uncaught_line, file_line, place_line, text_of, word_of, word_of_kind, declared_text, damage_text, size_text, entries_text};
+ghost use Rattle.md_tool.specs.Fault.{status_of, fault_line, plain_line, uncaught_line, file_line, place_line, text_of, word_of, word_of_kind, declared_text, damage_text, damaged_line_text, size_text, entries_text};
 ghost use Rattle.md_tool.specs.declared.fault.Why.TheVariants as why;
 
 use md_deepfile::Kind;
@@ -28,6 +28,10 @@ pub enum Fault {
     TooLarge(u64),
     /// A clique of the profile is entered by two links.
     TwoEntries { clique: u32, a: u32, b: u32 },
+    /// The text of a profile breaks a rule at this line.
+    DamagedLine(u32),
+    /// The profile is of another program than the one before it.
+    AnotherProgram,
     /// The profile has no such page.
     NoSuchPage,
     /// The net failed.
@@ -76,9 +80,11 @@ impl Fault {
             Fault::Damaged { .. } => 5,
             Fault::TooLarge(_) => 5,
             Fault::TwoEntries { .. } => 5,
+            Fault::DamagedLine(_) => 5,
             Fault::NoSuchPage => 6,
             Fault::Network => 9,
             Fault::Thrown(_) => 10,
+            Fault::AnotherProgram => 11,
             Fault::Write => 7,
             Fault::NoMemory => 8,
         }
@@ -98,6 +104,8 @@ impl Fault {
             Fault::Damaged { at, kind } => damaged(alloc, file, *at, *kind),
             Fault::TooLarge(most) => too_large(alloc, file, *most),
             Fault::TwoEntries { clique, a, b } => two_entries(alloc, file, *clique, *a, *b),
+            Fault::DamagedLine(line) => damaged_line(alloc, file, *line),
+            Fault::AnotherProgram => of_file(alloc, file, "another program"),
             Fault::NoSuchPage => plain(alloc, "no such page"),
             Fault::Network => plain(alloc, "network fault"),
             Fault::Write => plain(alloc, "write fault"),
@@ -135,6 +143,20 @@ fn word_of_kind(kind: Kind) -> &'static str
         Kind::Orphan => "orphan",
         Kind::Flag => "flag",
     }
+}
+
+/// The line that tells of damage to the text of a profile.
+fn damaged_line(alloc: Global, file: &str, line: u32) -> Result<Vec<u8>, AllocError>
+    ensures { IfOk result (λ told. told.items ≡ file_line file.now (damaged_line_text line)) }
+{
+    let text = damaged_line_text(alloc, line)?;
+    of_file(alloc, file, text.as_str())
+}
+
+fn damaged_line_text(alloc: Global, line: u32) -> Result<String, AllocError>
+    ensures { IfOk result (λ text. string_bytes text ≡ damaged_line_text line) }
+{
+    format!(in alloc; "damaged at line {line}")
 }
 
 /// The line that tells of a profile file that is too long.

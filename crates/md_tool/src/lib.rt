@@ -7,12 +7,14 @@ mod command;
 mod fault;
 mod generate;
 mod paged;
+mod pairs;
 mod report;
 mod run;
 mod serve;
 mod stored;
 #[cfg(test)]
 mod tests;
+mod texts;
 mod write;
 
 pub use command::{Status, top};

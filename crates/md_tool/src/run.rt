@@ -1,12 +1,13 @@
 // The command `run`.
 ghost use Rattle.std.specs.Prelude.{ℕ, ◌≡◌};
 ghost use Rattle.md_base.specs.Outside.{Rose};
+ghost use Rattle.md_deepfile.specs.Bytes.{file_bytes};
 ghost use Rattle.md_dynamic.specs.Valid.{IsValid};
 ghost use Rattle.md_hlds.specs.Hlds.{Hlds};
 ghost use Rattle.md_profile.specs.OfRun.{IsProfiled};
 ghost use Rattle.md_tool.specs.Due.{StoreEnds};
 ghost use Rattle.md_tool.specs.Ends.{TellsEnd, ran_end};
-ghost use Rattle.md_tool.specs.Profiled.{RunEnds, KeepEnds};
+ghost use Rattle.md_tool.specs.Kept.{IsRunFile, RunEnds, KeepEnds};
 
 use crate::accept::read_text;
 use crate::fault::Fault;
@@ -28,7 +29,7 @@ pub fn run_file<S: Store, O: Sink>(
     store: &mut S,
     out: &mut O,
 ) -> Result<(), Fault>
-    ensures { RunEnds (S.held store.old) (S.held store.new) file.now steps name.now (O.held out.old) (O.held out.new)
+    ensures { RunEnds (IsRunFile steps) (S.held store.old) (S.held store.new) file.now steps name.now (O.held out.old) (O.held out.new)
         (Rose (S.read_faults store.old) (S.read_faults store.new)) (Rose (S.write_faults store.old) (S.write_faults store.new))
         (Rose (O.write_faults out.old) (O.write_faults out.new)) result }
 {
@@ -47,7 +48,7 @@ fn keep<S: Store, O: Sink>(
 ) -> Result<(), Fault>
     requires { IsValid profiled.profile }
     ensures ends { (program : Hlds) (steps : ℕ) → IsProfiled program steps profiled
-        → KeepEnds program steps name.now (S.held store.old) (S.held store.new) (O.held out.old) (O.held out.new)
+        → KeepEnds (IsRunFile steps program) program steps name.now (S.held store.old) (S.held store.new) (O.held out.old) (O.held out.new)
         (Rose (S.write_faults store.old) (S.write_faults store.new)) (Rose (O.write_faults out.old) (O.write_faults out.new)) result }
     ensures reads { S.read_faults store.new ≡ S.read_faults store.old }
 {
@@ -65,7 +66,7 @@ pub fn store_profile<S: Store>(
     store: &mut S,
 ) -> Result<(), Fault>
     requires { IsValid profile.now }
-    ensures ends { StoreEnds name.now profile.now (S.held store.old) (S.held store.new) (Rose (S.write_faults store.old) (S.write_faults store.new)) result }
+    ensures ends { StoreEnds name.now (file_bytes profile.now) (S.held store.old) (S.held store.new) (Rose (S.write_faults store.old) (S.write_faults store.new)) result }
     ensures reads { S.read_faults store.new ≡ S.read_faults store.old }
 {
     match write_profile(alloc, profile, store, name) {

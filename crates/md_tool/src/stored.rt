@@ -18,10 +18,10 @@ use md_query::Query;
 use std::alloc::Global;
 
 /// The longest profile file that is asked, in bytes.
-const LONGEST_PROFILE: u64 = 1_073_741_824;
+pub const LONGEST_PROFILE: u64 = 1_073_741_824;
 
 /// The longest profile file that is brought into the newer form, in bytes.
-const LONGEST_MIGRATED: u64 = 268_435_456;
+pub const LONGEST_MIGRATED: u64 = 268_435_456;
 
 /// Writes the page that is asked for of the profile in a file.
 pub fn page_of_file<S: Store, O: Sink>(
@@ -54,7 +54,7 @@ pub fn load_file<S: Store>(alloc: Global, name: &str, store: &mut S) -> Result<L
 }
 
 /// Reads the profile in a file of at most so many bytes.
-fn load_profile<S: Store>(
+pub fn load_profile<S: Store>(
     alloc: Global,
     name: &str,
     most: u64,

@@ -9,7 +9,7 @@ use Rattle.md_base.specs.declared.measure.Measure.TheVariants.{Words}
 use Rattle.md_token.specs.Literal.{number_of}
 use Rattle.md_query.specs.Asked as query
 use Rattle.md_query.specs.Asked.{query_of}
-use Rattle.md_words.specs.Form.{form, Check, Run, Report, Page, Gen, Migrate}
+use Rattle.md_words.specs.Form.{form, Check, Run, Report, Page, Gen, Migrate, Feedback, Dump, Undump}
 
 -- what is unfolded to compute a command on literals
 unfoldable on_words : ⊤
@@ -91,3 +91,35 @@ a-profile-is-not-written-over-itself = refl
 an-old-profile-and-a-new-one : form (codes "migrate" ∷ codes "p" ∷ codes "q" ∷ []) ≡ Some (Migrate (codes "p") (codes "q"))
 unfolding on_words
 an-old-profile-and-a-new-one = refl
+
+a-hundred-calls-are-the-least : form (codes "feedback" ∷ codes "a.m" ∷ codes "fb" ∷ []) ≡ Some (Feedback (codes "a.m") (codes "fb") 1000000 100)
+unfolding on_words
+a-hundred-calls-are-the-least = refl
+
+steps-and-least-in-any-order : form (codes "feedback" ∷ codes "--least=3" ∷ codes "a.m" ∷ codes "--steps" ∷ codes "5" ∷ codes "fb" ∷ []) ≡ Some (Feedback (codes "a.m") (codes "fb") 5 3)
+unfolding on_words
+steps-and-least-in-any-order = refl
+
+the-least-is-not-none : form (codes "feedback" ∷ codes "a.m" ∷ codes "fb" ∷ codes "--least" ∷ codes "0" ∷ []) ≡ None
+unfolding on_words
+the-least-is-not-none = refl
+
+feedback-does-not-go-over-the-program : form (codes "feedback" ∷ codes "a.m" ∷ codes "a.m" ∷ []) ≡ None
+unfolding on_words
+feedback-does-not-go-over-the-program = refl
+
+a-profile-as-text : form (codes "dump" ∷ codes "p" ∷ []) ≡ Some (Dump (codes "p"))
+unfolding on_words
+a-profile-as-text = refl
+
+a-dump-has-no-options : form (codes "dump" ∷ codes "p" ∷ codes "--steps=5" ∷ []) ≡ None
+unfolding on_words
+a-dump-has-no-options = refl
+
+a-text-as-a-profile : form (codes "undump" ∷ codes "t" ∷ codes "p" ∷ []) ≡ Some (Undump (codes "t") (codes "p"))
+unfolding on_words
+a-text-as-a-profile = refl
+
+a-text-is-not-written-over : form (codes "undump" ∷ codes "t" ∷ codes "t" ∷ []) ≡ None
+unfolding on_words
+a-text-is-not-written-over = refl

@@ -6,7 +6,7 @@ use Rattle.std.specs.declared.alloc.Global.{Global}
 use Rattle.md_query.specs.Asked.{Asked, query_of}
 use Rattle.md_query.specs.Pair.{number_within}
 use Rattle.md_words.specs.declared.split.Place.TheVariants.{Front}
-use Rattle.md_words.specs.Settings.{Setting, Print, Summary, Steps, Port, Requests, Profile}
+use Rattle.md_words.specs.Settings.{Setting, Print, Summary, Steps, Port, Requests, Least, Profile}
 use Rattle.md_words.specs.Split.{Split, split}
 
 -- the words of the code as bytes
@@ -28,6 +28,12 @@ pub data Form : Type 0 where
   Gen : (n : ℕ) (summary : Bool) → Form
   -- `migrate NAME NEW`
   Migrate : (name new : List ℕ) → Form
+  -- `feedback FILE NEW [--steps N] [--least K]`
+  Feedback : (file new : List ℕ) (steps least : ℕ) → Form
+  -- `dump NAME`
+  Dump : (name : List ℕ) → Form
+  -- `undump TEXT NEW`
+  Undump : (text new : List ℕ) → Form
 
 -- ---- options: each comes at most once, and in any order; None where there are others
 
@@ -60,6 +66,18 @@ running_of (Profile name ∷ []) = Some (usual_steps, name)
 running_of (Steps n ∷ Profile name ∷ []) = Some (n, name)
 running_of (Profile name ∷ Steps n ∷ []) = Some (n, name)
 running_of options = None
+
+abbrev pub usual_least : ℕ
+usual_least = 100
+
+-- steps, and the least number of calls below a costly one
+abbrev pub weighing_of : List Setting → Option (ℕ × ℕ)
+weighing_of [] = Some (usual_steps, usual_least)
+weighing_of (Steps n ∷ []) = Some (n, usual_least)
+weighing_of (Least k ∷ []) = Some (usual_steps, k)
+weighing_of (Steps n ∷ Least k ∷ []) = Some (n, k)
+weighing_of (Least k ∷ Steps n ∷ []) = Some (n, k)
+weighing_of options = None
 
 -- port and connections, neither of which is left out
 abbrev pub serving_of : List Setting → Option (ℕ × ℕ)
@@ -141,6 +159,26 @@ abbrev pub migrate_of : Bool → (words : Option (List ℕ × List ℕ)) → Opt
 migrate_of true (Some (name, new)) = cond (bytes_eq name new) None (Some (Migrate name new))
 migrate_of bare words = None
 
+-- a program isn't written over
+abbrev pub feedback_of : Option (ℕ × ℕ) → (words : Option (List ℕ × List ℕ)) → Option Form
+feedback_of (Some (steps, least)) (Some (file, new)) = cond (bytes_eq file new) None (Some (Feedback file new steps least))
+feedback_of weighing words = None
+
+abbrev pub dump_of : Bool → (name : Option (List ℕ)) → Option Form
+dump_of true (Some name) = Some (Dump name)
+dump_of bare name = None
+
+abbrev pub undump_of : Bool → (words : Option (List ℕ × List ℕ)) → Option Form
+undump_of true (Some (text, new)) = cond (bytes_eq text new) None (Some (Undump text new))
+undump_of bare words = None
+
+-- what a command that looks further into a profile and the words after it ask for
+abbrev pub later_form_of : List ℕ → Split → Option Form
+later_form_of command s =
+    cond (bytes_eq command (codes "feedback")) (feedback_of (weighing_of s.options) (two s.others))
+    (cond (bytes_eq command (codes "dump")) (dump_of (are_none s.options) (only s.others))
+    (cond (bytes_eq command (codes "undump")) (undump_of (are_none s.options) (two s.others)) None))
+
 -- what a command and the words after it ask for
 abbrev pub form_of : List ℕ → Split → Option Form
 form_of command s =
@@ -150,7 +188,7 @@ form_of command s =
     (cond (bytes_eq command (codes "page")) (page_of (are_none s.options) (two s.others))
     (cond (bytes_eq command (codes "serve")) (serve_of (serving_of s.options) (only s.others))
     (cond (bytes_eq command (codes "gen")) (gen_of (summary_of s.options) (only s.others))
-    (cond (bytes_eq command (codes "migrate")) (migrate_of (are_none s.options) (two s.others)) None))))))
+    (cond (bytes_eq command (codes "migrate")) (migrate_of (are_none s.options) (two s.others)) (later_form_of command s)))))))
 
 -- what the words ask for, where they are a command
 unfoldable pub form : List (List ℕ) → Option Form
@@ -159,7 +197,7 @@ form (command ∷ words) = form_of command (split Front words)
 
 -- ---- what holds of every command
 
--- a generated program has 1 to 20 procedures
+-- a generated program has 1 to 20 procedures, and a costly call 1 to 4,294,967,295 calls below it
 abbrev pub HasBounds : Form → Type 0
 HasBounds (Check file print) = Unit {0}
 HasBounds (Run file steps profile) = Unit {0}
@@ -168,3 +206,6 @@ HasBounds (Page name query) = Unit {0}
 HasBounds (Serve name port requests) = Unit {0}
 HasBounds (Gen n summary) = (1 ≤ n) × (n ≤ 20)
 HasBounds (Migrate name new) = Unit {0}
+HasBounds (Feedback file new steps least) = (1 ≤ least) × (least ≤ 4294967295)
+HasBounds (Dump name) = Unit {0}
+HasBounds (Undump text new) = Unit {0}

@@ -17,6 +17,8 @@ pub data Setting : Type 0 where
   Port : (n : ℕ) → Setting
   -- `--requests`, with a number of connections
   Requests : (n : ℕ) → Setting
+  -- `--least`, with a number of calls
+  Least : (n : ℕ) → Setting
   -- `--profile`, with the name of a file
   Profile : (name : List ℕ) → Setting
   -- what no command takes
@@ -28,7 +30,8 @@ named word =
     cond (bytes_eq word (codes "--steps")) (Some valued.Steps)
     (cond (bytes_eq word (codes "--profile")) (Some valued.Profile)
     (cond (bytes_eq word (codes "--port")) (Some valued.Port)
-    (cond (bytes_eq word (codes "--requests")) (Some valued.Requests) None)))
+    (cond (bytes_eq word (codes "--requests")) (Some valued.Requests)
+    (cond (bytes_eq word (codes "--least")) (Some valued.Least) None))))
 
 -- an option whose value is a number within its bounds
 abbrev pub numbered : (ℕ → Setting) → Option ℕ → Setting
@@ -41,6 +44,7 @@ setting_of valued.Steps value = numbered Steps (number_within 1 16777216 value)
 setting_of valued.Profile value = Profile value
 setting_of valued.Port value = numbered Port (number_within 1 65535 value)
 setting_of valued.Requests value = numbered Requests (number_within 1 1000000 value)
+setting_of valued.Least value = numbered Least (number_within 1 4294967295 value)
 
 -- a word that begins with `-` and isn't `-` alone has to be an option
 abbrev pub is_option : List ℕ → Bool

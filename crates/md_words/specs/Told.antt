@@ -7,9 +7,9 @@ use Rattle.md_words.specs.declared.command.Command.TheVariants as command
 use Rattle.md_words.specs.declared.option.Setting as code
 use Rattle.md_words.specs.declared.option.Setting.TheVariants as setting
 use Rattle.md_words.specs.declared.split.Words as words
-use Rattle.md_words.specs.Settings.{Setting, Print, Summary, Steps, Port, Requests, Profile, Unknown}
+use Rattle.md_words.specs.Settings.{Setting, Print, Summary, Steps, Port, Requests, Least, Profile, Unknown}
 use Rattle.md_words.specs.Split.{Split}
-use Rattle.md_words.specs.Form.{Form, Check, Run, Report, Page, Serve, Gen, Migrate}
+use Rattle.md_words.specs.Form.{Form, Check, Run, Report, Page, Serve, Gen, Migrate, Feedback, Dump, Undump}
 
 abbrev pub setting_told : code.Setting → Setting
 setting_told setting.Print = Print
@@ -17,6 +17,7 @@ setting_told setting.Summary = Summary
 setting_told (setting.Steps n) = Steps n
 setting_told (setting.Port n) = Port n
 setting_told (setting.Requests n) = Requests n
+setting_told (setting.Least n) = Least n
 setting_told (setting.Profile name) = Profile name.now
 setting_told setting.Unknown = Unknown
 
@@ -38,6 +39,9 @@ told (command.Page name query) = Page name.now (asked query)
 told (command.Serve name port requests) = Serve name.now port requests
 told (command.Gen n summary) = Gen n summary
 told (command.Migrate name new) = Migrate name.now new.now
+told (command.Feedback file new steps least) = Feedback file.now new.now steps least
+told (command.Dump name) = Dump name.now
+told (command.Undump text new) = Undump text.now new.now
 
 abbrev pub command_told : Option Command → Option Form
 command_told None = None

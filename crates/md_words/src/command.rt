@@ -2,7 +2,7 @@
 ghost use Rattle.std.specs.Prelude.{◌≡◌, ◌==◌, IfOk, IfSome};
 ghost use Rattle.std.specs.List.{before_first, after_first};
 ghost use Rattle.md_query.specs.Told.{asked_told};
-ghost use Rattle.md_words.specs.Form.{words_of, HasBounds, form, form_of, check_of, run_of, report_of, page_of, serve_of, gen_of, migrate_of, print_of, summary_of, steps_of, running_of, serving_of, are_none, without_slash, query_in, query_at, only, two};
+ghost use Rattle.md_words.specs.Form.{words_of, HasBounds, form, form_of, later_form_of, feedback_of, dump_of, undump_of, weighing_of, check_of, run_of, report_of, page_of, serve_of, gen_of, migrate_of, print_of, summary_of, steps_of, running_of, serving_of, are_none, without_slash, query_in, query_at, only, two};
 ghost use Rattle.md_words.specs.Told.{told, settings_told, split_told, command_told, texts, text_told, pair_told, running_told};
 
 use crate::option::Setting;
@@ -19,6 +19,9 @@ const USUAL_PROFILE: &str = "mdprof.data";
 
 /// The greatest number of a generated program.
 const MOST_GENERATED: u32 = 20;
+
+/// How many calls are below a costly one where the words don't say it.
+const USUAL_LEAST: u32 = 100;
 
 /// What the words of a command line ask for.
 #[derive(Debug, Drop)]
@@ -61,6 +64,22 @@ pub enum Command<'a> {
         name: &'a str,
         new: &'a str,
     },
+    /// `feedback FILE NEW [--steps N] [--least K]`.
+    Feedback {
+        file: &'a str,
+        new: &'a str,
+        steps: u32,
+        least: u32,
+    },
+    /// `dump NAME`.
+    Dump {
+        name: &'a str,
+    },
+    /// `undump TEXT NEW`.
+    Undump {
+        text: &'a str,
+        new: &'a str,
+    },
 }
 
 /// The command that the words are, or `None` exactly where they are none. Options and other words come in any order; the
@@ -100,7 +119,22 @@ fn command_by<'a>(
     } else if command == "migrate" {
         Ok(migrate_command(bare(&words.options), two(&words.others)))
     } else {
-        Ok(None)
+        Ok(later_command_by(command, words))
+    }
+}
+
+/// The same of the commands that look further into a profile.
+fn later_command_by<'a>(command: &str, words: &Words<'a>) -> Option<Command<'a>>
+    ensures { command_told result ≡ later_form_of command.now (split_told words.now) }
+{
+    if command == "feedback" {
+        feedback_command(weighing(&words.options), two(&words.others))
+    } else if command == "dump" {
+        dump_command(bare(&words.options), only(&words.others))
+    } else if command == "undump" {
+        undump_command(bare(&words.options), two(&words.others))
+    } else {
+        None
     }
 }
 
@@ -204,6 +238,51 @@ fn migrate_command<'a>(bare: bool, words: Option<(&'a str, &'a str)>) -> Option<
         return None;
     }
     Some(Command::Migrate { name, new })
+}
+
+/// `feedback FILE NEW [--steps N] [--least K]`, where the program isn't written over.
+fn feedback_command<'a>(
+    weighing: Option<(u32, u32)>,
+    words: Option<(&'a str, &'a str)>,
+) -> Option<Command<'a>>
+    ensures { command_told result ≡ feedback_of weighing (pair_told words.entry) }
+{
+    let (steps, least) = weighing?;
+    let (file, new) = words?;
+    if file == new {
+        return None;
+    }
+    Some(Command::Feedback {
+        file,
+        new,
+        steps,
+        least,
+    })
+}
+
+/// `dump NAME`.
+fn dump_command<'a>(bare: bool, name: Option<&'a str>) -> Option<Command<'a>>
+    ensures { command_told result ≡ dump_of bare (text_told name.entry) }
+{
+    if !bare {
+        return None;
+    }
+    let name = name?;
+    Some(Command::Dump { name })
+}
+
+/// `undump TEXT NEW`, where a file isn't written over itself.
+fn undump_command<'a>(bare: bool, words: Option<(&'a str, &'a str)>) -> Option<Command<'a>>
+    ensures { command_told result ≡ undump_of bare (pair_told words.entry) }
+{
+    if !bare {
+        return None;
+    }
+    let (text, new) = words?;
+    if text == new {
+        return None;
+    }
+    Some(Command::Undump { text, new })
 }
 
 /// The one word, where there is one.
@@ -318,6 +397,20 @@ fn running<'a>(options: &[Setting<'a>]) -> Option<(u32, &'a str)>
         [Setting::Profile(name)] => Some((USUAL_STEPS, *name)),
         [Setting::Steps(steps), Setting::Profile(name)] => Some((*steps, *name)),
         [Setting::Profile(name), Setting::Steps(steps)] => Some((*steps, *name)),
+        _ => None,
+    }
+}
+
+/// The steps of a run and the least number of calls below a costly one, by the options; `None` where there are others.
+fn weighing(options: &[Setting]) -> Option<(u32, u32)>
+    ensures { result ≡ weighing_of (settings_told options.now) }
+{
+    match options {
+        [] => Some((USUAL_STEPS, USUAL_LEAST)),
+        [Setting::Steps(steps)] => Some((*steps, USUAL_LEAST)),
+        [Setting::Least(least)] => Some((USUAL_STEPS, *least)),
+        [Setting::Steps(steps), Setting::Least(least)] => Some((*steps, *least)),
+        [Setting::Least(least), Setting::Steps(steps)] => Some((*steps, *least)),
         _ => None,
     }
 }

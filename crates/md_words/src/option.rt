@@ -1,6 +1,6 @@
 // The options of the command line.
 ghost use Rattle.std.specs.Prelude.{◌≡◌, ◌≤◌, IfSome};
-ghost use Rattle.md_words.specs.Settings.{Steps, Port, Requests, numbered, named, setting_of, is_option, with_value, around_equals, setting_named, option_of};
+ghost use Rattle.md_words.specs.Settings.{Steps, Port, Requests, Least, numbered, named, setting_of, is_option, with_value, around_equals, setting_named, option_of};
 ghost use Rattle.md_words.specs.Told.{setting_told, pair_told};
 
 use md_query::number_within;
@@ -13,6 +13,9 @@ const LAST_PORT: u32 = 65_535;
 
 /// The most connections that are served.
 const MOST_REQUESTS: u32 = 1_000_000;
+
+/// The greatest number of calls below a costly one that may be asked for.
+const GREATEST_LEAST: u32 = 4_294_967_295;
 
 /// An option.
 #[derive(Clone, Copy, Debug)]
@@ -27,6 +30,8 @@ pub enum Setting<'a> {
     Port(u16),
     /// `--requests N`.
     Requests(u32),
+    /// `--least K`.
+    Least(u32),
     /// `--profile NAME`.
     Profile(&'a str),
     /// What no command takes: another word, or an option without a value that it may have.
@@ -40,6 +45,7 @@ pub enum Valued {
     Profile,
     Port,
     Requests,
+    Least,
 }
 
 /// The option of this name, where it is one that takes a value.
@@ -54,6 +60,8 @@ pub fn named(word: &str) -> Option<Valued>
         Some(Valued::Port)
     } else if word == "--requests" {
         Some(Valued::Requests)
+    } else if word == "--least" {
+        Some(Valued::Least)
     } else {
         None
     }
@@ -68,6 +76,7 @@ fn setting_of(name: Valued, value: &str) -> Setting
         Valued::Profile => Setting::Profile(value),
         Valued::Port => port(number_within(1, LAST_PORT, value.as_bytes())),
         Valued::Requests => requests(number_within(1, MOST_REQUESTS, value.as_bytes())),
+        Valued::Least => least(number_within(1, GREATEST_LEAST, value.as_bytes())),
     }
 }
 
@@ -98,6 +107,16 @@ fn requests(number: Option<u32>) -> Setting<'static>
 {
     match number {
         Some(number) => Setting::Requests(number),
+        None => Setting::Unknown,
+    }
+}
+
+/// The option `--least` with this number, where it is one.
+fn least(number: Option<u32>) -> Setting<'static>
+    ensures { setting_told result ≡ numbered Least number }
+{
+    match number {
+        Some(number) => Setting::Least(number),
         None => Setting::Unknown,
     }
 }

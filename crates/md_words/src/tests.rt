@@ -47,6 +47,14 @@ fn told(alloc: Global, command: &Command<'_>) -> Result<String, Fail> {
         } => format!(in alloc; "serve {name} {port} {requests}")?,
         Command::Gen { n, summary } => format!(in alloc; "gen {n} {summary}")?,
         Command::Migrate { name, new } => format!(in alloc; "migrate {name} {new}")?,
+        Command::Feedback {
+            file,
+            new,
+            steps,
+            least,
+        } => format!(in alloc; "feedback {file} {new} {steps} {least}")?,
+        Command::Dump { name } => format!(in alloc; "dump {name}")?,
+        Command::Undump { text, new } => format!(in alloc; "undump {text} {new}")?,
     };
     Ok(told)
 }
@@ -90,6 +98,12 @@ fn lines_ask_for_commands(rt: HostRuntime) -> Result<(), Fail> {
         ("gen 0", "none"),
         ("migrate p q", "migrate p q"),
         ("migrate p p", "none"),
+        ("feedback a.m fb --least 3", "feedback a.m fb 1000000 3"),
+        ("feedback a.m fb --least 0", "none"),
+        ("dump p", "dump p"),
+        ("dump p --print", "none"),
+        ("undump t p", "undump t p"),
+        ("undump t", "none"),
         ("--help", "none"),
     ] {
         assert_eq!(rt; asked(rt.alloc(), line)?.as_str(), command, "{line}");

@@ -1,6 +1,11 @@
 use Rattle.std.proofs.Common.{◌-◌, refl}
-use Rattle.md_record.proofs.Leading.{many-leads, many-cost}
+use Rattle.md_record.proofs.Leading.{many-leads, many-cost, many-below}
 use Rattle.md_record.proofs.leads.lead_many.Goals as goal
+
+pub count-requires : goal.count-requires
+count-requires g c =
+    let a = c.args in
+    many-below a.tables.now c.find_or_add.new.tables a.node a.site a.callee c.in_ok-link.link (c.find_or_add.new.steps - a.steps.now) a.old c.requires.active c.in_ok-link.ensures.ok
 
 pub returns-clause-ok : goal.returns-clause-ok
 returns-clause-ok g c =

@@ -1,4 +1,4 @@
-use Rattle.std.proofs.Common.{◌≡◌, ◌∙◌, ◌++◌, ap, List, ℕ}
+use Rattle.std.proofs.Common.{◌∙◌, ◌++◌, ap, List, ℕ}
 use Rattle.md_tool.specs.Generated.{gen_text}
 use Rattle.md_tool.proofs.GenShort.{next_level}
 use Rattle.md_tool.proofs.generate.gen_text.Goals as goal

@@ -1,4 +1,4 @@
-use Rattle.std.proofs.Common.{◌≡◌, ◌∙◌, ◌≤◌, ap, sym, subst, length, List, ℕ}
+use Rattle.std.proofs.Common.{◌∙◌, ◌≤◌, sym, subst, length, List, ℕ}
 use Rattle.md_base.specs.Outside.{Rose}
 use Rattle.md_tool.proofs.GenLemmas.{text_written}
 use Rattle.md_tool.proofs.GenShort.{gen_short}

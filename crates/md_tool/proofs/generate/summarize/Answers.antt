@@ -1,4 +1,4 @@
-use Rattle.std.proofs.Common.{◌≡◌, subst, List, ℕ}
+use Rattle.std.proofs.Common.{subst, List, ℕ}
 use Rattle.md_base.specs.Outside.{Rose}
 use Rattle.md_tool.specs.Accepted.{TextFault}
 use Rattle.md_tool.specs.Generated.{most_steps}

@@ -1,21 +1,25 @@
-use Rattle.std.proofs.Common.{ℕ, ◌<◌, ◌++◌, ◌∷◌, [], List, length, slice_get, IsSomeAnd, sym, ap, ◌∙◌, subst, arith}
-use Rattle.md_dynamic.specs.declared.slot.Slot.{Slot}
+use Rattle.std.proofs.Common.{ℕ, ◌<◌, ◌≡◌, ◌++◌, ◌∷◌, [], Some, length, slice_get, sym, ap, ◌∙◌, arith}
+use Rattle.md_dynamic.specs.declared.link.LinkRow.{LinkRow}
 use Rattle.md_dynamic.specs.Rows.{Rows}
-use Rattle.md_dynamic.proofs.Growth.{was-filled, link-tables}
+use Rattle.md_dynamic.proofs.Growth.{place-bound, adding, link-tables}
 use Rattle.md_dynamic.proofs.tables.Tables.add_link.Goals as goal
+
+pub enter-requires : goal.enter-requires
+enter-requires g c =
+    let t = c.self.inside in
+    let r : Rows = record { statics = t.statics; nodes = t.nodes.items; links = t.links.items; active = t.active.items } in
+    place-bound r t.spans.items t.firsts.items t.slots.items t.callees.entries c.self.invariant c.args.self.now c.self.view_is c.args.node c.args.site c.requires.owned c.place-place.result c.place-place.ensures
 
 pub invariant_of-self-2 : goal.invariant_of-self-2
 invariant_of-self-2 g c =
     let t = c.self.inside in
-    let node = c.number.result in
-    let place = c.place-place.result in
-    let mid = c.fill_slot.new.slots.items in
-    let P : List (List Slot) → Type 0 = λ xs. IsSomeAnd (slice_get xs c.args.node) (λ ys. place < length ys) in
-    let Q : ℕ → Type 0 = λ v. IsSomeAnd (slice_get t.slots.items v) (λ ys. place < length ys) in
-    let within = subst Q (sym c.number.ensures) (subst P (ap (λ (z : Rows). z.slots) (sym c.self.view_is)) c.place-place.ensures.within) in
-    let was = was-filled t.slots.items mid node place c.args.callee c.new-link.result c.in_ok-fill_slot.ensures.ok within in
+    let r : Rows = record { statics = t.statics; nodes = t.nodes.items; links = t.links.items; active = t.active.items } in
+    let number : c.new-link.result ≡ length t.links.items = omega (arith, c.new-link.ensures, c.len.ensures, t.links.ok.0) in
+    let a = adding r t.spans.items t.firsts.items t.slots.items t.callees.entries c.self.invariant c.args.self.now c.self.view_is c.args.node c.args.site c.requires.owned c.enter.new.slots.items c.enter.new.callees.entries c.args.callee c.place-place.result c.new-link.result
+    c.site-kind.result c.requires.fresh c.site-kind.ensures c.place-place.ensures number c.in_ok-enter.ensures.slots c.in_ok-enter.ensures.callees in
     let few : length t.links.items < 4294967295 = omega (arith, c.requires.room, ap (λ (z : Rows). length z.links) c.self.view_is) in
-    link-tables t.statics t.spans.items t.nodes.items t.slots.items mid t.links.items c.push_reserved.new.self.items t.active.items c.row.result
-    node place c.args.callee c.new-link.result c.self.invariant was
-    (c.push_reserved.ensures.items ∙ ap (λ xs. xs ++ c.row.result ∷ []) c.in_ok-reserve.ensures.items)
+    let end : slice_get t.nodes.items c.args.to ≡ Some c.args.callee = ap (λ (z : Rows). slice_get z.nodes c.args.to) c.self.view_is ∙ c.requires.of_callee in
+    link-tables t.statics t.spans.items t.nodes.items t.firsts.items t.slots.items c.enter.new.slots.items t.callees.entries c.enter.new.callees.entries t.links.items c.push_reserved.new.self.items t.active.items c.args.node c.args.site c.args.callee c.args.to c.args.calls
+    c.self.invariant a end
+    (c.push_reserved.ensures.items ∙ ap (λ xs. xs ++ c.row.result ∷ []) c.in_ok-reserve.ensures.items ∙ ap (λ (x : LinkRow). t.links.items ++ x ∷ []) c.row.ensures)
     few

@@ -3,10 +3,10 @@ use Rattle.md_trace.proofs.Lists.{get-within}
 use Rattle.md_dynamic.specs.Rows.{Rows, Owns, MayLead, IsFresh}
 use Rattle.md_record.specs.Kept.{Kept, Stands}
 use Rattle.md_record.specs.Memory.{TakesMemory}
-use Rattle.md_record.specs.Leads.{LeadsBy, LinksThere}
+use Rattle.md_record.specs.Leads.{LeadsBy}
 use Rattle.md_record.proofs.Added.{links-fit}
 use Rattle.md_record.proofs.CallCosts.{site-cost}
-use Rattle.md_record.proofs.Callings.{calling, calling-owns, calling-leads, calling-links, chain-some, outcome}
+use Rattle.md_record.proofs.Callings.{calling, calling-owns, calling-leads, chain-some, outcome}
 use Rattle.md_record.proofs.Calls.{stands-call, marks-call}
 use Rattle.md_record.proofs.Finishing.{due-of, end-from, shows-end}
 use Rattle.md_record.proofs.Room.{full-chain, missing-link, on-err}
@@ -52,16 +52,6 @@ lead-requires-clause-there g c =
     let rows : t ≡ k.rows = ap (λ (z : Kept). z.rows) c.self.view_is in
     let n = calling r.table r.history k c.args.site c.args.callee c.current-node.result r.stood r.follows c.current-node.ensures in
     omega (arith, n.below, ap (λ (z : Rows). length z.statics.procs) rows)
-
-pub lead-requires-clause-links_there : goal.lead-requires-clause-links_there
-lead-requires-clause-links_there g c =
-    let k = c.args.self.now in
-    let r = c.requires in
-    let t = c.self.inside.tables in
-    let rows : t ≡ k.rows = ap (λ (z : Kept). z.rows) c.self.view_is in
-    let n = calling r.table r.history k c.args.site c.args.callee c.current-node.result r.stood r.follows c.current-node.ensures in
-    let P : Rows → Type 0 = λ z. LinksThere z c.current-node.result c.args.site in
-    subst P (sym rows) (calling-links r.table r.history k c.args.site c.args.callee c.current-node.result r.stood n)
 
 pub lead-requires-clause-room : goal.lead-requires-clause-room
 lead-requires-clause-room g c =
@@ -146,8 +136,8 @@ pub returns-clause-cost : goal.returns-clause-cost
 returns-clause-cost g c =
     let k = c.args.self.now in
     let k2 : Kept = record { rows = c.set_active.new.self; chain = c.push_reserved.new.self.items; room = c.push_reserved.new.self.cap } in
-    site-cost k k2 c.self.inside.tables c.lead.new.tables c.current-node.result c.args.site c.args.callee c.in_ok-link.link c.args.steps.now c.active-old.new.steps c.lead.new.steps c.set_active.new.steps
-    (ap (λ (z : Kept). z.rows) c.self.view_is) (ap (λ (z : Rows). z.nodes) c.set_active.ensures.value) c.current-node.ensures c.active-old.ensures.cost (omega (arith, c.set_active.ensures.cost, c.end_of-end.ensures.cost)) c.in_ok-link.ensures.cost
+    site-cost k k2 c.self.inside.tables c.lead.new.tables c.args.site c.args.callee c.args.steps.now c.active-old.new.steps c.lead.new.steps c.set_active.new.steps
+    (ap (λ (z : Kept). z.rows) c.self.view_is) (ap (λ (z : Rows). z.nodes) c.set_active.ensures.value) c.active-old.ensures.cost (omega (arith, c.set_active.ensures.cost, c.end_of-end.ensures.cost)) c.in_ok-link.ensures.cost
 
 pub returns-in_err-reserve-clause-needed : goal.returns-in_err-reserve-clause-needed
 returns-in_err-reserve-clause-needed g c =
@@ -162,4 +152,4 @@ returns-in_err-link-clause-needed g c =
     let P : Rows → Type 0 = λ z. IsFresh z c.current-node.result c.args.site c.args.callee in
     let fresh = subst P rows c.in_err-link.ensures.fresh in
     on-err c.from_residual-in_err-link.result (TakesMemory (Stands k) (Some c.args.site) c.args.callee)
-    (λ t h st may at. missing-link t h k c.args.site c.args.callee c.current-node.result (calling t h k c.args.site c.args.callee c.current-node.result st may c.current-node.ensures) fresh at)
+    (λ t h st may at. missing-link t h k c.args.site c.args.callee c.current-node.result st (calling t h k c.args.site c.args.callee c.current-node.result st may c.current-node.ensures) fresh at)

@@ -1,0 +1,33 @@
+use Rattle.std.proofs.Common.{◌≡◌, ◌∙◌, ◌+◌, ◌++◌, sym, ap, subst, arith, List, drop, length, OnOk}
+use Rattle.md_hlds.specs.HldsGoal.{GoalExpr, goal_of, goals_of, gathered}
+use Rattle.md_cover.specs.declared.coverage.GoalCount.{GoalCount}
+use Rattle.md_cover.specs.Rows.{expr_rows}
+use Rattle.md_cover.proofs.BuildingLemmas.{conj-is, disj-is, if-is, parts-step}
+use Rattle.md_cover.proofs.RowLemmas.{each-step, if-rows}
+use Rattle.md_cover.proofs.rows.+rows.Goals as goal
+
+pub add_each-loop-goal-preserved : goal.add_each-loop-goal-preserved
+add_each-loop-goal-preserved t c =
+    let i = c.loop-goal.goal-index in
+    each-step c.loop-goal.rows.items c.add_rows.new.rows.items c.args.depth (gathered (goals_of (drop i c.args.goals.now))) (gathered (goals_of (drop (i + 1) c.args.goals.now))) (goal_of c.goal-item.result)
+    (parts-step c.args.goals.now i c.goal-item.result (omega arith) c.goal-item.is) c.in_ok-add_rows.ensures
+    ∙ c.loop-goal.invariant
+
+pub add_inner-returns-in-Conj : goal.add_inner-returns-in-Conj
+add_inner-returns-in-Conj t c =
+    subst (λ (x : GoalExpr). OnOk c.add_each.result (c.add_each.new.rows.items ≡ c.args.rows.now.items ++ expr_rows (length c.args.rows.now.items) c.args.depth x))
+    (sym (conj-is c.args.kind.now c.in-Conj.goals c.as_slice.result.now c.in-Conj.is c.as_slice.ensures.value)) c.add_each.ensures
+
+pub add_inner-returns-in-Disj : goal.add_inner-returns-in-Disj
+add_inner-returns-in-Disj t c =
+    subst (λ (x : GoalExpr). OnOk c.add_each-in-Disj.result (c.add_each-in-Disj.new.rows.items ≡ c.args.rows.now.items ++ expr_rows (length c.args.rows.now.items) c.args.depth x))
+    (sym (disj-is c.args.kind.now c.in-Disj.arms c.as_slice-in-Disj.result.now c.in-Disj.is c.as_slice-in-Disj.ensures.value)) c.add_each-in-Disj.ensures
+
+pub add_inner-returns-in_ok-add_rows-in-If-2 : goal.add_inner-returns-in_ok-add_rows-in-If-2
+add_inner-returns-in_ok-add_rows-in-If-2 t c =
+    subst (λ (xs : List GoalCount). OnOk c.add_rows-in-If-2.result (c.add_rows-in-If-2.new.rows.items ≡ xs))
+    (if-rows c.args.rows.now.items c.add_rows.new.rows.items c.add_rows-in-If.new.rows.items c.args.depth (goal_of c.deref.result.now) (goal_of c.deref-in-If.result.now) (goal_of c.deref-in-If-2.result.now)
+    c.in_ok-add_rows-in-If.ensures c.in_ok-add_rows-in-If-2.ensures
+    ∙ ap (λ (x : GoalExpr). c.args.rows.now.items ++ expr_rows (length c.args.rows.now.items) c.args.depth x)
+    (sym (if-is c.args.kind.now c.in-If.condition c.in-If.then c.in-If.otherwise c.deref.result.now c.deref-in-If.result.now c.deref-in-If-2.result.now c.in-If.is c.deref.ensures c.deref-in-If.ensures c.deref-in-If-2.ensures)))
+    c.add_rows-in-If-2.ensures

@@ -1,0 +1,5 @@
+pub mod Covered
+pub mod Told
+pub mod Known
+pub mod Rows
+pub mod Text

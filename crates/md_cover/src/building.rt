@@ -1,0 +1,272 @@
+// The equations of a goal and of the goals within it.
+ghost use Rattle.std.specs.Prelude.{◌≡◌, ◌++◌, ◌+◌, ◌∷◌, suc, IfOk, OnOk, Some, map};
+ghost use Rattle.md_hlds.specs.Hlds.{hlds_of};
+ghost use Rattle.md_hlds.specs.HldsGoal.{goal_of, goals_of, gathered, expr_of, goal_size, parts_size, goals_size};
+ghost use Rattle.md_det.specs.Findings.{program_findings, switch_at, pair_at};
+ghost use Rattle.md_cost.specs.FileView.{IsFileView};
+ghost use Rattle.md_cost.specs.View.{View};
+ghost use Rattle.md_turns.specs.Equations as spec;
+ghost use Rattle.md_cover.specs.Told.{quantities_of, equations_of, view_counts, is_whole, chosen};
+
+use crate::counts::counts_of_site;
+use crate::equation::{Equation, Quantity, add_both, add_count, add_equal, add_sum};
+use md_base::{NoMemory, SiteId};
+use md_cost::Loaded;
+use md_det::{Checked, Switch};
+use md_hlds::{Goal, GoalKind};
+
+/// The number after this one. Goals have numbers of 32 bits: more are answered as what memory has no room for.
+fn after(number: u32) -> Result<u32, NoMemory>
+    ensures { IfOk result (λ next. next ≡ suc number) }
+{
+    number.checked_add(1).ok_or(NoMemory)
+}
+
+/// Adds the equations of the goal of this number, and of those within it; gives the number that comes after them.
+#[cycle(building)]
+pub(crate) fn add_goal(
+    checked: &Checked,
+    loaded: &Loaded,
+    equations: &mut Vec<Equation>,
+    goal: &Goal,
+    number: u32,
+) -> Result<u32, NoMemory>
+    ensures next { IfOk result (λ next. next ≡ number + goal_size (goal_of goal.now)) }
+    ensures equations { (v : View) → IsFileView loaded.now.profile v → IfOk result (λ next. equations_of equations.new.items
+        ≡ equations_of equations.old.items ++ spec.goal_equations (program_findings (hlds_of checked.now)) (view_counts v) number (goal_of goal.now)) }
+{
+    add_kind(checked, loaded, equations, &goal.kind, number)
+}
+
+#[cycle(building)]
+fn add_kind(
+    checked: &Checked,
+    loaded: &Loaded,
+    equations: &mut Vec<Equation>,
+    kind: &GoalKind,
+    number: u32,
+) -> Result<u32, NoMemory>
+    ensures next { IfOk result (λ next. next ≡ number + suc (parts_size (expr_of kind.now))) }
+    ensures equations { (v : View) → IsFileView loaded.now.profile v → IfOk result (λ next. equations_of equations.new.items
+        ≡ equations_of equations.old.items ++ spec.expr_equations (program_findings (hlds_of checked.now)) (view_counts v) number (expr_of kind.now)) }
+{
+    match kind {
+        GoalKind::Call(site, _, _) => add_call(loaded, equations, number, *site),
+        GoalKind::HoCall(site, _, _) => add_call(loaded, equations, number, *site),
+        GoalKind::Conj(goals) => {
+            add_conjunction(checked, loaded, equations, goals.as_slice(), number)
+        }
+        GoalKind::Disj(arms) => {
+            add_disjunction(checked, loaded, equations, arms.as_slice(), number)
+        }
+        GoalKind::If(condition, then, otherwise) => {
+            let asked = after(number)?;
+            add_equal(
+                equations,
+                Quantity::Entries(asked),
+                Quantity::Entries(number),
+            )?;
+            let held = add_goal(checked, loaded, equations, condition, asked)?;
+            add_equal(equations, Quantity::Entries(held), Quantity::Exits(asked))?;
+            let lapsed = add_goal(checked, loaded, equations, then, held)?;
+            add_both(
+                equations,
+                Quantity::Entries(number),
+                Quantity::Entries(held),
+                Quantity::Entries(lapsed),
+            )?;
+            let next = add_goal(checked, loaded, equations, otherwise, lapsed)?;
+            add_both(
+                equations,
+                Quantity::Exits(number),
+                Quantity::Exits(held),
+                Quantity::Exits(lapsed),
+            )?;
+            Ok(next)
+        }
+        GoalKind::Not(inner) => {
+            let asked = after(number)?;
+            add_equal(
+                equations,
+                Quantity::Entries(asked),
+                Quantity::Entries(number),
+            )?;
+            let next = add_goal(checked, loaded, equations, inner, asked)?;
+            add_both(
+                equations,
+                Quantity::Entries(number),
+                Quantity::Exits(number),
+                Quantity::Exits(asked),
+            )?;
+            Ok(next)
+        }
+        GoalKind::Some(_, inner) => {
+            let asked = after(number)?;
+            add_equal(
+                equations,
+                Quantity::Entries(asked),
+                Quantity::Entries(number),
+            )?;
+            let next = add_goal(checked, loaded, equations, inner, asked)?;
+            add_equal(equations, Quantity::Exits(number), Quantity::Exits(asked))?;
+            Ok(next)
+        }
+        GoalKind::Fail => {
+            add_count(equations, Quantity::Exits(number), 0)?;
+            after(number)
+        }
+        GoalKind::Error(_) => {
+            add_count(equations, Quantity::Entries(number), 0)?;
+            add_count(equations, Quantity::Exits(number), 0)?;
+            after(number)
+        }
+        GoalKind::True
+        | GoalKind::Unify(..)
+        | GoalKind::Arith(..)
+        | GoalKind::Compare(..)
+        | GoalKind::WriteInt(..)
+        | GoalKind::WriteStr(..)
+        | GoalKind::Nl(..) => add_simple(checked, equations, number),
+    }
+}
+
+/// Adds that a goal which succeeds exactly once is left as often as it is entered.
+fn add_simple(
+    checked: &Checked,
+    equations: &mut Vec<Equation>,
+    number: u32,
+) -> Result<u32, NoMemory>
+    ensures next { IfOk result (λ next. next ≡ suc number) }
+    ensures equations { IfOk result (λ next. equations_of equations.new.items
+        ≡ equations_of equations.old.items ++ spec.if_one number (pair_at (program_findings (hlds_of checked.now)) number)) }
+{
+    if let Some((false, 1)) = checked.pair(number) {
+        add_equal(
+            equations,
+            Quantity::Exits(number),
+            Quantity::Entries(number),
+        )?;
+    }
+    after(number)
+}
+
+/// Adds that a call has the counts of its site.
+fn add_call(
+    loaded: &Loaded,
+    equations: &mut Vec<Equation>,
+    number: u32,
+    site: SiteId,
+) -> Result<u32, NoMemory>
+    ensures next { IfOk result (λ next. next ≡ suc number) }
+    ensures equations { (v : View) → IsFileView loaded.now.profile v → IfOk result (λ next. equations_of equations.new.items
+        ≡ equations_of equations.old.items ++ spec.call_equations (view_counts v) number site) }
+{
+    let counts = counts_of_site(loaded, site);
+    add_count(equations, Quantity::Entries(number), counts.calls)?;
+    add_count(equations, Quantity::Exits(number), counts.exits)?;
+    after(number)
+}
+
+/// Adds the equations of a conjunction of this number with these parts.
+#[cycle(building)]
+fn add_conjunction(
+    checked: &Checked,
+    loaded: &Loaded,
+    equations: &mut Vec<Equation>,
+    goals: &[Goal],
+    number: u32,
+) -> Result<u32, NoMemory>
+    ensures next { IfOk result (λ next. next ≡ suc number + goals_size (gathered (goals_of goals.now))) }
+    ensures equations { (v : View) → IsFileView loaded.now.profile v → IfOk result (λ next. equations_of equations.new.items
+        ≡ equations_of equations.old.items ++ spec.each_equations (program_findings (hlds_of checked.now)) (view_counts v) number (spec.Entries number) (suc number) (gathered (goals_of goals.now))) }
+{
+    let mut before = Quantity::Entries(number);
+    let mut next = after(number)?;
+    for goal in goals {
+        let place = next;
+        add_equal(equations, Quantity::Entries(place), before)?;
+        next = add_goal(checked, loaded, equations, goal, place)?;
+        before = Quantity::Exits(place);
+    }
+    add_equal(equations, Quantity::Exits(number), before)?;
+    Ok(next)
+}
+
+/// Adds the equations of a disjunction of this number with these arms.
+#[cycle(building)]
+fn add_disjunction(
+    checked: &Checked,
+    loaded: &Loaded,
+    equations: &mut Vec<Equation>,
+    arms: &[Goal],
+    number: u32,
+) -> Result<u32, NoMemory>
+    ensures next { IfOk result (λ next. next ≡ suc number + goals_size (gathered (goals_of arms.now))) }
+    ensures equations { (v : View) → IsFileView loaded.now.profile v → IfOk result (λ next. equations_of equations.new.items
+        ≡ equations_of equations.old.items ++ (spec.entering number (spec.numbers_from (suc number) (gathered (goals_of arms.now))) (switch_at (program_findings (hlds_of checked.now)) number)
+        ++ (spec.arm_equations (program_findings (hlds_of checked.now)) (view_counts v) (suc number) (gathered (goals_of arms.now))
+        ++ (spec.sums (spec.Exits number) (map spec.Exits (spec.numbers_from (suc number) (gathered (goals_of arms.now))))
+        ∷ spec.choosing number (spec.numbers_from (suc number) (gathered (goals_of arms.now))) (switch_at (program_findings (hlds_of checked.now)) number))))) }
+{
+    let first = after(number)?;
+    let switch = checked.switch(number);
+    enter_first(equations, arms, number, first, switch)?;
+    let alloc = *equations.allocator();
+    let mut entries = Vec::new(alloc);
+    let mut exits = Vec::new(alloc);
+    let mut next = first;
+    for arm in arms {
+        entries.push(Quantity::Entries(next))?;
+        exits.push(Quantity::Exits(next))?;
+        next = add_goal(checked, loaded, equations, arm, next)?;
+    }
+    add_sum(equations, Quantity::Exits(number), exits)?;
+    add_choice(equations, number, entries, switch)?;
+    Ok(next)
+}
+
+/// Adds that a disjunction which is no switch enters its first arm.
+fn enter_first(
+    equations: &mut Vec<Equation>,
+    arms: &[Goal],
+    number: u32,
+    first: u32,
+    switch: Option<Switch>,
+) -> Result<(), NoMemory>
+    ensures { OnOk result (equations_of equations.new.items
+        ≡ equations_of equations.old.items ++ spec.entering number (spec.numbers_from first (gathered (goals_of arms.now))) switch) }
+{
+    if switch.is_some() || arms.is_empty() {
+        return Ok(());
+    }
+    add_equal(
+        equations,
+        Quantity::Entries(first),
+        Quantity::Entries(number),
+    )
+}
+
+/// Adds that a switch with no functor missing enters one of these.
+fn add_choice(
+    equations: &mut Vec<Equation>,
+    number: u32,
+    entries: Vec<Quantity>,
+    switch: Option<Switch>,
+) -> Result<(), NoMemory>
+    ensures { OnOk result (equations_of equations.new.items ≡ equations_of equations.old.items ++ chosen (spec.Entries number) (quantities_of entries.items) switch) }
+{
+    if !is_whole(switch) {
+        return Ok(());
+    }
+    add_sum(equations, Quantity::Entries(number), entries)
+}
+
+/// A switch with no functor missing.
+fn is_whole(switch: Option<Switch>) -> bool
+    ensures { result ≡ is_whole switch }
+{
+    match switch {
+        Some(switch) => switch.whole,
+        None => false,
+    }
+}

@@ -1,0 +1,17 @@
+//! How often each goal of a procedure had a turn, as a table and as a text.
+#![tactic(auto)]
+
+mod building;
+mod counts;
+mod coverage;
+mod equation;
+mod name;
+mod number;
+mod rows;
+mod solving;
+#[cfg(test)]
+mod tests;
+mod text;
+
+pub use coverage::{Coverage, GoalCount, KindName};
+pub use text::cover_text;

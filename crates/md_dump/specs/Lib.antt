@@ -1,0 +1,10 @@
+pub mod Text
+pub mod Numbers
+pub mod Forms
+pub mod Due
+pub mod Lines
+pub mod Spells
+pub mod Left
+pub mod Follows
+pub mod Grown
+pub mod Sums

@@ -1,0 +1,173 @@
+-- The definitions on small texts and programs. The words of each theorem were worked out by hand from the rules.
+use Rattle.std.proofs.Common.{◌≡◌, inl, inr, refl, sym, ◌∙◌, arith, ℕ, ◌≤◌, List, [], ◌∷◌, Some, None}
+use Rattle.std.specs.Prelude.{codes}
+use Rattle.std.specs.Fmt.{digits}
+use Rattle.std.proofs.Math.Nat.{mul-le-mul_left}
+use Rattle.std.proofs.lemmas.List.Elements.{All-nil, All-cons, All-head}
+use Rattle.md_base.specs.declared.measure.Measure.TheVariants.{Calls}
+use Rattle.md_hlds.specs.declared.types.Mode.TheVariants.{In, Out}
+use Rattle.md_hlds.specs.declared.types.Det.TheVariants.{Det, Semidet}
+use Rattle.md_hlds.specs.HldsGoal.{HldsGoal, At, CallGoal, Numbered, numbered_goal, gathered}
+use Rattle.md_hlds.specs.Hlds.{Hlds, Procedure, number}
+use Rattle.md_modes.specs.Notes.{program_notes}
+use Rattle.md_modes.proofs.Worked.{conj, unqualified, same, succeed, predicate, main, program}
+use Rattle.md_cost.specs.View.{View, OfSite}
+use Rattle.md_feedback.specs.declared.pairs.Pair.{Pair}
+use Rattle.md_feedback.specs.declared.pairs.Feedback.{Feedback}
+use Rattle.md_feedback.specs.Text.{IsBefore, Rise, IsValidPair, feedback_text, IsFaultAt, pair_words}
+use Rattle.md_feedback.specs.Lines.{BeginsWithLeast, BeginsWithModule, IsPairFault}
+use Rattle.md_feedback.specs.Candidates.{Takes, Depends, Directly, Through, parts_of}
+use Rattle.md_feedback.specs.Search.{IsHeavy, program_pairs}
+use Rattle.md_feedback.proofs.Members.{some_is}
+use Rattle.md_feedback.proofs.FaultLemmas.{pair_fault, wrong_pair, pair_one_line}
+
+-- ---- texts
+
+abbrev pair : (proc first second a b : ℕ) → Pair
+pair proc first second a b = record { proc = proc; first = first; second = second; a = a; b = b }
+
+-- two calls of procedure 1 with totals of 7, and two of procedure 2 with totals of 6
+abbrev first_pair : Pair
+first_pair = pair 1 1 2 7 7
+
+abbrev second_pair : Pair
+second_pair = pair 2 3 4 6 6
+
+abbrev generated : Feedback
+generated = record { «module» = codes "gen"; least = 3; pairs = first_pair ∷ second_pair ∷ [] }
+
+text_of_two_pairs : feedback_text generated ≡ codes "feedback 1\nleast 3\nmodule gen\npair 1 1 2 7 7\npair 2 3 4 6 6\n"
+unfolding digits
+text_of_two_pairs = refl
+
+-- without pairs there are three lines
+text_of_none : feedback_text (record { «module» = codes "t"; least = 1; pairs = [] }) ≡ codes "feedback 1\nleast 1\nmodule t\n"
+unfolding digits
+text_of_none = refl
+
+valid_first : IsValidPair first_pair
+valid_first = record { proc = omega arith; first = omega arith; second = omega arith; a = omega arith; b = omega arith; order = omega arith }
+
+valid_second : IsValidPair second_pair
+valid_second = record { proc = omega arith; first = omega arith; second = omega arith; a = omega arith; b = omega arith; order = omega arith }
+
+falls : Rise (second_pair ∷ first_pair ∷ []) → ⊥
+falls rise = elim (All-head (IsBefore second_pair) first_pair [] rise.0) [ inl lower ↦ omega (arith, lower) | inr same' ↦ omega (arith, same'.0) ]
+
+-- with the pairs exchanged, the fifth line is at fault
+exchanged : IsFaultAt (codes "feedback 1\nleast 3\nmodule gen\npair 2 3 4 6 6\npair 1 1 2 7 7\n") 5
+unfolding digits
+exchanged =
+    let least : BeginsWithLeast 3 (codes "least 3\nmodule gen\npair 2 3 4 6 6\npair 1 1 2 7 7\n") (codes "module gen\npair 2 3 4 6 6\npair 1 1 2 7 7\n") = ((omega arith, omega arith), refl) in
+    let named : BeginsWithModule (codes "gen") (codes "module gen\npair 2 3 4 6 6\npair 1 1 2 7 7\n") (codes "pair 2 3 4 6 6\npair 1 1 2 7 7\n") = (refl, refl) in
+    let fault : IsPairFault (codes "pair 2 3 4 6 6\npair 1 1 2 7 7\n") 5 = record {
+      before = second_pair ∷ [];
+      rest = codes "pair 1 1 2 7 7\n";
+      valid = record { each = All-cons IsValidPair second_pair [] valid_second (All-nil IsValidPair); rise = (All-nil (IsBefore second_pair), tt) };
+      is = refl;
+      count = refl;
+      some = omega arith;
+      fault = wrong_pair (second_pair ∷ []) (codes "pair 1 1 2 7 7\n") (pair_words first_pair) [] first_pair (pair_one_line first_pair valid_first) refl (valid_first, refl) falls;
+    } in
+    pair_fault _ _ _ _ 3 5 (codes "gen") refl least named fault
+
+-- ---- dependence
+
+-- p(X, Y) :- Y = X.
+abbrev copy : Procedure
+copy = predicate 2 (codes "p") ((number, In) ∷ (number, Out) ∷ []) Det 2 (same 3 1 0)
+
+-- a call of p at a site
+abbrev call_p : (site from to : ℕ) → HldsGoal
+call_p site from to = At 5 (CallGoal site (unqualified (codes "p")) (from ∷ to ∷ []))
+
+-- q(A, D) :- p(A, B), p(B, C), p(C, D). A is variable 0, D 1, B 2 and C 3.
+abbrev chain : Hlds
+chain = program [] (copy ∷ predicate 4 (codes "q") ((number, In) ∷ (number, Out) ∷ []) Det 4 (conj 5 (call_p 0 0 2 ∷ call_p 1 2 3 ∷ call_p 2 3 1 ∷ [])) ∷ [])
+
+-- the clause of p is goal 0 and that of q goal 1
+abbrev chain_parts : List Numbered
+chain_parts = parts_of 1 (gathered (call_p 0 0 2 ∷ call_p 1 2 3 ∷ call_p 2 3 1 ∷ []))
+
+second_takes : Takes chain (numbered_goal 2 (call_p 0 0 2)) (numbered_goal 3 (call_p 1 2 3))
+unfolding program_notes
+second_takes = record { variable = 2; bound = (0, omega arith, refl); occurs = (0, omega arith, refl) }
+
+third_takes : Takes chain (numbered_goal 3 (call_p 1 2 3)) (numbered_goal 4 (call_p 2 3 1))
+unfolding program_notes
+third_takes = record { variable = 3; bound = (0, omega arith, refl); occurs = (0, omega arith, refl) }
+
+-- the third call depends on the first through the second, though it has no variable of the first
+through_the_middle : Depends chain chain_parts 0 2
+through_the_middle =
+    Through {l = 1} (Directly (numbered_goal 2 (call_p 0 0 2)) (numbered_goal 3 (call_p 1 2 3)) (omega arith) refl refl second_takes)
+    (Directly (numbered_goal 3 (call_p 1 2 3)) (numbered_goal 4 (call_p 2 3 1)) (omega arith) refl refl third_takes)
+
+-- so no two of them are a pair
+none_in_a_chain : program_pairs chain (Some 7 ∷ Some 7 ∷ Some 7 ∷ []) ≡ []
+unfolding program_notes
+none_in_a_chain = refl
+
+-- q(A, B, C) :- p(A, B), p(A, C), p(B, D). D is variable 3.
+abbrev fork : Hlds
+fork = program [] (copy ∷ predicate 4 (codes "q") ((number, In) ∷ (number, Out) ∷ (number, Out) ∷ []) Det 4 (conj 5 (call_p 0 0 1 ∷ call_p 1 0 2 ∷ call_p 2 1 3 ∷ [])) ∷ [])
+
+-- the second call depends on neither of the others, and the third on the first
+two_pairs : program_pairs fork (Some 7 ∷ Some 8 ∷ Some 9 ∷ []) ≡ pair 1 0 1 7 8 ∷ pair 1 1 2 8 9 ∷ []
+unfolding program_notes
+two_pairs = refl
+
+-- a call that isn't costly is in no pair
+one_pair : program_pairs fork (Some 7 ∷ Some 8 ∷ None ∷ []) ≡ pair 1 0 1 7 8 ∷ []
+unfolding program_notes
+one_pair = refl
+
+-- a call within parentheses is no direct part of the conjunction around them: q(A, B, C) :- p(A, B), (p(A, C), p(A, D)).
+abbrev nested : Hlds
+nested = program [] (copy ∷ predicate 4 (codes "q") ((number, In) ∷ (number, Out) ∷ (number, Out) ∷ []) Det 4 (conj 5 (call_p 0 0 1 ∷ conj 5 (call_p 1 0 2 ∷ call_p 2 0 3 ∷ []) ∷ [])) ∷ [])
+
+inner_pair : program_pairs nested (Some 7 ∷ Some 8 ∷ Some 9 ∷ []) ≡ pair 1 1 2 8 9 ∷ []
+unfolding program_notes
+inner_pair = refl
+
+-- a procedure that isn't declared `det` is called in no pair
+abbrev semidet_copy : Procedure
+semidet_copy = predicate 2 (codes "p") ((number, In) ∷ (number, Out) ∷ []) Semidet 2 (same 3 1 0)
+
+not_of_semidet : program_pairs (program [] (semidet_copy ∷ predicate 4 (codes "q") ((number, In) ∷ (number, Out) ∷ (number, Out) ∷ []) Semidet 3 (conj 5 (call_p 0 0 1 ∷ call_p 1 0 2 ∷ [])) ∷ []))
+    (Some 7 ∷ Some 8 ∷ []) ≡ []
+unfolding program_notes
+not_of_semidet = refl
+
+-- Four procedures below main, each of which but the last calls the next one twice. In its run the sites of p2 have 1 own call
+-- and 7 total ones, those of p3 have 2 and 6, and those of p4 have 4 and 4, which are fewer than three times as many.
+abbrev call_at : (site : ℕ) → List ℕ → HldsGoal
+call_at site name = At 4 (CallGoal site (unqualified name) [])
+
+abbrev level : List ℕ → HldsGoal → Procedure
+level name body = predicate 4 name [] Det 0 body
+
+abbrev tree : Hlds
+tree = program [] (
+    main 2 (conj 3 (call_at 0 (codes "p1") ∷ same 3 1 0 ∷ []))
+    ∷ level (codes "p1") (conj 4 (call_at 1 (codes "p2") ∷ call_at 2 (codes "p2") ∷ []))
+    ∷ level (codes "p2") (conj 4 (call_at 3 (codes "p3") ∷ call_at 4 (codes "p3") ∷ []))
+    ∷ level (codes "p3") (conj 4 (call_at 5 (codes "p4") ∷ call_at 6 (codes "p4") ∷ []))
+    ∷ level (codes "p4") (succeed 4)
+    ∷ [])
+
+four_levels : program_pairs tree (Some 15 ∷ Some 7 ∷ Some 7 ∷ Some 6 ∷ Some 6 ∷ None ∷ None ∷ []) ≡ generated.pairs
+unfolding program_notes
+four_levels = refl
+
+-- ---- totals
+
+-- three times the own calls are enough for three
+exactly_as_many : (v : View) → v.own (OfSite 0) Calls ≡ Some 2 → v.total (OfSite 0) Calls ≡ Some 6 → IsHeavy v 3 0 6
+exactly_as_many v own total = record { own = 2; is_own = own; is_total = total; some = omega arith; many = omega arith }
+
+-- a site whose calls stay within a clique has no total calls, and isn't costly whatever the least share
+recursion_is_none : (v : View) (least total : ℕ) → 1 ≤ least → v.total (OfSite 0) Calls ≡ Some 0 → IsHeavy v least 0 total → ⊥
+recursion_is_none v least total low none h =
+    let nothing' : total ≡ 0 = some_is total 0 (sym h.is_total ∙ none) in
+    omega (arith, nothing', h.many, low, mul-le-mul_left least h.some)

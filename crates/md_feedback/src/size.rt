@@ -1,0 +1,55 @@
+// How many goals a goal is.
+ghost use Rattle.std.specs.Prelude.{◌≡◌, ◌+◌, IfOk};
+ghost use Rattle.md_hlds.specs.HldsGoal.{goal_of, goals_of, gathered, goal_size, goals_size};
+
+use md_base::NoMemory;
+use md_hlds::{Goal, GoalKind};
+
+/// The goals of a goal, itself among them. Goals have numbers of 32 bits: more than those are answered as ones that memory
+/// has no room for.
+#[cycle(sizes)]
+pub(crate) fn size_of(goal: &Goal) -> Result<u32, NoMemory>
+    ensures { IfOk result (λ size. size ≡ goal_size (goal_of goal.now)) }
+{
+    match &goal.kind {
+        GoalKind::Conj(goals) => sum(1, size_of_all(goals.as_slice())?),
+        GoalKind::Disj(arms) => sum(1, size_of_all(arms.as_slice())?),
+        GoalKind::If(condition, then, otherwise) => {
+            let condition = size_of(condition)?;
+            let then = size_of(then)?;
+            let otherwise = size_of(otherwise)?;
+            sum(1, sum(condition, sum(then, otherwise)?)?)
+        }
+        GoalKind::Not(part) => sum(1, size_of(part)?),
+        GoalKind::Some(_, part) => sum(1, size_of(part)?),
+        GoalKind::True
+        | GoalKind::Fail
+        | GoalKind::Unify(..)
+        | GoalKind::Arith(..)
+        | GoalKind::Compare(..)
+        | GoalKind::WriteInt(..)
+        | GoalKind::WriteStr(..)
+        | GoalKind::Nl(..)
+        | GoalKind::Call(..)
+        | GoalKind::HoCall(..)
+        | GoalKind::Error(_) => Ok(1),
+    }
+}
+
+#[cycle(sizes)]
+fn size_of_all(goals: &[Goal]) -> Result<u32, NoMemory>
+    ensures { IfOk result (λ size. size ≡ goals_size (gathered (goals_of goals.now))) }
+{
+    let mut all = 0;
+    for goal in goals {
+        all = sum(all, size_of(goal)?)?;
+    }
+    Ok(all)
+}
+
+/// The sum of two numbers of goals.
+pub(crate) fn sum(first: u32, second: u32) -> Result<u32, NoMemory>
+    ensures { IfOk result (λ sum. sum ≡ first + second) }
+{
+    first.checked_add(second).ok_or(NoMemory)
+}

@@ -1,0 +1,4 @@
+pub mod Counts
+pub mod Equations
+pub mod Derived
+pub mod Laws
