@@ -3,3 +3,4 @@ pub mod Told
 pub mod Known
 pub mod Rows
 pub mod Text
+pub mod Coverage
