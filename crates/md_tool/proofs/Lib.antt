@@ -6,6 +6,9 @@ pub mod RunLemmas
 pub mod KeepLemmas
 pub mod PairLemmas
 pub mod ReportLemmas
+pub mod CoverLemmas
+pub mod SizeLemmas
+pub mod SumLemmas
 pub mod StoredLemmas
 pub mod ServeLemmas
 pub mod GenShort

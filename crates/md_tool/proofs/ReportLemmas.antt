@@ -9,6 +9,8 @@ use Rattle.md_dynamic.specs.Profile.{ProfileRows}
 use Rattle.md_events.specs.Laws.{IsWithinBounds}
 use Rattle.md_hlds.specs.Hlds.{Hlds, Procedure, procedure_called}
 use Rattle.md_hlds.specs.Run.{run, main_name}
+use Rattle.md_machine.specs.Ran.{IsRunOf}
+use Rattle.md_machine.specs.declared.ran.Ran.{Ran}
 use Rattle.md_ports.specs.Ports.{statics_of}
 use Rattle.md_profile.specs.OfRun.{CanBeProfiled, IsProfiled, IsViewOfRun}
 use Rattle.md_reader.specs.Grammar.{Spells}
@@ -21,12 +23,12 @@ use Rattle.md_query.specs.PageOf.{page_of}
 use Rattle.md_render.specs.Text.{text_of}
 use Rattle.md_tool.specs.declared.fault.Fault.{Fault}
 use Rattle.md_tool.specs.declared.fault.Fault.TheVariants.{Usage, Read, TooLong, Refused, OutOfSteps, Thrown, Damaged, TooLarge, TwoEntries, DamagedLine, AnotherProgram, NoSuchPage, Write, NoMemory, Network}
-use Rattle.md_tool.specs.Accepted.{Accepts}
-use Rattle.md_tool.specs.Due.{IsText, WriteEnds}
+use Rattle.md_tool.specs.Accepted.{Accepted, Accepts}
+use Rattle.md_tool.specs.Due.{IsText, IsWritten, TextEnds, WriteEnds}
 use Rattle.md_tool.specs.Ends.{TellsEnd, end_of, ran_end}
-use Rattle.md_tool.specs.Paged.{IsPaged, PageEnds, PageFails}
+use Rattle.md_tool.specs.Paged.{PageEnds, PageFails}
 use Rattle.md_tool.specs.Ran.{IsProfiledText}
-use Rattle.md_tool.specs.Reported.{reported_output, IsReported, ShowEnds, ReportEnds}
+use Rattle.md_tool.specs.Reported.{reported_output, IsPageOfRun, HasNoPageOfRun, IsReported, ShowEnds, ReportEnds}
 use Rattle.md_tool.proofs.RunLemmas.{end_is}
 use Rattle.md_tool.proofs.StreamLemmas.{all_added}
 
@@ -94,21 +96,65 @@ page_meant IsA IsB query before now writes (Err (Refused line w)) so h = absurd 
 page_meant IsA IsB query before now writes (Err OutOfSteps) so h = absurd h
 page_meant IsA IsB query before now writes (Err (Thrown bytes)) so h = absurd h
 
+-- as a text of the run
+pub page_text : (query : Asked) (steps : ℕ) (program : Hlds) (before now : Option (List ℕ)) (writes : Type 0) (r : Result (Unit {0}) Fault) → PageEnds (IsViewOfRun program steps) query before now writes r
+    → TextEnds (IsPageOfRun query steps program) (HasNoPageOfRun query steps program) before now writes r
+page_text query steps program before now writes (Ok done) h =
+    record { text = text_of h.view h.page; is_due = record { view = h.view; is_view = h.is_meant; page = h.page; is_page = h.is_page; is = refl }; written = h.written }
+page_text query steps program before now writes (Err NoSuchPage) h = (record { view = h.view; is_view = h.is_meant; none = h.none }, h.untouched)
+page_text query steps program before now writes (Err Write) h =
+    (h.0, record { text = text_of h.1.view h.1.page; is_due = record { view = h.1.view; is_view = h.1.is_meant; page = h.1.page; is_page = h.1.is_page; is = refl }; written = h.1.written })
+page_text query steps program before now writes (Err NoMemory) (inl h) = inl h
+page_text query steps program before now writes (Err NoMemory) (inr h) =
+    inr (record { text = text_of h.view h.page; is_due = record { view = h.view; is_view = h.is_meant; page = h.page; is_page = h.is_page; is = refl }; written = h.written })
+page_text query steps program before now writes (Err Usage) h = absurd h
+page_text query steps program before now writes (Err Network) h = absurd h
+page_text query steps program before now writes (Err (Damaged at kind)) h = absurd h
+page_text query steps program before now writes (Err (TooLarge most)) h = absurd h
+page_text query steps program before now writes (Err (TwoEntries clique x y)) h = absurd h
+page_text query steps program before now writes (Err (DamagedLine n)) h = absurd h
+page_text query steps program before now writes (Err AnotherProgram) h = absurd h
+page_text query steps program before now writes (Err Read) h = absurd h
+page_text query steps program before now writes (Err TooLong) h = absurd h
+page_text query steps program before now writes (Err (Refused line w)) h = absurd h
+page_text query steps program before now writes (Err OutOfSteps) h = absurd h
+page_text query steps program before now writes (Err (Thrown bytes)) h = absurd h
+
+-- a text that is due, written as far as it was
+pub text_written : (IsDue : List ℕ → Type 0) (HasNone : Type 0) (text : List ℕ) (before now : Option (List ℕ)) (writes : Type 0) (r : Result (Unit {0}) Fault) → IsDue text → WriteEnds text before now writes r
+    → TextEnds IsDue HasNone before now writes r
+text_written IsDue HasNone text before now writes (Ok done) due h = record { text = text; is_due = due; written = h }
+text_written IsDue HasNone text before now writes (Err Write) due h = (h.0, record { text = text; is_due = due; written = h.1 })
+text_written IsDue HasNone text before now writes (Err NoMemory) due h = inr (record { text = text; is_due = due; written = h })
+text_written IsDue HasNone text before now writes (Err NoSuchPage) due h = absurd h
+text_written IsDue HasNone text before now writes (Err Usage) due h = absurd h
+text_written IsDue HasNone text before now writes (Err Network) due h = absurd h
+text_written IsDue HasNone text before now writes (Err (Damaged at kind)) due h = absurd h
+text_written IsDue HasNone text before now writes (Err (TooLarge most)) due h = absurd h
+text_written IsDue HasNone text before now writes (Err (TwoEntries clique x y)) due h = absurd h
+text_written IsDue HasNone text before now writes (Err (DamagedLine n)) due h = absurd h
+text_written IsDue HasNone text before now writes (Err AnotherProgram) due h = absurd h
+text_written IsDue HasNone text before now writes (Err Read) due h = absurd h
+text_written IsDue HasNone text before now writes (Err TooLong) due h = absurd h
+text_written IsDue HasNone text before now writes (Err (Refused line w)) due h = absurd h
+text_written IsDue HasNone text before now writes (Err OutOfSteps) due h = absurd h
+text_written IsDue HasNone text before now writes (Err (Thrown bytes)) due h = absurd h
+
 -- ---- a report on a run
 
--- the page was written, and the end was told
-pub shown : (program : Hlds) (steps : ℕ) (query : Asked) (profiled : Profiled) (out out' err err' : Option (List ℕ)) (outs errs : Type 0) (r : Result (Unit {0}) Fault)
-    → IsProfiled program steps profiled → err' ≡ added (profiled.ran.output.items ++ codes "-- end of output\n") err
-    → IsPaged (IsViewOfRun program steps) query out out' → TellsEnd (ran_end profiled.ran) r → ShowEnds program steps query out out' err err' outs errs r
-shown program steps query profiled out out' err err' outs errs r p written paged told = by r told
+-- the text was written, and the end was told
+pub shown : (IsDue : List ℕ → Type 0) (HasNone : Type 0) (program : Hlds) (steps : ℕ) (ran : Ran) (out out' err err' : Option (List ℕ)) (outs errs : Type 0) (r : Result (Unit {0}) Fault)
+    → IsRunOf program steps ran → err' ≡ added (ran.output.items ++ codes "-- end of output\n") err
+    → IsWritten IsDue out out' → TellsEnd (ran_end ran) r → ShowEnds IsDue HasNone program steps out out' err err' outs errs r
+shown IsDue HasNone program steps ran out out' err err' outs errs r is_run written text told = by r told
   where
-    reported : IsReported program steps query out out' err err'
-    reported = record { output_is = written ∙ ap (λ (bytes : List ℕ). added (bytes ++ codes "-- end of output\n") err) p.is_run.output; paged = paged }
+    reported : IsReported IsDue program steps out out' err err'
+    reported = record { output_is = written ∙ ap (λ (bytes : List ℕ). added (bytes ++ codes "-- end of output\n") err) is_run.output; shown = text }
 
-    same : end_of (run program steps) ≡ ran_end profiled.ran
-    same = sym (end_is program steps profiled.ran p.is_run)
+    same : end_of (run program steps) ≡ ran_end ran
+    same = sym (end_is program steps ran is_run)
 
-    by : (r : Result (Unit {0}) Fault) → TellsEnd (ran_end profiled.ran) r → ShowEnds program steps query out out' err err' outs errs r
+    by : (r : Result (Unit {0}) Fault) → TellsEnd (ran_end ran) r → ShowEnds IsDue HasNone program steps out out' err err' outs errs r
     by (Ok done) told = (reported, same ∙ told)
     by (Err OutOfSteps) told = (reported, same ∙ told)
     by (Err (Thrown bytes)) told = (reported, same ∙ told)
@@ -126,20 +172,20 @@ shown program steps query profiled out out' err err' outs errs r p written paged
     by (Err Write) told = absurd told
     by (Err NoMemory) told = absurd told
 
--- the output was written, and the page wasn't
-pub unpaged : (program : Hlds) (steps : ℕ) (query : Asked) (profiled : Profiled) (out out' err err' : Option (List ℕ)) (outs errs : Type 0) (fault : Fault)
-    → IsProfiled program steps profiled → err' ≡ added (profiled.ran.output.items ++ codes "-- end of output\n") err
-    → PageEnds (IsViewOfRun program steps) query out out' outs (Err fault) → ShowEnds program steps query out out' err err' outs errs (Err fault)
-unpaged program steps query profiled out out' err err' outs errs fault p written ends = by fault ends
+-- the output was written, and the text wasn't
+pub unpaged : (IsDue : List ℕ → Type 0) (HasNone : Type 0) (program : Hlds) (steps : ℕ) (ran : Ran) (out out' err err' : Option (List ℕ)) (outs errs : Type 0) (fault : Fault)
+    → IsRunOf program steps ran → err' ≡ added (ran.output.items ++ codes "-- end of output\n") err
+    → TextEnds IsDue HasNone out out' outs (Err fault) → ShowEnds IsDue HasNone program steps out out' err err' outs errs (Err fault)
+unpaged IsDue HasNone program steps ran out out' err err' outs errs fault is_run written ends = by fault ends
   where
     all : err' ≡ added (reported_output program steps) err
-    all = written ∙ ap (λ (bytes : List ℕ). added (bytes ++ codes "-- end of output\n") err) p.is_run.output
+    all = written ∙ ap (λ (bytes : List ℕ). added (bytes ++ codes "-- end of output\n") err) is_run.output
 
-    by : (fault : Fault) → PageEnds (IsViewOfRun program steps) query out out' outs (Err fault) → ShowEnds program steps query out out' err err' outs errs (Err fault)
-    by NoSuchPage h = record { output_is = all; lacks = h }
-    by Write h = inr (h.0, record { output_is = all; paged = h.1 })
+    by : (fault : Fault) → TextEnds IsDue HasNone out out' outs (Err fault) → ShowEnds IsDue HasNone program steps out out' err err' outs errs (Err fault)
+    by NoSuchPage h = record { output_is = all; none = h.0; untouched = h.1 }
+    by Write h = inr (h.0, record { output_is = all; shown = h.1 })
     by NoMemory (inl h) = inl (record { output_is = all_added (reported_output program steps) err err' all; no_page = h })
-    by NoMemory (inr h) = inr (record { output_is = all; paged = h })
+    by NoMemory (inr h) = inr (record { output_is = all; shown = h })
     by Usage h = absurd h
     by Network h = absurd h
     by (Damaged at kind) h = absurd h
@@ -154,12 +200,12 @@ unpaged program steps query profiled out out' err err' outs errs fault p written
     by (Thrown bytes) h = absurd h
 
 -- the output wasn't written whole
-pub unwritten : (program : Hlds) (steps : ℕ) (query : Asked) (profiled : Profiled) (out err err' : Option (List ℕ)) (outs errs : Type 0) (fault : Fault)
-    → IsProfiled program steps profiled → WriteEnds (profiled.ran.output.items ++ codes "-- end of output\n") err err' errs (Err fault)
-    → ShowEnds program steps query out out err err' outs errs (Err fault)
-unwritten program steps query profiled out err err' outs errs fault p ends = by fault (subst (λ (bytes : List ℕ). WriteEnds (bytes ++ codes "-- end of output\n") err err' errs (Err fault)) p.is_run.output ends)
+pub unwritten : (IsDue : List ℕ → Type 0) (HasNone : Type 0) (program : Hlds) (steps : ℕ) (ran : Ran) (out err err' : Option (List ℕ)) (outs errs : Type 0) (fault : Fault)
+    → IsRunOf program steps ran → WriteEnds (ran.output.items ++ codes "-- end of output\n") err err' errs (Err fault)
+    → ShowEnds IsDue HasNone program steps out out err err' outs errs (Err fault)
+unwritten IsDue HasNone program steps ran out err err' outs errs fault is_run ends = by fault (subst (λ (bytes : List ℕ). WriteEnds (bytes ++ codes "-- end of output\n") err err' errs (Err fault)) is_run.output ends)
   where
-    by : (fault : Fault) → WriteEnds (reported_output program steps) err err' errs (Err fault) → ShowEnds program steps query out out err err' outs errs (Err fault)
+    by : (fault : Fault) → WriteEnds (reported_output program steps) err err' errs (Err fault) → ShowEnds IsDue HasNone program steps out out err err' outs errs (Err fault)
     by Write h = inl (h.0, record { output_is = h.1; no_page = refl })
     by NoMemory h = inl (record { output_is = h; no_page = refl })
     by NoSuchPage h = absurd h
@@ -187,32 +233,27 @@ profiled_text text program steps profiled a bounds h = record {
 }
 
 -- what was written of a run of a text, as far as it was
-pub reported : (held : Option Files) (file text : List ℕ) (query : Asked) (steps : ℕ) (out out' err err' : Option (List ℕ)) (reads outs errs : Type 0) (profiled : Profiled) (r : Result (Unit {0}) Fault)
-    → IsText held file text → (c : IsProfiledText text steps profiled) → ShowEnds c.accepted.program steps query out out' err err' outs errs r
-    → ReportEnds held file query steps out out' err err' reads outs errs r
-reported held file text query steps out out' err err' reads outs errs profiled (Ok done) is_text c h = record { text = text; is_text = is_text; accepted = c.accepted; reported = h.0; ended = h.1 }
-reported held file text query steps out out' err err' reads outs errs profiled (Err OutOfSteps) is_text c h = record { text = text; is_text = is_text; accepted = c.accepted; reported = h.0; ended = h.1 }
-reported held file text query steps out out' err err' reads outs errs profiled (Err (Thrown bytes)) is_text c h =
-    record { text = text; is_text = is_text; accepted = c.accepted; reported = h.0; ended = h.1 }
-reported held file text query steps out out' err err' reads outs errs profiled (Err NoSuchPage) is_text c h = record { text = text; is_text = is_text; accepted = c.accepted; pageless = h }
-reported held file text query steps out out' err err' reads outs errs profiled (Err Write) is_text c (inl h) =
-    inl (h.0, record { text = text; is_text = is_text; accepted = c.accepted; written = h.1 })
-reported held file text query steps out out' err err' reads outs errs profiled (Err Write) is_text c (inr h) =
-    inr (h.0, record { text = text; is_text = is_text; accepted = c.accepted; written = h.1 })
-reported held file text query steps out out' err err' reads outs errs profiled (Err NoMemory) is_text c (inl h) =
-    inr (inl (record { text = text; is_text = is_text; accepted = c.accepted; written = h }))
-reported held file text query steps out out' err err' reads outs errs profiled (Err NoMemory) is_text c (inr h) =
-    inr (inr (record { text = text; is_text = is_text; accepted = c.accepted; written = h }))
-reported held file text query steps out out' err err' reads outs errs profiled (Err Usage) is_text c h = absurd h
-reported held file text query steps out out' err err' reads outs errs profiled (Err Network) is_text c h = absurd h
-reported held file text query steps out out' err err' reads outs errs profiled (Err (Damaged at kind)) is_text c h = absurd h
-reported held file text query steps out out' err err' reads outs errs profiled (Err (TooLarge most)) is_text c h = absurd h
-reported held file text query steps out out' err err' reads outs errs profiled (Err (TwoEntries clique x y)) is_text c h = absurd h
-reported held file text query steps out out' err err' reads outs errs profiled (Err (DamagedLine n)) is_text c h = absurd h
-reported held file text query steps out out' err err' reads outs errs profiled (Err AnotherProgram) is_text c h = absurd h
-reported held file text query steps out out' err err' reads outs errs profiled (Err Read) is_text c h = absurd h
-reported held file text query steps out out' err err' reads outs errs profiled (Err TooLong) is_text c h = absurd h
-reported held file text query steps out out' err err' reads outs errs profiled (Err (Refused line w)) is_text c h = absurd h
+pub reported : (IsDue : Hlds → List ℕ → Type 0) (HasNone : Hlds → Type 0) (held : Option Files) (file text : List ℕ) (steps : ℕ) (out out' err err' : Option (List ℕ)) (reads outs errs : Type 0) (r : Result (Unit {0}) Fault)
+    → IsText held file text → (a : Accepted text) → ShowEnds (IsDue a.program) (HasNone a.program) a.program steps out out' err err' outs errs r
+    → ReportEnds IsDue HasNone held file steps out out' err err' reads outs errs r
+reported IsDue HasNone held file text steps out out' err err' reads outs errs (Ok done) is_text a h = record { text = text; is_text = is_text; accepted = a; reported = h.0; ended = h.1 }
+reported IsDue HasNone held file text steps out out' err err' reads outs errs (Err OutOfSteps) is_text a h = record { text = text; is_text = is_text; accepted = a; reported = h.0; ended = h.1 }
+reported IsDue HasNone held file text steps out out' err err' reads outs errs (Err (Thrown bytes)) is_text a h = record { text = text; is_text = is_text; accepted = a; reported = h.0; ended = h.1 }
+reported IsDue HasNone held file text steps out out' err err' reads outs errs (Err NoSuchPage) is_text a h = record { text = text; is_text = is_text; accepted = a; pageless = h }
+reported IsDue HasNone held file text steps out out' err err' reads outs errs (Err Write) is_text a (inl h) = inl (h.0, record { text = text; is_text = is_text; accepted = a; written = h.1 })
+reported IsDue HasNone held file text steps out out' err err' reads outs errs (Err Write) is_text a (inr h) = inr (h.0, record { text = text; is_text = is_text; accepted = a; written = h.1 })
+reported IsDue HasNone held file text steps out out' err err' reads outs errs (Err NoMemory) is_text a (inl h) = inr (inl (record { text = text; is_text = is_text; accepted = a; written = h }))
+reported IsDue HasNone held file text steps out out' err err' reads outs errs (Err NoMemory) is_text a (inr h) = inr (inr (record { text = text; is_text = is_text; accepted = a; written = h }))
+reported IsDue HasNone held file text steps out out' err err' reads outs errs (Err Usage) is_text a h = absurd h
+reported IsDue HasNone held file text steps out out' err err' reads outs errs (Err Network) is_text a h = absurd h
+reported IsDue HasNone held file text steps out out' err err' reads outs errs (Err (Damaged at kind)) is_text a h = absurd h
+reported IsDue HasNone held file text steps out out' err err' reads outs errs (Err (TooLarge most)) is_text a h = absurd h
+reported IsDue HasNone held file text steps out out' err err' reads outs errs (Err (TwoEntries clique x y)) is_text a h = absurd h
+reported IsDue HasNone held file text steps out out' err err' reads outs errs (Err (DamagedLine n)) is_text a h = absurd h
+reported IsDue HasNone held file text steps out out' err err' reads outs errs (Err AnotherProgram) is_text a h = absurd h
+reported IsDue HasNone held file text steps out out' err err' reads outs errs (Err Read) is_text a h = absurd h
+reported IsDue HasNone held file text steps out out' err err' reads outs errs (Err TooLong) is_text a h = absurd h
+reported IsDue HasNone held file text steps out out' err err' reads outs errs (Err (Refused line w)) is_text a h = absurd h
 
 -- ---- what is asked of an accepted text
 

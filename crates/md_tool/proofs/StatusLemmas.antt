@@ -5,19 +5,19 @@ use Rattle.md_base.specs.Outside.{PartAdded}
 use Rattle.md_base.specs.Files.{Files}
 use Rattle.md_base.specs.Nets.{Connections}
 use Rattle.md_hlds.specs.Hlds.{Hlds}
-use Rattle.md_query.specs.Asked.{Asked}
-use Rattle.md_render.specs.Text.{text_of}
-use Rattle.md_words.specs.Form.{Form, Check, Run, Report, Page, Serve, Gen, Migrate, Feedback, Dump, Undump}
+use Rattle.md_words.specs.Form.{Form, Check, Run, Report, Page, Serve, Gen, Migrate, Feedback, Dump, Undump, Cover, Sum}
 use Rattle.md_tool.specs.declared.fault.Fault.{Fault}
 use Rattle.md_tool.specs.declared.fault.Fault.TheVariants.{Usage, Read, TooLong, Refused, OutOfSteps, Thrown, Damaged, TooLarge, TwoEntries, DamagedLine, AnotherProgram, NoSuchPage, Write, NoMemory, Network}
 use Rattle.md_tool.specs.Ends.{RunEnd, Finished, Threw, RanOut}
 use Rattle.md_tool.specs.Due.{CheckEnds}
 use Rattle.md_tool.specs.Candidates.{IsFeedbackOfRun}
 use Rattle.md_tool.specs.Kept.{HasRun, HasKeptInPart, IsRunFile, RunEnds}
-use Rattle.md_tool.specs.Reported.{HasReported, HasPageInPart, ReportEnds}
+use Rattle.md_tool.specs.Reported.{HasReported, HasPageInPart, ReportEnds, IsPageOfRun, HasNoPageOfRun}
 use Rattle.md_tool.specs.Served.{ServeEnds}
 use Rattle.md_tool.specs.Stored.{StoredEnds, MigrateEnds}
+use Rattle.md_tool.specs.Summed.{SomeSumEnds}
 use Rattle.md_tool.specs.Texts.{DumpEnds, UndumpEnds}
+use Rattle.md_tool.specs.Turns.{IsCoverageOfRun, HasNoProcedure}
 use Rattle.md_tool.specs.Generated.{GenEnds}
 use Rattle.md_tool.specs.Fault.{status_of, fault_line}
 use Rattle.md_tool.specs.Told.{CommandEnds, EndIsTold, TopEnds, named, file_of}
@@ -133,82 +133,80 @@ check_fault held file print before now reads writes fault status h (inr same) =
 
 -- ---- a report on a file
 
--- the page, as far as it was written
-all_of_page : (held : Option Files) (file : List ℕ) (query : Asked) (steps : ℕ) (out out' err err' : Option (List ℕ)) (end : RunEnd) → HasReported held file query steps out out' err err' end
-    → HasFrontOfPage held file query steps out out'
-all_of_page held file query steps out out' err err' end h = record {
+-- the text, as far as it was written
+all_of_page : (IsDue : Hlds → List ℕ → Type 0) (held : Option Files) (file : List ℕ) (steps : ℕ) (out out' err err' : Option (List ℕ)) (end : RunEnd) → HasReported IsDue held file steps out out' err err' end
+    → HasFrontOfPage IsDue held file out out'
+all_of_page IsDue held file steps out out' err err' end h = record {
   text = h.text;
   is_text = h.is_text;
   accepted = h.accepted;
-  page = record {
-    view = h.reported.paged.view;
-    is_meant = h.reported.paged.is_meant;
-    page = h.reported.paged.page;
-    is_page = h.reported.paged.is_page;
-    written = all_added (text_of h.reported.paged.view h.reported.paged.page) out out' h.reported.paged.written;
+  shown = record {
+    text = h.reported.shown.text;
+    is_due = h.reported.shown.is_due;
+    written = all_added h.reported.shown.text out out' h.reported.shown.written;
   };
 }
 
-part_of_page : (held : Option Files) (file : List ℕ) (query : Asked) (steps : ℕ) (out out' err err' : Option (List ℕ)) → HasPageInPart held file query steps out out' err err'
-    → HasFrontOfPage held file query steps out out'
-part_of_page held file query steps out out' err err' h = record { text = h.text; is_text = h.is_text; accepted = h.accepted; page = h.written.paged }
+part_of_page : (IsDue : Hlds → List ℕ → Type 0) (held : Option Files) (file : List ℕ) (steps : ℕ) (out out' err err' : Option (List ℕ)) → HasPageInPart IsDue held file steps out out' err err'
+    → HasFrontOfPage IsDue held file out out'
+part_of_page IsDue held file steps out out' err err' h = record { text = h.text; is_text = h.is_text; accepted = h.accepted; shown = h.written.shown }
 
 -- its end was told, by this line or a front of it
-report_told : (held : Option Files) (file : List ℕ) (query : Asked) (steps : ℕ) (out out' err between err' : Option (List ℕ)) (reads outs errs : Type 0) (fault : Fault)
-    → ReportEnds held file query steps out out' err between reads outs errs (Err fault) → PartAdded (fault_line fault file) between err' → MeansReport held file query steps out out' err err' reads outs errs (status_of fault)
-report_told held file query steps out out' err between err' reads outs errs Usage h line = absurd h
-report_told held file query steps out out' err between err' reads outs errs Network h line = absurd h
-report_told held file query steps out out' err between err' reads outs errs Read h line = (h.0, h.1.out_is)
-report_told held file query steps out out' err between err' reads outs errs TooLong h line = LongerText h.0 h.1.out_is
-report_told held file query steps out out' err between err' reads outs errs (Refused line w) h at_line = AtLine line w h.0
-report_told held file query steps out out' err between err' reads outs errs OutOfSteps h line = record { between = between; reported = h; line_is = line }
-report_told held file query steps out out' err between err' reads outs errs (Thrown bytes) h line = (bytes.items, record { between = between; reported = h; line_is = line })
-report_told held file query steps out out' err between err' reads outs errs (Damaged at kind) h line = absurd h
-report_told held file query steps out out' err between err' reads outs errs (TooLarge most) h line = absurd h
-report_told held file query steps out out' err between err' reads outs errs (TwoEntries clique x y) h line = absurd h
-report_told held file query steps out out' err between err' reads outs errs (DamagedLine n) h line = absurd h
-report_told held file query steps out out' err between err' reads outs errs AnotherProgram h line = absurd h
-report_told held file query steps out out' err between err' reads outs errs NoSuchPage h line = record { between = between; pageless = h; line_is = line }
-report_told held file query steps out out' err between err' reads outs errs Write (inl h) line = inl (h.0, record { text = h.1.text; is_text = h.1.is_text; accepted = h.1.accepted }, h.1.written.no_page)
-report_told held file query steps out out' err between err' reads outs errs Write (inr h) line = inr (h.0, part_of_page held file query steps out out' err between h.1)
-report_told held file query steps out out' err between err' reads outs errs NoMemory (inl h) line = inl h.out_is
-report_told held file query steps out out' err between err' reads outs errs NoMemory (inr (inl h)) line = inl h.written.no_page
-report_told held file query steps out out' err between err' reads outs errs NoMemory (inr (inr h)) line = inr (part_of_page held file query steps out out' err between h)
+report_told : (IsDue : Hlds → List ℕ → Type 0) (HasNone : Hlds → Type 0) (held : Option Files) (file : List ℕ) (steps : ℕ) (out out' err between err' : Option (List ℕ)) (reads outs errs : Type 0) (fault : Fault)
+    → ReportEnds IsDue HasNone held file steps out out' err between reads outs errs (Err fault) → PartAdded (fault_line fault file) between err' → MeansReport IsDue HasNone held file steps out out' err err' reads outs errs (status_of fault)
+report_told IsDue HasNone held file steps out out' err between err' reads outs errs Usage h line = absurd h
+report_told IsDue HasNone held file steps out out' err between err' reads outs errs Network h line = absurd h
+report_told IsDue HasNone held file steps out out' err between err' reads outs errs Read h line = (h.0, h.1.out_is)
+report_told IsDue HasNone held file steps out out' err between err' reads outs errs TooLong h line = LongerText h.0 h.1.out_is
+report_told IsDue HasNone held file steps out out' err between err' reads outs errs (Refused line w) h at_line = AtLine line w h.0
+report_told IsDue HasNone held file steps out out' err between err' reads outs errs OutOfSteps h line = record { between = between; reported = h; line_is = line }
+report_told IsDue HasNone held file steps out out' err between err' reads outs errs (Thrown bytes) h line = (bytes.items, record { between = between; reported = h; line_is = line })
+report_told IsDue HasNone held file steps out out' err between err' reads outs errs (Damaged at kind) h line = absurd h
+report_told IsDue HasNone held file steps out out' err between err' reads outs errs (TooLarge most) h line = absurd h
+report_told IsDue HasNone held file steps out out' err between err' reads outs errs (TwoEntries clique x y) h line = absurd h
+report_told IsDue HasNone held file steps out out' err between err' reads outs errs (DamagedLine n) h line = absurd h
+report_told IsDue HasNone held file steps out out' err between err' reads outs errs AnotherProgram h line = absurd h
+report_told IsDue HasNone held file steps out out' err between err' reads outs errs NoSuchPage h line = record { between = between; pageless = h; line_is = line }
+report_told IsDue HasNone held file steps out out' err between err' reads outs errs Write (inl h) line = inl (h.0, record { text = h.1.text; is_text = h.1.is_text; accepted = h.1.accepted }, h.1.written.no_page)
+report_told IsDue HasNone held file steps out out' err between err' reads outs errs Write (inr h) line = inr (h.0, part_of_page IsDue held file steps out out' err between h.1)
+report_told IsDue HasNone held file steps out out' err between err' reads outs errs NoMemory (inl h) line = inl h.out_is
+report_told IsDue HasNone held file steps out out' err between err' reads outs errs NoMemory (inr (inl h)) line = inl h.written.no_page
+report_told IsDue HasNone held file steps out out' err between err' reads outs errs NoMemory (inr (inr h)) line = inr (part_of_page IsDue held file steps out out' err between h)
 
 -- its end could not be told for want of memory
-report_untold : (held : Option Files) (file : List ℕ) (query : Asked) (steps : ℕ) (out out' err between err' : Option (List ℕ)) (reads outs errs : Type 0) (fault : Fault) → ReportEnds held file query steps out out' err between reads outs errs (Err fault) → MeansReport held file query steps out out' err err' reads outs errs 8
-report_untold held file query steps out out' err between err' reads outs errs Usage h = absurd h
-report_untold held file query steps out out' err between err' reads outs errs Network h = absurd h
-report_untold held file query steps out out' err between err' reads outs errs Read h = inl h.1.out_is
-report_untold held file query steps out out' err between err' reads outs errs TooLong h = inl h.1.out_is
-report_untold held file query steps out out' err between err' reads outs errs (Refused line w) h = inl h.0.untouched
-report_untold held file query steps out out' err between err' reads outs errs OutOfSteps h = inr (all_of_page held file query steps out out' err between RanOut h)
-report_untold held file query steps out out' err between err' reads outs errs (Thrown bytes) h = inr (all_of_page held file query steps out out' err between (Threw bytes.items) h)
-report_untold held file query steps out out' err between err' reads outs errs (Damaged at kind) h = absurd h
-report_untold held file query steps out out' err between err' reads outs errs (TooLarge most) h = absurd h
-report_untold held file query steps out out' err between err' reads outs errs (TwoEntries clique x y) h = absurd h
-report_untold held file query steps out out' err between err' reads outs errs (DamagedLine n) h = absurd h
-report_untold held file query steps out out' err between err' reads outs errs AnotherProgram h = absurd h
-report_untold held file query steps out out' err between err' reads outs errs NoSuchPage h = inl h.pageless.lacks.untouched
-report_untold held file query steps out out' err between err' reads outs errs Write (inl h) = inl h.1.written.no_page
-report_untold held file query steps out out' err between err' reads outs errs Write (inr h) = inr (part_of_page held file query steps out out' err between h.1)
-report_untold held file query steps out out' err between err' reads outs errs NoMemory (inl h) = inl h.out_is
-report_untold held file query steps out out' err between err' reads outs errs NoMemory (inr (inl h)) = inl h.written.no_page
-report_untold held file query steps out out' err between err' reads outs errs NoMemory (inr (inr h)) = inr (part_of_page held file query steps out out' err between h)
+report_untold : (IsDue : Hlds → List ℕ → Type 0) (HasNone : Hlds → Type 0) (held : Option Files) (file : List ℕ) (steps : ℕ) (out out' err between err' : Option (List ℕ)) (reads outs errs : Type 0) (fault : Fault) → ReportEnds IsDue HasNone held file steps out out' err between reads outs errs (Err fault) → MeansReport IsDue HasNone held file steps out out' err err' reads outs errs 8
+report_untold IsDue HasNone held file steps out out' err between err' reads outs errs Usage h = absurd h
+report_untold IsDue HasNone held file steps out out' err between err' reads outs errs Network h = absurd h
+report_untold IsDue HasNone held file steps out out' err between err' reads outs errs Read h = inl h.1.out_is
+report_untold IsDue HasNone held file steps out out' err between err' reads outs errs TooLong h = inl h.1.out_is
+report_untold IsDue HasNone held file steps out out' err between err' reads outs errs (Refused line w) h = inl h.0.untouched
+report_untold IsDue HasNone held file steps out out' err between err' reads outs errs OutOfSteps h = inr (all_of_page IsDue held file steps out out' err between RanOut h)
+report_untold IsDue HasNone held file steps out out' err between err' reads outs errs (Thrown bytes) h = inr (all_of_page IsDue held file steps out out' err between (Threw bytes.items) h)
+report_untold IsDue HasNone held file steps out out' err between err' reads outs errs (Damaged at kind) h = absurd h
+report_untold IsDue HasNone held file steps out out' err between err' reads outs errs (TooLarge most) h = absurd h
+report_untold IsDue HasNone held file steps out out' err between err' reads outs errs (TwoEntries clique x y) h = absurd h
+report_untold IsDue HasNone held file steps out out' err between err' reads outs errs (DamagedLine n) h = absurd h
+report_untold IsDue HasNone held file steps out out' err between err' reads outs errs AnotherProgram h = absurd h
+report_untold IsDue HasNone held file steps out out' err between err' reads outs errs NoSuchPage h = inl h.pageless.untouched
+report_untold IsDue HasNone held file steps out out' err between err' reads outs errs Write (inl h) = inl h.1.written.no_page
+report_untold IsDue HasNone held file steps out out' err between err' reads outs errs Write (inr h) = inr (part_of_page IsDue held file steps out out' err between h.1)
+report_untold IsDue HasNone held file steps out out' err between err' reads outs errs NoMemory (inl h) = inl h.out_is
+report_untold IsDue HasNone held file steps out out' err between err' reads outs errs NoMemory (inr (inl h)) = inl h.written.no_page
+report_untold IsDue HasNone held file steps out out' err between err' reads outs errs NoMemory (inr (inr h)) = inr (part_of_page IsDue held file steps out out' err between h)
 
-report_fault : (held : Option Files) (file : List ℕ) (query : Asked) (steps : ℕ) (out out' err between err' : Option (List ℕ)) (reads outs errs : Type 0) (fault : Fault) (status : ℕ)
-    → ReportEnds held file query steps out out' err between reads outs errs (Err fault) → PartAdded (fault_line fault file) between err' → (status ≡ status_of fault) ⊎ (status ≡ 8) → MeansReport held file query steps out out' err err' reads outs errs status
-report_fault held file query steps out out' err between err' reads outs errs fault status h line (inl same) =
-    subst (MeansReport held file query steps out out' err err' reads outs errs) (sym same) (report_told held file query steps out out' err between err' reads outs errs fault h line)
-report_fault held file query steps out out' err between err' reads outs errs fault status h line (inr same) =
-    subst (MeansReport held file query steps out out' err err' reads outs errs) (sym same) (report_untold held file query steps out out' err between err' reads outs errs fault h)
+report_fault : (IsDue : Hlds → List ℕ → Type 0) (HasNone : Hlds → Type 0) (held : Option Files) (file : List ℕ) (steps : ℕ) (out out' err between err' : Option (List ℕ)) (reads outs errs : Type 0) (fault : Fault) (status : ℕ)
+    → ReportEnds IsDue HasNone held file steps out out' err between reads outs errs (Err fault) → PartAdded (fault_line fault file) between err' → (status ≡ status_of fault) ⊎ (status ≡ 8) → MeansReport IsDue HasNone held file steps out out' err err' reads outs errs status
+report_fault IsDue HasNone held file steps out out' err between err' reads outs errs fault status h line (inl same) =
+    subst (MeansReport IsDue HasNone held file steps out out' err err' reads outs errs) (sym same) (report_told IsDue HasNone held file steps out out' err between err' reads outs errs fault h line)
+report_fault IsDue HasNone held file steps out out' err between err' reads outs errs fault status h line (inr same) =
+    subst (MeansReport IsDue HasNone held file steps out out' err err' reads outs errs) (sym same) (report_untold IsDue HasNone held file steps out out' err between err' reads outs errs fault h)
 
 -- it is done, and nothing was told
-report_done : (held : Option Files) (file : List ℕ) (query : Asked) (steps : ℕ) (out out' err between err' : Option (List ℕ)) (reads outs errs : Type 0) (status : ℕ)
-    → HasReported held file query steps out out' err between Finished → (status ≡ 0) × (err' ≡ between) → MeansReport held file query steps out out' err err' reads outs errs status
-report_done held file query steps out out' err between err' reads outs errs status h told =
-    subst (MeansReport held file query steps out out' err err' reads outs errs) (sym told.0)
-    (subst (λ (e : Option (List ℕ)). HasReported held file query steps out out' err e Finished) (sym told.1) h)
+report_done : (IsDue : Hlds → List ℕ → Type 0) (HasNone : Hlds → Type 0) (held : Option Files) (file : List ℕ) (steps : ℕ) (out out' err between err' : Option (List ℕ)) (reads outs errs : Type 0) (status : ℕ)
+    → HasReported IsDue held file steps out out' err between Finished → (status ≡ 0) × (err' ≡ between) → MeansReport IsDue HasNone held file steps out out' err err' reads outs errs status
+report_done IsDue HasNone held file steps out out' err between err' reads outs errs status h told =
+    subst (MeansReport IsDue HasNone held file steps out out' err err' reads outs errs) (sym told.0)
+    (subst (λ (e : Option (List ℕ)). HasReported IsDue held file steps out out' err e Finished) (sym told.1) h)
 
 -- ---- any other command
 
@@ -254,45 +252,53 @@ usage_fault before now status Write same why (inl is) = absurd why
 
 -- ---- a whole call
 
-end_means : (form : Option Form) (held held' : Option Files) (net net' : Option Connections) (out out' err between err' : Option (List ℕ)) (reads writes outs errs nets : Type 0) (status : ℕ) (end : Result (Unit {0}) Fault)
-    → CommandEnds form held held' net net' out out' err between reads writes outs errs nets end → EndIsTold end (named form) between err' errs status → Means form held held' net net' out out' err err' reads writes outs errs nets status
-end_means None held held' net net' out out' err between err' reads writes outs errs nets status (Ok done) command told = absurd (usage_end (Ok done) command.0)
-end_means None held held' net net' out out' err between err' reads writes outs errs nets status (Err fault) command told = usage_fault out out' status fault command.1.out_is (usage_end (Err fault) command.0) told.told
-end_means (Some (Run file steps name)) held held' net net' out out' err between err' reads writes outs errs nets status (Ok done) command told = subst (MeansRun (IsRunFile steps) held held' file steps name out out' reads writes outs) (sym told.0) command.0
-end_means (Some (Run file steps name)) held held' net net' out out' err between err' reads writes outs errs nets status (Err fault) command told = run_fault (IsRunFile steps) held held' file steps name out out' reads writes outs fault status command.0 told.told
-end_means (Some (Check file print)) held held' net net' out out' err between err' reads writes outs errs nets status (Ok done) command told = subst (MeansCheck held file print out out' reads outs) (sym told.0) command.0
-end_means (Some (Check file print)) held held' net net' out out' err between err' reads writes outs errs nets status (Err fault) command told = check_fault held file print out out' reads outs fault status command.0 told.told
-end_means (Some (Report file query steps)) held held' net net' out out' err between err' reads writes outs errs nets status (Ok done) command told = report_done held file query steps out out' err between err' reads outs errs status command.0 told
-end_means (Some (Report file query steps)) held held' net net' out out' err between err' reads writes outs errs nets status (Err fault) command told = report_fault held file query steps out out' err between err' reads outs errs fault status command.0 told.part told.told
-end_means (Some (Page name query)) held held' net net' out out' err between err' reads writes outs errs nets status end command told = ended (StoredEnds held name query out out' reads outs) end name between err' errs status command.0 told
-end_means (Some (Serve name port requests)) held held' net net' out out' err between err' reads writes outs errs nets status end command told = ended (ServeEnds held name requests net net' out out' reads outs nets) end name between err' errs status command.0 told
-end_means (Some (Gen n summary)) held held' net net' out out' err between err' reads writes outs errs nets status end command told = ended (GenEnds n summary out out' outs) end (file_of (Gen n summary)) between err' errs status command.0 told
-end_means (Some (Migrate name new)) held held' net net' out out' err between err' reads writes outs errs nets status end command told = ended (MigrateEnds held held' name new out out' reads writes outs) end name between err' errs status command.0 told
-end_means (Some (Feedback file new steps least)) held held' net net' out out' err between err' reads writes outs errs nets status (Ok done) command told = subst (MeansRun (IsFeedbackOfRun least steps) held held' file steps new out out' reads writes outs) (sym told.0) command.0
-end_means (Some (Feedback file new steps least)) held held' net net' out out' err between err' reads writes outs errs nets status (Err fault) command told = run_fault (IsFeedbackOfRun least steps) held held' file steps new out out' reads writes outs fault status command.0 told.told
-end_means (Some (Dump name)) held held' net net' out out' err between err' reads writes outs errs nets status end command told = ended (DumpEnds held name out out' reads outs) end name between err' errs status command.0 told
-end_means (Some (Undump text new)) held held' net net' out out' err between err' reads writes outs errs nets status end command told = ended (UndumpEnds held held' text new out out' reads writes outs) end text between err' errs status command.0 told
+end_means : (form : Option Form) (at : List ℕ) (held held' : Option Files) (net net' : Option Connections) (out out' err between err' : Option (List ℕ)) (reads writes outs errs nets : Type 0) (status : ℕ) (end : Result (Unit {0}) Fault)
+    → CommandEnds form at held held' net net' out out' err between reads writes outs errs nets end → EndIsTold end (named form at) between err' errs status → Means form held held' net net' out out' err err' reads writes outs errs nets status
+end_means None at held held' net net' out out' err between err' reads writes outs errs nets status (Ok done) command told = absurd (usage_end (Ok done) command.0)
+end_means None at held held' net net' out out' err between err' reads writes outs errs nets status (Err fault) command told = usage_fault out out' status fault command.1.out_is (usage_end (Err fault) command.0) told.told
+end_means (Some (Run file steps name)) at held held' net net' out out' err between err' reads writes outs errs nets status (Ok done) command told = subst (MeansRun (IsRunFile steps) held held' file steps name out out' reads writes outs) (sym told.0) command.0
+end_means (Some (Run file steps name)) at held held' net net' out out' err between err' reads writes outs errs nets status (Err fault) command told = run_fault (IsRunFile steps) held held' file steps name out out' reads writes outs fault status command.0 told.told
+end_means (Some (Check file print)) at held held' net net' out out' err between err' reads writes outs errs nets status (Ok done) command told = subst (MeansCheck held file print out out' reads outs) (sym told.0) command.0
+end_means (Some (Check file print)) at held held' net net' out out' err between err' reads writes outs errs nets status (Err fault) command told = check_fault held file print out out' reads outs fault status command.0 told.told
+end_means (Some (Report file query steps)) at held held' net net' out out' err between err' reads writes outs errs nets status (Ok done) command told = report_done (IsPageOfRun query steps) (HasNoPageOfRun query steps) held file steps out out' err between err' reads outs errs status command.0 told
+end_means (Some (Report file query steps)) at held held' net net' out out' err between err' reads writes outs errs nets status (Err fault) command told = report_fault (IsPageOfRun query steps) (HasNoPageOfRun query steps) held file steps out out' err between err' reads outs errs fault status command.0 told.part told.told
+end_means (Some (Page name query)) at held held' net net' out out' err between err' reads writes outs errs nets status end command told = ended (StoredEnds held name query out out' reads outs) end name between err' errs status command.0 told
+end_means (Some (Serve name port requests)) at held held' net net' out out' err between err' reads writes outs errs nets status end command told = ended (ServeEnds held name requests net net' out out' reads outs nets) end name between err' errs status command.0 told
+end_means (Some (Gen n summary)) at held held' net net' out out' err between err' reads writes outs errs nets status end command told = ended (GenEnds n summary out out' outs) end (file_of (Gen n summary) at) between err' errs status command.0 told
+end_means (Some (Migrate name new)) at held held' net net' out out' err between err' reads writes outs errs nets status end command told = ended (MigrateEnds held held' name new out out' reads writes outs) end name between err' errs status command.0 told
+end_means (Some (Feedback file new steps least)) at held held' net net' out out' err between err' reads writes outs errs nets status (Ok done) command told = subst (MeansRun (IsFeedbackOfRun least steps) held held' file steps new out out' reads writes outs) (sym told.0) command.0
+end_means (Some (Feedback file new steps least)) at held held' net net' out out' err between err' reads writes outs errs nets status (Err fault) command told = run_fault (IsFeedbackOfRun least steps) held held' file steps new out out' reads writes outs fault status command.0 told.told
+end_means (Some (Dump name)) at held held' net net' out out' err between err' reads writes outs errs nets status end command told = ended (DumpEnds held name out out' reads outs) end name between err' errs status command.0 told
+end_means (Some (Undump text new)) at held held' net net' out out' err between err' reads writes outs errs nets status end command told = ended (UndumpEnds held held' text new out out' reads writes outs) end text between err' errs status command.0 told
+end_means (Some (Cover file procedure steps)) at held held' net net' out out' err between err' reads writes outs errs nets status (Ok done) command told =
+    report_done (IsCoverageOfRun procedure steps) (HasNoProcedure procedure) held file steps out out' err between err' reads outs errs status command.0 told
+end_means (Some (Cover file procedure steps)) at held held' net net' out out' err between err' reads writes outs errs nets status (Err fault) command told =
+    report_fault (IsCoverageOfRun procedure steps) (HasNoProcedure procedure) held file steps out out' err between err' reads outs errs fault status command.0 told.part told.told
+end_means (Some (Sum names)) at held held' net net' out out' err between err' reads writes outs errs nets status end command told =
+    ended (SomeSumEnds held names out out' reads outs) end at between err' errs status (at, command.0) told
 
 pub top_means : (form : Option Form) (held held' : Option Files) (net net' : Option Connections) (out out' err err' : Option (List ℕ)) (reads writes outs errs nets : Type 0) (status : ℕ)
     → TopEnds form held held' net net' out out' err err' reads writes outs errs nets status → Means form held held' net net' out out' err err' reads writes outs errs nets status
-top_means form held held' net net' out out' err err' reads writes outs errs nets status h = end_means form held held' net net' out out' err h.between err' reads writes outs errs nets status h.end h.command h.told
+top_means form held held' net net' out out' err err' reads writes outs errs nets status h = end_means form h.at held held' net net' out out' err h.between err' reads writes outs errs nets status h.end h.command h.told
 
 -- ---- what is kept
 
-keeps : (form : Option Form) (held held' : Option Files) (net net' : Option Connections) (out out' err err' : Option (List ℕ)) (reads writes outs errs nets : Type 0) (r : Result (Unit {0}) Fault)
-    → CommandEnds form held held' net net' out out' err err' reads writes outs errs nets r → keeps_store form ≡ true → held' ≡ held
-keeps None held held' net net' out out' err err' reads writes outs errs nets r h so = h.1.held_is
-keeps (Some (Check file print)) held held' net net' out out' err err' reads writes outs errs nets r h so = h.1
-keeps (Some (Run file steps name)) held held' net net' out out' err err' reads writes outs errs nets r h so = absurd (cc)
-keeps (Some (Report file query steps)) held held' net net' out out' err err' reads writes outs errs nets r h so = h.1
-keeps (Some (Page name query)) held held' net net' out out' err err' reads writes outs errs nets r h so = h.1
-keeps (Some (Serve name port requests)) held held' net net' out out' err err' reads writes outs errs nets r h so = h.1
-keeps (Some (Gen n summary)) held held' net net' out out' err err' reads writes outs errs nets r h so = h.1
-keeps (Some (Migrate name new)) held held' net net' out out' err err' reads writes outs errs nets r h so = absurd (cc)
-keeps (Some (Feedback file new steps least)) held held' net net' out out' err err' reads writes outs errs nets r h so = absurd (cc)
-keeps (Some (Dump name)) held held' net net' out out' err err' reads writes outs errs nets r h so = h.1
-keeps (Some (Undump text new)) held held' net net' out out' err err' reads writes outs errs nets r h so = absurd (cc)
+keeps : (form : Option Form) (at : List ℕ) (held held' : Option Files) (net net' : Option Connections) (out out' err err' : Option (List ℕ)) (reads writes outs errs nets : Type 0) (r : Result (Unit {0}) Fault)
+    → CommandEnds form at held held' net net' out out' err err' reads writes outs errs nets r → keeps_store form ≡ true → held' ≡ held
+keeps None at held held' net net' out out' err err' reads writes outs errs nets r h so = h.1.held_is
+keeps (Some (Check file print)) at held held' net net' out out' err err' reads writes outs errs nets r h so = h.1
+keeps (Some (Run file steps name)) at held held' net net' out out' err err' reads writes outs errs nets r h so = absurd (cc)
+keeps (Some (Report file query steps)) at held held' net net' out out' err err' reads writes outs errs nets r h so = h.1
+keeps (Some (Page name query)) at held held' net net' out out' err err' reads writes outs errs nets r h so = h.1
+keeps (Some (Serve name port requests)) at held held' net net' out out' err err' reads writes outs errs nets r h so = h.1
+keeps (Some (Gen n summary)) at held held' net net' out out' err err' reads writes outs errs nets r h so = h.1
+keeps (Some (Migrate name new)) at held held' net net' out out' err err' reads writes outs errs nets r h so = absurd (cc)
+keeps (Some (Feedback file new steps least)) at held held' net net' out out' err err' reads writes outs errs nets r h so = absurd (cc)
+keeps (Some (Dump name)) at held held' net net' out out' err err' reads writes outs errs nets r h so = h.1
+keeps (Some (Undump text new)) at held held' net net' out out' err err' reads writes outs errs nets r h so = absurd (cc)
+keeps (Some (Cover file procedure steps)) at held held' net net' out out' err err' reads writes outs errs nets r h so = h.1
+keeps (Some (Sum names)) at held held' net net' out out' err err' reads writes outs errs nets r h so = h.1
 
 pub store_kept : (form : Option Form) (held held' : Option Files) (net net' : Option Connections) (out out' err err' : Option (List ℕ)) (reads writes outs errs nets : Type 0) (status : ℕ)
     → TopEnds form held held' net net' out out' err err' reads writes outs errs nets status → keeps_store form ≡ true → held' ≡ held
-store_kept form held held' net net' out out' err err' reads writes outs errs nets status h so = keeps form held held' net net' out out' err h.between reads writes outs errs nets h.end h.command so
+store_kept form held held' net net' out out' err err' reads writes outs errs nets status h so = keeps form h.at held held' net net' out out' err h.between reads writes outs errs nets h.end h.command so

@@ -4,13 +4,15 @@ use Rattle.std.specs.Prelude.{Result, Ok, Err, codes}
 use Rattle.md_base.specs.Outside.{Rose, added}
 use Rattle.md_base.specs.Files.{Files}
 use Rattle.md_base.specs.Nets.{Connections}
+use Rattle.md_hlds.specs.Hlds.{Hlds}
 use Rattle.md_query.specs.Asked.{Asked}
-use Rattle.md_words.specs.Form.{Form, Check, Run, Report, Page, Serve, Gen, Migrate, Feedback, Dump, Undump}
+use Rattle.md_words.specs.Form.{Form, Check, Run, Report, Page, Serve, Gen, Migrate, Feedback, Dump, Undump, Cover, Sum}
 use Rattle.md_tool.specs.declared.fault.Fault.{Fault}
 use Rattle.md_tool.specs.declared.fault.Fault.TheVariants.{Usage, Read, TooLong, Refused, OutOfSteps, Thrown, Damaged, TooLarge, TwoEntries, DamagedLine, AnotherProgram, NoSuchPage, Write, NoMemory, Network}
 use Rattle.md_tool.specs.Fault.{fault_line}
 use Rattle.md_tool.specs.Generated.{gen_text, GenEnds}
-use Rattle.md_tool.specs.Reported.{ReportEnds}
+use Rattle.md_tool.specs.Reported.{ReportEnds, IsPageOfRun, HasNoPageOfRun}
+use Rattle.md_tool.specs.Turns.{IsCoverageOfRun, HasNoProcedure}
 use Rattle.md_tool.specs.Told.{Tells, NothingChanged, EndIsTold, CommandEnds, TopEnds}
 use Rattle.md_tool.proofs.StreamLemmas.{rose_before, rose_after, none_added}
 
@@ -22,10 +24,10 @@ pub usage_told : (form : Option Form) (held : Option Files) (net : Option Connec
     → form ≡ None → Tells Usage [] err err' errs status → TopEnds form held held net net out out err err' reads writes outs errs nets status
 usage_told form held net out err err' reads writes outs errs nets status none told =
     subst (λ (a : Option Form). TopEnds a held held net net out out err err' reads writes outs errs nets status) (sym none)
-    (record { end = Err Usage; between = err; command = (inl refl, nothing_changed held out err); told = told })
+    (record { end = Err Usage; at = []; between = err; command = (inl refl, nothing_changed held out err); told = told })
 
 -- memory was refused before it was known what is asked for
-unknown : (form : Option Form) (held : Option Files) (net : Option Connections) (out err : Option (List ℕ)) (reads writes outs errs nets : Type 0) → CommandEnds form held held net net out out err err reads writes outs errs nets (Err NoMemory)
+unknown : (form : Option Form) (held : Option Files) (net : Option Connections) (out err : Option (List ℕ)) (reads writes outs errs nets : Type 0) → CommandEnds form [] held held net net out out err err reads writes outs errs nets (Err NoMemory)
 unknown None held net out err reads writes outs errs nets = (inr refl, nothing_changed held out err)
 unknown (Some (Check file print)) held net out err reads writes outs errs nets = (inl refl, refl, refl)
 unknown (Some (Run file steps name)) held net out err reads writes outs errs nets = (inl (record { held_is = refl; out_is = refl }), refl)
@@ -38,11 +40,14 @@ unknown (Some (Migrate name new)) held net out err reads writes outs errs nets =
 unknown (Some (Feedback file new steps least)) held net out err reads writes outs errs nets = (inl (record { held_is = refl; out_is = refl }), refl)
 unknown (Some (Dump name)) held net out err reads writes outs errs nets = (inl refl, refl, refl)
 unknown (Some (Undump text new)) held net out err reads writes outs errs nets = (inl (record { held_is = refl; out_is = refl }), refl)
+unknown (Some (Cover file procedure steps)) held net out err reads writes outs errs nets = (inl (record { out_is = refl; err_is = refl }), refl)
+unknown (Some (Sum names)) held net out err reads writes outs errs nets = (inl refl, refl, refl)
 
 pub memory_told : (form : Option Form) (held : Option Files) (net : Option Connections) (out err err' : Option (List ℕ)) (reads writes outs errs nets : Type 0) (status : ℕ)
     → Tells NoMemory [] err err' errs status → TopEnds form held held net net out out err err' reads writes outs errs nets status
 memory_told form held net out err err' reads writes outs errs nets status told = record {
   end = Err NoMemory;
+  at = [];
   between = err;
   command = unknown form held net out err reads writes outs errs nets;
   told = record { told = told.told; part = told.part; whole = told.whole };
@@ -51,25 +56,25 @@ memory_told form held net out err err' reads writes outs errs nets status told =
 -- ---- a report: `err` is written before a fault is told
 
 -- where the count of `err` rose, it rose in the whole call
-report_rises : (held : Option Files) (file : List ℕ) (query : Asked) (steps : ℕ) (out out' err err' : Option (List ℕ)) (reads outs some all : Type 0) (r : Result (Unit {0}) Fault)
-    → (some → all) → ReportEnds held file query steps out out' err err' reads outs some r → ReportEnds held file query steps out out' err err' reads outs all r
-report_rises held file query steps out out' err err' reads outs some all (Ok done) rises h = h
-report_rises held file query steps out out' err err' reads outs some all (Err Usage) rises h = h
-report_rises held file query steps out out' err err' reads outs some all (Err Network) rises h = h
-report_rises held file query steps out out' err err' reads outs some all (Err Read) rises h = h
-report_rises held file query steps out out' err err' reads outs some all (Err TooLong) rises h = h
-report_rises held file query steps out out' err err' reads outs some all (Err (Refused line w)) rises h = h
-report_rises held file query steps out out' err err' reads outs some all (Err OutOfSteps) rises h = h
-report_rises held file query steps out out' err err' reads outs some all (Err (Thrown bytes)) rises h = h
-report_rises held file query steps out out' err err' reads outs some all (Err (Damaged at kind)) rises h = h
-report_rises held file query steps out out' err err' reads outs some all (Err (TooLarge most)) rises h = h
-report_rises held file query steps out out' err err' reads outs some all (Err (TwoEntries clique x y)) rises h = h
-report_rises held file query steps out out' err err' reads outs some all (Err (DamagedLine n)) rises h = h
-report_rises held file query steps out out' err err' reads outs some all (Err AnotherProgram) rises h = h
-report_rises held file query steps out out' err err' reads outs some all (Err NoSuchPage) rises h = h
-report_rises held file query steps out out' err err' reads outs some all (Err Write) rises (inl h) = inl (rises h.0, h.1)
-report_rises held file query steps out out' err err' reads outs some all (Err Write) rises (inr h) = inr h
-report_rises held file query steps out out' err err' reads outs some all (Err NoMemory) rises h = h
+report_rises : (IsDue : Hlds → List ℕ → Type 0) (HasNone : Hlds → Type 0) (held : Option Files) (file : List ℕ) (steps : ℕ) (out out' err err' : Option (List ℕ)) (reads outs some all : Type 0) (r : Result (Unit {0}) Fault)
+    → (some → all) → ReportEnds IsDue HasNone held file steps out out' err err' reads outs some r → ReportEnds IsDue HasNone held file steps out out' err err' reads outs all r
+report_rises IsDue HasNone held file steps out out' err err' reads outs some all (Ok done) rises h = h
+report_rises IsDue HasNone held file steps out out' err err' reads outs some all (Err Usage) rises h = h
+report_rises IsDue HasNone held file steps out out' err err' reads outs some all (Err Network) rises h = h
+report_rises IsDue HasNone held file steps out out' err err' reads outs some all (Err Read) rises h = h
+report_rises IsDue HasNone held file steps out out' err err' reads outs some all (Err TooLong) rises h = h
+report_rises IsDue HasNone held file steps out out' err err' reads outs some all (Err (Refused line w)) rises h = h
+report_rises IsDue HasNone held file steps out out' err err' reads outs some all (Err OutOfSteps) rises h = h
+report_rises IsDue HasNone held file steps out out' err err' reads outs some all (Err (Thrown bytes)) rises h = h
+report_rises IsDue HasNone held file steps out out' err err' reads outs some all (Err (Damaged at kind)) rises h = h
+report_rises IsDue HasNone held file steps out out' err err' reads outs some all (Err (TooLarge most)) rises h = h
+report_rises IsDue HasNone held file steps out out' err err' reads outs some all (Err (TwoEntries clique x y)) rises h = h
+report_rises IsDue HasNone held file steps out out' err err' reads outs some all (Err (DamagedLine n)) rises h = h
+report_rises IsDue HasNone held file steps out out' err err' reads outs some all (Err AnotherProgram) rises h = h
+report_rises IsDue HasNone held file steps out out' err err' reads outs some all (Err NoSuchPage) rises h = h
+report_rises IsDue HasNone held file steps out out' err err' reads outs some all (Err Write) rises (inl h) = inl (rises h.0, h.1)
+report_rises IsDue HasNone held file steps out out' err err' reads outs some all (Err Write) rises (inr h) = inr h
+report_rises IsDue HasNone held file steps out out' err err' reads outs some all (Err NoMemory) rises h = h
 
 whole_rises : (line : List ℕ) (before now : Option (List ℕ)) (some all : Type 0) (status : ℕ) → (some → all)
     → (now ≡ added line before) ⊎ (some ⊎ (status ≡ 8)) → (now ≡ added line before) ⊎ (all ⊎ (status ≡ 8))
@@ -84,12 +89,24 @@ told_rises (Err fault) file before now some all status rises h =
     record { told = h.told; part = h.part; whole = whole_rises (fault_line fault file) before now some all status rises h.whole }
 
 pub report_told : (held held' : Option Files) (net net' : Option Connections) (file : List ℕ) (query : Asked) (steps : ℕ) (out out' err between err' : Option (List ℕ)) (reads writes outs nets : Type 0) (a b c : ℕ) (status : ℕ)
-    (r : Result (Unit {0}) Fault) → a ≤ b → b ≤ c → ReportEnds held file query steps out out' err between reads outs (Rose a b) r → held' ≡ held
+    (r : Result (Unit {0}) Fault) → a ≤ b → b ≤ c → ReportEnds (IsPageOfRun query steps) (HasNoPageOfRun query steps) held file steps out out' err between reads outs (Rose a b) r → held' ≡ held
     → EndIsTold r file between err' (Rose b c) status → TopEnds (Some (Report file query steps)) held held' net net' out out' err err' reads writes outs (Rose a c) nets status
 report_told held held' net net' file query steps out out' err between err' reads writes outs nets a b c status r first later ends kept told = record {
   end = r;
+  at = file;
   between = between;
-  command = (report_rises held file query steps out out' err between reads outs (Rose a b) (Rose a c) r (rose_before a b c first later) ends, kept);
+  command = (report_rises (IsPageOfRun query steps) (HasNoPageOfRun query steps) held file steps out out' err between reads outs (Rose a b) (Rose a c) r (rose_before a b c first later) ends, kept);
+  told = told_rises r file between err' (Rose b c) (Rose a c) status (rose_after a b c first) told;
+}
+
+pub cover_told : (held held' : Option Files) (net net' : Option Connections) (file : List ℕ) (procedure steps : ℕ) (out out' err between err' : Option (List ℕ)) (reads writes outs nets : Type 0) (a b c : ℕ) (status : ℕ)
+    (r : Result (Unit {0}) Fault) → a ≤ b → b ≤ c → ReportEnds (IsCoverageOfRun procedure steps) (HasNoProcedure procedure) held file steps out out' err between reads outs (Rose a b) r → held' ≡ held
+    → EndIsTold r file between err' (Rose b c) status → TopEnds (Some (Cover file procedure steps)) held held' net net' out out' err err' reads writes outs (Rose a c) nets status
+cover_told held held' net net' file procedure steps out out' err between err' reads writes outs nets a b c status r first later ends kept told = record {
+  end = r;
+  at = file;
+  between = between;
+  command = (report_rises (IsCoverageOfRun procedure steps) (HasNoProcedure procedure) held file steps out out' err between reads outs (Rose a b) (Rose a c) r (rose_before a b c first later) ends, kept);
   told = told_rises r file between err' (Rose b c) (Rose a c) status (rose_after a b c first) told;
 }
 
@@ -97,4 +114,4 @@ report_told held held' net net' file query steps out out' err between err' reads
 
 pub gen_told : (held : Option Files) (net net' : Option Connections) (n : ℕ) (summary : Bool) (out out' err err' : Option (List ℕ)) (reads writes outs errs nets : Type 0) (status : ℕ) (r : Result (Unit {0}) Fault)
     → GenEnds n summary out out' outs r → EndIsTold r (codes "gen") err err' errs status → TopEnds (Some (Gen n summary)) held held net net' out out' err err' reads writes outs errs nets status
-gen_told held net net' n summary out out' err err' reads writes outs errs nets status r ends told = record { end = r; between = err; command = (ends, refl, refl); told = told }
+gen_told held net net' n summary out out' err err' reads writes outs errs nets status r ends told = record { end = r; at = codes "gen"; between = err; command = (ends, refl, refl); told = told }

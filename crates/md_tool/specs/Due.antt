@@ -5,7 +5,7 @@ use Rattle.md_base.specs.Files.{Files, FileIs, FileIsLonger, HoldsPart, holding}
 use Rattle.md_hlds.specs.Hlds.{Hlds}
 use Rattle.md_printer.specs.Printed.{printed}
 use Rattle.md_tool.specs.declared.fault.Fault.{Fault}
-use Rattle.md_tool.specs.declared.fault.Fault.TheVariants.{Read, TooLong, Refused, Write, NoMemory}
+use Rattle.md_tool.specs.declared.fault.Fault.TheVariants.{Read, TooLong, Refused, NoSuchPage, Write, NoMemory}
 use Rattle.md_tool.specs.Accepted.{Accepted, NotAccepted}
 
 -- the longest text of a program, in bytes
@@ -41,6 +41,28 @@ WriteEnds bytes before now writes (Ok done) = now ≡ added bytes before
 WriteEnds bytes before now writes (Err Write) = writes × PartAdded bytes before now
 WriteEnds bytes before now writes (Err NoMemory) = PartAdded bytes before now
 WriteEnds bytes before now writes (Err fault) = ⊥
+
+-- ---- a text that is due
+
+-- such a text was written
+pub record IsWritten (IsDue : List ℕ → Type 0) (before now : Option (List ℕ)) : Type 0 where
+  pub text : List ℕ
+  pub is_due : IsDue text
+  pub written : now ≡ added text before
+
+-- a front of it was written
+pub record IsWrittenInPart (IsDue : List ℕ → Type 0) (before now : Option (List ℕ)) : Type 0 where
+  pub text : List ℕ
+  pub is_due : IsDue text
+  pub written : PartAdded text before now
+
+-- what the writing of it came to, where there may be none: `writes` says that the stream's count of faults rose
+abbrev pub TextEnds : (IsDue : List ℕ → Type 0) → (HasNone : Type 0) → (before now : Option (List ℕ)) → (writes : Type 0) → Result (Unit {0}) Fault → Type 0
+TextEnds IsDue HasNone before now writes (Ok done) = IsWritten IsDue before now
+TextEnds IsDue HasNone before now writes (Err NoSuchPage) = HasNone × (now ≡ before)
+TextEnds IsDue HasNone before now writes (Err Write) = writes × IsWrittenInPart IsDue before now
+TextEnds IsDue HasNone before now writes (Err NoMemory) = (now ≡ before) ⊎ IsWrittenInPart IsDue before now
+TextEnds IsDue HasNone before now writes (Err fault) = ⊥
 
 -- ---- `check`
 

@@ -6,10 +6,12 @@ pub mod Due
 pub mod Paged
 pub mod Kept
 pub mod Candidates
+pub mod Turns
 pub mod Reported
 pub mod Stored
 pub mod Served
 pub mod Generated
+pub mod Summed
 pub mod Told
 pub mod Meaning
 pub mod Texts

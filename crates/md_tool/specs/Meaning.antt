@@ -4,24 +4,23 @@ use Rattle.md_base.specs.Outside.{PartAdded}
 use Rattle.md_base.specs.Files.{Files, FileIsLonger}
 use Rattle.md_base.specs.Nets.{Connections}
 use Rattle.md_hlds.specs.Hlds.{Hlds}
-use Rattle.md_profile.specs.OfRun.{IsViewOfRun}
-use Rattle.md_query.specs.Asked.{Asked}
-use Rattle.md_words.specs.Form.{Form, Check, Run, Report, Page, Serve, Gen, Migrate, Feedback, Dump, Undump}
+use Rattle.md_words.specs.Form.{Form, Check, Run, Report, Page, Serve, Gen, Migrate, Feedback, Dump, Undump, Cover, Sum}
 use Rattle.md_tool.specs.declared.fault.Fault.{Fault}
 use Rattle.md_tool.specs.declared.fault.Fault.TheVariants.{Refused}
 use Rattle.md_tool.specs.declared.fault.Why.{Why}
 use Rattle.md_tool.specs.Accepted.{Accepted}
-use Rattle.md_tool.specs.Due.{IsText, HasChecked, HasCheckedInPart, IsRefused, longest}
+use Rattle.md_tool.specs.Due.{IsText, IsWrittenInPart, HasChecked, HasCheckedInPart, IsRefused, longest}
 use Rattle.md_tool.specs.Ends.{RunEnd, Finished, Threw, RanOut}
 use Rattle.md_tool.specs.Fault.{status_of, plain_line, uncaught_line}
 use Rattle.md_tool.specs.Generated.{GenEnds}
-use Rattle.md_tool.specs.Paged.{IsPagedInPart}
 use Rattle.md_tool.specs.Candidates.{IsFeedbackOfRun}
 use Rattle.md_tool.specs.Kept.{AreUntouched, HasRun, HasRunInPart, HasKeptInPart, IsRunFile}
-use Rattle.md_tool.specs.Reported.{HasReported, HasNoPage}
+use Rattle.md_tool.specs.Reported.{HasReported, HasNoPage, IsPageOfRun, HasNoPageOfRun}
 use Rattle.md_tool.specs.Served.{ServeEnds}
 use Rattle.md_tool.specs.Stored.{StoredEnds, MigrateEnds}
+use Rattle.md_tool.specs.Summed.{SomeSumEnds}
 use Rattle.md_tool.specs.Texts.{DumpEnds, UndumpEnds}
+use Rattle.md_tool.specs.Turns.{IsCoverageOfRun, HasNoProcedure}
 
 -- a file's text isn't accepted as a program: it is too long, or has a fault at a line
 pub data RefusedText (held : Option Files) (file : List ℕ) (before now : Option (List ℕ)) : Type 0 where
@@ -59,12 +58,12 @@ MeansCheck held file print before now reads writes status =
     (choose (status == 8) ((now ≡ before) ⊎ HasCheckedInPart held file print before now)
     ⊥))))
 
--- the file's program was run, and `out` got a front of the page that the query asks for
-pub record HasFrontOfPage (held : Option Files) (file : List ℕ) (query : Asked) (steps : ℕ) (out out' : Option (List ℕ)) : Type 0 where
+-- the file's program was run, and `out` got a front of the text that is due
+pub record HasFrontOfPage (IsDue : Hlds → List ℕ → Type 0) (held : Option Files) (file : List ℕ) (out out' : Option (List ℕ)) : Type 0 where
   pub text : List ℕ
   pub is_text : IsText held file text
   pub accepted : Accepted text
-  pub page : IsPagedInPart (IsViewOfRun accepted.program steps) query out out'
+  pub shown : IsWrittenInPart (IsDue accepted.program) out out'
 
 -- the file's text is accepted
 pub record IsAcceptedFile (held : Option Files) (file : List ℕ) : Type 0 where
@@ -73,29 +72,29 @@ pub record IsAcceptedFile (held : Option Files) (file : List ℕ) : Type 0 where
   pub accepted : Accepted text
 
 -- a report was written whole, and then `err` got this line or a front of it
-pub record HasReportedThen (held : Option Files) (file : List ℕ) (query : Asked) (steps : ℕ) (out out' err err' : Option (List ℕ)) (end : RunEnd) (line : List ℕ) : Type 0 where
+pub record HasReportedThen (IsDue : Hlds → List ℕ → Type 0) (held : Option Files) (file : List ℕ) (steps : ℕ) (out out' err err' : Option (List ℕ)) (end : RunEnd) (line : List ℕ) : Type 0 where
   pub between : Option (List ℕ)
-  pub reported : HasReported held file query steps out out' err between end
+  pub reported : HasReported IsDue held file steps out out' err between end
   pub line_is : PartAdded line between err'
 
--- the output was written, there is no such page, and then `err` got this line or a front of it
-pub record HasNoPageThen (held : Option Files) (file : List ℕ) (query : Asked) (steps : ℕ) (out out' err err' : Option (List ℕ)) (line : List ℕ) : Type 0 where
+-- the output was written, there is nothing to show, and then `err` got this line or a front of it
+pub record HasNoPageThen (HasNone : Hlds → Type 0) (held : Option Files) (file : List ℕ) (steps : ℕ) (out out' err err' : Option (List ℕ)) (line : List ℕ) : Type 0 where
   pub between : Option (List ℕ)
-  pub pageless : HasNoPage held file query steps out out' err between
+  pub pageless : HasNoPage HasNone held file steps out out' err between
   pub line_is : PartAdded line between err'
 
--- What a status says of a report on a file. The three facts are that the store's count of faults in a read rose, and those of
--- `out` and `err`.
-abbrev pub MeansReport : Option Files → List ℕ → Asked → (steps : ℕ) → (out out' err err' : Option (List ℕ)) → (reads outs errs : Type 0) → ℕ → Type 0
-MeansReport held file query steps out out' err err' reads outs errs status =
-    choose (status == 0) (HasReported held file query steps out out' err err' Finished)
+-- What a status says of a report on a file, which shows the text that is due, or where there is none nothing. The three facts
+-- are that the store's count of faults in a read rose, and those of `out` and `err`.
+abbrev pub MeansReport : (IsDue : Hlds → List ℕ → Type 0) → (HasNone : Hlds → Type 0) → Option Files → List ℕ → (steps : ℕ) → (out out' err err' : Option (List ℕ)) → (reads outs errs : Type 0) → ℕ → Type 0
+MeansReport IsDue HasNone held file steps out out' err err' reads outs errs status =
+    choose (status == 0) (HasReported IsDue held file steps out out' err err' Finished)
     (choose (status == 2) (reads × (out' ≡ out))
     (choose (status == 3) (RefusedText held file out out')
-    (choose (status == 4) (HasReportedThen held file query steps out out' err err' RanOut (plain_line (codes "out of steps")))
-    (choose (status == 6) (HasNoPageThen held file query steps out out' err err' (plain_line (codes "no such page")))
-    (choose (status == 7) ((errs × IsAcceptedFile held file × (out' ≡ out)) ⊎ (outs × HasFrontOfPage held file query steps out out'))
-    (choose (status == 8) ((out' ≡ out) ⊎ HasFrontOfPage held file query steps out out')
-    (choose (status == 10) ((bytes : List ℕ) × HasReportedThen held file query steps out out' err err' (Threw bytes) (uncaught_line bytes))
+    (choose (status == 4) (HasReportedThen IsDue held file steps out out' err err' RanOut (plain_line (codes "out of steps")))
+    (choose (status == 6) (HasNoPageThen HasNone held file steps out out' err err' (plain_line (codes "no such page")))
+    (choose (status == 7) ((errs × IsAcceptedFile held file × (out' ≡ out)) ⊎ (outs × HasFrontOfPage IsDue held file out out'))
+    (choose (status == 8) ((out' ≡ out) ⊎ HasFrontOfPage IsDue held file out out')
+    (choose (status == 10) ((bytes : List ℕ) × HasReportedThen IsDue held file steps out out' err err' (Threw bytes) (uncaught_line bytes))
     ⊥)))))))
 
 -- What a status says of a command that may come to these ends: 0 that all was done; another one is that of the fault that
@@ -109,7 +108,7 @@ abbrev pub Means : Option Form → (held held' : Option Files) → (net net' : O
 Means None held held' net net' out out' err err' reads writes outs errs nets status = MeansUsage out out' status
 Means (Some (Check file print)) held held' net net' out out' err err' reads writes outs errs nets status = MeansCheck held file print out out' reads outs status
 Means (Some (Run file steps name)) held held' net net' out out' err err' reads writes outs errs nets status = MeansRun (IsRunFile steps) held held' file steps name out out' reads writes outs status
-Means (Some (Report file query steps)) held held' net net' out out' err err' reads writes outs errs nets status = MeansReport held file query steps out out' err err' reads outs errs status
+Means (Some (Report file query steps)) held held' net net' out out' err err' reads writes outs errs nets status = MeansReport (IsPageOfRun query steps) (HasNoPageOfRun query steps) held file steps out out' err err' reads outs errs status
 Means (Some (Page name query)) held held' net net' out out' err err' reads writes outs errs nets status = MeansEnd (StoredEnds held name query out out' reads outs) status
 Means (Some (Serve name port requests)) held held' net net' out out' err err' reads writes outs errs nets status = MeansEnd (ServeEnds held name requests net net' out out' reads outs nets) status
 Means (Some (Gen n summary)) held held' net net' out out' err err' reads writes outs errs nets status = MeansEnd (GenEnds n summary out out' outs) status
@@ -117,6 +116,8 @@ Means (Some (Migrate name new)) held held' net net' out out' err err' reads writ
 Means (Some (Feedback file new steps least)) held held' net net' out out' err err' reads writes outs errs nets status = MeansRun (IsFeedbackOfRun least steps) held held' file steps new out out' reads writes outs status
 Means (Some (Dump name)) held held' net net' out out' err err' reads writes outs errs nets status = MeansEnd (DumpEnds held name out out' reads outs) status
 Means (Some (Undump text new)) held held' net net' out out' err err' reads writes outs errs nets status = MeansEnd (UndumpEnds held held' text new out out' reads writes outs) status
+Means (Some (Cover file procedure steps)) held held' net net' out out' err err' reads writes outs errs nets status = MeansReport (IsCoverageOfRun procedure steps) (HasNoProcedure procedure) held file steps out out' err err' reads outs errs status
+Means (Some (Sum names)) held held' net net' out out' err err' reads writes outs errs nets status = MeansEnd (SomeSumEnds held names out out' reads outs) status
 
 -- whether a command leaves the store as it was
 abbrev pub keeps_store : Option Form → Bool
@@ -124,6 +125,8 @@ keeps_store (Some (Run file steps name)) = false
 keeps_store (Some (Migrate name new)) = false
 keeps_store (Some (Feedback file new steps least)) = false
 keeps_store (Some (Undump text new)) = false
+keeps_store (Some (Cover file procedure steps)) = true
+keeps_store (Some (Sum names)) = true
 keeps_store (Some (Dump name)) = true
 keeps_store (Some (Check file print)) = true
 keeps_store (Some (Report file query steps)) = true
@@ -140,6 +143,8 @@ keeps_net (Some (Migrate name new)) = true
 keeps_net (Some (Feedback file new steps least)) = true
 keeps_net (Some (Dump name)) = true
 keeps_net (Some (Undump text new)) = true
+keeps_net (Some (Cover file procedure steps)) = true
+keeps_net (Some (Sum names)) = true
 keeps_net (Some (Check file print)) = true
 keeps_net (Some (Report file query steps)) = true
 keeps_net (Some (Page name query)) = true

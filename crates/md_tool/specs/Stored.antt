@@ -3,7 +3,7 @@ use Rattle.std.specs.Prelude.{ℕ, ◌≡◌, ◌⊎◌, List, Option, Result, O
 use Rattle.md_base.specs.Outside.{added, PartAdded}
 use Rattle.md_base.specs.Files.{Files, FileIsLonger, HoldsPart, holding}
 use Rattle.md_cost.specs.FileView.{IsFileView}
-use Rattle.md_cost.specs.Tree.{HasNoTree}
+use Rattle.md_cost.specs.Tree.{IsTree, HasNoTree}
 use Rattle.md_deepfile.specs.Bytes.{file_bytes}
 use Rattle.md_deepfile.specs.Loads.{FileSpells, FileIsDamaged}
 use Rattle.md_cost.specs.Loading.{LoadedRows}
@@ -98,9 +98,10 @@ pub record IsStored (held : Option Files) (name : List ℕ) (most : ℕ) (f : Pr
   pub spelled : FileSpells held name most f
   pub valid : IsValid f
 
--- it was loaded
+-- it was loaded: but for the root's each of its cliques is entered by exactly one link
 pub record IsLoadedFrom (held : Option Files) (name : List ℕ) (loaded : LoadedRows) : Type 0 where
   pub spelled : FileSpells held name longest_profile loaded.profile
+  pub tree : IsTree (length loaded.profile.nodes) loaded.profile.links loaded.cliques loaded.entries
 
 -- why it wasn't
 abbrev pub ViewFails : Option Files → (name : List ℕ) → (reads : Type 0) → Fault → Type 0

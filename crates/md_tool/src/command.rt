@@ -14,7 +14,9 @@ use crate::report::report_file;
 use crate::run::run_file;
 use crate::serve::serve_file;
 use crate::stored::{migrate_file, page_of_file};
+use crate::sums::sum_files;
 use crate::texts::{dump_file, undump_file};
+use crate::turns::cover_file;
 use md_base::{Net, Sink, Store, WriteFault, write_whole};
 use md_words::{Command, command_of};
 use std::alloc::Global;
@@ -32,12 +34,14 @@ pub struct Status(pub u8);
 /// `page NAME QUERY` writes the page of a stored profile, and `migrate NAME NEW` stores it in the newer form. `serve NAME --port P
 /// --requests N` serves the pages of a stored profile over HTTP to as many connections, and writes how many came and how many
 /// of them were answered. `dump NAME` writes a stored profile as a text, and `undump TEXT NEW` stores the profile that such a
-/// text spells. `feedback FILE NEW` runs the program as `run` does, and stores which pairs of its calls could run side by side
+/// text spells. `sum NAME ..` adds up what each procedure cost over 1 to 16 stored profiles of one program. `cover FILE PROC` runs the
+/// program as `report` does, and writes how often each goal of a procedure had a turn. `feedback FILE NEW` runs the program as `run` does, and stores which pairs of its calls could run side by side
 /// with profit: those with 100 calls in all for each own one, or as many as `--least` gives. `gen N` writes a generated
 /// program, and `gen N --summary` the menu of its run. A fault is told by a line on `err` and by the status: 1
 /// where the words are no command, 2 where a file can't be read, 3 where a text isn't accepted as a program, 4 where the run
 /// isn't finished, 5 where a file isn't a profile, 6 where a profile has no such page, 7 where something can't be written,
-/// 8 where memory was refused, 9 where the net failed, and 10 where an exception left the program's `main`.
+/// 8 where memory was refused, 9 where the net failed, 10 where an exception left the program's `main`, and 11 where a profile is of another program
+/// than the first one that is added up.
 pub fn top<S: Store, O: Sink, E: Sink, N: Net>(
     alloc: Global,
     words: &[String],
@@ -140,6 +144,10 @@ fn do_command<S: Store, O: Sink, E: Sink, N: Net>(
             let end = feedback_file(alloc, *file, *new, *steps, *least, store, out);
             tell_end(alloc, &end, *file, err)
         }
+        Command::Cover { file, proc, steps } => {
+            let end = cover_file(alloc, *file, *proc, *steps, store, out, err);
+            tell_end(alloc, &end, *file, err)
+        }
         Command::Dump { name } => {
             let end = dump_file(alloc, *name, store, out);
             tell_end(alloc, &end, *name, err)
@@ -148,6 +156,10 @@ fn do_command<S: Store, O: Sink, E: Sink, N: Net>(
             let end = undump_file(alloc, *text, *new, store, out);
             tell_end(alloc, &end, *text, err)
         }
+        Command::Sum { names } => match sum_files(alloc, names, store, out) {
+            Ok(()) => 0,
+            Err(stopped) => tell(alloc, &stopped.fault, stopped.file, err),
+        },
     }
 }
 

@@ -12,9 +12,11 @@ mod report;
 mod run;
 mod serve;
 mod stored;
+mod sums;
 #[cfg(test)]
 mod tests;
 mod texts;
+mod turns;
 mod write;
 
 pub use command::{Status, top};

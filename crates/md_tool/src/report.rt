@@ -10,7 +10,7 @@ ghost use Rattle.md_tool.specs.Accepted.{TextFault};
 ghost use Rattle.md_tool.specs.Due.{WriteEnds};
 ghost use Rattle.md_tool.specs.Paged.{PageEnds};
 ghost use Rattle.md_tool.specs.Ran.{IsProfiledText};
-ghost use Rattle.md_tool.specs.Reported.{ReportEnds, ShowEnds};
+ghost use Rattle.md_tool.specs.Reported.{IsPageOfRun, HasNoPageOfRun, ReportEnds, ShowEnds};
 
 use crate::accept::{accept, read_text};
 use crate::fault::Fault;
@@ -36,7 +36,7 @@ pub fn report_file<S: Store, O: Sink, E: Sink>(
     out: &mut O,
     err: &mut E,
 ) -> Result<(), Fault>
-    ensures ends { ReportEnds (S.held store.old) file.now (asked query.now) steps (O.held out.old) (O.held out.new) (E.held err.old) (E.held err.new)
+    ensures ends { ReportEnds (IsPageOfRun (asked query.now) steps) (HasNoPageOfRun (asked query.now) steps) (S.held store.old) file.now steps (O.held out.old) (O.held out.new) (E.held err.old) (E.held err.new)
         (Rose (S.read_faults store.old) (S.read_faults store.new)) (Rose (O.write_faults out.old) (O.write_faults out.new))
         (Rose (E.write_faults err.old) (E.write_faults err.new)) result }
     ensures kept { S.held store.new ≡ S.held store.old }
@@ -72,7 +72,7 @@ fn show<O: Sink, E: Sink>(
 ) -> Result<(), Fault>
     requires { (program : Hlds) × (steps : ℕ) × IsWithinBounds program steps × IsProfiled program steps profiled }
     ensures ends { (program : Hlds) (steps : ℕ) → IsWithinBounds program steps → IsProfiled program steps profiled
-        → ShowEnds program steps (asked query.now) (O.held out.old) (O.held out.new) (E.held err.old) (E.held err.new)
+        → ShowEnds (IsPageOfRun (asked query.now) steps program) (HasNoPageOfRun (asked query.now) steps program) program steps (O.held out.old) (O.held out.new) (E.held err.old) (E.held err.new)
         (Rose (O.write_faults out.old) (O.write_faults out.new)) (Rose (E.write_faults err.old) (E.write_faults err.new)) result }
     ensures later { E.write_faults err.old ≤ E.write_faults err.new }
 {
@@ -85,7 +85,7 @@ fn show<O: Sink, E: Sink>(
 }
 
 /// Writes a run's output, and the line that ends it.
-fn show_output<E: Sink>(err: &mut E, output: &[u8]) -> Result<(), Fault>
+pub fn show_output<E: Sink>(err: &mut E, output: &[u8]) -> Result<(), Fault>
     ensures ends { WriteEnds (output.now ++ codes "-- end of output\n") (E.held err.old) (E.held err.new) (Rose (E.write_faults err.old) (E.write_faults err.new)) result }
     ensures later { E.write_faults err.old ≤ E.write_faults err.new }
 {

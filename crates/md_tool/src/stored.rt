@@ -44,6 +44,7 @@ pub fn load_file<S: Store>(alloc: Global, name: &str, store: &mut S) -> Result<L
     ensures loaded { MatchResult result (IsLoadedFrom (S.held store.old) name.now)
         (ViewFails (S.held store.old) name.now (Rose (S.read_faults store.old) (S.read_faults store.new))) }
     ensures kept { S.held store.new ≡ S.held store.old }
+    ensures later { S.read_faults store.old ≤ S.read_faults store.new }
 {
     let profile = load_profile(alloc, name, LONGEST_PROFILE, store)?;
     match propagate(alloc, profile) {
@@ -63,6 +64,7 @@ pub fn load_profile<S: Store>(
     ensures read { MatchResult result (IsStored (S.held store.old) name.now most)
         (LoadFails (S.held store.old) name.now most (Rose (S.read_faults store.old) (S.read_faults store.new))) }
     ensures kept { S.held store.new ≡ S.held store.old }
+    ensures later { S.read_faults store.old ≤ S.read_faults store.new }
     ensures writes { S.write_faults store.new ≡ S.write_faults store.old }
 {
     match load(alloc, store, name, most) {

@@ -7,7 +7,7 @@ use Rattle.std.proofs.lemmas.Bool.Decides.{nat_tests}
 use Rattle.md_query.specs.Asked.{Asked}
 use Rattle.md_query.specs.Pair.{number_within, within, is_number}
 use Rattle.md_token.specs.Literal.{number_of}
-use Rattle.md_words.specs.Form.{Form, Run, Migrate, Feedback, Undump, HasBounds, later_form_of, feedback_of, dump_of, undump_of, weighing_of, check_of, run_of, report_of, report_with, page_of, page_with, serve_of, gen_of, gen_with, migrate_of, form, form_of, query_in, only, two, print_of, summary_of, steps_of, running_of, serving_of, are_none}
+use Rattle.md_words.specs.Form.{Form, Run, Migrate, Feedback, Undump, Sum, HasBounds, later_form_of, feedback_of, dump_of, undump_of, cover_of, cover_with, sum_of, are_few, weighing_of, check_of, run_of, report_of, report_with, page_of, page_with, serve_of, gen_of, gen_with, migrate_of, form, form_of, query_in, only, two, print_of, summary_of, steps_of, running_of, serving_of, are_none}
 use Rattle.md_words.specs.Settings.{Setting, Print, Summary, Steps, Port, Requests, Least, Profile, Unknown, numbered, setting_of, is_option, with_value, setting_named, named, joined, around_equals, option_of}
 use Rattle.md_words.specs.Split.{Split, split, with_option, with_other, with_ordinary, with_unless_named, with_word, at_end, after}
 use Rattle.md_words.specs.declared.option.Valued.{Valued}
@@ -235,12 +235,42 @@ good_undump false words = record { good = tt }
 good_undump true None = record { good = tt }
 good_undump true (Some (text, new)) = good_cond (bytes_eq text new) None (Some (Undump text new)) (record { good = tt }) (record { good = tt })
 
+good_cover_with : (file : List ℕ) (steps : ℕ) (procedure : Option ℕ) → IsGood (cover_with file steps procedure)
+good_cover_with file steps None = record { good = tt }
+good_cover_with file steps (Some q) = record { good = tt }
+
+good_cover : (steps : Option ℕ) (words : Option (List ℕ × List ℕ)) → IsGood (cover_of steps words)
+good_cover None words = record { good = tt }
+good_cover (Some n) None = record { good = tt }
+good_cover (Some n) (Some (file, word)) = good_cover_with file n (number_within 0 4294967295 word)
+
+good_sum : (bare : Bool) (names : List (List ℕ)) → IsGood (sum_of bare names)
+good_sum false names = record { good = tt }
+good_sum true names = by (nat_le 1 (length names)) (nat_le (length names) 16) refl refl
+  where
+    by : (a b : Bool) → nat_le 1 (length names) ≡ a → nat_le (length names) 16 ≡ b → IsGood (cond (a && b) (Some (Sum names)) None)
+    by true true above below = record { good = (grind (arith, nat_tests, above), grind (arith, nat_tests, below)) }
+    by true false above below = record { good = tt }
+    by false b above below = record { good = tt }
+
 -- the commands from each one on
+abbrev from_sum : List ℕ → Split → Option Form
+from_sum command s = cond (bytes_eq command (codes "sum")) (sum_of (are_none s.options) s.others) None
+
+good_from_sum : (command : List ℕ) (s : Split) → IsGood (from_sum command s)
+good_from_sum command s = good_cond (bytes_eq command (codes "sum")) (sum_of (are_none s.options) s.others) None (good_sum (are_none s.options) s.others) (record { good = tt })
+
+abbrev from_cover : List ℕ → Split → Option Form
+from_cover command s = cond (bytes_eq command (codes "cover")) (cover_of (steps_of s.options) (two s.others)) (from_sum command s)
+
+good_from_cover : (command : List ℕ) (s : Split) → IsGood (from_cover command s)
+good_from_cover command s = good_cond (bytes_eq command (codes "cover")) (cover_of (steps_of s.options) (two s.others)) (from_sum command s) (good_cover (steps_of s.options) (two s.others)) (good_from_sum command s)
+
 abbrev from_undump : List ℕ → Split → Option Form
-from_undump command s = cond (bytes_eq command (codes "undump")) (undump_of (are_none s.options) (two s.others)) None
+from_undump command s = cond (bytes_eq command (codes "undump")) (undump_of (are_none s.options) (two s.others)) (from_cover command s)
 
 good_from_undump : (command : List ℕ) (s : Split) → IsGood (from_undump command s)
-good_from_undump command s = good_cond (bytes_eq command (codes "undump")) (undump_of (are_none s.options) (two s.others)) None (good_undump (are_none s.options) (two s.others)) (record { good = tt })
+good_from_undump command s = good_cond (bytes_eq command (codes "undump")) (undump_of (are_none s.options) (two s.others)) (from_cover command s) (good_undump (are_none s.options) (two s.others)) (good_from_cover command s)
 
 abbrev from_dump : List ℕ → Split → Option Form
 from_dump command s = cond (bytes_eq command (codes "dump")) (dump_of (are_none s.options) (only s.others)) (from_undump command s)

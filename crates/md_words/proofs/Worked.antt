@@ -9,7 +9,7 @@ use Rattle.md_base.specs.declared.measure.Measure.TheVariants.{Words}
 use Rattle.md_token.specs.Literal.{number_of}
 use Rattle.md_query.specs.Asked as query
 use Rattle.md_query.specs.Asked.{query_of}
-use Rattle.md_words.specs.Form.{form, Check, Run, Report, Page, Gen, Migrate, Feedback, Dump, Undump}
+use Rattle.md_words.specs.Form.{form, Check, Run, Report, Page, Gen, Migrate, Feedback, Dump, Undump, Cover, Sum}
 
 -- what is unfolded to compute a command on literals
 unfoldable on_words : ⊤
@@ -123,3 +123,19 @@ a-text-as-a-profile = refl
 a-text-is-not-written-over : form (codes "undump" ∷ codes "t" ∷ codes "t" ∷ []) ≡ None
 unfolding on_words
 a-text-is-not-written-over = refl
+
+the-turns-of-a-procedure : form (codes "cover" ∷ codes "a.m" ∷ codes "012" ∷ []) ≡ Some (Cover (codes "a.m") 12 1000000)
+unfolding on_words
+the-turns-of-a-procedure = refl
+
+a-procedure-goes-by-its-number : form (codes "cover" ∷ codes "a.m" ∷ codes "main" ∷ []) ≡ None
+unfolding on_words
+a-procedure-goes-by-its-number = refl
+
+profiles-in-the-order-of-the-words : form (codes "sum" ∷ codes "q" ∷ codes "p" ∷ codes "q" ∷ []) ≡ Some (Sum (codes "q" ∷ codes "p" ∷ codes "q" ∷ []))
+unfolding on_words
+profiles-in-the-order-of-the-words = refl
+
+no-profiles-are-not-added-up : form (codes "sum" ∷ []) ≡ None
+unfolding on_words
+no-profiles-are-not-added-up = refl

@@ -1,5 +1,5 @@
 -- Which words are a command, and with which values.
-use Rattle.std.specs.Prelude.{ℕ, ◌≤◌, Bool, true, false, ◌==◌, List, [], ◌∷◌, Option, Some, None, codes, cond, map, String, string_bytes}
+use Rattle.std.specs.Prelude.{ℕ, ◌≤◌, Bool, true, false, ◌==◌, ◌&&◌, nat_le, List, [], ◌∷◌, length, Option, Some, None, codes, cond, map, String, string_bytes}
 use Rattle.std.specs.List.{before_first, after_first}
 use Rattle.std.specs.Str.{bytes_eq}
 use Rattle.std.specs.declared.alloc.Global.{Global}
@@ -34,6 +34,10 @@ pub data Form : Type 0 where
   Dump : (name : List ℕ) → Form
   -- `undump TEXT NEW`
   Undump : (text new : List ℕ) → Form
+  -- `cover FILE PROC [--steps N]`
+  Cover : (file : List ℕ) (procedure steps : ℕ) → Form
+  -- `sum NAME { NAME }`
+  Sum : (names : List (List ℕ)) → Form
 
 -- ---- options: each comes at most once, and in any order; None where there are others
 
@@ -172,12 +176,30 @@ abbrev pub undump_of : Bool → (words : Option (List ℕ × List ℕ)) → Opti
 undump_of true (Some (text, new)) = cond (bytes_eq text new) None (Some (Undump text new))
 undump_of bare words = None
 
+abbrev pub cover_with : List ℕ → ℕ → (procedure : Option ℕ) → Option Form
+cover_with file steps None = None
+cover_with file steps (Some q) = Some (Cover file q steps)
+
+abbrev pub cover_of : Option ℕ → (words : Option (List ℕ × List ℕ)) → Option Form
+cover_of (Some steps) (Some (file, word)) = cover_with file steps (number_within 0 4294967295 word)
+cover_of steps words = None
+
+-- 1 to 16
+abbrev pub are_few : List (List ℕ) → Bool
+are_few names = nat_le 1 (length names) && nat_le (length names) 16
+
+abbrev pub sum_of : Bool → (names : List (List ℕ)) → Option Form
+sum_of true names = cond (are_few names) (Some (Sum names)) None
+sum_of bare names = None
+
 -- what a command that looks further into a profile and the words after it ask for
 abbrev pub later_form_of : List ℕ → Split → Option Form
 later_form_of command s =
     cond (bytes_eq command (codes "feedback")) (feedback_of (weighing_of s.options) (two s.others))
     (cond (bytes_eq command (codes "dump")) (dump_of (are_none s.options) (only s.others))
-    (cond (bytes_eq command (codes "undump")) (undump_of (are_none s.options) (two s.others)) None))
+    (cond (bytes_eq command (codes "undump")) (undump_of (are_none s.options) (two s.others))
+    (cond (bytes_eq command (codes "cover")) (cover_of (steps_of s.options) (two s.others))
+    (cond (bytes_eq command (codes "sum")) (sum_of (are_none s.options) s.others) None))))
 
 -- what a command and the words after it ask for
 abbrev pub form_of : List ℕ → Split → Option Form
@@ -197,7 +219,7 @@ form (command ∷ words) = form_of command (split Front words)
 
 -- ---- what holds of every command
 
--- a generated program has 1 to 20 procedures, and a costly call 1 to 4,294,967,295 calls below it
+-- a generated program has 1 to 20 procedures, a costly call 1 to 4,294,967,295 calls below it, and 1 to 16 profiles are added up
 abbrev pub HasBounds : Form → Type 0
 HasBounds (Check file print) = Unit {0}
 HasBounds (Run file steps profile) = Unit {0}
@@ -209,3 +231,5 @@ HasBounds (Migrate name new) = Unit {0}
 HasBounds (Feedback file new steps least) = (1 ≤ least) × (least ≤ 4294967295)
 HasBounds (Dump name) = Unit {0}
 HasBounds (Undump text new) = Unit {0}
+HasBounds (Cover file procedure steps) = Unit {0}
+HasBounds (Sum names) = (1 ≤ length names) × (length names ≤ 16)

@@ -9,7 +9,7 @@ use Rattle.md_words.specs.declared.option.Setting.TheVariants as setting
 use Rattle.md_words.specs.declared.split.Words as words
 use Rattle.md_words.specs.Settings.{Setting, Print, Summary, Steps, Port, Requests, Least, Profile, Unknown}
 use Rattle.md_words.specs.Split.{Split}
-use Rattle.md_words.specs.Form.{Form, Check, Run, Report, Page, Serve, Gen, Migrate, Feedback, Dump, Undump}
+use Rattle.md_words.specs.Form.{Form, Check, Run, Report, Page, Serve, Gen, Migrate, Feedback, Dump, Undump, Cover, Sum}
 
 abbrev pub setting_told : code.Setting → Setting
 setting_told setting.Print = Print
@@ -42,6 +42,8 @@ told (command.Migrate name new) = Migrate name.now new.now
 told (command.Feedback file new steps least) = Feedback file.now new.now steps least
 told (command.Dump name) = Dump name.now
 told (command.Undump text new) = Undump text.now new.now
+told (command.Cover file procedure steps) = Cover file.now procedure steps
+told (command.Sum names) = Sum (texts names.items)
 
 abbrev pub command_told : Option Command → Option Form
 command_told None = None

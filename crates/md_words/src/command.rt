@@ -2,7 +2,7 @@
 ghost use Rattle.std.specs.Prelude.{◌≡◌, ◌==◌, IfOk, IfSome};
 ghost use Rattle.std.specs.List.{before_first, after_first};
 ghost use Rattle.md_query.specs.Told.{asked_told};
-ghost use Rattle.md_words.specs.Form.{words_of, HasBounds, form, form_of, later_form_of, feedback_of, dump_of, undump_of, weighing_of, check_of, run_of, report_of, page_of, serve_of, gen_of, migrate_of, print_of, summary_of, steps_of, running_of, serving_of, are_none, without_slash, query_in, query_at, only, two};
+ghost use Rattle.md_words.specs.Form.{words_of, HasBounds, form, form_of, later_form_of, feedback_of, dump_of, undump_of, cover_of, cover_with, sum_of, are_few, weighing_of, check_of, run_of, report_of, page_of, serve_of, gen_of, migrate_of, print_of, summary_of, steps_of, running_of, serving_of, are_none, without_slash, query_in, query_at, only, two};
 ghost use Rattle.md_words.specs.Told.{told, settings_told, split_told, command_told, texts, text_told, pair_told, running_told};
 
 use crate::option::Setting;
@@ -19,6 +19,9 @@ const USUAL_PROFILE: &str = "mdprof.data";
 
 /// The greatest number of a generated program.
 const MOST_GENERATED: u32 = 20;
+
+/// The most profiles that are added up.
+const MOST_PROFILES: usize = 16;
 
 /// How many calls are below a costly one where the words don't say it.
 const USUAL_LEAST: u32 = 100;
@@ -80,6 +83,16 @@ pub enum Command<'a> {
         text: &'a str,
         new: &'a str,
     },
+    /// `cover FILE PROC [--steps N]`.
+    Cover {
+        file: &'a str,
+        proc: u32,
+        steps: u32,
+    },
+    /// `sum NAME { NAME }`.
+    Sum {
+        names: Vec<&'a str>,
+    },
 }
 
 /// The command that the words are, or `None` exactly where they are none. Options and other words come in any order; the
@@ -119,22 +132,30 @@ fn command_by<'a>(
     } else if command == "migrate" {
         Ok(migrate_command(bare(&words.options), two(&words.others)))
     } else {
-        Ok(later_command_by(command, words))
+        later_command_by(alloc, command, words)
     }
 }
 
 /// The same of the commands that look further into a profile.
-fn later_command_by<'a>(command: &str, words: &Words<'a>) -> Option<Command<'a>>
-    ensures { command_told result ≡ later_form_of command.now (split_told words.now) }
+fn later_command_by<'a>(
+    alloc: Global,
+    command: &str,
+    words: &Words<'a>,
+) -> Result<Option<Command<'a>>, NoMemory>
+    ensures { IfOk result (λ found. command_told found ≡ later_form_of command.now (split_told words.now)) }
 {
     if command == "feedback" {
-        feedback_command(weighing(&words.options), two(&words.others))
+        Ok(feedback_command(weighing(&words.options), two(&words.others)))
     } else if command == "dump" {
-        dump_command(bare(&words.options), only(&words.others))
+        Ok(dump_command(bare(&words.options), only(&words.others)))
     } else if command == "undump" {
-        undump_command(bare(&words.options), two(&words.others))
+        Ok(undump_command(bare(&words.options), two(&words.others)))
+    } else if command == "cover" {
+        Ok(cover_command(steps(&words.options), two(&words.others)))
+    } else if command == "sum" {
+        sum_command(alloc, bare(&words.options), &words.others)
     } else {
-        None
+        Ok(None)
     }
 }
 
@@ -283,6 +304,49 @@ fn undump_command<'a>(bare: bool, words: Option<(&'a str, &'a str)>) -> Option<C
         return None;
     }
     Some(Command::Undump { text, new })
+}
+
+/// `cover FILE PROC [--steps N]`.
+fn cover_command<'a>(steps: Option<u32>, words: Option<(&'a str, &'a str)>) -> Option<Command<'a>>
+    ensures { command_told result ≡ cover_of steps (pair_told words.entry) }
+{
+    let steps = steps?;
+    let (file, word) = words?;
+    let proc = number_within(0, u32::MAX, word.as_bytes())?;
+    Some(Command::Cover { file, proc, steps })
+}
+
+/// `sum NAME { NAME }`, of 1 to 16 profiles.
+fn sum_command<'a>(
+    alloc: Global,
+    bare: bool,
+    names: &[&'a str],
+) -> Result<Option<Command<'a>>, NoMemory>
+    ensures { IfOk result (λ found. command_told found ≡ sum_of bare (texts names.now)) }
+{
+    if !bare || !are_few(names) {
+        return Ok(None);
+    }
+    let names = copies(alloc, names)?;
+    Ok(Some(Command::Sum { names }))
+}
+
+/// Whether there are 1 to 16 words.
+fn are_few(words: &[&str]) -> bool
+    ensures { result ≡ are_few (texts words.now) }
+{
+    1 <= words.len() && words.len() <= MOST_PROFILES
+}
+
+/// The same words.
+fn copies<'a>(alloc: Global, words: &[&'a str]) -> Result<Vec<&'a str>, NoMemory>
+    ensures { IfOk result (λ copies. texts copies.items ≡ texts words.now) }
+{
+    let mut copies = Vec::new(alloc);
+    for word in words {
+        copies.push(*word)?;
+    }
+    Ok(copies)
 }
 
 /// The one word, where there is one.

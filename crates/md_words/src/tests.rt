@@ -55,6 +55,11 @@ fn told(alloc: Global, command: &Command<'_>) -> Result<String, Fail> {
         } => format!(in alloc; "feedback {file} {new} {steps} {least}")?,
         Command::Dump { name } => format!(in alloc; "dump {name}")?,
         Command::Undump { text, new } => format!(in alloc; "undump {text} {new}")?,
+        Command::Cover { file, proc, steps } => format!(in alloc; "cover {file} {proc} {steps}")?,
+        Command::Sum { names } => {
+            let count = names.len();
+            format!(in alloc; "sum of {count}")?
+        }
     };
     Ok(told)
 }
@@ -104,6 +109,12 @@ fn lines_ask_for_commands(rt: HostRuntime) -> Result<(), Fail> {
         ("dump p --print", "none"),
         ("undump t p", "undump t p"),
         ("undump t", "none"),
+        ("cover a.m 007 --steps=9", "cover a.m 7 9"),
+        ("cover a.m 4294967296", "none"),
+        ("sum p", "sum of 1"),
+        ("sum", "none"),
+        ("sum 1 2 3 4 5 6 7 8 9 10 11 12 13 14 15 16", "sum of 16"),
+        ("sum 1 2 3 4 5 6 7 8 9 10 11 12 13 14 15 16 17", "none"),
         ("--help", "none"),
     ] {
         assert_eq!(rt; asked(rt.alloc(), line)?.as_str(), command, "{line}");

@@ -1,0 +1,137 @@
+// The command `cover`.
+ghost use Rattle.std.specs.Prelude.{ℕ, ◌≡◌, ◌≤◌, length, IfOk, MatchResult};
+ghost use Rattle.md_base.specs.Outside.{Rose};
+ghost use Rattle.md_cover.specs.Coverage.{IsAccepted};
+ghost use Rattle.md_dynamic.specs.Valid.{IsValid};
+ghost use Rattle.md_events.specs.Laws.{IsWithinBounds};
+ghost use Rattle.md_hlds.specs.Hlds.{Hlds, hlds_of};
+ghost use Rattle.md_machine.specs.Ran.{IsRunOf};
+ghost use Rattle.md_profile.specs.OfRun.{CanBeProfiled, IsProfileOfRun};
+ghost use Rattle.md_tool.specs.Accepted.{TextFault};
+ghost use Rattle.md_tool.specs.Due.{TextEnds};
+ghost use Rattle.md_tool.specs.Reported.{ReportEnds, ShowEnds};
+ghost use Rattle.md_tool.specs.Turns.{IsCoverageOfRun, HasNoProcedure, IsCounted, IsTextOfTurns};
+
+use crate::accept::{accept, read_text};
+use crate::fault::Fault;
+use crate::report::show_output;
+use crate::run::ended;
+use crate::write::write;
+use md_base::{NoMemory, ProcId, Sink, Store};
+use md_cover::{CoverFault, cover, cover_text, profiles_of_runs_have_their_counts};
+use md_det::Checked;
+use md_dynamic::Profile;
+use md_events::runs_are_histories;
+use md_machine::Ran;
+use md_ports::tables_of_a_text_are_sound;
+use md_profile::{Profiled, load_run, profile_run};
+use md_spelled::{accepted_texts_are_within_bounds, accepted_texts_have_mains};
+use std::alloc::Global;
+
+/// A run, and the text of the turns of a procedure's goals, where the program has the procedure.
+#[derive(Drop)]
+pub struct Counted {
+    pub ran: Ran,
+    pub text: Option<Vec<u8>>,
+}
+
+/// Runs the program of a file within so many steps, writes what it writes to `err`, and then to `out` how often each goal of
+/// a procedure had a turn, as far as it follows from the counts of ports.
+pub fn cover_file<S: Store, O: Sink, E: Sink>(
+    alloc: Global,
+    file: &str,
+    proc: u32,
+    steps: u32,
+    store: &mut S,
+    out: &mut O,
+    err: &mut E,
+) -> Result<(), Fault>
+    ensures ends { ReportEnds (IsCoverageOfRun proc steps) (HasNoProcedure proc) (S.held store.old) file.now steps (O.held out.old) (O.held out.new) (E.held err.old) (E.held err.new)
+        (Rose (S.read_faults store.old) (S.read_faults store.new)) (Rose (O.write_faults out.old) (O.write_faults out.new))
+        (Rose (E.write_faults err.old) (E.write_faults err.new)) result }
+    ensures kept { S.held store.new ≡ S.held store.old }
+    ensures later { E.write_faults err.old ≤ E.write_faults err.new }
+{
+    let text = read_text(alloc, file, store)?;
+    let counted = count_text(alloc, &text, proc, steps)?;
+    show_counted(counted, out, err)
+}
+
+/// Runs the program of a text within so many steps, and finds the turns of a procedure's goals.
+fn count_text(alloc: Global, text: &[u8], proc: u32, steps: u32) -> Result<Counted, Fault>
+    requires { length text.now ≤ 1048576 }
+    ensures { MatchResult result (IsCounted text.now proc steps) (TextFault text.now) }
+{
+    let checked = accept(alloc, text)?;
+    accepted_texts_are_within_bounds();
+    accepted_texts_have_mains();
+    tables_of_a_text_are_sound();
+    match count_run(alloc, &checked, proc, steps) {
+        Ok(counted) => Ok(counted),
+        Err(_) => Err(Fault::NoMemory),
+    }
+}
+
+/// Runs a checked program within so many steps, and finds the turns of a procedure's goals.
+fn count_run(alloc: Global, checked: &Checked, proc: u32, steps: u32) -> Result<Counted, NoMemory>
+    requires can { CanBeProfiled (hlds_of checked.now) steps }
+    requires accepted { IsAccepted (hlds_of checked.now) }
+    ensures run { IfOk result (λ counted. IsRunOf (hlds_of checked.now) steps counted.ran) }
+    ensures text { IfOk result (λ counted. IsTextOfTurns (hlds_of checked.now) proc steps counted.text) }
+{
+    let Profiled { ran, profile } = profile_run(alloc, checked, steps)?;
+    let text = turns_text(alloc, checked, profile, proc)?;
+    Ok(Counted { ran, text })
+}
+
+/// The text of the turns of a procedure's goals in a run, by its profile.
+fn turns_text(
+    alloc: Global,
+    checked: &Checked,
+    profile: Profile,
+    proc: u32,
+) -> Result<Option<Vec<u8>>, NoMemory>
+    requires valid { IsValid profile }
+    requires of_run { (budget : ℕ) × IsWithinBounds (hlds_of checked.now) budget × IsProfileOfRun (hlds_of checked.now) budget profile }
+    requires accepted { IsAccepted (hlds_of checked.now) }
+    ensures { IfOk result (λ text. (budget : ℕ) → IsWithinBounds (hlds_of checked.now) budget → IsProfileOfRun (hlds_of checked.now) budget profile
+        → IsTextOfTurns (hlds_of checked.now) proc budget text) }
+{
+    runs_are_histories();
+    profiles_of_runs_have_their_counts();
+    let loaded = load_run(alloc, profile)?;
+    match cover(alloc, checked, &loaded, ProcId::new(proc)) {
+        Ok(coverage) => match cover_text(alloc, &loaded, &coverage) {
+            Ok(text) => Ok(Some(text)),
+            Err(_) => Err(NoMemory),
+        },
+        Err(CoverFault::NoSuchProc) => Ok(None),
+        Err(CoverFault::NoMemory) => Err(NoMemory),
+    }
+}
+
+/// Writes a run's output to `err` and the turns to `out`, and answers how it ended.
+fn show_counted<O: Sink, E: Sink>(counted: Counted, out: &mut O, err: &mut E) -> Result<(), Fault>
+    ensures ends { (program : Hlds) (proc steps : ℕ) → IsRunOf program steps counted.ran → IsTextOfTurns program proc steps counted.text
+        → ShowEnds (IsCoverageOfRun proc steps program) (HasNoProcedure proc program) program steps (O.held out.old) (O.held out.new) (E.held err.old) (E.held err.new)
+        (Rose (O.write_faults out.old) (O.write_faults out.new)) (Rose (E.write_faults err.old) (E.write_faults err.new)) result }
+    ensures later { E.write_faults err.old ≤ E.write_faults err.new }
+{
+    let Counted { ran, text } = counted;
+    show_output(err, &ran.output)?;
+    match write_found(text, out) {
+        Ok(()) => ended(ran),
+        Err(fault) => Err(fault),
+    }
+}
+
+/// Writes a text, where there is one.
+fn write_found<O: Sink>(text: Option<Vec<u8>>, out: &mut O) -> Result<(), Fault>
+    ensures { (program : Hlds) (proc steps : ℕ) → IsTextOfTurns program proc steps text
+        → TextEnds (IsCoverageOfRun proc steps program) (HasNoProcedure proc program) (O.held out.old) (O.held out.new) (Rose (O.write_faults out.old) (O.write_faults out.new)) result }
+{
+    match text {
+        Some(text) => write(out, &text),
+        None => Err(Fault::NoSuchPage),
+    }
+}
