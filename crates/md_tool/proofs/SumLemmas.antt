@@ -1,5 +1,6 @@
 -- What comes of profiles that are added up.
-use Rattle.std.proofs.Common.{◌≡◌, ◌∙◌, refl, sym, ap, subst, inl, inr, ℕ, zero, suc, ◌+◌, ◌≤◌, ◌<◌, ◌^◌, List, [], ◌∷◌, ◌++◌, length, length-append, Option, Some, arith}
+use Rattle.std.proofs.Common.{◌≡◌, ◌∙◌, refl, sym, ap, subst, inl, inr, ℕ, zero, suc, ◌+◌, ◌≤◌, ◌<◌, ◌^◌, List, [], ◌∷◌, ◌++◌, length, take, drop, Option, Some, arith}
+use Rattle.std.proofs.lemmas.List.{take_more}
 use Rattle.std.specs.Prelude.{Result, Ok, Err, All, slice_get, option_map}
 use Rattle.std.specs.Borrow.{Bor}
 use Rattle.md_base.specs.Files.{Files}
@@ -32,10 +33,58 @@ pub as_many_texts : (ws : List (Bor (List ℕ))) → length (texts ws) ≡ lengt
 as_many_texts [] = refl
 as_many_texts (w ∷ ws) = ap suc (as_many_texts ws)
 
+texts_more : (ws : List (Bor (List ℕ))) (w : Bor (List ℕ)) → texts (ws ++ w ∷ []) ≡ texts ws ++ w.now ∷ []
+texts_more [] w = refl
+texts_more (v ∷ ws) w = ap (λ (ts : List (List ℕ)). v.now ∷ ts) (texts_more ws w)
+
+-- the names up to one, with it
+pub next_texts : (ws : List (Bor (List ℕ))) (k : ℕ) (w : Bor (List ℕ)) → slice_get ws k ≡ Some w → texts (take (k + 1) ws) ≡ texts (take k ws) ++ w.now ∷ []
+next_texts ws k w is = ap texts (take_more ws k w is) ∙ texts_more (take k ws) w
+
+-- the names around one
+pub around_text : (ws : List (Bor (List ℕ))) (k : ℕ) (w : Bor (List ℕ)) → slice_get ws k ≡ Some w → texts ws ≡ texts (take k ws) ++ (w.now ∷ texts (drop (suc k) ws))
+around_text [] k w is = absurd (cc is)
+around_text (v ∷ ws) zero w is = ap (λ (b : Bor (List ℕ)). b.now ∷ texts ws) (some_same is)
+  where
+    some_same : {X : Type 0} {x y : X} → Some x ≡ Some y → x ≡ y
+    some_same is = cc is
+around_text (v ∷ ws) (suc k) w is = ap (λ (ts : List (List ℕ)). v.now ∷ ts) (around_text ws k w is)
+
 pub text_at : (ws : List (Bor (List ℕ))) (k : ℕ) (w : Bor (List ℕ)) → slice_get ws k ≡ Some w → slice_get (texts ws) k ≡ Some w.now
 text_at [] k w is = absurd (cc is)
 text_at (v ∷ ws) zero w is = ap (λ (o : Option (Bor (List ℕ))). option_map (λ b. b.now) o) is
 text_at (v ∷ ws) (suc k) w is = text_at ws k w is
+
+-- ---- the file that stops them
+
+-- where the count of faults in a read rose, it rose in the whole
+view_rises : (held : Option Files) (name : List ℕ) (some all : Type 0) (fault : Fault) → (some → all) → ViewFails held name some fault → ViewFails held name all fault
+view_rises held name some all Usage rises h = h
+view_rises held name some all Network rises h = h
+view_rises held name some all Read rises h = rises h
+view_rises held name some all TooLong rises h = h
+view_rises held name some all (Refused line w) rises h = h
+view_rises held name some all OutOfSteps rises h = h
+view_rises held name some all (Thrown bytes) rises h = h
+view_rises held name some all (Damaged at kind) rises h = h
+view_rises held name some all (TooLarge most) rises h = h
+view_rises held name some all (TwoEntries clique a b) rises h = h
+view_rises held name some all (DamagedLine n) rises h = h
+view_rises held name some all AnotherProgram rises h = h
+view_rises held name some all NoSuchPage rises h = h
+view_rises held name some all Write rises h = h
+view_rises held name some all NoMemory rises h = h
+
+pub stops_at : (held : Option Files) (ws : List (Bor (List ℕ))) (k : ℕ) (w : Bor (List ℕ)) (fs : List LoadedRows) (some all : Type 0) (fault : Fault) → slice_get ws k ≡ Some w → AreLoaded held (texts (take k ws)) fs
+    → (some → all) → ViewFails held w.now some fault → StopsAt held (texts ws) w.now all fault
+stops_at held ws k w fs some all fault at loaded rises fails = record {
+  before = texts (take k ws);
+  after = texts (drop (suc k) ws);
+  names_are = around_text ws k w at;
+  files = fs;
+  loaded = loaded;
+  fails = view_rises held w.now some all fault rises fails;
+}
 
 -- ---- how it ended
 

@@ -26,9 +26,13 @@ AreLoaded held (name ∷ names) (f ∷ fs) = IsLoadedFrom held name f × AreLoad
 abbrev pub sum_title : ℕ → List ℕ
 sum_title n = codes "mdprof sum " ++ (decimal n ++ 10 ∷ [])
 
--- a title that says how many profiles were added up, and a line for each procedure
+-- a line for each procedure
+abbrev pub sum_lines : Static → List ProcSum → List ℕ
+sum_lines s rows = flat_map (λ r. proc_line s r.id r.own r.total) rows
+
+-- a title that says how many profiles were added up, and the lines
 abbrev pub sum_text : Static → ℕ → List ProcSum → List ℕ
-sum_text s n rows = sum_title n ++ flat_map (λ r. proc_line s r.id r.own r.total) rows
+sum_text s n rows = sum_title n ++ sum_lines s rows
 
 -- the text of the sums of profiles of one program
 pub record IsSumOf (held : Option Files) (names : List (List ℕ)) (text : List ℕ) : Type 0 where

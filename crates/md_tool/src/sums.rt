@@ -1,11 +1,9 @@
 // The command `sum`.
 ghost use Rattle.std.specs.Prelude.{◌≡◌, ◌≤◌, ◌++◌, Option, length, IfOk, OnOk, MatchResult, string_bytes};
 ghost use Rattle.md_base.specs.Files.{Files};
-ghost use Rattle.std.specs.List.{flat_map};
 ghost use Rattle.md_base.specs.Outside.{Rose};
-ghost use Rattle.md_render.specs.Lines.{proc_line};
 ghost use Rattle.md_words.specs.Told.{texts};
-ghost use Rattle.md_tool.specs.Summed.{AreLoaded, SumStops, AddUpFails, StopsAt, IsSumOf, sum_title, sum_text};
+ghost use Rattle.md_tool.specs.Summed.{AreLoaded, SumStops, AddUpFails, StopsAt, IsSumOf, sum_lines, sum_title, sum_text};
 
 use crate::fault::Fault;
 use crate::stored::load_file;
@@ -120,7 +118,7 @@ fn sum_title(alloc: Global, count: usize) -> Result<String, AllocError>
 }
 
 fn add_rows(text: &mut Vec<u8>, statics: &Statics, rows: &[ProcSum]) -> Result<(), AllocError>
-    ensures { OnOk result (text.new.items ≡ text.old.items ++ flat_map (λ r. proc_line statics.now r.id r.own r.total) rows.now) }
+    ensures { OnOk result (text.new.items ≡ text.old.items ++ sum_lines statics.now rows.now) }
 {
     for row in rows {
         add_proc_line(text, statics, row.id, row.own, row.total)?;

@@ -7,7 +7,7 @@ use Rattle.std.proofs.lemmas.Bool.Decides.{nat_tests}
 use Rattle.md_query.specs.Asked.{Asked}
 use Rattle.md_query.specs.Pair.{number_within, within, is_number}
 use Rattle.md_token.specs.Literal.{number_of}
-use Rattle.md_words.specs.Form.{Form, Run, Migrate, Feedback, Undump, Sum, HasBounds, later_form_of, feedback_of, dump_of, undump_of, cover_of, cover_with, sum_of, are_few, weighing_of, check_of, run_of, report_of, report_with, page_of, page_with, serve_of, gen_of, gen_with, migrate_of, form, form_of, query_in, only, two, print_of, summary_of, steps_of, running_of, serving_of, are_none}
+use Rattle.md_words.specs.Form.{Form, Run, Migrate, Feedback, Undump, Sum, HasBounds, later_form_of, feedback_of, dump_of, undump_of, cover_of, cover_with, sum_of, weighing_of, check_of, run_of, report_of, report_with, page_of, page_with, serve_of, gen_of, gen_with, migrate_of, form, form_of, query_in, only, two, print_of, summary_of, steps_of, running_of, serving_of, are_none}
 use Rattle.md_words.specs.Settings.{Setting, Print, Summary, Steps, Port, Requests, Least, Profile, Unknown, numbered, setting_of, is_option, with_value, setting_named, named, joined, around_equals, option_of}
 use Rattle.md_words.specs.Split.{Split, split, with_option, with_other, with_ordinary, with_unless_named, with_word, at_end, after}
 use Rattle.md_words.specs.declared.option.Valued.{Valued}

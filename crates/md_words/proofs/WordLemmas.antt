@@ -1,10 +1,11 @@
 -- Words, one after the other.
 use Rattle.std.proofs.lemmas.List.{append_assoc}
-use Rattle.std.proofs.Common.{◌≡◌, ◌≢◌, ◌==◌, refl, ap, ◌∙◌, ℕ, Bool, true, false, List, [], ◌∷◌, ◌++◌, length, None, Bor, arith}
+use Rattle.std.proofs.Common.{◌≡◌, ◌≢◌, ◌==◌, ◌≤◌, ◌<◌, ◌&&◌, refl, sym, ap, ◌∙◌, ℕ, suc, Bool, true, false, List, [], ◌∷◌, ◌++◌, length, None, Bor, arith}
 use Rattle.std.proofs.lemmas.Bool.Decides.{nat_tests}
 use Rattle.md_words.specs.Settings.{Setting}
 use Rattle.md_words.specs.Split.{Split, with_other}
-use Rattle.md_words.specs.Form.{only, two, without_slash}
+use Rattle.std.specs.Prelude.{nat_le}
+use Rattle.md_words.specs.Form.{only, two, without_slash, are_few}
 use Rattle.md_words.specs.Told.{texts, before}
 
 texts-append : (ws : List (Bor (List ℕ))) (w : Bor (List ℕ)) → texts (ws ++ w ∷ []) ≡ texts ws ++ w.now ∷ []
@@ -17,6 +18,21 @@ pub other_taken : (o : List Setting) (ws vs : List (Bor (List ℕ))) (w : Bor (L
 other_taken o ws vs w s is =
     ap (λ (ts : List (List ℕ)). before o ts s) (ap texts is ∙ texts-append ws w)
     ∙ ap (λ (ts : List (List ℕ)). record { options = o ++ s.options; others = ts }) (append_assoc (texts ws) (w.now ∷ []) s.others)
+
+pub as_many_texts : (ws : List (Bor (List ℕ))) → length (texts ws) ≡ length ws
+as_many_texts [] = refl
+as_many_texts (w ∷ ws) = ap suc (as_many_texts ws)
+
+-- whether words are few
+pub few_texts : (ws : List (Bor (List ℕ))) → 1 ≤ length ws → nat_le (length ws) 16 ≡ are_few (texts ws)
+few_texts ws some = by (nat_le 1 (length (texts ws))) refl
+  where
+    by : (b : Bool) → nat_le 1 (length (texts ws)) ≡ b → nat_le (length ws) 16 ≡ (b && nat_le (length (texts ws)) 16)
+    by true is = ap (λ (n : ℕ). nat_le n 16) (sym (as_many_texts ws))
+    by false is = absurd (none (as_many_texts ws) (grind (arith, nat_tests, is)))
+      where
+        none : length (texts ws) ≡ length ws → length (texts ws) < 1 → ⊥
+        none same few = omega (arith, same, few, some)
 
 -- words that are not one
 pub not_only : (ws : List (Bor (List ℕ))) → (length ws ≡ 1 → ⊥) → only (texts ws) ≡ None

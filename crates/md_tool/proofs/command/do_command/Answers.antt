@@ -4,7 +4,7 @@ use Rattle.md_query.specs.Told.{asked}
 use Rattle.md_words.specs.declared.command.Command.{Command}
 use Rattle.md_words.specs.Told.{told}
 use Rattle.md_tool.specs.Told.{TopEnds}
-use Rattle.md_tool.proofs.TopLemmas.{report_told, gen_told}
+use Rattle.md_tool.proofs.TopLemmas.{report_told, cover_told, gen_told}
 use Rattle.md_tool.proofs.command.do_command.Goals as goal
 
 pub returns-in-Report-clause-ends : goal.returns-in-Report-clause-ends
@@ -28,6 +28,28 @@ returns-in-Report-clause-ends g c =
     (g.E.Sink.write_faults c.args.err.now) (g.E.Sink.write_faults c.report_file-end.new.err) (g.E.Sink.write_faults c.tell_end-in-Report.new.err)
     c.tell_end-in-Report.result c.report_file-end.result c.report_file-end.ensures.later c.tell_end-in-Report.ensures.later c.report_file-end.ensures.ends c.report_file-end.ensures.kept
     c.tell_end-in-Report.ensures.told)
+
+pub returns-in-Cover-clause-ends : goal.returns-in-Cover-clause-ends
+returns-in-Cover-clause-ends g c =
+    subst
+    (λ (x : Command). TopEnds (Some (told x)) (g.S.Store.held c.args.store.now) (g.S.Store.held c.cover_file-end.new.store) (g.N.Net.connections c.args.net.now) (g.N.Net.connections c.args.net.now) (g.O.Sink.held c.args.out.now) (g.O.Sink.held c.cover_file-end.new.out)
+    (g.E.Sink.held c.args.err.now) (g.E.Sink.held c.tell_end-in-Cover.new.err)
+    (Rose (g.S.Store.read_faults c.args.store.now) (g.S.Store.read_faults c.cover_file-end.new.store))
+    (Rose (g.S.Store.write_faults c.args.store.now) (g.S.Store.write_faults c.cover_file-end.new.store))
+    (Rose (g.O.Sink.write_faults c.args.out.now) (g.O.Sink.write_faults c.cover_file-end.new.out))
+    (Rose (g.E.Sink.write_faults c.args.err.now) (g.E.Sink.write_faults c.tell_end-in-Cover.new.err))
+    (Rose (g.N.Net.faults c.args.net.now) (g.N.Net.faults c.args.net.now)) c.tell_end-in-Cover.result)
+    (sym c.in-Cover.is)
+    (cover_told (g.S.Store.held c.args.store.now) (g.S.Store.held c.cover_file-end.new.store) (g.N.Net.connections c.args.net.now) (g.N.Net.connections c.args.net.now) c.in-Cover.file.now c.in-Cover.proc c.in-Cover.steps
+    (g.O.Sink.held c.args.out.now) (g.O.Sink.held c.cover_file-end.new.out)
+    (g.E.Sink.held c.args.err.now) (g.E.Sink.held c.cover_file-end.new.err) (g.E.Sink.held c.tell_end-in-Cover.new.err)
+    (Rose (g.S.Store.read_faults c.args.store.now) (g.S.Store.read_faults c.cover_file-end.new.store))
+    (Rose (g.S.Store.write_faults c.args.store.now) (g.S.Store.write_faults c.cover_file-end.new.store))
+    (Rose (g.O.Sink.write_faults c.args.out.now) (g.O.Sink.write_faults c.cover_file-end.new.out))
+    (Rose (g.N.Net.faults c.args.net.now) (g.N.Net.faults c.args.net.now))
+    (g.E.Sink.write_faults c.args.err.now) (g.E.Sink.write_faults c.cover_file-end.new.err) (g.E.Sink.write_faults c.tell_end-in-Cover.new.err)
+    c.tell_end-in-Cover.result c.cover_file-end.result c.cover_file-end.ensures.later c.tell_end-in-Cover.ensures.later c.cover_file-end.ensures.ends c.cover_file-end.ensures.kept
+    c.tell_end-in-Cover.ensures.told)
 
 pub returns-in-Gen-clause-ends : goal.returns-in-Gen-clause-ends
 returns-in-Gen-clause-ends g c =
