@@ -1,6 +1,6 @@
 -- A profile file has at least 36 bytes for each link.
-use Rattle.std.proofs.Common.{◌≡◌, refl, ap, subst, inl, inr, ◌⊎◌, ℕ, suc, ◌+◌, ◌*◌, ◌≤◌, ◌<◌, ◌^◌, List, [], ◌∷◌, ◌++◌, length, length-append, take, Option, arith}
-use Rattle.std.specs.Prelude.{All, flat_map}
+use Rattle.std.proofs.Common.{◌≡◌, refl, ap, subst, inl, inr, ◌⊎◌, ℕ, zero, suc, ◌+◌, ◌*◌, ◌≤◌, ◌<◌, ◌^◌, List, [], ◌∷◌, ◌++◌, length, length-append, take, Option, arith}
+use Rattle.std.specs.Prelude.{All, flat_map, slice_index_or}
 use Rattle.md_base.specs.Files.{Files}
 use Rattle.md_deepfile.specs.Bytes.{u32, or_none, numbers_of, name_bytes, proc_bytes, site_bytes, link_bytes, each, magic, flag_byte, body_bytes, file_bytes, file_bytes1}
 use Rattle.md_deepfile.specs.Loads.{FileSpells}
@@ -66,8 +66,9 @@ file_has bytes f s = by s.are
 few_in_file : (held : Option Files) (name : List ℕ) (f : ProfileRows) → FileSpells held name longest_profile f → length f.links < 2 ^ 25
 few_in_file held name f h = let a = file_has h.0 f h.3 in let b = h.2 in omega (arith, a, b)
 
-pub few_links : (held : Option Files) (names : List (List ℕ)) (fs : List LoadedRows) → AreLoaded held names fs → All (λ f. length f.profile.links < 2 ^ 25) fs
-few_links held [] [] h = tt
-few_links held [] (f ∷ fs) h = absurd h
-few_links held (n ∷ ns) [] h = absurd h
-few_links held (n ∷ ns) (f ∷ fs) h = (few_in_file held n f.profile h.0.spelled, few_links held ns fs h.1)
+pub few_links : (held : Option Files) (names : List (List ℕ)) (fs : List LoadedRows) → AreLoaded held names fs → (k : ℕ) (d : LoadedRows) → k < length fs → length (slice_index_or fs k d).profile.links < 2 ^ 25
+few_links held [] [] h k d less = absurd (omega (arith, less))
+few_links held [] (f ∷ fs) h k d less = absurd h
+few_links held (n ∷ ns) [] h k d less = absurd h
+few_links held (n ∷ ns) (f ∷ fs) h zero d less = few_in_file held n f.profile h.0.spelled
+few_links held (n ∷ ns) (f ∷ fs) h (suc k) d less = few_links held ns fs h.1 k d (omega (arith, less))

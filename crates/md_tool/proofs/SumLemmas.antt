@@ -1,7 +1,7 @@
 -- What comes of profiles that are added up.
 use Rattle.std.proofs.Common.{◌≡◌, ◌∙◌, refl, sym, ap, subst, inl, inr, ℕ, zero, suc, ◌+◌, ◌≤◌, ◌<◌, ◌^◌, List, [], ◌∷◌, ◌++◌, length, take, drop, Option, Some, arith}
 use Rattle.std.proofs.lemmas.List.{take_more}
-use Rattle.std.specs.Prelude.{Result, Ok, Err, All, slice_get, option_map}
+use Rattle.std.specs.Prelude.{Result, Ok, Err, slice_get, slice_index_or, option_map}
 use Rattle.std.specs.Borrow.{Bor}
 use Rattle.md_base.specs.Files.{Files}
 use Rattle.md_cost.specs.Loading.{LoadedRows}
@@ -38,22 +38,20 @@ texts_more [] w = refl
 texts_more (v ∷ ws) w = ap (λ (ts : List (List ℕ)). v.now ∷ ts) (texts_more ws w)
 
 -- the names up to one, with it
-pub next_texts : (ws : List (Bor (List ℕ))) (k : ℕ) (w : Bor (List ℕ)) → slice_get ws k ≡ Some w → texts (take (k + 1) ws) ≡ texts (take k ws) ++ w.now ∷ []
-next_texts ws k w is = ap texts (take_more ws k w is) ∙ texts_more (take k ws) w
+pub next_texts : (ws : List (Bor (List ℕ))) (k : ℕ) (d : Bor (List ℕ)) → k < length ws → texts (take (k + 1) ws) ≡ texts (take k ws) ++ (slice_index_or ws k d).now ∷ []
+next_texts ws k d less = ap texts (take_more ws k d less) ∙ texts_more (take k ws) (slice_index_or ws k d)
 
 -- the names around one
-pub around_text : (ws : List (Bor (List ℕ))) (k : ℕ) (w : Bor (List ℕ)) → slice_get ws k ≡ Some w → texts ws ≡ texts (take k ws) ++ (w.now ∷ texts (drop (suc k) ws))
-around_text [] k w is = absurd (cc is)
-around_text (v ∷ ws) zero w is = ap (λ (b : Bor (List ℕ)). b.now ∷ texts ws) (some_same is)
-  where
-    some_same : {X : Type 0} {x y : X} → Some x ≡ Some y → x ≡ y
-    some_same is = cc is
-around_text (v ∷ ws) (suc k) w is = ap (λ (ts : List (List ℕ)). v.now ∷ ts) (around_text ws k w is)
+around_text : (ws : List (Bor (List ℕ))) (k : ℕ) (d : Bor (List ℕ)) → k < length ws → texts ws ≡ texts (take k ws) ++ ((slice_index_or ws k d).now ∷ texts (drop (suc k) ws))
+around_text [] k d less = absurd (omega (arith, less))
+around_text (v ∷ ws) zero d less = refl
+around_text (v ∷ ws) (suc k) d less = ap (λ (ts : List (List ℕ)). v.now ∷ ts) (around_text ws k d (omega (arith, less)))
 
-pub text_at : (ws : List (Bor (List ℕ))) (k : ℕ) (w : Bor (List ℕ)) → slice_get ws k ≡ Some w → slice_get (texts ws) k ≡ Some w.now
-text_at [] k w is = absurd (cc is)
-text_at (v ∷ ws) zero w is = ap (λ (o : Option (Bor (List ℕ))). option_map (λ b. b.now) o) is
-text_at (v ∷ ws) (suc k) w is = text_at ws k w is
+-- the name at a place
+pub text_at : (ws : List (Bor (List ℕ))) (k : ℕ) (d : Bor (List ℕ)) → k < length ws → slice_get (texts ws) k ≡ Some (slice_index_or ws k d).now
+text_at [] k d less = absurd (omega (arith, less))
+text_at (v ∷ ws) zero d less = refl
+text_at (v ∷ ws) (suc k) d less = text_at ws k d (omega (arith, less))
 
 -- ---- the file that stops them
 
@@ -75,15 +73,44 @@ view_rises held name some all NoSuchPage rises h = h
 view_rises held name some all Write rises h = h
 view_rises held name some all NoMemory rises h = h
 
-pub stops_at : (held : Option Files) (ws : List (Bor (List ℕ))) (k : ℕ) (w : Bor (List ℕ)) (fs : List LoadedRows) (some all : Type 0) (fault : Fault) → slice_get ws k ≡ Some w → AreLoaded held (texts (take k ws)) fs
-    → (some → all) → ViewFails held w.now some fault → StopsAt held (texts ws) w.now all fault
-stops_at held ws k w fs some all fault at loaded rises fails = record {
+pub stops_at : (held : Option Files) (ws : List (Bor (List ℕ))) (k : ℕ) (d : Bor (List ℕ)) (fs : List LoadedRows) (some all : Type 0) (fault : Fault) → k < length ws → AreLoaded held (texts (take k ws)) fs
+    → (some → all) → ViewFails held (slice_index_or ws k d).now some fault → StopsAt held (texts ws) (slice_index_or ws k d).now all fault
+stops_at held ws k d fs some all fault less loaded rises fails = record {
   before = texts (take k ws);
   after = texts (drop (suc k) ws);
-  names_are = around_text ws k w at;
+  names_are = around_text ws k d less;
   files = fs;
   loaded = loaded;
-  fails = view_rises held w.now some all fault rises fails;
+  fails = view_rises held (slice_index_or ws k d).now some all fault rises fails;
+}
+
+-- ---- their sums
+
+first_at : (fs : List LoadedRows) (d : LoadedRows) → 0 < length fs → slice_get fs 0 ≡ Some (slice_index_or fs 0 d)
+first_at [] d some = absurd (omega (arith, some))
+first_at (f ∷ fs) d some = refl
+
+pub summed : (held : Option Files) (ws : List (Bor (List ℕ))) (fs : List LoadedRows) (d first : LoadedRows) (statics : Static) (rows : List ProcSum) (text : List ℕ) → AreLoaded held (texts ws) fs → HaveViews fs → AreOfOne fs
+    → AreProcSums fs rows → 0 < length fs → first ≡ slice_index_or fs 0 d → statics ≡ first.profile.statics → text ≡ sum_text statics (length ws) rows → IsSumOf held (texts ws) text
+summed held ws fs d first statics rows text loaded views one sums some there its is = record {
+  files = fs;
+  loaded = loaded;
+  views = views;
+  one = one;
+  statics = statics;
+  statics_are = ap (λ (o : Option LoadedRows). option_map (λ f. f.profile.statics) o) (first_at fs d some) ∙ ap (λ (s : Static). Some s) (sym (its ∙ ap (λ (f : LoadedRows). f.profile.statics) there));
+  rows = rows;
+  sums = sums;
+  is = is ∙ ap (λ (n : ℕ). sum_text statics n rows) (sym (as_many_texts ws));
+}
+
+pub of_another : (held : Option Files) (ws : List (Bor (List ℕ))) (fs : List LoadedRows) (place : ℕ) (d : Bor (List ℕ)) → AreLoaded held (texts ws) fs → IsFirstOther fs place → IsOfAnother held (texts ws) (slice_index_or ws place d).now
+of_another held ws fs place d loaded first = record {
+  files = fs;
+  loaded = loaded;
+  place = place;
+  first = first;
+  named = text_at ws place d (let a = as_many_loaded held (texts ws) fs loaded in let b = as_many_texts ws in let c = first.there in omega (arith, a, b, c));
 }
 
 -- ---- how it ended
