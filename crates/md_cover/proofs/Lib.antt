@@ -5,3 +5,5 @@ pub mod Settling
 pub mod Blanks
 pub mod RowLemmas
 pub mod SolveLaws
+pub mod PlainCounts
+pub mod RunCounts

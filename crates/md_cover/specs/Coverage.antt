@@ -1,5 +1,5 @@
 -- What a coverage says of a procedure: its goals, and the number of turns of each goal of which the counts of ports give it.
-use Rattle.std.specs.Prelude.{⊥, ℕ, ◌≡◌, ◌+◌, ◌<◌, ◌^◌, ◌==◌, ◌&&◌, ◌||◌, Bool, true, false, not, List, map, All, Option, Some, None}
+use Rattle.std.specs.Prelude.{ℕ, ◌≡◌, ◌+◌, ◌<◌, ◌^◌, ◌==◌, ◌&&◌, ◌||◌, Bool, true, false, not, List, map, All, Option, Some, None}
 use Rattle.std.specs.List.{list_any}
 use Rattle.md_base.specs.declared.measure.Counts.{Counts}
 use Rattle.md_trace.specs.declared.event.Event.{Event}
@@ -10,7 +10,6 @@ use Rattle.md_modes.specs.Modes.{mode_fault}
 use Rattle.md_det.specs.Faults.{det_fault}
 use Rattle.md_events.specs.History.{history}
 use Rattle.md_dynamic.specs.Profile.{ProfileRows}
-use Rattle.md_dynamic.specs.declared.link.LinkRow.{LinkRow}
 use Rattle.md_cost.specs.FileView.{IsFileView}
 use Rattle.md_cost.specs.View.{View}
 use Rattle.md_turns.specs.Counts.{turns_of, port_counts}

@@ -5,6 +5,7 @@ mod building;
 mod counts;
 mod coverage;
 mod equation;
+mod laws;
 mod name;
 mod number;
 mod rows;
@@ -14,4 +15,5 @@ mod tests;
 mod text;
 
 pub use coverage::{Coverage, GoalCount, KindName};
+pub use laws::profiles_of_runs_have_their_counts;
 pub use text::cover_text;
