@@ -5,3 +5,7 @@ pub mod Settling
 pub mod Blanks
 pub mod RowLemmas
 pub mod SolveLaws
+pub mod Numbered
+pub mod Closing
+pub mod Telling
+pub mod CoverageLaws

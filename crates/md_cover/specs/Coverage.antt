@@ -1,5 +1,5 @@
 -- What a coverage says of a procedure: its goals, and the number of turns of each goal of which the counts of ports give it.
-use Rattle.std.specs.Prelude.{⊥, ℕ, ◌≡◌, ◌+◌, ◌<◌, ◌^◌, ◌==◌, ◌&&◌, ◌||◌, Bool, true, false, not, List, map, All, Option, Some, None}
+use Rattle.std.specs.Prelude.{ℕ, ◌≡◌, ◌+◌, ◌<◌, ◌^◌, ◌==◌, ◌&&◌, ◌||◌, Bool, true, false, not, List, map, All, Option, Some, None}
 use Rattle.std.specs.List.{list_any}
 use Rattle.md_base.specs.declared.measure.Counts.{Counts}
 use Rattle.md_trace.specs.declared.event.Event.{Event}

@@ -4,14 +4,19 @@
 mod building;
 mod counts;
 mod coverage;
+mod covering;
 mod equation;
+mod fault;
 mod name;
 mod number;
 mod rows;
+mod size;
 mod solving;
 #[cfg(test)]
 mod tests;
 mod text;
 
 pub use coverage::{Coverage, GoalCount, KindName};
+pub use covering::cover;
+pub use fault::CoverFault;
 pub use text::cover_text;
