@@ -1,5 +1,5 @@
 -- Each round that takes something down leaves fewer quantities that aren't known.
-use Rattle.std.proofs.Common.{◌≡◌, refl, sym, ap, ◌∙◌, subst, arith, inl, inr, ◌⊎◌, ℕ, zero, suc, ◌+◌, ◌<◌, ◌≤◌, Bool, true, false, ◌||◌, List, [], ◌∷◌, length, min, Option, Some, None, slice_set}
+use Rattle.std.proofs.Common.{◌≡◌, refl, sym, ap, ◌∙◌, subst, arith, inl, inr, ◌⊎◌, ℕ, zero, suc, ◌+◌, ◌-◌, ◌<◌, ◌≤◌, Bool, true, false, ◌||◌, cond, List, [], ◌∷◌, length, min, Option, Some, None, nat_lt, slice_set}
 use Rattle.std.proofs.lemmas.Bool.{ltb-true}
 use Rattle.md_cover.specs.declared.equation.Quantity.{Quantity}
 use Rattle.md_cover.specs.declared.equation.Quantity.TheVariants.{Entries, Exits}
@@ -7,7 +7,7 @@ use Rattle.md_cover.specs.declared.equation.Equation.{Equation}
 use Rattle.md_cover.specs.declared.solving.Unknown.{Unknown}
 use Rattle.md_cover.specs.declared.solving.Unknown.TheVariants.{Nothing, One, More}
 use Rattle.md_cover.specs.declared.solving.Settled.{Settled}
-use Rattle.md_cover.specs.Known.{value_at, Table, know, has, or_zero, unknown_and, open_from, open_of, settled_by, settled_of, put_at, step_by, step, changes_by, changes_at, round_of, changes}
+use Rattle.md_cover.specs.Known.{value_at, value_from, has_place, put_from, Table, know, has, or_zero, unknown_and, open_from, open_of, settled_by, settled_of, put_at, step_by, step, changes_by, changes_at, round_of, back_of, changes}
 
 abbrev pub blank : Option ℕ → ℕ
 blank None = 1
@@ -31,13 +31,27 @@ less (None ∷ os) zero v there is = omega arith
 less (Some w ∷ os) zero v there is = absurd (cc is)
 less (o ∷ os) (suc n) v there is = let more = less os n v (omega (arith, there)) is in omega (arith, more)
 
+fewer_from : (first : ℕ) (xs : List (Option ℕ)) (n v : ℕ) → blank_count (put_from first xs n v) ≤ blank_count xs
+fewer_from first xs n v = by (nat_lt n first)
+  where
+    by : (b : Bool) → blank_count (cond b xs (slice_set xs (n - first) (Some v))) ≤ blank_count xs
+    by true = omega arith
+    by false = fewer xs (n - first) v
+
+less_from : (first : ℕ) (xs : List (Option ℕ)) (n v : ℕ) → has_place first (length xs) n ≡ true → value_from first xs n ≡ None → blank_count (put_from first xs n v) < blank_count xs
+less_from first xs n v = by (nat_lt n first)
+  where
+    by : (b : Bool) → cond b false (nat_lt (n - first) (length xs)) ≡ true → cond b None (value_at xs (n - first)) ≡ None → blank_count (cond b xs (slice_set xs (n - first) (Some v))) < blank_count xs
+    by true there is = absurd (cc there)
+    by false there is = less xs (n - first) v (ltb-true (n - first) (length xs) there) is
+
 put_fewer : (t : Table) (q : Quantity) (v : ℕ) → blanks (put_at t q v) ≤ blanks t
-put_fewer t (Entries n) v = let h = fewer t.entries n v in omega (arith, h)
-put_fewer t (Exits n) v = let h = fewer t.exits n v in omega (arith, h)
+put_fewer t (Entries n) v = let h = fewer_from t.first t.entries n v in omega (arith, h)
+put_fewer t (Exits n) v = let h = fewer_from t.first t.exits n v in omega (arith, h)
 
 put_less : (t : Table) (q : Quantity) (v : ℕ) → has t q ≡ true → know t q ≡ None → blanks (put_at t q v) < blanks t
-put_less t (Entries n) v there is = let h = less t.entries n v (ltb-true n (length t.entries) there) is in omega (arith, h)
-put_less t (Exits n) v there is = let h = less t.exits n v (ltb-true n (length t.exits) there) is in omega (arith, h)
+put_less t (Entries n) v there is = let h = less_from t.first t.entries n v there is in omega (arith, h)
+put_less t (Exits n) v there is = let h = less_from t.first t.exits n v there is in omega (arith, h)
 
 -- a quantity that is the one unknown of a list isn't known
 one_unknown : (k : Quantity → Option ℕ) (sum : ℕ) (u : Unknown) (qs : List Quantity) (q : Quantity) → (open_from k sum u qs).unknown ≡ One q → (u ≡ One q) ⊎ (k q ≡ None)
@@ -89,6 +103,10 @@ step_less t e = by (settled_of (know t) e) refl
 round_fewer : (t : Table) (es : List Equation) → blanks (round_of t es) ≤ blanks t
 round_fewer t [] = omega arith
 round_fewer t (e ∷ es) = let a = step_fewer t e in let b = round_fewer (step t e) es in omega (arith, a, b)
+
+pub back_fewer : (t : Table) (es : List Equation) → blanks (back_of t es) ≤ blanks t
+back_fewer t [] = omega arith
+back_fewer t (e ∷ es) = let a = back_fewer t es in let b = step_fewer (back_of t es) e in omega (arith, a, b)
 
 pub round_less : (t : Table) (es : List Equation) → changes t es ≡ true → blanks (round_of t es) < blanks t
 round_less t [] is = absurd (cc is)

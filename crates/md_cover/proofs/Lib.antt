@@ -7,3 +7,7 @@ pub mod RowLemmas
 pub mod SolveLaws
 pub mod PlainCounts
 pub mod RunCounts
+pub mod Numbered
+pub mod Closing
+pub mod Telling
+pub mod CoverageLaws

@@ -1,5 +1,6 @@
 -- What the code's fold over the parts of an equation finds: their sum, as far as they are known, and those that aren't.
-use Rattle.std.proofs.Common.{◌≡◌, refl, sym, ap, ◌∙◌, subst, arith, inl, inr, ◌⊎◌, ℕ, zero, suc, ◌+◌, ◌-◌, ◌≤◌, List, [], ◌∷◌, ◌++◌, length, min, append_assoc, append-nil, length-append, Option, Some, None, slice_get, slice_set}
+use Rattle.std.proofs.Common.{◌≡◌, refl, sym, ap, ◌∙◌, subst, arith, inl, inr, ◌⊎◌, ℕ, zero, suc, ◌+◌, ◌-◌, ◌≤◌, Bool, true, false, cond, List, [], ◌∷◌, ◌++◌, length, min, append_assoc, append-nil, length-append, Option, Some, None, nat_lt, slice_get, slice_set}
+use Rattle.std.proofs.lemmas.Bool.{ltb-false}
 use Rattle.std.specs.Prelude.{⊤}
 use Rattle.md_turns.specs.Equations as spec
 use Rattle.md_turns.specs.Derived.{IsDerived}
@@ -10,13 +11,13 @@ use Rattle.md_cover.specs.declared.solving.Settled.{Settled}
 use Rattle.md_cover.specs.declared.solving.Unknown.{Unknown}
 use Rattle.md_cover.specs.declared.solving.Unknown.TheVariants.{Nothing, One, More}
 use Rattle.md_cover.specs.Told.{quantity_of, quantities_of, equation_of, equations_of}
-use Rattle.md_cover.specs.Known.{value_at, Table, know, or_zero, unknown_and, open_from, open_of, settled_by, settled_of, put_at, put, step_by, step, round_of, Rounds, last, more}
+use Rattle.md_cover.specs.Known.{value_at, value_from, put_from, Table, know, or_zero, unknown_and, open_from, open_of, settled_by, settled_of, put_at, put, step_by, step, round_of, back_of, Rounds, last, more}
 use Rattle.md_cover.proofs.Settling.{Knowledge, unless_known, unknown_in, number_of, known_sum, IsSound, IsClosed, settles_derived, settles_whole, settles_part}
 
 -- a table as knowledge
 abbrev pub told : Table → Knowledge
-told t (spec.Entries n) = value_at t.entries n
-told t (spec.Exits n) = value_at t.exits n
+told t (spec.Entries n) = value_from t.first t.entries n
+told t (spec.Exits n) = value_from t.first t.exits n
 
 pub same-told : (t : Table) (q : Quantity) → told t (quantity_of q) ≡ know t q
 same-told t (Entries n) = refl
@@ -111,12 +112,28 @@ set-value (o ∷ os) (suc n) v (suc m) w is = elim (set-value os n v m w is) [
   | inr old ↦ inr old
 ]
 
+from-value : (first : ℕ) (xs : List (Option ℕ)) (n v m w : ℕ) → value_from first (put_from first xs n v) m ≡ Some w → ((m ≡ n) × (w ≡ v)) ⊎ (value_from first xs m ≡ Some w)
+from-value first xs n v m w = by (nat_lt m first) refl (nat_lt n first) refl
+  where
+    by : (a : Bool) → nat_lt m first ≡ a → (b : Bool) → nat_lt n first ≡ b → cond a None (value_at (cond b xs (slice_set xs (n - first) (Some v))) (m - first)) ≡ Some w
+        → ((m ≡ n) × (w ≡ v)) ⊎ (cond a None (value_at xs (m - first)) ≡ Some w)
+    by true late b early is = inr is
+    by false late true early is = inr is
+    by false late false early is = elim (set-value xs (n - first) v (m - first) w is) [
+      | inl same ↦
+          let low = ltb-false m first late in
+          let high = ltb-false n first early in
+          let place = same.0 in
+          inl (omega (arith, place, low, high), same.1)
+      | inr old ↦ inr old
+    ]
+
 put-value : (t : Table) (q : Quantity) (v : ℕ) (p : spec.Quantity) (w : ℕ) → told (put_at t q v) p ≡ Some w → ((p ≡ quantity_of q) × (w ≡ v)) ⊎ (told t p ≡ Some w)
-put-value t (Entries n) v (spec.Entries m) w is = elim (set-value t.entries n v m w is) [
+put-value t (Entries n) v (spec.Entries m) w is = elim (from-value t.first t.entries n v m w is) [
   | inl same ↦ inl (ap spec.Entries same.0, same.1)
   | inr old ↦ inr old
 ]
-put-value t (Exits n) v (spec.Exits m) w is = elim (set-value t.exits n v m w is) [
+put-value t (Exits n) v (spec.Exits m) w is = elim (from-value t.first t.exits n v m w is) [
   | inl same ↦ inl (ap spec.Exits same.0, same.1)
   | inr old ↦ inr old
 ]
@@ -154,10 +171,17 @@ round-sound es x t (e ∷ cs) of sound =
     let here = of.0 in
     round-sound es x (step t e) cs of.1 (step-sound es x t e sound (λ s settles. settled-right es x t sound here.0 e here.1 here.2 here.3 here.4 s settles))
 
+pub back-sound : (es : List spec.Equation) (x : spec.Solution) (t : Table) (cs : List Equation) → AreOf es x cs → IsSound es x (told t) → IsSound es x (told (back_of t cs))
+back-sound es x t [] of sound = sound
+back-sound es x t (e ∷ cs) of sound =
+    let here = of.0 in
+    let later = back-sound es x t cs of.1 sound in
+    step-sound es x (back_of t cs) e later (λ s settles. settled-right es x (back_of t cs) later here.0 e here.1 here.2 here.3 here.4 s settles)
+
 -- what the rounds come to is derived, and has the values of the solution
 pub rounds-sound : (es : List spec.Equation) (x : spec.Solution) (cs : List Equation) → AreOf es x cs → (t u : Table) → Rounds cs t u → IsSound es x (told t) → IsSound es x (told u)
 rounds-sound es x cs of t _ (last _ none) sound = round-sound es x t cs of sound
-rounds-sound es x cs of t u (more _ _ rest) sound = rounds-sound es x cs of (round_of t cs) u rest (round-sound es x t cs of sound)
+rounds-sound es x cs of t u (more _ _ rest) sound = rounds-sound es x cs of (back_of (round_of t cs) cs) u rest (back-sound es x (round_of t cs) cs of (round-sound es x t cs of sound))
 
 -- ---- where nothing is settled
 

@@ -1,5 +1,5 @@
 -- What is known of quantities, as the code keeps it, and what an equation settles.
-use Rattle.std.specs.Prelude.{◌≡◌, ℕ, ◌+◌, ◌-◌, Bool, false, ◌||◌, List, [], ◌∷◌, length, min, Option, Some, None, nat_lt, slice_get, slice_set}
+use Rattle.std.specs.Prelude.{◌≡◌, ℕ, ◌+◌, ◌-◌, Bool, false, ◌||◌, cond, List, [], ◌∷◌, length, min, replicate, Option, Some, None, nat_lt, slice_get, slice_set}
 use Rattle.md_cover.specs.declared.equation.Quantity.{Quantity}
 use Rattle.md_cover.specs.declared.equation.Quantity.TheVariants.{Entries, Exits}
 use Rattle.md_cover.specs.declared.equation.Equation.{Equation}
@@ -16,24 +16,37 @@ flat (Some o) = o
 abbrev pub value_at : List (Option ℕ) → ℕ → Option ℕ
 value_at xs n = flat (slice_get xs n)
 
--- what is known, by the number of the goal
+-- ---- values of goals, the first of which is that of the goal of number `first`
+
+abbrev pub value_from : (first : ℕ) → List (Option ℕ) → (goal : ℕ) → Option ℕ
+value_from first xs n = cond (nat_lt n first) None (value_at xs (n - first))
+
+abbrev pub has_place : (first count goal : ℕ) → Bool
+has_place first count n = cond (nat_lt n first) false (nat_lt (n - first) count)
+
+abbrev pub put_from : (first : ℕ) → List (Option ℕ) → (goal value : ℕ) → List (Option ℕ)
+put_from first xs n v = cond (nat_lt n first) xs (slice_set xs (n - first) (Some v))
+
+-- what is known of goals in a row, by their numbers from `first` on
 pub record Table : Type 0 where
+  pub first : ℕ
   pub entries : List (Option ℕ)
   pub exits : List (Option ℕ)
 
 abbrev pub table_of : Known → Table
-table_of k = record { entries = k.entries.items; exits = k.exits.items }
+table_of k = record { first = k.first; entries = k.entries.items; exits = k.exits.items }
+
+-- nothing is known of so many goals
+abbrev pub nothing_known : (first count : ℕ) → Table
+nothing_known first count = record { first = first; entries = replicate count None; exits = replicate count None }
 
 abbrev pub know : Table → Quantity → Option ℕ
-know t (Entries n) = value_at t.entries n
-know t (Exits n) = value_at t.exits n
+know t (Entries n) = value_from t.first t.entries n
+know t (Exits n) = value_from t.first t.exits n
 
 abbrev pub has : Table → Quantity → Bool
-has t (Entries n) = nat_lt n (length t.entries)
-has t (Exits n) = nat_lt n (length t.exits)
-
-abbrev pub put_in : List (Option ℕ) → ℕ → ℕ → List (Option ℕ)
-put_in xs n v = slice_set xs n (Some v)
+has t (Entries n) = has_place t.first (length t.entries) n
+has t (Exits n) = has_place t.first (length t.exits) n
 
 abbrev pub or_zero : Option ℕ → ℕ
 or_zero None = 0
@@ -64,8 +77,8 @@ settled_of k e = settled_by e.whole (open_of k e.number e.parts.items).sum (k e.
 -- ---- taking down what is settled
 
 abbrev pub put_at : Table → Quantity → ℕ → Table
-put_at t (Entries n) v = record { entries = put_in t.entries n v; exits = t.exits }
-put_at t (Exits n) v = record { entries = t.entries; exits = put_in t.exits n v }
+put_at t (Entries n) v = record { first = t.first; entries = put_from t.first t.entries n v; exits = t.exits }
+put_at t (Exits n) v = record { first = t.first; entries = t.entries; exits = put_from t.first t.exits n v }
 
 abbrev pub put : Table → Settled → Table
 put t s = put_at t s.quantity s.value
@@ -92,7 +105,12 @@ abbrev pub changes : Table → List Equation → Bool
 changes t [] = false
 changes t (e ∷ es) = changes_at t e || changes (step t e) es
 
--- rounds from one table to another, up to one in which nothing changes
+-- a round from the last equation to the first
+abbrev pub back_of : Table → List Equation → Table
+back_of t [] = t
+back_of t (e ∷ es) = step (back_of t es) e
+
+-- rounds from one table to another, forward and back in turn, up to one in which nothing changes
 pub data Rounds (es : List Equation) : Table → Table → Type 0 where
   last : (t : Table) → changes t es ≡ false → Rounds es t (round_of t es)
-  more : (t u : Table) → Rounds es (round_of t es) u → Rounds es t u
+  more : (t u : Table) → Rounds es (back_of (round_of t es) es) u → Rounds es t u

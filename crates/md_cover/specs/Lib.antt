@@ -3,4 +3,5 @@ pub mod Told
 pub mod Known
 pub mod Rows
 pub mod Text
+pub mod Solved
 pub mod Coverage

@@ -7,10 +7,11 @@ ghost use Rattle.md_cost.specs.FileView.{IsFileView};
 ghost use Rattle.md_cost.specs.View.{View};
 ghost use Rattle.md_turns.specs.Equations as spec;
 ghost use Rattle.md_cover.specs.Told.{quantities_of, equations_of, view_counts, is_whole, chosen};
+ghost use Rattle.md_cover.specs.Solved.{body_equations};
 
-use crate::counts::counts_of_site;
+use crate::counts::{counts_of_proc, counts_of_site};
 use crate::equation::{Equation, Quantity, add_both, add_count, add_equal, add_sum};
-use md_base::{NoMemory, SiteId};
+use md_base::{NoMemory, ProcId, SiteId};
 use md_cost::Loaded;
 use md_det::{Checked, Switch};
 use md_hlds::{Goal, GoalKind};
@@ -20,6 +21,25 @@ fn after(number: u32) -> Result<u32, NoMemory>
     ensures { IfOk result (λ next. next ≡ suc number) }
 {
     number.checked_add(1).ok_or(NoMemory)
+}
+
+/// Adds the equations of a procedure, whose body has this number.
+pub(crate) fn add_body(
+    checked: &Checked,
+    loaded: &Loaded,
+    equations: &mut Vec<Equation>,
+    id: ProcId,
+    body: &Goal,
+    number: u32,
+) -> Result<(), NoMemory>
+    ensures { (v : View) → IsFileView loaded.now.profile v → OnOk result (equations_of equations.new.items
+        ≡ equations_of equations.old.items ++ body_equations (program_findings (hlds_of checked.now)) (view_counts v) number id (goal_of body.now)) }
+{
+    let counts = counts_of_proc(loaded, id);
+    add_count(equations, Quantity::Entries(number), counts.calls)?;
+    add_count(equations, Quantity::Exits(number), counts.exits)?;
+    add_goal(checked, loaded, equations, body, number)?;
+    Ok(())
 }
 
 /// Adds the equations of the goal of this number, and of those within it; gives the number that comes after them.

@@ -4,16 +4,21 @@
 mod building;
 mod counts;
 mod coverage;
+mod covering;
 mod equation;
+mod fault;
 mod laws;
 mod name;
 mod number;
 mod rows;
+mod size;
 mod solving;
 #[cfg(test)]
 mod tests;
 mod text;
 
 pub use coverage::{Coverage, GoalCount, KindName};
+pub use covering::cover;
+pub use fault::CoverFault;
 pub use laws::profiles_of_runs_have_their_counts;
 pub use text::cover_text;

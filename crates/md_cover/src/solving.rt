@@ -1,12 +1,15 @@
 // What equations settle.
-ghost use Rattle.std.specs.Prelude.{◌≡◌};
-ghost use Rattle.md_cover.specs.Known.{Rounds, table_of, value_at, know, has, put, put_in, step, changes_at, round_of, changes, unknown_and, or_zero, open_of, settled_of};
+ghost use Rattle.std.specs.Prelude.{◌≡◌, IfOk, replicate};
+ghost use Rattle.md_cover.specs.Known.{Rounds, table_of, nothing_known, value_at, value_from, know, has_place, has, put, put_from, step, changes_at, round_of, back_of, changes, unknown_and, or_zero, open_of, settled_of};
 
 use crate::equation::{Equation, Quantity};
+use md_base::NoMemory;
+use std::alloc::Global;
 
-/// What is known of quantities, by the number of the goal.
+/// What is known of the quantities of goals, whose numbers follow each other from `first` on.
 #[derive(Drop)]
 pub(crate) struct Known {
+    pub first: u32,
     pub entries: Vec<Option<u64>>,
     pub exits: Vec<Option<u64>>,
 }
@@ -34,14 +37,34 @@ pub(crate) struct Settled {
 }
 
 impl Known {
+    /// Nothing of so many goals, the first of which has this number.
+    pub fn nothing(alloc: Global, first: u32, count: usize) -> Result<Known, NoMemory>
+        ensures { IfOk result (λ known. table_of known ≡ nothing_known first count) }
+    {
+        let entries = blanks(alloc, count)?;
+        let exits = blanks(alloc, count)?;
+        Ok(Known {
+            first,
+            entries,
+            exits,
+        })
+    }
+
     /// What is known of a quantity.
     pub fn get(&self, quantity: Quantity) -> Option<u64>
         ensures { result ≡ know (table_of self.now) quantity }
     {
         match quantity {
-            Quantity::Entries(goal) => value_at(&self.entries, goal),
-            Quantity::Exits(goal) => value_at(&self.exits, goal),
+            Quantity::Entries(goal) => value_from(self.first, &self.entries, goal),
+            Quantity::Exits(goal) => value_from(self.first, &self.exits, goal),
         }
+    }
+
+    /// What is known of how often the goal at this place among the goals is entered.
+    pub fn turns(&self, place: u32) -> Option<u64>
+        ensures { result ≡ value_at self.now.entries.items place }
+    {
+        value_at(&self.entries, place)
     }
 
     /// What an equation settles: its one quantity that isn't known, if it has exactly one.
@@ -67,8 +90,8 @@ impl Known {
         ensures { result ≡ has (table_of self.now) quantity }
     {
         match quantity {
-            Quantity::Entries(goal) => (goal as usize) < self.entries.len(),
-            Quantity::Exits(goal) => (goal as usize) < self.exits.len(),
+            Quantity::Entries(goal) => has_place(self.first, self.entries.len(), goal),
+            Quantity::Exits(goal) => has_place(self.first, self.exits.len(), goal),
         }
     }
 
@@ -77,16 +100,20 @@ impl Known {
         ensures { table_of self.new ≡ put (table_of self.old) settled }
     {
         match settled.quantity {
-            Quantity::Entries(goal) => put_in(&mut self.entries, goal, settled.value),
-            Quantity::Exits(goal) => put_in(&mut self.exits, goal, settled.value),
+            Quantity::Entries(goal) => {
+                put_from(self.first, &mut self.entries, goal, settled.value)
+            }
+            Quantity::Exits(goal) => put_from(self.first, &mut self.exits, goal, settled.value),
         }
     }
 
-    /// Takes down what equations settle, round after round, until nothing changes.
+    /// Takes down what equations settle, in rounds forward and back in turn, until nothing changes.
     pub fn solve(&mut self, equations: &[Equation])
         ensures { Rounds equations.now (table_of self.old) (table_of self.new) }
     {
-        while self.round(equations) {}
+        while self.round(equations) {
+            self.round_back(equations);
+        }
     }
 
     /// Takes down what each equation settles, from the first to the last; gives whether there was any.
@@ -99,6 +126,15 @@ impl Known {
             changed = self.take(equation) || changed;
         }
         changed
+    }
+
+    /// Takes down what each equation settles, from the last to the first.
+    fn round_back(&mut self, equations: &[Equation])
+        ensures { table_of self.new ≡ back_of (table_of self.old) equations.now }
+    {
+        for place in (0..equations.len()).rev() {
+            self.take(&equations[place]);
+        }
     }
 
     /// Takes down what an equation settles; gives whether it is any.
@@ -142,12 +178,29 @@ impl Unknown {
     }
 }
 
-/// Takes down a value of a goal, if it has a place.
-fn put_in(values: &mut Vec<Option<u64>>, goal: u32, value: u64)
-    ensures { values.new.items ≡ put_in values.old.items goal value }
+/// Values of so many goals, none of which is known.
+fn blanks(alloc: Global, count: usize) -> Result<Vec<Option<u64>>, NoMemory>
+    ensures { IfOk result (λ values. values.items ≡ replicate count None) }
 {
-    if (goal as usize) < values.len() {
-        values[goal as usize] = Some(value);
+    Ok(vec![in alloc; None; count]?)
+}
+
+/// Whether the goal of a number has a place among so many values, the first of which is that of the goal `first`.
+fn has_place(first: u32, count: usize, goal: u32) -> bool
+    ensures { result ≡ has_place first count goal }
+{
+    if goal < first {
+        return false;
+    }
+    ((goal - first) as usize) < count
+}
+
+/// Takes down a value of a goal, if it has a place.
+fn put_from(first: u32, values: &mut Vec<Option<u64>>, goal: u32, value: u64)
+    ensures { values.new.items ≡ put_from first values.old.items goal value }
+{
+    if has_place(first, values.len(), goal) {
+        values[(goal - first) as usize] = Some(value);
     }
 }
 
@@ -160,10 +213,20 @@ fn or_zero(value: Option<u64>) -> u64
     }
 }
 
-fn value_at(values: &[Option<u64>], goal: u32) -> Option<u64>
-    ensures { result ≡ value_at values.now goal }
+/// The value of the goal of a number, where the first value is that of the goal `first`.
+fn value_from(first: u32, values: &[Option<u64>], goal: u32) -> Option<u64>
+    ensures { result ≡ value_from first values.now goal }
 {
-    match values.get(goal as usize) {
+    if goal < first {
+        return None;
+    }
+    value_at(values, goal - first)
+}
+
+fn value_at(values: &[Option<u64>], place: u32) -> Option<u64>
+    ensures { result ≡ value_at values.now place }
+{
+    match values.get(place as usize) {
         Some(value) => *value,
         None => None,
     }
