@@ -3,7 +3,6 @@ use Rattle.std.proofs.Common.{◌≡◌, refl, sym, ap, ◌∙◌, subst, arith,
 use Rattle.std.specs.Prelude.{⊤}
 use Rattle.std.proofs.lemmas.Bool.{ltb-true, lt-ltb}
 use Rattle.std.proofs.lemmas.List.{length-set, length-replicate}
-use Rattle.md_turns.specs.Equations as spec
 use Rattle.md_cover.specs.declared.equation.Quantity.{Quantity}
 use Rattle.md_cover.specs.declared.equation.Quantity.TheVariants.{Entries, Exits}
 use Rattle.md_cover.specs.declared.equation.Equation.{Equation}

@@ -1,12 +1,10 @@
 -- What the code comes to for a procedure is its coverage.
-use Rattle.std.proofs.Common.{◌≡◌, refl, sym, ap, ◌∙◌, subst, arith, ℕ, zero, suc, ◌+◌, ◌-◌, ◌*◌, ◌<◌, ◌≤◌, ◌^◌, Bool, true, false, cond, List, [], ◌∷◌, ◌++◌, map, length, get_or, append_assoc, Option, Some, None, nat_lt, replicate, slice_get}
-use Rattle.std.specs.Prelude.{⊤, All, ◌&&◌, not, sum_by, if◌then◌else◌}
+use Rattle.std.proofs.Common.{◌≡◌, refl, sym, ap, ◌∙◌, subst, arith, ℕ, zero, suc, ◌+◌, ◌-◌, ◌<◌, ◌≤◌, ◌^◌, Bool, true, false, cond, List, [], ◌∷◌, ◌++◌, map, length, get_or, append_assoc, Option, Some, None, nat_lt, replicate, slice_get}
+use Rattle.std.specs.Prelude.{All, ◌&&◌, not, if◌then◌else◌}
 use Rattle.std.proofs.Math.Path.{fun_ext}
-use Rattle.std.proofs.lemmas.Bool.{cases_lt, ltb-true, lt-ltb, and_parts, not-true}
-use Rattle.std.proofs.lemmas.List.{get_or-replicate, length-replicate}
+use Rattle.std.proofs.lemmas.Bool.{ltb-true, and_parts, not-true}
 use Rattle.std.proofs.lemmas.List.Elements.{All-map}
 use Rattle.std.proofs.lemmas.List.Sums.{sum_by-le}
-use Rattle.md_base.specs.declared.measure.Measure.{Measure}
 use Rattle.md_base.specs.declared.measure.Measure.TheVariants as measure
 use Rattle.md_base.specs.Counts.{count_of}
 use Rattle.md_trace.specs.declared.event.Event.{Event}
@@ -21,10 +19,9 @@ use Rattle.md_dynamic.specs.Valid.{IsValid}
 use Rattle.md_dynamic.specs.declared.link.LinkRow.{LinkRow}
 use Rattle.md_cost.specs.FileView.{IsFileView, procedure_at}
 use Rattle.md_cost.specs.Totals.{sum_where}
-use Rattle.md_cost.specs.View.{View, OfProcedure}
+use Rattle.md_cost.specs.View.{View}
 use Rattle.md_turns.specs.Counts.{PortCounts, turns_of, port_counts}
 use Rattle.md_turns.specs.Equations as spec
-use Rattle.md_turns.specs.Derived.{IsDerived}
 use Rattle.md_turns.specs.Laws.{run_equations, TurnsSolve}
 use Rattle.md_cover.specs.declared.coverage.GoalCount.{GoalCount}
 use Rattle.md_cover.specs.declared.equation.Equation.{Equation}
@@ -33,7 +30,7 @@ use Rattle.md_cover.specs.Coverage.{has_full_link, gives_turns, without_turns, H
 use Rattle.md_cover.specs.Known.{value_at, value_from, Table, nothing_known}
 use Rattle.md_cover.specs.Rows.{goal_rows}
 use Rattle.md_cover.specs.Solved.{body_equations, IsSolved, with_turns, HaveFewExits}
-use Rattle.md_cover.specs.Told.{quantity_of, equation_of, equations_of, count_of as count_or_none, view_counts}
+use Rattle.md_cover.specs.Told.{equation_of, equations_of, view_counts}
 use Rattle.md_cover.proofs.Closing.{rounds-first, rounds-unsettled, equations-placed}
 use Rattle.md_cover.proofs.Numbered.{AreIn, procedure_in}
 use Rattle.md_cover.proofs.Settling.{IsSound, IsClosed, all_known}

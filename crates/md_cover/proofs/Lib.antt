@@ -5,9 +5,9 @@ pub mod Settling
 pub mod Blanks
 pub mod RowLemmas
 pub mod SolveLaws
-pub mod PlainCounts
-pub mod RunCounts
 pub mod Numbered
 pub mod Closing
 pub mod Telling
 pub mod CoverageLaws
+pub mod PlainCounts
+pub mod RunCounts

@@ -1,9 +1,9 @@
-// The text of a coverage, and the goals of small programs with their turns. Expected numbers are worked out by hand.
+// Programs with the turns of their goals, worked out by hand.
 ghost use Rattle.std.specs.Prelude.{◌≤◌, length, IfOk};
 ghost use Rattle.md_hlds.specs.Hlds.{hlds_of};
 ghost use Rattle.md_cover.specs.Coverage.{IsAccepted};
 
-use crate::{CoverFault, Coverage, GoalCount, KindName, cover, cover_text};
+use crate::{CoverFault, cover, cover_text};
 use md_base::{Counts, Measure, Name, PdId, ProcId, SiteId};
 use md_cost::{Loaded, propagate};
 use md_det::{Checked, check_det};
@@ -14,50 +14,109 @@ use md_static::{Proc, Site, SiteKind, Statics};
 use std::alloc::Global;
 use std::test::Fail;
 
-const TEXT: &[u8] =
-    b"mdprof cover 1 t.p/0\ngoal 0 line 5 conj turns 1\n  goal 1 line 5 unify turns 1\n  goal 2 line 5 if turns 1\n    goal 3 line 5 compare turns 1\n    goal 4 line 5 unify turns -\n    goal 5 line 5 unify turns -\n";
+/// A program with the profile of its run.
+#[derive(Clone, Copy)]
+struct Case {
+    text: &'static str,
+    /// The name and the number of arguments of each procedure.
+    procs: &'static [(&'static str, u8)],
+    /// Owner, line and callee of each call site.
+    sites: &'static [(u32, u32, u32)],
+    /// The procedure of each context.
+    nodes: &'static [u32],
+    /// Caller, site, callee, calls and exits of each link but the root link.
+    links: &'static [(u32, u32, u32, u32, u32)],
+}
 
-const GOALS: [(u32, u32, KindName, Option<u64>); 6] = [
-    (0, 0, KindName::Conj, Some(1)),
-    (1, 1, KindName::Unify, Some(1)),
-    (2, 1, KindName::If, Some(1)),
-    (3, 2, KindName::Compare, Some(1)),
-    (4, 2, KindName::Unify, None),
-    (5, 2, KindName::Unify, None),
-];
+/// An if-then-else whose parts both succeed exactly once.
+const SIGN: Case = Case {
+    text: ":- module t.
+:- pred main(io::di, io::uo) is det.
+main(IO0, IO) :- N = 3, sign(N, S), io.write_int(S, IO0, IO).
+:- pred sign(int::in, int::out) is det.
+sign(N, S) :- Z = 0, ( N < Z -> S = N ; S = Z ).
+",
+    procs: &[("main", 2), ("sign", 2)],
+    sites: &[(0, 3, 1)],
+    nodes: &[0, 1],
+    links: &[(0, 0, 1, 1, 1)],
+};
 
-/// In its run p is called once and fails; then q is called, which calls r; both have a solution.
-const PROGRAM: &str = ":- module t.
+const SIGN_COVERED: &str = "mdprof cover 1 t.sign/2
+goal 0 line 5 conj turns 1
+  goal 1 line 5 unify turns 1
+  goal 2 line 5 if turns 1
+    goal 3 line 5 compare turns 1
+    goal 4 line 5 unify turns -
+    goal 5 line 5 unify turns -
+";
+
+/// A search through a list of three, to its end: member has three solutions, of which two, and one of these, are passed on.
+const NONE: Case = Case {
+    text: ":- module t.
+:- type list ---> nil ; cons(int, list).
+:- pred main(io::di, io::uo) is det.
+main(IO0, IO) :- A = 1, B = 2, C = 3, E = nil, L3 = cons(C, E), L2 = cons(B, L3), L = cons(A, L2),
+    V = 5, ( not ( member(X, L), X > V ) -> S = \"none\" ; S = \"some\" ), io.write_string(S, IO0, IO).
+:- pred member(int::out, list::in) is nondet.
+member(X, L) :- L = cons(H, T), ( X = H ; member(X, T) ).
+",
+    procs: &[("main", 2), ("member", 2)],
+    sites: &[(0, 5, 1), (1, 7, 1)],
+    nodes: &[0, 1],
+    links: &[(0, 0, 1, 1, 3), (1, 1, 1, 3, 3)],
+};
+
+const NONE_COVERED: &str = "mdprof cover 1 t.member/2
+goal 0 line 7 conj turns 4
+  goal 1 line 7 unify turns 4
+  goal 2 line 7 disj turns 3
+    goal 3 line 7 unify turns 3
+    goal 4 line 7 call turns 3
+";
+
+/// In its run p is called once and fails; so is q, with a functor for which it has no arm; then q is called again, and calls r,
+/// and both have a solution.
+const PARTS: Case = Case {
+    text: ":- module t.
 :- type color ---> red ; green ; blue.
 :- pred main(io::di, io::uo) is det.
-main(IO0, IO) :- C = red, ( p -> IO = IO0 ; ( q(C) -> IO = IO0 ; io.nl(IO0, IO) ) ).
+main(IO0, IO) :- B = blue, R = red, ( p -> IO = IO0 ; ( q(B) -> IO = IO0 ; ( q(R) -> IO = IO0 ; io.nl(IO0, IO) ) ) ).
 :- pred p is nondet.
 p :- A = 2, B = 1, ( A < B, B < A ; B = A ).
 :- pred q(color::in) is semidet.
 q(C) :- ( C = red, r ; C = green ).
 :- pred r is semidet.
 r :- A = 1, B = 2, ( A < B -> true ; fail ).
-";
+",
+    procs: &[("main", 2), ("p", 0), ("q", 1), ("r", 0)],
+    sites: &[(0, 4, 1), (0, 4, 2), (0, 4, 2), (2, 8, 3)],
+    nodes: &[0, 1, 2, 2, 3],
+    links: &[
+        (0, 0, 1, 1, 0),
+        (0, 1, 2, 1, 0),
+        (0, 2, 3, 1, 1),
+        (3, 3, 4, 1, 1),
+    ],
+};
 
-/// Its goals with their turns, as far as the counts of ports give them.
-const COVERED: [(u32, &str); 4] = [
-    (
-        0,
-        "mdprof cover 0 t.main/2
+const PARTS_COVERED: [&str; 4] = [
+    "mdprof cover 0 t.main/2
 goal 0 line 4 conj turns 1
   goal 1 line 4 unify turns 1
-  goal 2 line 4 if turns 1
-    goal 3 line 4 call turns 1
-    goal 4 line 4 unify turns 0
-    goal 5 line 4 if turns 1
-      goal 6 line 4 call turns 1
-      goal 7 line 4 unify turns 1
-      goal 8 line 4 write turns 0
+  goal 2 line 4 unify turns 1
+  goal 3 line 4 if turns 1
+    goal 4 line 4 call turns 1
+    goal 5 line 4 unify turns 0
+    goal 6 line 4 if turns 1
+      goal 7 line 4 call turns 1
+      goal 8 line 4 unify turns 0
+      goal 9 line 4 if turns 1
+        goal 10 line 4 call turns 1
+        goal 11 line 4 unify turns 1
+        goal 12 line 4 write turns 0
 ",
-    ),
-    (
-        1,
-        "mdprof cover 1 t.p/0
+    "mdprof cover 1 t.p/0
 goal 0 line 6 conj turns 1
   goal 1 line 6 unify turns 1
   goal 2 line 6 unify turns 1
@@ -67,20 +126,14 @@ goal 0 line 6 conj turns 1
       goal 6 line 6 compare turns -
     goal 7 line 6 unify turns -
 ",
-    ),
-    (
-        2,
-        "mdprof cover 2 t.q/1
-goal 0 line 8 disj turns 1
-  goal 1 line 8 conj turns -
-    goal 2 line 8 unify turns -
+    "mdprof cover 2 t.q/1
+goal 0 line 8 disj turns 2
+  goal 1 line 8 conj turns 1
+    goal 2 line 8 unify turns 1
     goal 3 line 8 call turns 1
-  goal 4 line 8 unify turns -
+  goal 4 line 8 unify turns 0
 ",
-    ),
-    (
-        3,
-        "mdprof cover 3 t.r/0
+    "mdprof cover 3 t.r/0
 goal 0 line 10 conj turns 1
   goal 1 line 10 unify turns 1
   goal 2 line 10 unify turns 1
@@ -89,86 +142,86 @@ goal 0 line 10 conj turns 1
     goal 5 line 10 true turns 1
     goal 6 line 10 fail turns 0
 ",
-    ),
 ];
 
-/// The goals of q with no turns.
-const UNKNOWN: &str = "mdprof cover 2 t.q/1
-goal 0 line 8 disj turns -
-  goal 1 line 8 conj turns -
-    goal 2 line 8 unify turns -
-    goal 3 line 8 call turns -
-  goal 4 line 8 unify turns -
+/// The goals of sign with no turns.
+const UNKNOWN: &str = "mdprof cover 1 t.sign/2
+goal 0 line 5 conj turns -
+  goal 1 line 5 unify turns -
+  goal 2 line 5 if turns -
+    goal 3 line 5 compare turns -
+    goal 4 line 5 unify turns -
+    goal 5 line 5 unify turns -
 ";
 
 fn name(alloc: Global, bytes: &[u8]) -> Result<Name, Fail> {
     Ok(Name::from_bytes(alloc, bytes)?.ok_or("a name")?)
 }
 
-/// The tables of the program.
-fn statics(alloc: Global) -> Result<Statics, Fail> {
+/// The tables of a program.
+fn statics(alloc: Global, case: &Case) -> Result<Statics, Fail> {
     let mut modules = Vec::new(alloc);
     modules.push(name(alloc, b"t")?)?;
     let mut procs = Vec::new(alloc);
-    for (bytes, arity) in [("main", 2), ("p", 0), ("q", 1), ("r", 0)] {
+    for (word, arity) in case.procs {
         procs.push(Proc {
             module: 0,
-            name: name(alloc, bytes.as_bytes())?,
-            arity,
+            name: name(alloc, word.as_bytes())?,
+            arity: *arity,
         })?;
     }
     let mut sites = Vec::new(alloc);
-    for (owner, line, callee) in [(0, 4, 1), (0, 4, 2), (2, 8, 3)] {
+    for (owner, line, callee) in case.sites {
         sites.push(Site {
-            owner: ProcId::new(owner),
-            line,
-            kind: SiteKind::Plain(ProcId::new(callee)),
+            owner: ProcId::new(*owner),
+            line: *line,
+            kind: SiteKind::Plain(ProcId::new(*callee)),
         })?;
     }
     Ok(Statics::from_parts(modules, procs, sites))
 }
 
-/// One call, with so many exits, and so many words.
-fn counts(exits: u32, words: u32) -> Counts {
+fn counts(calls: u32, exits: u32, words: u32) -> Counts {
     let mut counts = Counts::default();
-    counts.add(Measure::Calls, 1);
+    counts.add(Measure::Calls, calls);
     counts.add(Measure::Exits, exits);
     counts.add(Measure::Words, words);
     counts
 }
 
 /// The links of its run, with so many words in main.
-fn links(alloc: Global, words: u32) -> Result<Vec<LinkRow>, Fail> {
+fn links(alloc: Global, case: &Case, words: u32) -> Result<Vec<LinkRow>, Fail> {
     let mut links = Vec::new(alloc);
     links.push(LinkRow {
         caller: None,
         site: None,
         callee: PdId::new(0),
-        own: counts(1, words),
+        own: counts(1, 1, words),
     })?;
-    for (caller, site, callee, exits) in [(0, 0, 1, 0), (0, 1, 2, 1), (2, 2, 3, 1)] {
+    for (caller, site, callee, calls, exits) in case.links {
         links.push(LinkRow {
-            caller: Some(PdId::new(caller)),
-            site: Some(SiteId::new(site)),
-            callee: PdId::new(callee),
-            own: counts(exits, 0),
+            caller: Some(PdId::new(*caller)),
+            site: Some(SiteId::new(*site)),
+            callee: PdId::new(*callee),
+            own: counts(*calls, *exits, 0),
         })?;
     }
     Ok(links)
 }
 
 /// The profile of its run.
-fn loaded(alloc: Global, finished: bool, words: u32) -> Result<Loaded, Fail> {
+fn loaded(alloc: Global, case: &Case, finished: bool, words: u32) -> Result<Loaded, Fail> {
     let mut nodes = Vec::new(alloc);
-    for proc in 0..4 {
-        nodes.push(ProcId::new(proc))?;
+    for proc in case.nodes {
+        nodes.push(ProcId::new(*proc))?;
     }
-    let profile = Profile::from_parts(statics(alloc)?, nodes, links(alloc, words)?, finished);
+    let statics = statics(alloc, case)?;
+    let profile = Profile::from_parts(statics, nodes, links(alloc, case, words)?, finished);
     profile.check()?;
     Ok(propagate(alloc, profile)?)
 }
 
-/// The program, read and checked.
+/// A program, read and checked.
 fn accepted(alloc: Global, text: &[u8]) -> Result<Checked, Fail>
     requires { length text.now ≤ 1048576 }
     ensures { IfOk result (λ checked. IsAccepted (hlds_of checked)) }
@@ -177,6 +230,17 @@ fn accepted(alloc: Global, text: &[u8]) -> Result<Checked, Fail>
     let moded = check_modes(alloc, program)?;
     let checked = check_det(alloc, moded)?;
     Ok(checked)
+}
+
+/// The program of a case.
+fn program(alloc: Global, case: &Case) -> Result<Checked, Fail>
+    ensures { IfOk result (λ checked. IsAccepted (hlds_of checked)) }
+{
+    let text = case.text.as_bytes();
+    if text.len() > 1_048_576 {
+        return Err(Fail::from("a short text"));
+    }
+    accepted(alloc, text)
 }
 
 /// The text of the coverage of a procedure.
@@ -189,52 +253,36 @@ fn covered(alloc: Global, checked: &Checked, loaded: &Loaded, id: u32) -> Result
 }
 
 #[test]
-fn a_procedure_has_a_line_for_each_goal(rt: HostRuntime) -> Result<(), Fail> {
+fn counts_of_ports_give_turns(rt: HostRuntime) -> Result<(), Fail> {
     let alloc = rt.alloc();
-    let loaded = loaded(alloc, true, 0)?;
-    let mut goals = Vec::new(alloc);
-    for (place, depth, kind, turns) in GOALS {
-        goals.push(GoalCount {
-            place,
-            depth,
-            line: 5,
-            kind,
-            turns,
-        })?;
+    for (case, text) in [(SIGN, SIGN_COVERED), (NONE, NONE_COVERED)] {
+        let checked = program(alloc, &case)?;
+        let loaded = loaded(alloc, &case, true, 0)?;
+        assert_eq!(rt; covered(alloc, &checked, &loaded, 1)?.as_str(), text);
     }
-    let coverage = Coverage::from_parts(ProcId::new(1), goals);
-    assert_eq!(rt; cover_text(alloc, &loaded, &coverage)?.as_slice(), TEXT);
     Ok(())
 }
 
 #[test]
-fn counts_of_ports_give_turns(rt: HostRuntime) -> Result<(), Fail> {
+fn each_procedure_is_covered(rt: HostRuntime) -> Result<(), Fail> {
     let alloc = rt.alloc();
-    let checked = accepted(alloc, PROGRAM.as_bytes())?;
-    let loaded = loaded(alloc, true, 0)?;
-    for (id, text) in COVERED {
+    let checked = program(alloc, &PARTS)?;
+    let loaded = loaded(alloc, &PARTS, true, 0)?;
+    for (id, text) in (0..4).zip(PARTS_COVERED) {
         assert_eq!(rt; covered(alloc, &checked, &loaded, id)?.as_str(), text);
     }
+    let fault = cover(alloc, &checked, &loaded, ProcId::new(4)).err();
+    assert_eq!(rt; fault, Some(CoverFault::NoSuchProc));
     Ok(())
 }
 
 #[test]
 fn an_unfinished_run_and_a_full_link_give_none(rt: HostRuntime) -> Result<(), Fail> {
     let alloc = rt.alloc();
-    let checked = accepted(alloc, PROGRAM.as_bytes())?;
+    let checked = program(alloc, &SIGN)?;
     for (finished, words) in [(false, 0), (true, u32::MAX)] {
-        let loaded = loaded(alloc, finished, words)?;
-        assert_eq!(rt; covered(alloc, &checked, &loaded, 2)?.as_str(), UNKNOWN);
+        let loaded = loaded(alloc, &SIGN, finished, words)?;
+        assert_eq!(rt; covered(alloc, &checked, &loaded, 1)?.as_str(), UNKNOWN);
     }
-    Ok(())
-}
-
-#[test]
-fn there_may_be_no_such_procedure(rt: HostRuntime) -> Result<(), Fail> {
-    let alloc = rt.alloc();
-    let checked = accepted(alloc, PROGRAM.as_bytes())?;
-    let loaded = loaded(alloc, true, 0)?;
-    let fault = cover(alloc, &checked, &loaded, ProcId::new(4)).err();
-    assert_eq!(rt; fault, Some(CoverFault::NoSuchProc));
     Ok(())
 }

@@ -1,13 +1,12 @@
-use Rattle.std.proofs.Common.{◌≡◌, ◌∙◌, sym, ap, subst, ℕ, Some, map, length, List, slice_get}
+use Rattle.std.proofs.Common.{◌≡◌, ◌∙◌, sym, ap, subst, Some, map, length, List, slice_get}
 use Rattle.md_hlds.specs.declared.program.Program.{Program}
-use Rattle.md_hlds.specs.HldsGoal.{HldsGoal, goal_of, goal_size}
+use Rattle.md_hlds.specs.HldsGoal.{goal_of, goal_size}
 use Rattle.md_hlds.specs.Hlds.{hlds_of, procedure_of, procedures_of}
 use Rattle.md_dynamic.specs.Profile.{ProfileRows}
 use Rattle.md_turns.proofs.TurnLaws.{turns_of_runs_solve}
 use Rattle.md_cover.specs.declared.coverage.GoalCount.{GoalCount}
 use Rattle.md_cover.specs.Coverage.{gives_turns}
 use Rattle.md_cover.specs.Known.{table_of}
-use Rattle.md_cover.specs.Rows.{goal_rows}
 use Rattle.md_cover.specs.Solved.{with_turns, HaveFewExits}
 use Rattle.md_cover.specs.Told.{view_counts}
 use Rattle.md_cover.proofs.RowLemmas.{rows-size}

@@ -1,5 +1,5 @@
 use Rattle.std.proofs.Common.{◌∙◌, ◌<◌, sym, ap, subst, arith}
-use Rattle.md_cover.specs.Known.{Rounds, last, more, Table, table_of, round_of, back_of}
+use Rattle.md_cover.specs.Known.{Rounds, last, more, Table, table_of, back_of}
 use Rattle.md_cover.proofs.Blanks.{blanks, round_less, back_fewer}
 use Rattle.md_cover.proofs.solving.Known.solve.Goals as goal
 
