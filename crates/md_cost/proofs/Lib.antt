@@ -4,6 +4,7 @@ pub mod RunRows
 pub mod SumSteps
 pub mod OwnSteps
 pub mod ClimbSteps
+pub mod MemberSteps
 pub mod TreeSteps
 pub mod Exchange
 pub mod EntrySteps

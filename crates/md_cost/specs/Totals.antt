@@ -19,12 +19,9 @@ count_at (Some r) m = count_of r.own m
 abbrev pub link_own : List LinkRow → ℕ → Measure → ℕ
 link_own rows p m = count_at (slice_get rows p) m
 
--- own counts: over the links that lead to the context, or into the clique
+-- own counts: over the links that lead to the context
 abbrev pub context_own : List LinkRow → ℕ → Measure → ℕ
 context_own rows c m = sum_where (λ r. r.callee == c) m rows
-
-abbrev pub clique_own : List ℕ → List LinkRow → ℕ → Measure → ℕ
-clique_own cliques rows k m = sum_where (λ r. slice_index cliques r.callee == k) m rows
 
 -- totals: over the links whose path up has the context, or meets the clique
 abbrev pub context_total : List ℕ → List ℕ → List LinkRow → ℕ → Measure → ℕ

@@ -3,7 +3,7 @@ ghost use Rattle.std.specs.Prelude.{◌≡◌, ◌<◌, ◌^◌, ℕ, All, IfOk,
 ghost use Rattle.md_base.specs.declared.measure.Measure.{Measure};
 ghost use Rattle.md_trace.specs.Context.{same_option};
 ghost use Rattle.md_clique.specs.Cliques.{clique_count};
-ghost use Rattle.md_cost.specs.Climbing.{AreOwn, AreSmall, AreTotals};
+ghost use Rattle.md_cost.specs.Climbing.{AreSmall};
 ghost use Rattle.md_cost.specs.Paths.{EntriesRise, start_of};
 ghost use Rattle.md_cost.specs.SumOf.{sum_of, zero_sums};
 ghost use Rattle.md_cost.specs.Totals.{context_own, context_total, path_total, sum_where};

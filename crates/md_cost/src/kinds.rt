@@ -13,7 +13,6 @@ use crate::by_key::{own_by_key, totals_by_key};
 use crate::descent::Children;
 use crate::grouping::own_by_site;
 use crate::keys::{module_keys, procedure_keys, site_keys};
-use crate::own::Own;
 use crate::tree::Tree;
 use md_base::NoMemory;
 use md_dynamic::Profile;
@@ -33,9 +32,9 @@ pub fn of_procedures(
     tree: &Tree,
     children: &Children,
     own: &[Sums],
-    totals: &Own,
+    totals: &[Sums],
 ) -> Result<Kind, NoMemory>
-    requires { IsSummed profile.now tree.now.cliques tree.now.entries.items children.now.first.items children.now.next.items own.now totals.now.nodes.items totals.now.cliques.items }
+    requires { IsSummed profile.now tree.now.cliques tree.now.entries.items children.now.first.items children.now.next.items own.now totals.now }
     ensures own { IfOk result (λ kind. Gives profile.now (λ v. v.own) OfProcedure (length profile.now.statics.procs) kind.own.items) }
     ensures totals { IfOk result (λ kind. Gives profile.now (λ v. v.total) OfProcedure (length profile.now.statics.procs) kind.totals.items) }
 {
@@ -52,9 +51,9 @@ pub fn of_modules(
     tree: &Tree,
     children: &Children,
     own: &[Sums],
-    totals: &Own,
+    totals: &[Sums],
 ) -> Result<Kind, NoMemory>
-    requires { IsSummed profile.now tree.now.cliques tree.now.entries.items children.now.first.items children.now.next.items own.now totals.now.nodes.items totals.now.cliques.items }
+    requires { IsSummed profile.now tree.now.cliques tree.now.entries.items children.now.first.items children.now.next.items own.now totals.now }
     ensures own { IfOk result (λ kind. Gives profile.now (λ v. v.own) OfModule (length profile.now.statics.modules) kind.own.items) }
     ensures totals { IfOk result (λ kind. Gives profile.now (λ v. v.total) OfModule (length profile.now.statics.modules) kind.totals.items) }
 {
@@ -71,9 +70,9 @@ pub fn of_sites(
     tree: &Tree,
     children: &Children,
     own: &[Sums],
-    totals: &Own,
+    totals: &[Sums],
 ) -> Result<Kind, NoMemory>
-    requires { IsSummed profile.now tree.now.cliques tree.now.entries.items children.now.first.items children.now.next.items own.now totals.now.nodes.items totals.now.cliques.items }
+    requires { IsSummed profile.now tree.now.cliques tree.now.entries.items children.now.first.items children.now.next.items own.now totals.now }
     ensures own { IfOk result (λ kind. Gives profile.now (λ v. v.own) OfSite (length profile.now.statics.sites) kind.own.items) }
     ensures totals { IfOk result (λ kind. Gives profile.now (λ v. v.total) OfSite (length profile.now.statics.sites) kind.totals.items) }
 {
@@ -81,7 +80,7 @@ pub fn of_sites(
     let count = profile.statics().sites().len();
     let links = profile.links();
     let own = own_by_site(alloc, links, count)?;
-    let totals = totals_by_key(alloc, tree, links, children, &keys, count, &totals.nodes)?;
+    let totals = totals_by_key(alloc, tree, links, children, &keys, count, totals)?;
     Ok(Kind { own, totals })
 }
 
@@ -92,11 +91,11 @@ fn of_keys(
     tree: &Tree,
     children: &Children,
     own: &[Sums],
-    totals: &Own,
+    totals: &[Sums],
     keys: &[Option<u32>],
     count: usize,
 ) -> Result<Kind, NoMemory>
-    requires summed { IsSummed profile.now tree.now.cliques tree.now.entries.items children.now.first.items children.now.next.items own.now totals.now.nodes.items totals.now.cliques.items }
+    requires summed { IsSummed profile.now tree.now.cliques tree.now.entries.items children.now.first.items children.now.next.items own.now totals.now }
     requires each { length keys.now ≡ length profile.now.nodes }
     requires below { (d q : ℕ) → d < length profile.now.nodes → slice_index_or keys.now d None ≡ Some q → q < count }
     ensures each_own { IfOk result (λ kind. length kind.own.items ≡ count) }
@@ -107,6 +106,6 @@ fn of_keys(
 {
     let links = profile.links();
     let own = own_by_key(alloc, tree, links, keys, count, own)?;
-    let totals = totals_by_key(alloc, tree, links, children, keys, count, &totals.nodes)?;
+    let totals = totals_by_key(alloc, tree, links, children, keys, count, totals)?;
     Ok(Kind { own, totals })
 }
