@@ -9,8 +9,8 @@ use Rattle.md_dynamic.specs.Profile.{ProfileRows}
 use Rattle.md_dynamic.specs.Valid.{IsValid}
 use Rattle.md_cost.specs.declared.sums.Sums.{Sums}
 use Rattle.md_cost.specs.SumOf.{sum_of, zero_sums}
-use Rattle.md_cost.specs.Totals.{sum_where, path_total}
-use Rattle.md_cost.specs.Climbing.{AreOwn, AreSmall, AreTotals, member_sum}
+use Rattle.md_cost.specs.Totals.{context_own, sum_where, path_total}
+use Rattle.md_cost.specs.Climbing.{AreSmall, AreTotals, member_sum}
 use Rattle.md_cost.specs.Keys.{AreKeys}
 use Rattle.md_cost.specs.Tree.{IsTree}
 use Rattle.md_cost.specs.Paths.{EntriesRise, start_of}
@@ -59,11 +59,8 @@ module _ (f : ProfileRows) (valid : IsValid f) (cliques found : List ℕ) (tree 
     is = λ v s m is lt. view_own f (valid_sound f valid).links cliques found tree v is (OfSite s) m ∙ ap (λ (x : ℕ). Some x) (sym (own s m lt));
   }
 
-  pub gives_own_contexts : (nodes : List Sums) → AreOwn cliques f.links nodes → Gives f (λ v. v.own) OfContext (length f.nodes) nodes
-  gives_own_contexts nodes own = record {
-    each = own.each_node ∙ tree.cliques_are.each;
-    is = λ v c m is lt. let size = tree.cliques_are.each in view_own f (valid_sound f valid).links cliques found tree v is (OfContext c) m ∙ ap (λ (x : ℕ). Some x) (sym (own.of_node c m (omega arith)));
-  }
+  pub own_of_context : (v : View) → IsFileView f v → (c : ℕ) (m : Measure) → v.own (OfContext c) m ≡ Some (context_own f.links c m)
+  own_of_context v is c m = view_own f (valid_sound f valid).links cliques found tree v is (OfContext c) m
 
   pub total_of_context : (nodes : List Sums) → AreTotals cliques found f.links nodes → (v : View) → IsFileView f v → (c : ℕ) (m : Measure) → c < length f.nodes → v.total (OfContext c) m ≡ Some (sum_of (get_or nodes c zero_sums) m)
   total_of_context nodes totals v is c m lt =

@@ -9,6 +9,7 @@ pub mod TreeSteps
 pub mod Exchange
 pub mod EntrySteps
 pub mod GiveSteps
+pub mod IncomingSteps
 pub mod KeyLists
 pub mod KeySteps
 pub mod MarkSteps

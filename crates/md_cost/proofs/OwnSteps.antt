@@ -62,14 +62,14 @@ module _ (cliques : List ℕ) (rows : List LinkRow) (i : ℕ) (nodes : List Sums
         omega arith;
   }
 
+pub no_sum : (m : Measure) → sum_of zero_sums m ≡ 0
+no_sum = each_measure (λ (m : Measure). sum_of zero_sums m ≡ 0) refl refl refl refl refl refl refl
+
 pub zeros : (n v : ℕ) (m : Measure) → sum_of (get_or (replicate n zero_sums) v zero_sums) m ≡ 0
 zeros n v m = elim (cases_lt v n) [
-  | inl l ↦ rw (get_or-replicate n v zero_sums zero_sums l) (none m)
-  | inr g ↦ rw (get_or_past (replicate n zero_sums) v zero_sums (rw length-replicate g)) (none m)
+  | inl l ↦ rw (get_or-replicate n v zero_sums zero_sums l) (no_sum m)
+  | inr g ↦ rw (get_or_past (replicate n zero_sums) v zero_sums (rw length-replicate g)) (no_sum m)
 ]
-  where
-    none : (m : Measure) → sum_of zero_sums m ≡ 0
-    none = each_measure (λ (m : Measure). sum_of zero_sums m ≡ 0) refl refl refl refl refl refl refl
 
 pub owning_none : (cliques : List ℕ) (rows : List LinkRow) → Owning cliques rows 0 (replicate (length cliques) zero_sums)
 owning_none cliques rows = record {

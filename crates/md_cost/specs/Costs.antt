@@ -4,10 +4,11 @@ use Rattle.md_dynamic.specs.Profile.{ProfileRows}
 use Rattle.md_cost.specs.declared.costs.Costs.{Costs}
 use Rattle.md_cost.specs.Climbing.{AreSmall, AreTotals}
 use Rattle.md_cost.specs.FileView.{Gives}
-use Rattle.md_cost.specs.View.{OfContext, OfProcedure, OfSite, OfModule}
+use Rattle.md_cost.specs.Incoming.{AreIncoming}
+use Rattle.md_cost.specs.View.{OfProcedure, OfSite, OfModule}
 
 pub record AreCosts (f : ProfileRows) (cliques entries : List ℕ) (costs : Costs) : Type 0 where
-  pub own_contexts : Gives f (λ v. v.own) OfContext (length f.nodes) costs.own.items
+  pub incoming : AreIncoming (length f.nodes) f.links costs.incoming.last.items costs.incoming.before.items
   pub contexts : AreTotals cliques entries f.links costs.totals.items
   pub small : AreSmall f.links
   pub own_procedures : Gives f (λ v. v.own) OfProcedure (length f.statics.procs) costs.procedures.own.items

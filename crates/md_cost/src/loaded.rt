@@ -1,5 +1,6 @@
 use crate::Sums;
 use crate::costs::Costs;
+use crate::incoming::own_sum;
 use crate::totals::sum_of_members;
 use crate::tree::Tree;
 use md_base::{CsdId, PdId, ProcId, SiteId};
@@ -126,12 +127,12 @@ impl Loaded {
         }
     }
 
-    /// The own counts of a context: over the links that lead to it. Takes no memory.
+    /// The own counts of a context: over the links that lead to it, one by one. Takes no memory.
     pub fn node_own(&self, node: PdId) -> Sums
         requires { node < length self.now.profile.nodes }
         ensures { (v : View) (m : Measure) → IsFileView self.now.profile v → v.own (OfContext node) m ≡ Some (sum_of result m) }
     {
-        self.costs.own[node.number() as usize]
+        own_sum(&self.costs.incoming, self.profile.links(), node.number())
     }
 
     /// The total of a context: over the links whose path up has it. Takes no memory.
