@@ -7,7 +7,7 @@ ghost use Rattle.md_cost.specs.Climbing.{AreSmall};
 ghost use Rattle.md_cost.specs.Paths.{EntriesRise, start_of};
 ghost use Rattle.md_cost.specs.SumOf.{sum_of, zero_sums};
 ghost use Rattle.md_cost.specs.Totals.{context_total, path_total};
-ghost use Rattle.md_cost.specs.Walking.{AreThreaded, above};
+ghost use Rattle.md_cost.specs.Walking.{AreParents, AreThreaded, above};
 
 use crate::Sums;
 use crate::descent::Children;
@@ -36,6 +36,7 @@ pub fn totals_by_key(
     requires entries { length tree.now.entries.items ≡ clique_count tree.now.cliques }
     requires rise { EntriesRise tree.now.cliques tree.now.entries.items links.now }
     requires threaded { AreThreaded (length tree.now.cliques) (above tree.now.cliques (start_of links.now tree.now.entries.items)) children.now.first.items children.now.next.items }
+    requires parents { AreParents (length tree.now.cliques) (above tree.now.cliques (start_of links.now tree.now.entries.items)) children.now.parents.items }
     requires each { length keys.now ≡ length tree.now.cliques }
     requires below { (d q : ℕ) → d < length tree.now.cliques → slice_index_or keys.now d None ≡ Some q → q < count }
     requires each_node { length nodes.now ≡ length tree.now.cliques }

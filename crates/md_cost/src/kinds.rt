@@ -33,7 +33,7 @@ pub fn of_procedures(
     children: &Children,
     totals: &[Sums],
 ) -> Result<Kind, NoMemory>
-    requires { IsSummed profile.now tree.now.cliques tree.now.entries.items children.now.first.items children.now.next.items totals.now }
+    requires { IsSummed profile.now tree.now.cliques tree.now.entries.items children.now.first.items children.now.next.items children.now.parents.items totals.now }
     ensures own { IfOk result (λ kind. Gives profile.now (λ v. v.own) OfProcedure (length profile.now.statics.procs) kind.own.items) }
     ensures totals { IfOk result (λ kind. Gives profile.now (λ v. v.total) OfProcedure (length profile.now.statics.procs) kind.totals.items) }
 {
@@ -51,7 +51,7 @@ pub fn of_modules(
     children: &Children,
     totals: &[Sums],
 ) -> Result<Kind, NoMemory>
-    requires { IsSummed profile.now tree.now.cliques tree.now.entries.items children.now.first.items children.now.next.items totals.now }
+    requires { IsSummed profile.now tree.now.cliques tree.now.entries.items children.now.first.items children.now.next.items children.now.parents.items totals.now }
     ensures own { IfOk result (λ kind. Gives profile.now (λ v. v.own) OfModule (length profile.now.statics.modules) kind.own.items) }
     ensures totals { IfOk result (λ kind. Gives profile.now (λ v. v.total) OfModule (length profile.now.statics.modules) kind.totals.items) }
 {
@@ -69,7 +69,7 @@ pub fn of_sites(
     children: &Children,
     totals: &[Sums],
 ) -> Result<Kind, NoMemory>
-    requires { IsSummed profile.now tree.now.cliques tree.now.entries.items children.now.first.items children.now.next.items totals.now }
+    requires { IsSummed profile.now tree.now.cliques tree.now.entries.items children.now.first.items children.now.next.items children.now.parents.items totals.now }
     ensures own { IfOk result (λ kind. Gives profile.now (λ v. v.own) OfSite (length profile.now.statics.sites) kind.own.items) }
     ensures totals { IfOk result (λ kind. Gives profile.now (λ v. v.total) OfSite (length profile.now.statics.sites) kind.totals.items) }
 {
@@ -91,7 +91,7 @@ fn of_keys(
     keys: &[Option<u32>],
     count: usize,
 ) -> Result<Kind, NoMemory>
-    requires summed { IsSummed profile.now tree.now.cliques tree.now.entries.items children.now.first.items children.now.next.items totals.now }
+    requires summed { IsSummed profile.now tree.now.cliques tree.now.entries.items children.now.first.items children.now.next.items children.now.parents.items totals.now }
     requires each { length keys.now ≡ length profile.now.nodes }
     requires below { (d q : ℕ) → d < length profile.now.nodes → slice_index_or keys.now d None ≡ Some q → q < count }
     ensures each_own { IfOk result (λ kind. length kind.own.items ≡ count) }
