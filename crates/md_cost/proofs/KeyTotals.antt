@@ -1,7 +1,6 @@
 -- Totals by key, from those of contexts.
-use Rattle.std.proofs.Common.{◌≡◌, ℕ, suc, ◌^◌, ◌<◌, Bool, true, ◌&&◌, eqb, ltb, cond, List, [], ◌∷◌, length, get_or, All, Option, Some, None, refl, sym, ap, ◌∙◌, subst, arith}
+use Rattle.std.proofs.Common.{◌≡◌, ℕ, suc, ◌^◌, ◌<◌, Bool, ◌&&◌, ltb, cond, List, length, get_or, All, Option, Some, None, ap, ◌∙◌, subst, arith}
 use Rattle.std.specs.List.{list_any, slice_get}
-use Rattle.std.proofs.lemmas.Bool.{eqb-true, lt-ltb}
 use Rattle.md_base.specs.declared.measure.Measure.{Measure}
 use Rattle.md_base.specs.Counts.{count_of}
 use Rattle.md_trace.specs.Context.{same_option}
@@ -9,11 +8,10 @@ use Rattle.md_dynamic.specs.declared.link.LinkRow.{LinkRow}
 use Rattle.md_cost.specs.declared.sums.Sums.{Sums}
 use Rattle.md_cost.specs.SumOf.{sum_of, zero_sums}
 use Rattle.md_cost.specs.Paths.{EntriesRise, path_of, start_of}
-use Rattle.md_cost.specs.Totals.{sum_where, path_total, context_own, context_total}
+use Rattle.md_cost.specs.Totals.{sum_where, path_total, context_total}
 use Rattle.md_cost.specs.Climbing.{AreSmall}
 use Rattle.md_cost.specs.Keys.{key_sum}
 use Rattle.md_cost.specs.Walking.{AreMarks}
-use Rattle.md_cost.proofs.PathSteps.{any_one}
 use Rattle.md_cost.proofs.SumSteps.{sum_same}
 use Rattle.md_cost.proofs.OwnSteps.{part_le}
 use Rattle.md_cost.proofs.ClimbSteps.{entries_rise, start_there, ends_at}

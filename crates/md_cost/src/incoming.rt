@@ -21,11 +21,7 @@ pub struct Incoming {
 }
 
 /// Threads the links that lead to each of so many contexts, in one pass.
-pub fn thread_incoming(
-    alloc: Global,
-    nodes: u32,
-    links: &[LinkRow],
-) -> Result<Incoming, NoMemory>
+pub fn thread_incoming(alloc: Global, nodes: u32, links: &[LinkRow]) -> Result<Incoming, NoMemory>
     requires ends { All (λ link. link.callee < nodes) links.now }
     requires few { length links.now < 2 ^ 32 }
     ensures { IfOk result (λ incoming. AreIncoming nodes links.now incoming.last.items incoming.before.items) }

@@ -1,4 +1,4 @@
-use Rattle.std.proofs.Common.{◌≡◌, ◌-◌, ◌<◌, ◌≤◌, ℕ, suc, length, get_or, None, sym, ap, ◌∙◌, arith}
+use Rattle.std.proofs.Common.{◌≡◌, ◌-◌, ◌<◌, ◌≤◌, ℕ, suc, get_or, None, ap, ◌∙◌, arith}
 use Rattle.std.proofs.lemmas.List.{get_or_read}
 use Rattle.md_cost.specs.Paths.{start_of}
 use Rattle.md_cost.specs.Walking.{above}
@@ -24,9 +24,9 @@ parent_within c =
     let there = node_there c in
     let is = parent_is c in
     let within = parent_there c.args.tree.now.cliques (start_of c.args.links.now c.args.tree.now.entries.items)
-        (entries_rise c.args.tree.now.cliques c.args.tree.now.entries.items c.args.links.now c.requires.rise)
-        (start_there c.args.tree.now.cliques c.args.tree.now.entries.items c.args.links.now c.requires.rise)
-        (c.loop-node.node - 1) (omega arith) in
+    (entries_rise c.args.tree.now.cliques c.args.tree.now.entries.items c.args.links.now c.requires.rise)
+    (start_there c.args.tree.now.cliques c.args.tree.now.entries.items c.args.links.now c.requires.rise)
+    (c.loop-node.node - 1) (omega arith) in
     omega arith
 
 pub index-requires : goal.index-requires

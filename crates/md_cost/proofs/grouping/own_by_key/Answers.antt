@@ -1,4 +1,4 @@
-use Rattle.std.proofs.Common.{◌≡◌, ℕ, ◌+◌, ◌<◌, ◌++◌, ◌∷◌, [], IfSome, length, take, get_or, None, refl, ◌∙◌}
+use Rattle.std.proofs.Common.{◌≡◌, ◌+◌, ◌<◌, ◌++◌, ◌∷◌, [], length, take, get_or, None, refl, ◌∙◌}
 use Rattle.std.proofs.lemmas.List.{take_more}
 use Rattle.md_cost.proofs.KeySteps.{by_links_room, by_links_more}
 use Rattle.md_cost.proofs.WalkSteps.{key_below}

@@ -1,4 +1,4 @@
-use Rattle.std.proofs.Common.{◌<◌, ℕ, length, get_or, arith}
+use Rattle.std.proofs.Common.{ℕ, get_or, arith}
 use Rattle.std.proofs.lemmas.List.Sums.{sum_by_more_le}
 use Rattle.md_clique.specs.Cliques.{members_of}
 use Rattle.md_cost.specs.SumOf.{sum_of, zero_sums}
