@@ -23,11 +23,9 @@ abbrev pub climbed : List ℕ → (ℕ → ℕ) → List LinkRow → ℕ → (�
 climbed cliques starts rows q test m = sum_where (λ r. list_any test (path_to cliques starts q (get_or cliques r.callee 0) r.callee)) m rows
 
 -- what is kept while the cliques above q are done
-pub record Climbed (cliques : List ℕ) (starts : ℕ → ℕ) (rows : List LinkRow) (q : ℕ) (nodes groups : List Sums) : Type 0 where
+pub record Climbed (cliques : List ℕ) (starts : ℕ → ℕ) (rows : List LinkRow) (q : ℕ) (nodes : List Sums) : Type 0 where
   pub each_node : length nodes ≡ length cliques
-  pub each_group : length groups ≡ clique_count cliques
   pub of_node : (c : ℕ) (m : Measure) → c < length cliques → sum_of (get_or nodes c zero_sums) m ≡ climbed cliques starts rows q (λ d. eqb d c) m
-  pub of_group : (k : ℕ) (m : Measure) → k < clique_count cliques → sum_of (get_or groups k zero_sums) m ≡ climbed cliques starts rows q (λ d. eqb (get_or cliques d 0) k) m
 
 -- a link counts once, before or now
 counts_once : (b d p : Bool) (x : ℕ) → d ≡ (b || (p && true)) → (p ≡ true → b ≡ false) → cond d x 0 ≡ cond b x 0 + cond p x 0
@@ -81,26 +79,18 @@ module _ (cliques : List ℕ) (starts : ℕ → ℕ) (rows : List LinkRow) (rise
       let stops = path_stops cliques starts q (get_or cliques r.callee 0) r.callee (omega arith) in
       rw (stops, any_one) refl)
 
-  pub climbed_own : (nodes groups : List Sums) → AreOwn cliques rows nodes groups → (q : ℕ) → clique_count cliques ≤ q + 1 → Climbed cliques starts rows q nodes groups
-  climbed_own nodes groups own q last = record {
+  pub climbed_own : (nodes : List Sums) → AreOwn cliques rows nodes → (q : ℕ) → clique_count cliques ≤ q + 1 → Climbed cliques starts rows q nodes
+  climbed_own nodes own q last = record {
     each_node = own.each_node;
-    each_group = own.each_group;
     of_node = λ c m lt. own.of_node c m lt ∙ sym (climbed_none q (λ d. eqb d c) m last);
-    of_group = λ k m lt. own.of_group k m lt ∙ sym (climbed_none q (λ d. eqb (get_or cliques d 0) k) m last);
   }
 
-  module _ (q : ℕ) (nodes groups : List Sums) (is : Climbed cliques starts rows (suc q) nodes groups) (few : suc q < clique_count cliques) (there : starts (suc q) < length cliques) where
-    node_total : (c : ℕ) (m : Measure) → c ≡ starts (suc q) → climbed cliques starts rows q (λ d. eqb d c) m ≡ climbed cliques starts rows (suc q) (λ d. eqb d c) m + sum_of (get_or groups (suc q) zero_sums) m
-    node_total c m e = climbed_more q (λ d. eqb d c) m few (eq-eqb (starts (suc q)) c (sym e)) (λ d is_c. ap (λ (x : ℕ). get_or cliques x 0) (eqb-true d c is_c ∙ e)) ∙ (rw (is.of_group (suc q) m few) refl)
-
-    group_total : (k : ℕ) (m : Measure) → k ≡ get_or cliques (starts (suc q)) 0 → climbed cliques starts rows q (λ d. eqb (get_or cliques d 0) k) m ≡ climbed cliques starts rows (suc q) (λ d. eqb (get_or cliques d 0) k) m + sum_of (get_or groups (suc q) zero_sums) m
-    group_total k m e = climbed_more q (λ d. eqb (get_or cliques d 0) k) m few (eq-eqb (get_or cliques (starts (suc q)) 0) k (sym e)) (λ d is_k. eqb-true (get_or cliques d 0) k is_k ∙ e) ∙ (rw (is.of_group (suc q) m few) refl)
-
-    above_there : get_or cliques (starts (suc q)) 0 < clique_count cliques
-    above_there = lt_clique_count cliques (starts (suc q)) there
+  module _ (q : ℕ) (nodes : List Sums) (is : Climbed cliques starts rows (suc q) nodes) (few : suc q < clique_count cliques) (there : starts (suc q) < length cliques) (total : Sums) (total_is : (m : Measure) → sum_of total m ≡ climbed cliques starts rows (suc q) (λ d. eqb (get_or cliques d 0) (suc q)) m) where
+    node_total : (c : ℕ) (m : Measure) → c ≡ starts (suc q) → climbed cliques starts rows q (λ d. eqb d c) m ≡ climbed cliques starts rows (suc q) (λ d. eqb d c) m + sum_of total m
+    node_total c m e = climbed_more q (λ d. eqb d c) m few (eq-eqb (starts (suc q)) c (sym e)) (λ d is_c. ap (λ (x : ℕ). get_or cliques x 0) (eqb-true d c is_c ∙ e)) ∙ (rw (total_is m) refl)
 
     -- there is room for the total
-    pub room_above : length rows < 4294967296 → AreSmall rows → (m : Measure) → sum_of (get_or nodes (starts (suc q)) zero_sums) m + sum_of (get_or groups (suc q) zero_sums) m < 2 ^ 64
+    pub room_above : length rows < 4294967296 → AreSmall rows → (m : Measure) → sum_of (get_or nodes (starts (suc q)) zero_sums) m + sum_of total m < 2 ^ 64
     room_above short small m =
         let old = is.of_node (starts (suc q)) m there in
         let new = node_total (starts (suc q)) m refl in
@@ -108,18 +98,9 @@ module _ (cliques : List ℕ) (starts : ℕ → ℕ) (rows : List LinkRow) (rise
         let s = small m in
         omega arith
 
-    pub room_in_clique : length rows < 4294967296 → AreSmall rows → (m : Measure) → sum_of (get_or groups (get_or cliques (starts (suc q)) 0) zero_sums) m + sum_of (get_or groups (suc q) zero_sums) m < 2 ^ 64
-    room_in_clique short small m =
-        let old = is.of_group (get_or cliques (starts (suc q)) 0) m above_there in
-        let new = group_total (get_or cliques (starts (suc q)) 0) m refl in
-        let p = part_le (λ r. list_any (λ d. eqb (get_or cliques d 0) (get_or cliques (starts (suc q)) 0)) (path_to cliques starts q (get_or cliques r.callee 0) r.callee)) m rows in
-        let s = small m in
-        omega arith
-
-    pub climbed_next : (node_sum group_sum : Sums) → ((m : Measure) → sum_of node_sum m ≡ sum_of (get_or nodes (starts (suc q)) zero_sums) m + sum_of (get_or groups (suc q) zero_sums) m) → ((m : Measure) → sum_of group_sum m ≡ sum_of (get_or groups (get_or cliques (starts (suc q)) 0) zero_sums) m + sum_of (get_or groups (suc q) zero_sums) m) → Climbed cliques starts rows q (set nodes (starts (suc q)) node_sum) (set groups (get_or cliques (starts (suc q)) 0) group_sum)
-    climbed_next node_sum group_sum node_is group_is = record {
+    pub climbed_next : (node_sum : Sums) → ((m : Measure) → sum_of node_sum m ≡ sum_of (get_or nodes (starts (suc q)) zero_sums) m + sum_of total m) → Climbed cliques starts rows q (set nodes (starts (suc q)) node_sum)
+    climbed_next node_sum node_is = record {
       each_node = length-set nodes (starts (suc q)) node_sum ∙ is.each_node;
-      each_group = length-set groups (get_or cliques (starts (suc q)) 0) group_sum ∙ is.each_group;
       of_node = λ c m lt. let size = is.each_node in elim (cases_eq c (starts (suc q))) [
         | inl e ↦ (
             let at : get_or (set nodes (starts (suc q)) node_sum) c zero_sums ≡ node_sum = rw e (get_or-set_same nodes (starts (suc q)) node_sum zero_sums (omega arith)) in
@@ -131,18 +112,6 @@ module _ (cliques : List ℕ) (starts : ℕ → ℕ) (rows : List LinkRow) (rise
         | inr ne ↦ (
             let out = climbed_same q (λ d. eqb d c) m few (ne_eqb (starts (suc q)) c (λ (r : starts (suc q) ≡ c). ne (sym r))) in
             rw (get_or-set_other nodes (starts (suc q)) c node_sum zero_sums ne) (is.of_node c m lt ∙ sym out))
-      ];
-      of_group = λ k m lt. let size = is.each_group in let above = above_there in elim (cases_eq k (get_or cliques (starts (suc q)) 0)) [
-        | inl e ↦ (
-            let at : get_or (set groups (get_or cliques (starts (suc q)) 0) group_sum) k zero_sums ≡ group_sum = rw e (get_or-set_same groups (get_or cliques (starts (suc q)) 0) group_sum zero_sums (omega arith)) in
-            let old = is.of_group k m lt in
-            let was : sum_of (get_or groups (get_or cliques (starts (suc q)) 0) zero_sums) m ≡ climbed cliques starts rows (suc q) (λ d. eqb (get_or cliques d 0) k) m = rw (← e) old in
-            let new = group_total k m e in
-            let sum = group_is m in
-            rw at (omega arith))
-        | inr ne ↦ (
-            let out = climbed_same q (λ d. eqb (get_or cliques d 0) k) m few (ne_eqb (get_or cliques (starts (suc q)) 0) k (λ (r : get_or cliques (starts (suc q)) 0 ≡ k). ne (sym r))) in
-            rw (get_or-set_other groups (get_or cliques (starts (suc q)) 0) k group_sum zero_sums ne) (is.of_group k m lt ∙ sym out))
       ];
     }
 
@@ -163,5 +132,5 @@ ends_at cliques rows all i r at =
     rw is at (all i r within)
 
 -- in clique 0 each path has come to its end
-pub climbed_all : (cliques found : List ℕ) (rows : List LinkRow) (nodes groups : List Sums) → Climbed cliques (start_of rows found) rows 0 nodes groups → AreTotals cliques found rows nodes groups
-climbed_all cliques found rows nodes groups is = record { each_node = is.each_node; each_group = is.each_group; of_node = is.of_node; of_group = is.of_group }
+pub climbed_all : (cliques found : List ℕ) (rows : List LinkRow) (nodes : List Sums) → Climbed cliques (start_of rows found) rows 0 nodes → AreTotals cliques found rows nodes
+climbed_all cliques found rows nodes is = record { each_node = is.each_node; of_node = is.of_node }

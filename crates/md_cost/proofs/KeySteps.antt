@@ -60,36 +60,36 @@ module _ (keys : List (Option ℕ)) (values : List Sums) (count i : ℕ) (sums :
       let all = room q m in
       omega arith
 
--- the own counts of the first i links by call site
-pub record BySite (rows : List LinkRow) (count i : ℕ) (sums : List Sums) : Type 0 where
+-- the own counts of the first i links by a key of theirs
+pub record ByLinks (key : LinkRow → Option ℕ) (rows : List LinkRow) (count i : ℕ) (sums : List Sums) : Type 0 where
   pub each : length sums ≡ count
-  pub is : (s : ℕ) (m : Measure) → s < count → sum_of (get_or sums s zero_sums) m ≡ sum_where (λ r. same_option (Some s) r.site) m (take i rows)
+  pub is : (s : ℕ) (m : Measure) → s < count → sum_of (get_or sums s zero_sums) m ≡ sum_where (λ r. same_option (Some s) (key r)) m (take i rows)
 
-pub by_site_none : (rows : List LinkRow) (count : ℕ) → BySite rows count 0 (replicate count zero_sums)
-by_site_none rows count = record { each = length-replicate count zero_sums; is = λ q m lt. zeros count q m }
+pub by_links_none : (key : LinkRow → Option ℕ) (rows : List LinkRow) (count : ℕ) → ByLinks key rows count 0 (replicate count zero_sums)
+by_links_none key rows count = record { each = length-replicate count zero_sums; is = λ q m lt. zeros count q m }
 
-module _ (rows : List LinkRow) (count i : ℕ) (sums : List Sums) (is : BySite rows count i sums) (row : LinkRow) (next : take (i + 1) rows ≡ take i rows ++ row ∷ []) (own : Sums) (own_is : (m : Measure) → sum_of own m ≡ count_of row.own m) where
-  grows : (s : ℕ) (m : Measure) → sum_where (λ r. same_option (Some s) r.site) m (take (i + 1) rows) ≡ sum_where (λ r. same_option (Some s) r.site) m (take i rows) + cond (same_option (Some s) row.site) (sum_of own m) 0
-  grows s m = rw (next, own_is m) (sum_by_push (λ (r : LinkRow). cond (same_option (Some s) r.site) (count_of r.own m) 0) (take i rows) row)
+module _ (key : LinkRow → Option ℕ) (rows : List LinkRow) (count i : ℕ) (sums : List Sums) (is : ByLinks key rows count i sums) (row : LinkRow) (next : take (i + 1) rows ≡ take i rows ++ row ∷ []) (own : Sums) (own_is : (m : Measure) → sum_of own m ≡ count_of row.own m) where
+  grows : (s : ℕ) (m : Measure) → sum_where (λ r. same_option (Some s) (key r)) m (take (i + 1) rows) ≡ sum_where (λ r. same_option (Some s) (key r)) m (take i rows) + cond (same_option (Some s) (key row)) (sum_of own m) 0
+  grows s m = rw (next, own_is m) (sum_by_push (λ (r : LinkRow). cond (same_option (Some s) (key r)) (count_of r.own m) 0) (take i rows) row)
 
-  pub by_site_more : (now : List Sums) → length now ≡ length sums
-      → ((s : ℕ) (m : Measure) → s < length sums → sum_of (get_or now s zero_sums) m ≡ sum_of (get_or sums s zero_sums) m + cond (same_option (Some s) row.site) (sum_of own m) 0)
-      → BySite rows count (i + 1) now
-  by_site_more now each more = record {
+  pub by_links_more : (now : List Sums) → length now ≡ length sums
+      → ((s : ℕ) (m : Measure) → s < length sums → sum_of (get_or now s zero_sums) m ≡ sum_of (get_or sums s zero_sums) m + cond (same_option (Some s) (key row)) (sum_of own m) 0)
+      → ByLinks key rows count (i + 1) now
+  by_links_more now each more = record {
     each = each ∙ is.each;
     is = λ s m lt. (let size = is.each in let before = is.is s m lt in let g = grows s m in let a = more s m (omega arith) in omega arith);
   }
 
-  pub by_site_room : length rows < 4294967296 → AreSmall rows → (o : Option ℕ) → o ≡ row.site → IfSome o (λ s. s < count)
+  pub by_links_room : length rows < 4294967296 → AreSmall rows → (o : Option ℕ) → o ≡ key row → IfSome o (λ s. s < count)
       → IfSome o (λ s. (m : Measure) → sum_of (get_or sums s zero_sums) m + sum_of own m < 2 ^ 64)
-  by_site_room few small None e below = tt
-  by_site_room few small (Some s) e below = λ m.
+  by_links_room few small None e below = tt
+  by_links_room few small (Some s) e below = λ m.
       let now = is.is s m below in
-      let g : sum_where (λ r. same_option (Some s) r.site) m (take (i + 1) rows) ≡ sum_where (λ r. same_option (Some s) r.site) m (take i rows) + sum_of own m = grows s m ∙ (rw (← e) (rw (eq-eqb s s refl) refl)) in
-      let part = part_le (λ r. same_option (Some s) r.site) m (take (i + 1) rows) in
+      let g : sum_where (λ r. same_option (Some s) (key r)) m (take (i + 1) rows) ≡ sum_where (λ r. same_option (Some s) (key r)) m (take i rows) + sum_of own m = grows s m ∙ (rw (← e) (rw (eq-eqb s s refl) refl)) in
+      let part = part_le (λ r. same_option (Some s) (key r)) m (take (i + 1) rows) in
       let front = sum_by-take-le (λ (r : LinkRow). count_of r.own m) rows (i + 1) in
       let all = small m in
       omega arith
 
-pub by_site_all : (rows : List LinkRow) (count : ℕ) (sums : List Sums) → BySite rows count (length rows) sums → (s : ℕ) (m : Measure) → s < count → sum_of (get_or sums s zero_sums) m ≡ sum_where (λ r. same_option (Some s) r.site) m rows
-by_site_all rows count sums is s m lt = rw (take_all (length rows) rows (omega arith)) at (is.is s m lt)
+pub by_links_all : (key : LinkRow → Option ℕ) (rows : List LinkRow) (count : ℕ) (sums : List Sums) → ByLinks key rows count (length rows) sums → (s : ℕ) (m : Measure) → s < count → sum_of (get_or sums s zero_sums) m ≡ sum_where (λ r. same_option (Some s) (key r)) m rows
+by_links_all key rows count sums is s m lt = rw (take_all (length rows) rows (omega arith)) at (is.is s m lt)

@@ -1,7 +1,6 @@
--- Own counts and totals by key, from those of contexts.
-use Rattle.std.proofs.Common.{◌≡◌, ℕ, suc, ◌^◌, ◌<◌, Bool, true, ◌&&◌, eqb, ltb, cond, List, [], ◌∷◌, length, get_or, All, Option, Some, None, refl, sym, ap, ◌∙◌, subst, arith}
+-- Totals by key, from those of contexts.
+use Rattle.std.proofs.Common.{◌≡◌, ℕ, suc, ◌^◌, ◌<◌, Bool, ◌&&◌, ltb, cond, List, length, get_or, All, Option, Some, None, ap, ◌∙◌, subst, arith}
 use Rattle.std.specs.List.{list_any, slice_get}
-use Rattle.std.proofs.lemmas.Bool.{eqb-true, lt-ltb}
 use Rattle.md_base.specs.declared.measure.Measure.{Measure}
 use Rattle.md_base.specs.Counts.{count_of}
 use Rattle.md_trace.specs.Context.{same_option}
@@ -9,11 +8,10 @@ use Rattle.md_dynamic.specs.declared.link.LinkRow.{LinkRow}
 use Rattle.md_cost.specs.declared.sums.Sums.{Sums}
 use Rattle.md_cost.specs.SumOf.{sum_of, zero_sums}
 use Rattle.md_cost.specs.Paths.{EntriesRise, path_of, start_of}
-use Rattle.md_cost.specs.Totals.{sum_where, path_total, context_own, context_total}
+use Rattle.md_cost.specs.Totals.{sum_where, path_total, context_total}
 use Rattle.md_cost.specs.Climbing.{AreSmall}
 use Rattle.md_cost.specs.Keys.{key_sum}
 use Rattle.md_cost.specs.Walking.{AreMarks}
-use Rattle.md_cost.proofs.PathSteps.{any_one}
 use Rattle.md_cost.proofs.SumSteps.{sum_same}
 use Rattle.md_cost.proofs.OwnSteps.{part_le}
 use Rattle.md_cost.proofs.ClimbSteps.{entries_rise, start_there, ends_at}
@@ -22,22 +20,6 @@ use Rattle.md_cost.proofs.Exchange.{upto}
 use Rattle.md_cost.proofs.MarkSteps.{AllMarked, marked_any, marked_alone, marked_up}
 
 module _ (cliques : List ℕ) (rows : List LinkRow) (ends : All (λ r. r.callee < length cliques) rows) where
-  own_line : (c d : ℕ) → list_any (λ e. eqb e d) (c ∷ []) ≡ true → c ≡ d
-  own_line c d on = eqb-true c d (sym (any_one (λ e. eqb e d) c) ∙ on)
-
-  -- the own counts of the contexts of a key are those of the links that lead to one
-  pub own_by : (keys : List (Option ℕ)) (nodes : List Sums)
-      → ((c : ℕ) (m : Measure) → c < length cliques → sum_of (get_or nodes c zero_sums) m ≡ context_own rows c m)
-      → (q : ℕ) (m : Measure) → key_sum keys nodes (length cliques) q m ≡ sum_where (λ r. same_option (Some q) (get_or keys r.callee None)) m rows
-  own_by keys nodes own q m =
-      upto rows (λ r. r.callee ∷ []) keys nodes (length cliques)
-      (λ d m lt. own d m lt ∙ sum_same (λ (r : LinkRow). cond (eqb r.callee d) (count_of r.own m) 0) (λ r. cond (list_any (λ e. eqb e d) (r.callee ∷ [])) (count_of r.own m) 0) rows
-      (λ i r at. ap (λ (b : Bool). cond b (count_of r.own m) 0) (sym (any_one (λ e. eqb e d) r.callee))))
-      (λ i r at q d e hd he od oe. sym (own_line r.callee d od) ∙ own_line r.callee e oe)
-      (length cliques) q m (omega arith)
-      ∙ sum_same (λ r. cond (list_any (λ e. ltb e (length cliques) && same_option (Some q) (get_or keys e None)) (r.callee ∷ [])) (count_of r.own m) 0) (λ r. cond (same_option (Some q) (get_or keys r.callee None)) (count_of r.own m) 0) rows
-      (λ i r at. ap (λ (b : Bool). cond b (count_of r.own m) 0) (any_one (λ e. ltb e (length cliques) && same_option (Some q) (get_or keys e None)) r.callee ∙ (rw (lt-ltb r.callee (length cliques) (ends_at cliques rows ends i r at)) refl)))
-
   -- the totals of the outermost contexts of a key are those of the links whose path has one of the key
   pub total_by_key : (entries : List ℕ) → EntriesRise cliques entries rows → (keys marks : List (Option ℕ)) → AreMarks cliques (start_of rows entries) keys marks → (nodes : List Sums)
       → ((c : ℕ) (m : Measure) → c < length cliques → sum_of (get_or nodes c zero_sums) m ≡ context_total cliques entries rows c m)

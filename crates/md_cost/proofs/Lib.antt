@@ -4,10 +4,12 @@ pub mod RunRows
 pub mod SumSteps
 pub mod OwnSteps
 pub mod ClimbSteps
+pub mod MemberSteps
 pub mod TreeSteps
 pub mod Exchange
 pub mod EntrySteps
 pub mod GiveSteps
+pub mod IncomingSteps
 pub mod KeyLists
 pub mod KeySteps
 pub mod MarkSteps

@@ -1,15 +1,16 @@
 -- The sums of a profile, row kind by row kind.
 use Rattle.std.specs.Prelude.{ℕ, List, length}
 use Rattle.md_dynamic.specs.Profile.{ProfileRows}
-use Rattle.md_clique.specs.Cliques.{clique_count}
 use Rattle.md_cost.specs.declared.costs.Costs.{Costs}
+use Rattle.md_cost.specs.Climbing.{AreSmall, AreTotals}
 use Rattle.md_cost.specs.FileView.{Gives}
-use Rattle.md_cost.specs.View.{OfContext, OfClique, OfProcedure, OfSite, OfModule}
+use Rattle.md_cost.specs.Incoming.{AreIncoming}
+use Rattle.md_cost.specs.View.{OfProcedure, OfSite, OfModule}
 
-pub record AreCosts (f : ProfileRows) (cliques : List ℕ) (costs : Costs) : Type 0 where
-  pub own_contexts : Gives f (λ v. v.own) OfContext (length f.nodes) costs.own.items
-  pub contexts : Gives f (λ v. v.total) OfContext (length f.nodes) costs.totals.nodes.items
-  pub cliques_are : Gives f (λ v. v.total) OfClique (clique_count cliques) costs.totals.cliques.items
+pub record AreCosts (f : ProfileRows) (cliques entries : List ℕ) (costs : Costs) : Type 0 where
+  pub incoming : AreIncoming (length f.nodes) f.links costs.incoming.last.items costs.incoming.before.items
+  pub contexts : AreTotals cliques entries f.links costs.totals.items
+  pub small : AreSmall f.links
   pub own_procedures : Gives f (λ v. v.own) OfProcedure (length f.statics.procs) costs.procedures.own.items
   pub procedures : Gives f (λ v. v.total) OfProcedure (length f.statics.procs) costs.procedures.totals.items
   pub own_modules : Gives f (λ v. v.own) OfModule (length f.statics.modules) costs.modules.own.items

@@ -8,4 +8,4 @@ use Rattle.md_cost.specs.Tree.{IsTree}
 pub record IsKept (a : Inside) : Type 0 where
   pub valid : IsValid a.profile
   pub tree : IsTree (length a.profile.nodes) a.profile.links a.tree.cliques a.tree.entries.items
-  pub costs : AreCosts a.profile a.tree.cliques a.costs
+  pub costs : AreCosts a.profile a.tree.cliques a.tree.entries.items a.costs

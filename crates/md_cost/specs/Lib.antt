@@ -6,6 +6,7 @@ pub mod FileView
 pub mod Walking
 pub mod Keys
 pub mod Summed
+pub mod Incoming
 pub mod Costs
 pub mod Climbing
 pub mod Sound

@@ -1,5 +1,5 @@
--- What a profile says of contexts and cliques: own counts over the links that lead there, and totals over the links
--- whose path up meets them.
+-- What a profile says of links and contexts: own counts over the links that lead there, and totals over the links whose
+-- path up meets them.
 use Rattle.std.specs.Prelude.{ℕ, ◌==◌, Bool, List, Option, Some, None, slice_get, if◌then◌else◌, slice_index, sum_by}
 use Rattle.std.specs.List.{list_any}
 use Rattle.md_base.specs.declared.measure.Measure.{Measure}
@@ -19,19 +19,13 @@ count_at (Some r) m = count_of r.own m
 abbrev pub link_own : List LinkRow → ℕ → Measure → ℕ
 link_own rows p m = count_at (slice_get rows p) m
 
--- own counts: over the links that lead to the context, or into the clique
+-- own counts: over the links that lead to the context
 abbrev pub context_own : List LinkRow → ℕ → Measure → ℕ
 context_own rows c m = sum_where (λ r. r.callee == c) m rows
 
-abbrev pub clique_own : List ℕ → List LinkRow → ℕ → Measure → ℕ
-clique_own cliques rows k m = sum_where (λ r. slice_index cliques r.callee == k) m rows
-
--- totals: over the links whose path up has the context, or meets the clique
+-- totals: over the links whose path up has the context
 abbrev pub context_total : List ℕ → List ℕ → List LinkRow → ℕ → Measure → ℕ
 context_total cliques found rows c m = sum_where (λ r. list_any (λ d. d == c) (path_of cliques found rows r.callee)) m rows
-
-abbrev pub clique_total : List ℕ → List ℕ → List LinkRow → ℕ → Measure → ℕ
-clique_total cliques found rows k m = sum_where (λ r. list_any (λ d. slice_index cliques d == k) (path_of cliques found rows r.callee)) m rows
 
 -- the sum over the links whose path up has a context that passes a test
 abbrev pub path_total : List ℕ → List ℕ → List LinkRow → (ℕ → Bool) → Measure → ℕ

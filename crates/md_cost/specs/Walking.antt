@@ -27,6 +27,11 @@ pub record AreThreaded (n : ℕ) (parent : ℕ → ℕ) (first next : List (Opti
   pub firsts : (p : ℕ) → p ≤ n → IsFirst n parent p 0 (slice_index_or first p None)
   pub nexts : (d : ℕ) → d < n → IsFirst n parent (parent d) (suc d) (slice_index_or next d None)
 
+-- what is right above each of n items
+pub record AreParents (n : ℕ) (parent : ℕ → ℕ) (parents : List ℕ) : Type 0 where
+  pub each : length parents ≡ n
+  pub is : (d : ℕ) → d < n → slice_index parents d ≡ parent d
+
 -- the key of an item, unless one of these has it
 abbrev pub mark_of : (ℕ → Option ℕ) → ℕ → List ℕ → Option ℕ
 mark_of key d ups = if list_any (λ e. same_option (key d) (key e)) ups then None else key d

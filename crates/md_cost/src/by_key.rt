@@ -1,13 +1,13 @@
-// Own counts and totals of the contexts that have a key.
+// Totals of the contexts that have a key.
 ghost use Rattle.std.specs.Prelude.{◌≡◌, ◌<◌, ◌^◌, ℕ, All, IfOk, Some, None, length, slice_index_or};
 ghost use Rattle.md_base.specs.declared.measure.Measure.{Measure};
 ghost use Rattle.md_trace.specs.Context.{same_option};
 ghost use Rattle.md_clique.specs.Cliques.{clique_count};
-ghost use Rattle.md_cost.specs.Climbing.{AreOwn, AreSmall, AreTotals};
+ghost use Rattle.md_cost.specs.Climbing.{AreSmall};
 ghost use Rattle.md_cost.specs.Paths.{EntriesRise, start_of};
 ghost use Rattle.md_cost.specs.SumOf.{sum_of, zero_sums};
-ghost use Rattle.md_cost.specs.Totals.{context_own, context_total, path_total, sum_where};
-ghost use Rattle.md_cost.specs.Walking.{AreThreaded, above};
+ghost use Rattle.md_cost.specs.Totals.{context_total, path_total};
+ghost use Rattle.md_cost.specs.Walking.{AreParents, AreThreaded, above};
 
 use crate::Sums;
 use crate::descent::Children;
@@ -17,28 +17,6 @@ use crate::tree::Tree;
 use md_base::NoMemory;
 use md_dynamic::LinkRow;
 use std::alloc::Global;
-
-/// The own counts by key: over the links to contexts that have it.
-pub fn own_by_key(
-    alloc: Global,
-    tree: &Tree,
-    links: &[LinkRow],
-    keys: &[Option<u32>],
-    count: usize,
-    nodes: &[Sums],
-) -> Result<Vec<Sums>, NoMemory>
-    requires ends { All (λ r. r.callee < length tree.now.cliques) links.now }
-    requires few { length links.now < 2 ^ 32 }
-    requires small { AreSmall links.now }
-    requires each { length keys.now ≡ length tree.now.cliques }
-    requires below { (d q : ℕ) → d < length tree.now.cliques → slice_index_or keys.now d None ≡ Some q → q < count }
-    requires each_node { length nodes.now ≡ length tree.now.cliques }
-    requires own { (c : ℕ) (m : Measure) → c < length tree.now.cliques → sum_of (slice_index_or nodes.now c zero_sums) m ≡ context_own links.now c m }
-    ensures each { IfOk result (λ sums. length sums.items ≡ count) }
-    ensures own { IfOk result (λ sums. (q : ℕ) (m : Measure) → q < count → sum_of (slice_index_or sums.items q zero_sums) m ≡ sum_where (λ r. same_option (Some q) (slice_index_or keys.now r.callee None)) m links.now) }
-{
-    sums_by_key(alloc, keys, nodes, count)
-}
 
 /// The totals by key: over the links whose path has a context of it. What counts is the outermost context of the key
 /// on a path, so each link counts once.
@@ -58,6 +36,7 @@ pub fn totals_by_key(
     requires entries { length tree.now.entries.items ≡ clique_count tree.now.cliques }
     requires rise { EntriesRise tree.now.cliques tree.now.entries.items links.now }
     requires threaded { AreThreaded (length tree.now.cliques) (above tree.now.cliques (start_of links.now tree.now.entries.items)) children.now.first.items children.now.next.items }
+    requires parents { AreParents (length tree.now.cliques) (above tree.now.cliques (start_of links.now tree.now.entries.items)) children.now.parents.items }
     requires each { length keys.now ≡ length tree.now.cliques }
     requires below { (d q : ℕ) → d < length tree.now.cliques → slice_index_or keys.now d None ≡ Some q → q < count }
     requires each_node { length nodes.now ≡ length tree.now.cliques }

@@ -1,26 +1,28 @@
 // The sums of a profile: own counts and totals of each kind of row.
 ghost use Rattle.std.specs.Prelude.{◌≡◌, IfOk, length};
 ghost use Rattle.md_dynamic.specs.Valid.{IsValid};
-ghost use Rattle.md_cost.specs.Climbing.{AreContextsOwn, AreSmall, AreTotals};
+ghost use Rattle.md_cost.specs.Climbing.{AreSmall, AreTotals};
 ghost use Rattle.md_cost.specs.Costs.{AreCosts};
 ghost use Rattle.md_cost.specs.Paths.{EntriesRise};
 ghost use Rattle.md_cost.specs.Tree.{IsTree};
 
 use crate::Sums;
 use crate::descent::descend;
+use crate::incoming::{Incoming, thread_incoming};
 use crate::kinds::{Kind, of_modules, of_procedures, of_sites};
-use crate::own::{Own, own_sums};
+use crate::own::own_sums;
 use crate::totals::climb;
 use crate::tree::Tree;
 use md_base::NoMemory;
 use md_dynamic::Profile;
 use std::alloc::Global;
 
-/// The own counts of contexts, the totals of contexts and cliques, and both of procedures, modules and call sites.
+/// The links that lead to each context, the totals of contexts, and own counts and totals of procedures, modules and call
+/// sites.
 #[derive(Drop)]
 pub struct Costs {
-    pub own: Vec<Sums>,
-    pub totals: Own,
+    pub incoming: Incoming,
+    pub totals: Vec<Sums>,
     pub procedures: Kind,
     pub modules: Kind,
     pub sites: Kind,
@@ -32,16 +34,18 @@ pub fn sum_costs(alloc: Global, profile: &Profile, tree: &Tree) -> Result<Costs,
     requires valid { IsValid profile.now }
     requires tree { IsTree (length profile.now.nodes) profile.now.links tree.now.cliques tree.now.entries.items }
     requires rise { EntriesRise tree.now.cliques tree.now.entries.items profile.now.links }
-    ensures { IfOk result (λ costs. AreCosts profile.now tree.now.cliques costs) }
+    ensures { IfOk result (λ costs. AreCosts profile.now tree.now.cliques tree.now.entries.items costs) }
 {
     let nodes = profile.nodes().len() as u32;
-    let (own, totals) = own_and_totals(alloc, profile, tree, nodes)?;
-    let children = descend(alloc, tree, profile.links(), nodes)?;
-    let procedures = of_procedures(alloc, profile, tree, &children, &own, &totals)?;
-    let modules = of_modules(alloc, profile, tree, &children, &own, &totals)?;
-    let sites = of_sites(alloc, profile, tree, &children, &own, &totals)?;
+    let links = profile.links();
+    let incoming = thread_incoming(alloc, nodes, links)?;
+    let totals = context_totals(alloc, profile, tree, nodes)?;
+    let children = descend(alloc, tree, links, nodes)?;
+    let procedures = of_procedures(alloc, profile, tree, &children, &totals)?;
+    let modules = of_modules(alloc, profile, tree, &children, &totals)?;
+    let sites = of_sites(alloc, profile, tree, &children, &totals)?;
     Ok(Costs {
-        own,
+        incoming,
         totals,
         procedures,
         modules,
@@ -49,23 +53,21 @@ pub fn sum_costs(alloc: Global, profile: &Profile, tree: &Tree) -> Result<Costs,
     })
 }
 
-/// The own counts of contexts, and the totals of contexts and cliques, which begin as own counts.
-fn own_and_totals(
+/// The totals of contexts, which begin as own counts.
+fn context_totals(
     alloc: Global,
     profile: &Profile,
     tree: &Tree,
     nodes: u32,
-) -> Result<(Vec<Sums>, Own), NoMemory>
+) -> Result<Vec<Sums>, NoMemory>
     requires valid { IsValid profile.now }
     requires tree { IsTree (length profile.now.nodes) profile.now.links tree.now.cliques tree.now.entries.items }
     requires rise { EntriesRise tree.now.cliques tree.now.entries.items profile.now.links }
     requires nodes { nodes ≡ length profile.now.nodes }
-    ensures own { IfOk result (λ sums. AreContextsOwn tree.now.cliques profile.now.links sums.0.items) }
-    ensures totals { IfOk result (λ sums. AreTotals tree.now.cliques tree.now.entries.items profile.now.links sums.1.nodes.items sums.1.cliques.items) }
+    ensures totals { IfOk result (λ sums. AreTotals tree.now.cliques tree.now.entries.items profile.now.links sums.items) }
     ensures small { IfOk result (λ _. AreSmall profile.now.links) }
 {
     let mut totals = own_sums(alloc, &tree.cliques, nodes, profile.links())?;
-    let own = Vec::from_slice(alloc, &totals.nodes)?;
     climb(&tree.cliques, &tree.entries, profile.links(), &mut totals);
-    Ok((own, totals))
+    Ok(totals)
 }

@@ -32,6 +32,28 @@ pub fn sums_by_key(
     Ok(sums)
 }
 
+/// The own counts of the links that lead to contexts of each key below `count`.
+pub fn own_by_key(
+    alloc: Global,
+    links: &[LinkRow],
+    keys: &[Option<u32>],
+    count: usize,
+) -> Result<Vec<Sums>, NoMemory>
+    requires ends { All (λ r. r.callee < length keys.now) links.now }
+    requires below { (d q : ℕ) → d < length keys.now → slice_index_or keys.now d None ≡ Some q → q < count }
+    requires few { length links.now < 2 ^ 32 }
+    requires small { AreSmall links.now }
+    ensures each { IfOk result (λ sums. length sums.items ≡ count) }
+    ensures sums { IfOk result (λ sums. (q : ℕ) (m : Measure) → q < count → sum_of (slice_index_or sums.items q zero_sums) m ≡ sum_where (λ r. same_option (Some q) (slice_index_or keys.now r.callee None)) m links.now) }
+{
+    let mut sums = vec![in alloc; Sums::ZERO; count]?;
+    for link in links {
+        let key = keys[link.callee.number() as usize];
+        add_to(&mut sums, key, Sums::from_counts(link.own));
+    }
+    Ok(sums)
+}
+
 /// The own counts of the links at each call site below `count`.
 pub fn own_by_site(alloc: Global, links: &[LinkRow], count: usize) -> Result<Vec<Sums>, NoMemory>
     requires below { All (λ r. IfSome r.site (λ s. s < count)) links.now }

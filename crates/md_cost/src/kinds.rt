@@ -9,11 +9,10 @@ ghost use Rattle.md_cost.specs.Totals.{path_total, sum_where};
 ghost use Rattle.md_cost.specs.View.{OfModule, OfProcedure, OfSite};
 
 use crate::Sums;
-use crate::by_key::{own_by_key, totals_by_key};
+use crate::by_key::totals_by_key;
 use crate::descent::Children;
-use crate::grouping::own_by_site;
+use crate::grouping::{own_by_key, own_by_site};
 use crate::keys::{module_keys, procedure_keys, site_keys};
-use crate::own::Own;
 use crate::tree::Tree;
 use md_base::NoMemory;
 use md_dynamic::Profile;
@@ -32,16 +31,15 @@ pub fn of_procedures(
     profile: &Profile,
     tree: &Tree,
     children: &Children,
-    own: &[Sums],
-    totals: &Own,
+    totals: &[Sums],
 ) -> Result<Kind, NoMemory>
-    requires { IsSummed profile.now tree.now.cliques tree.now.entries.items children.now.first.items children.now.next.items own.now totals.now.nodes.items totals.now.cliques.items }
+    requires { IsSummed profile.now tree.now.cliques tree.now.entries.items children.now.first.items children.now.next.items children.now.parents.items totals.now }
     ensures own { IfOk result (λ kind. Gives profile.now (λ v. v.own) OfProcedure (length profile.now.statics.procs) kind.own.items) }
     ensures totals { IfOk result (λ kind. Gives profile.now (λ v. v.total) OfProcedure (length profile.now.statics.procs) kind.totals.items) }
 {
     let keys = procedure_keys(alloc, profile)?;
     let count = profile.statics().procs().len();
-    let kind = of_keys(alloc, profile, tree, children, own, totals, &keys, count)?;
+    let kind = of_keys(alloc, profile, tree, children, totals, &keys, count)?;
     Ok(kind)
 }
 
@@ -51,16 +49,15 @@ pub fn of_modules(
     profile: &Profile,
     tree: &Tree,
     children: &Children,
-    own: &[Sums],
-    totals: &Own,
+    totals: &[Sums],
 ) -> Result<Kind, NoMemory>
-    requires { IsSummed profile.now tree.now.cliques tree.now.entries.items children.now.first.items children.now.next.items own.now totals.now.nodes.items totals.now.cliques.items }
+    requires { IsSummed profile.now tree.now.cliques tree.now.entries.items children.now.first.items children.now.next.items children.now.parents.items totals.now }
     ensures own { IfOk result (λ kind. Gives profile.now (λ v. v.own) OfModule (length profile.now.statics.modules) kind.own.items) }
     ensures totals { IfOk result (λ kind. Gives profile.now (λ v. v.total) OfModule (length profile.now.statics.modules) kind.totals.items) }
 {
     let keys = module_keys(alloc, profile)?;
     let count = profile.statics().modules().len();
-    let kind = of_keys(alloc, profile, tree, children, own, totals, &keys, count)?;
+    let kind = of_keys(alloc, profile, tree, children, totals, &keys, count)?;
     Ok(kind)
 }
 
@@ -70,10 +67,9 @@ pub fn of_sites(
     profile: &Profile,
     tree: &Tree,
     children: &Children,
-    own: &[Sums],
-    totals: &Own,
+    totals: &[Sums],
 ) -> Result<Kind, NoMemory>
-    requires { IsSummed profile.now tree.now.cliques tree.now.entries.items children.now.first.items children.now.next.items own.now totals.now.nodes.items totals.now.cliques.items }
+    requires { IsSummed profile.now tree.now.cliques tree.now.entries.items children.now.first.items children.now.next.items children.now.parents.items totals.now }
     ensures own { IfOk result (λ kind. Gives profile.now (λ v. v.own) OfSite (length profile.now.statics.sites) kind.own.items) }
     ensures totals { IfOk result (λ kind. Gives profile.now (λ v. v.total) OfSite (length profile.now.statics.sites) kind.totals.items) }
 {
@@ -81,7 +77,7 @@ pub fn of_sites(
     let count = profile.statics().sites().len();
     let links = profile.links();
     let own = own_by_site(alloc, links, count)?;
-    let totals = totals_by_key(alloc, tree, links, children, &keys, count, &totals.nodes)?;
+    let totals = totals_by_key(alloc, tree, links, children, &keys, count, totals)?;
     Ok(Kind { own, totals })
 }
 
@@ -91,12 +87,11 @@ fn of_keys(
     profile: &Profile,
     tree: &Tree,
     children: &Children,
-    own: &[Sums],
-    totals: &Own,
+    totals: &[Sums],
     keys: &[Option<u32>],
     count: usize,
 ) -> Result<Kind, NoMemory>
-    requires summed { IsSummed profile.now tree.now.cliques tree.now.entries.items children.now.first.items children.now.next.items own.now totals.now.nodes.items totals.now.cliques.items }
+    requires summed { IsSummed profile.now tree.now.cliques tree.now.entries.items children.now.first.items children.now.next.items children.now.parents.items totals.now }
     requires each { length keys.now ≡ length profile.now.nodes }
     requires below { (d q : ℕ) → d < length profile.now.nodes → slice_index_or keys.now d None ≡ Some q → q < count }
     ensures each_own { IfOk result (λ kind. length kind.own.items ≡ count) }
@@ -106,7 +101,7 @@ fn of_keys(
         ≡ path_total tree.now.cliques tree.now.entries.items profile.now.links (λ d. same_option (Some q) (slice_index_or keys.now d None)) m) }
 {
     let links = profile.links();
-    let own = own_by_key(alloc, tree, links, keys, count, own)?;
-    let totals = totals_by_key(alloc, tree, links, children, keys, count, &totals.nodes)?;
+    let own = own_by_key(alloc, links, keys, count)?;
+    let totals = totals_by_key(alloc, tree, links, children, keys, count, totals)?;
     Ok(Kind { own, totals })
 }

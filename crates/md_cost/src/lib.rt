@@ -6,6 +6,7 @@ mod by_key;
 mod costs;
 mod descent;
 mod grouping;
+mod incoming;
 mod keys;
 mod kinds;
 mod laws;

@@ -1,5 +1,7 @@
 use crate::Sums;
 use crate::costs::Costs;
+use crate::incoming::own_sum;
+use crate::totals::sum_of_members;
 use crate::tree::Tree;
 use md_base::{CsdId, PdId, ProcId, SiteId};
 use md_dynamic::Profile;
@@ -42,7 +44,7 @@ impl Loaded {
     pub(crate) fn from_parts(profile: Profile, tree: Tree, costs: Costs) -> Loaded
         requires valid { IsValid profile }
         requires tree { IsTree (length profile.nodes) profile.links tree.cliques tree.entries.items }
-        requires costs { AreCosts profile tree.cliques costs }
+        requires costs { AreCosts profile tree.cliques tree.entries.items costs }
         ensures { result ≡ record { profile = profile; cliques = tree.cliques; entries = tree.entries.items } }
     {
         Loaded {
@@ -125,12 +127,12 @@ impl Loaded {
         }
     }
 
-    /// The own counts of a context: over the links that lead to it. Takes no memory.
+    /// The own counts of a context: over the links that lead to it, one by one. Takes no memory.
     pub fn node_own(&self, node: PdId) -> Sums
         requires { node < length self.now.profile.nodes }
         ensures { (v : View) (m : Measure) → IsFileView self.now.profile v → v.own (OfContext node) m ≡ Some (sum_of result m) }
     {
-        self.costs.own[node.number() as usize]
+        own_sum(&self.costs.incoming, self.profile.links(), node.number())
     }
 
     /// The total of a context: over the links whose path up has it. Takes no memory.
@@ -138,15 +140,16 @@ impl Loaded {
         requires { node < length self.now.profile.nodes }
         ensures { (v : View) (m : Measure) → IsFileView self.now.profile v → v.total (OfContext node) m ≡ Some (sum_of result m) }
     {
-        self.costs.totals.nodes[node.number() as usize]
+        self.costs.totals[node.number() as usize]
     }
 
-    /// The total of a clique: over the links whose path up meets it. Takes no memory.
+    /// The total of a clique: over the links whose path up meets it. It is added up over the clique's contexts. Takes no
+    /// memory.
     pub fn clique_total(&self, clique: u32) -> Sums
         requires { clique < clique_count self.now.cliques }
         ensures { (v : View) (m : Measure) → IsFileView self.now.profile v → v.total (OfClique clique) m ≡ Some (sum_of result m) }
     {
-        self.costs.totals.cliques[clique as usize]
+        sum_of_members(&self.tree.cliques, &self.costs.totals, clique)
     }
 
     /// The own counts of a procedure: over the links to its contexts. Takes no memory.

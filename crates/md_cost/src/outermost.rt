@@ -2,9 +2,9 @@
 ghost use Rattle.std.specs.Prelude.{◌≡◌, ◌<◌, ◌^◌, ◌↔◌, ℕ, IfOk, IfSome, IsTrue, Some, None, length, slice_index_or, slice_set};
 ghost use Rattle.md_clique.specs.Cliques.{clique_count};
 ghost use Rattle.md_cost.specs.Paths.{EntriesRise, start_of};
-ghost use Rattle.md_cost.specs.Walking.{AreMarks, AreThreaded, Stands, above, claimed, with_key, without_key, work};
+ghost use Rattle.md_cost.specs.Walking.{AreMarks, AreParents, AreThreaded, Stands, above, claimed, with_key, without_key, work};
 
-use crate::descent::{Children, above};
+use crate::descent::Children;
 use crate::tree::Tree;
 use md_base::NoMemory;
 use md_dynamic::LinkRow;
@@ -24,6 +24,7 @@ pub fn outermost(
     requires entries { length tree.now.entries.items ≡ clique_count tree.now.cliques }
     requires rise { EntriesRise tree.now.cliques tree.now.entries.items links.now }
     requires threaded { AreThreaded (length tree.now.cliques) (above tree.now.cliques (start_of links.now tree.now.entries.items)) children.now.first.items children.now.next.items }
+    requires parents { AreParents (length tree.now.cliques) (above tree.now.cliques (start_of links.now tree.now.entries.items)) children.now.parents.items }
     requires each { length keys.now ≡ length tree.now.cliques }
     requires below { (d q : ℕ) → d < length tree.now.cliques → slice_index_or keys.now d None ≡ Some q → q < count }
     ensures { IfOk result (λ marks. AreMarks tree.now.cliques (start_of links.now tree.now.entries.items) keys.now marks.items) }
@@ -66,6 +67,7 @@ impl Walk {
         requires entries { length tree.now.entries.items ≡ clique_count tree.now.cliques }
         requires rise { EntriesRise tree.now.cliques tree.now.entries.items links.now }
         requires threaded { AreThreaded (length tree.now.cliques) (above tree.now.cliques (start_of links.now tree.now.entries.items)) children.now.first.items children.now.next.items }
+        requires parents { AreParents (length tree.now.cliques) (above tree.now.cliques (start_of links.now tree.now.entries.items)) children.now.parents.items }
         requires each { length keys.now ≡ length tree.now.cliques }
         requires below { (d q : ℕ) → d < length tree.now.cliques → slice_index_or keys.now d None ≡ Some q → q < length self.old.active.items }
         requires stands { Stands tree.now.cliques (start_of links.now tree.now.entries.items) keys.now (length self.old.active.items) self.old.first.items self.old.active.items self.old.marks.items self.old.at }
@@ -75,7 +77,7 @@ impl Walk {
     {
         match self.first[self.at as usize] {
             Some(child) => self.enter(child, children.next[child as usize], keys[child as usize]),
-            None => self.leave(above(tree, links, keys.len() as u32, self.at)),
+            None => self.leave(children.parents[self.at as usize]),
         }
     }
 

@@ -1,12 +1,11 @@
-use Rattle.md_cost.proofs.GiveSteps.{gives_own_contexts, gives_total_contexts, gives_total_cliques}
 use Rattle.md_cost.proofs.costs.sum_costs.Goals as goal
 
 pub returns : goal.returns
 returns c =
     record {
-      own_contexts = gives_own_contexts c.args.profile.now c.requires.valid c.args.tree.now.cliques c.args.tree.now.entries.items c.requires.tree c.in_ok-own.own.items c.in_ok-own.ensures.own;
-      contexts = gives_total_contexts c.args.profile.now c.requires.valid c.args.tree.now.cliques c.args.tree.now.entries.items c.requires.tree c.in_ok-own.totals.nodes.items c.in_ok-own.totals.cliques.items c.in_ok-own.ensures.totals;
-      cliques_are = gives_total_cliques c.args.profile.now c.requires.valid c.args.tree.now.cliques c.args.tree.now.entries.items c.requires.tree c.in_ok-own.totals.nodes.items c.in_ok-own.totals.cliques.items c.in_ok-own.ensures.totals;
+      incoming = rw (c.nodes.ensures, c.links-links.ensures) at c.in_ok-incoming.ensures;
+      contexts = c.in_ok-totals.ensures.totals;
+      small = c.in_ok-totals.ensures.small;
       own_procedures = c.in_ok-procedures.ensures.own;
       procedures = c.in_ok-procedures.ensures.totals;
       own_modules = c.in_ok-modules.ensures.own;

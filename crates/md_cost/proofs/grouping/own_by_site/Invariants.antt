@@ -1,5 +1,5 @@
-use Rattle.md_cost.proofs.KeySteps.{BySite}
+use Rattle.md_cost.proofs.KeySteps.{ByLinks}
 use Rattle.md_cost.proofs.grouping.own_by_site.Given as goal
 
 abbrev pub invariant-loop-link : goal.invariant-loop-link
-invariant-loop-link l = BySite l.links l.count l.link-index l.sums.items
+invariant-loop-link l = ByLinks (λ r. r.site) l.links l.count l.link-index l.sums.items

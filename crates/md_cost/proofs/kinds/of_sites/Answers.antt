@@ -23,7 +23,7 @@ totals_by_key-requires-clause-below c =
     (sym (c.in_ok-keys.ensures.is d (omega arith)) ∙ (rw c.deref.ensures.value at e)))
 
 pub totals_by_key-requires-clause-totals : goal.totals_by_key-requires-clause-totals
-totals_by_key-requires-clause-totals c = rw (c.deref-2.ensures.value, c.links-links.ensures) c.requires.totals_are.of_node
+totals_by_key-requires-clause-totals c = rw c.links-links.ensures c.requires.totals_are.of_node
 
 pub returns-clause-totals : goal.returns-clause-totals
 returns-clause-totals c =

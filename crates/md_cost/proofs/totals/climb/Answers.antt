@@ -1,17 +1,17 @@
-use Rattle.std.proofs.Common.{◌≡◌, ℕ, suc, ◌-◌, ◌<◌, length, get_or, ap, ◌∙◌, arith}
-use Rattle.std.proofs.lemmas.List.{get_or_read}
+use Rattle.std.proofs.Common.{◌≡◌, ℕ, suc, ◌-◌, ◌<◌, eqb, length, get_or, ap, ◌∙◌, arith}
+use Rattle.md_base.specs.declared.measure.Measure.{Measure}
 use Rattle.md_clique.specs.Cliques.{clique_count}
-use Rattle.md_clique.proofs.Naming.{lt_clique_count}
-use Rattle.md_cost.specs.SumOf.{zero_sums}
+use Rattle.md_cost.specs.SumOf.{sum_of}
 use Rattle.md_cost.specs.Paths.{start_of}
-use Rattle.md_cost.proofs.ClimbSteps.{Climbed, climbed_own, climbed_next, climbed_all, room_above, room_in_clique, entries_rise, start_there, ends_at}
+use Rattle.md_cost.proofs.ClimbSteps.{Climbed, climbed, climbed_own, climbed_next, climbed_all, room_above, entries_rise, start_there, ends_at}
+use Rattle.md_cost.proofs.MemberSteps.{members_climbed, members_room}
 use Rattle.md_cost.proofs.totals.climb.Goals as goal
-use Rattle.md_cost.proofs.totals.climb.Goals.{In-loop-clique, After-start_of_entry-start}
+use Rattle.md_cost.proofs.totals.climb.Goals.{In-loop-clique, After-start_of_entry-start, After-sum_of_members-total}
 
 pub loop-clique-init : goal.loop-clique-init
 loop-clique-init c =
     let count = c.count-clique.ensures in
-    climbed_own c.args.cliques.now (start_of c.args.links.now c.args.entries.now) c.args.links.now (entries_rise c.args.cliques.now c.args.entries.now c.args.links.now c.requires.rise) (ends_at c.args.cliques.now c.args.links.now c.requires.ends) c.args.sums.now.nodes.items c.args.sums.now.cliques.items c.requires.own (c.count-clique.result - 1) (omega arith)
+    climbed_own c.args.cliques.now (start_of c.args.links.now c.args.entries.now) c.args.links.now (entries_rise c.args.cliques.now c.args.entries.now c.args.links.now c.requires.rise) (ends_at c.args.cliques.now c.args.links.now c.requires.ends) c.args.sums.now c.requires.own (c.count-clique.result - 1) (omega arith)
 
 few : (c : In-loop-clique) → c.loop-clique.clique - 1 < clique_count c.args.cliques.now
 few c = let count = c.count-clique.ensures in let le = c.loop-clique.auto.clique in omega arith
@@ -25,7 +25,7 @@ start_of_entry-start-requires-clause-starts c =
 more : (c : In-loop-clique) → c.loop-clique.clique - 1 ≡ suc (c.loop-clique.clique - 1 - 1)
 more c = omega arith
 
-kept : (c : In-loop-clique) → Climbed c.args.cliques.now (start_of c.args.links.now c.args.entries.now) c.args.links.now (suc (c.loop-clique.clique - 1 - 1)) c.loop-clique.sums.nodes.items c.loop-clique.sums.cliques.items
+kept : (c : In-loop-clique) → Climbed c.args.cliques.now (start_of c.args.links.now c.args.entries.now) c.args.links.now (suc (c.loop-clique.clique - 1 - 1)) c.loop-clique.sums
 kept c = rw (more c) at c.loop-clique.invariant
 
 few_more : (c : In-loop-clique) → suc (c.loop-clique.clique - 1 - 1) < clique_count c.args.cliques.now
@@ -37,98 +37,50 @@ there c = start_there c.args.cliques.now c.args.entries.now c.args.links.now c.r
 start_at : (c : After-start_of_entry-start) → c.loop-clique.clique - 1 ≡ suc (c.loop-clique.clique - 1 - 1) → c.start_of_entry-start.result ≡ start_of c.args.links.now c.args.entries.now (suc (c.loop-clique.clique - 1 - 1))
 start_at c e = c.start_of_entry-start.ensures ∙ ap (start_of c.args.links.now c.args.entries.now) e
 
-pub of-above-requires : goal.of-above-requires
-of-above-requires c =
-    let l = (goal.at.of-above-requires c).In-loop-clique in
-    rw (start_at c (more l)) (there l)
+-- what the clique hands up is its total
+total_is : (c : After-sum_of_members-total) → c.loop-clique.clique - 1 ≡ suc (c.loop-clique.clique - 1 - 1) → (m : Measure) → sum_of c.sum_of_members-total.result m ≡ climbed c.args.cliques.now (start_of c.args.links.now c.args.entries.now) c.args.links.now (suc (c.loop-clique.clique - 1 - 1)) (λ d. eqb (get_or c.args.cliques.now d 0) (suc (c.loop-clique.clique - 1 - 1))) m
+total_is c e m =
+    c.sum_of_members-total.ensures m
+    ∙ members_climbed c.args.cliques.now (start_of c.args.links.now c.args.entries.now) (entries_rise c.args.cliques.now c.args.entries.now c.args.links.now c.requires.rise) (start_there c.args.cliques.now c.args.entries.now c.args.links.now c.requires.rise) c.args.links.now (ends_at c.args.cliques.now c.args.links.now c.requires.ends) (c.loop-clique.clique - 1) c.loop-clique.sums c.loop-clique.invariant.of_node (c.loop-clique.clique - 1) m
+    ∙ ap (λ (k : ℕ). climbed c.args.cliques.now (start_of c.args.links.now c.args.entries.now) c.args.links.now k (λ d. eqb (get_or c.args.cliques.now d 0) k) m) e
 
-pub plus-node_sum-requires : goal.plus-node_sum-requires
-plus-node_sum-requires c =
-    let l = (goal.at.plus-node_sum-requires c).In-loop-clique in
-    let start = start_at (goal.at.plus-node_sum-requires c).After-start_of_entry-start (more l) in
-    let each_node = c.loop-clique.invariant.each_node in
-    let each_group = c.loop-clique.invariant.each_group in
-    let t = there l in
-    let f = few l in
-    let node = get_or_read c.loop-clique.sums.nodes.items c.start_of_entry-start.result c.index.result.now (omega arith) c.index.ensures zero_sums in
-    let total = get_or_read c.loop-clique.sums.cliques.items (c.loop-clique.clique - 1) c.index-total.result.now (omega arith) c.index-total.ensures zero_sums in
-    let total_at : c.index-total.result.now ≡ get_or c.loop-clique.sums.cliques.items (suc (c.loop-clique.clique - 1 - 1)) zero_sums = total ∙ ap (λ (k : ℕ). get_or c.loop-clique.sums.cliques.items k zero_sums) (more l) in
-    λ m. rw (node, total_at, start) (room_above c.args.cliques.now (start_of c.args.links.now c.args.entries.now) c.args.links.now (entries_rise c.args.cliques.now c.args.entries.now c.args.links.now c.requires.rise) (ends_at c.args.cliques.now c.args.links.now c.requires.ends) (c.loop-clique.clique - 1 - 1) c.loop-clique.sums.nodes.items c.loop-clique.sums.cliques.items (kept l) (few_more l) t c.requires.few c.requires.small m)
+pub sum_of_members-total-requires-clause-room : goal.sum_of_members-total-requires-clause-room
+sum_of_members-total-requires-clause-room c =
+    λ m. members_room c.args.cliques.now (start_of c.args.links.now c.args.entries.now) (entries_rise c.args.cliques.now c.args.entries.now c.args.links.now c.requires.rise) (start_there c.args.cliques.now c.args.entries.now c.args.links.now c.requires.rise) c.args.links.now (ends_at c.args.cliques.now c.args.links.now c.requires.ends) (c.loop-clique.clique - 1) c.loop-clique.sums c.loop-clique.invariant.of_node (c.loop-clique.clique - 1) m c.requires.few c.requires.small
 
-pub plus-clique_sum-requires : goal.plus-clique_sum-requires
-plus-clique_sum-requires c =
-    let l = (goal.at.plus-clique_sum-requires c).In-loop-clique in
-    let start = start_at (goal.at.plus-clique_sum-requires c).After-start_of_entry-start (more l) in
-    let each_group = c.loop-clique.invariant.each_group in
+pub slice_copy_out-plus : goal.slice_copy_out-plus
+slice_copy_out-plus c =
+    let l = (goal.at.slice_copy_out-plus c).In-loop-clique in
+    let start = start_at (goal.at.slice_copy_out-plus c).After-start_of_entry-start (more l) in
     let t = there l in
-    let f = few l in
-    let above = lt_clique_count c.args.cliques.now (start_of c.args.links.now c.args.entries.now (suc (c.loop-clique.clique - 1 - 1))) t in
-    let above_at : c.of-above.result ≡ get_or c.args.cliques.now (start_of c.args.links.now c.args.entries.now (suc (c.loop-clique.clique - 1 - 1))) 0 = c.of-above.ensures ∙ ap (λ (k : ℕ). get_or c.args.cliques.now k 0) start in
-    let group = get_or_read c.loop-clique.sums.cliques.items c.of-above.result c.index-in-loop-clique.result.now (omega arith) c.index-in-loop-clique.ensures zero_sums in
-    let total = get_or_read c.loop-clique.sums.cliques.items (c.loop-clique.clique - 1) c.index-total.result.now (omega arith) c.index-total.ensures zero_sums in
-    let total_at : c.index-total.result.now ≡ get_or c.loop-clique.sums.cliques.items (suc (c.loop-clique.clique - 1 - 1)) zero_sums = total ∙ ap (λ (k : ℕ). get_or c.loop-clique.sums.cliques.items k zero_sums) (more l) in
-    λ m. rw (group, total_at, above_at) (room_in_clique c.args.cliques.now (start_of c.args.links.now c.args.entries.now) c.args.links.now (entries_rise c.args.cliques.now c.args.entries.now c.args.links.now c.requires.rise) (ends_at c.args.cliques.now c.args.links.now c.requires.ends) (c.loop-clique.clique - 1 - 1) c.loop-clique.sums.nodes.items c.loop-clique.sums.cliques.items (kept l) (few_more l) t c.requires.few c.requires.small m)
+    let each = c.loop-clique.invariant.each_node in
+    omega arith
+
+pub bounds-sums-start : goal.bounds-sums-start
+bounds-sums-start c =
+    let l = (goal.at.bounds-sums-start c).In-loop-clique in
+    let start = start_at (goal.at.bounds-sums-start c).After-start_of_entry-start (more l) in
+    let t = there l in
+    let each = c.loop-clique.invariant.each_node in
+    omega arith
+
+pub plus-sum-requires : goal.plus-sum-requires
+plus-sum-requires c =
+    let l = (goal.at.plus-sum-requires c).In-loop-clique in
+    let start = start_at (goal.at.plus-sum-requires c).After-start_of_entry-start (more l) in
+    let total = total_is (goal.at.plus-sum-requires c).After-sum_of_members-total (more l) in
+    λ m. rw start (room_above c.args.cliques.now (start_of c.args.links.now c.args.entries.now) c.args.links.now (entries_rise c.args.cliques.now c.args.entries.now c.args.links.now c.requires.rise) (ends_at c.args.cliques.now c.args.links.now c.requires.ends) (c.loop-clique.clique - 1 - 1) c.loop-clique.sums (kept l) (few_more l) (there l) c.sum_of_members-total.result total c.requires.few c.requires.small m)
 
 pub loop-clique-preserved : goal.loop-clique-preserved
 loop-clique-preserved c =
     let l = (goal.at.loop-clique-preserved c).In-loop-clique in
     let start = start_at (goal.at.loop-clique-preserved c).After-start_of_entry-start (more l) in
-    let each_node = c.loop-clique.invariant.each_node in
-    let each_group = c.loop-clique.invariant.each_group in
-    let t = there l in
-    let f = few l in
-    let above = lt_clique_count c.args.cliques.now (start_of c.args.links.now c.args.entries.now (suc (c.loop-clique.clique - 1 - 1))) t in
-    let above_at : c.of-above.result ≡ get_or c.args.cliques.now (start_of c.args.links.now c.args.entries.now (suc (c.loop-clique.clique - 1 - 1))) 0 = c.of-above.ensures ∙ ap (λ (k : ℕ). get_or c.args.cliques.now k 0) start in
-    let node = get_or_read c.loop-clique.sums.nodes.items c.start_of_entry-start.result c.index.result.now (omega arith) c.index.ensures zero_sums in
-    let group = get_or_read c.loop-clique.sums.cliques.items c.of-above.result c.index-in-loop-clique.result.now (omega arith) c.index-in-loop-clique.ensures zero_sums in
-    let total = get_or_read c.loop-clique.sums.cliques.items (c.loop-clique.clique - 1) c.index-total.result.now (omega arith) c.index-total.ensures zero_sums in
-    let total_at : c.index-total.result.now ≡ get_or c.loop-clique.sums.cliques.items (suc (c.loop-clique.clique - 1 - 1)) zero_sums = total ∙ ap (λ (k : ℕ). get_or c.loop-clique.sums.cliques.items k zero_sums) (more l) in
-    let node_at : c.index.result.now ≡ get_or c.loop-clique.sums.nodes.items (start_of c.args.links.now c.args.entries.now (suc (c.loop-clique.clique - 1 - 1))) zero_sums = node ∙ ap (λ (k : ℕ). get_or c.loop-clique.sums.nodes.items k zero_sums) start in
-    let group_at : c.index-in-loop-clique.result.now ≡ get_or c.loop-clique.sums.cliques.items (get_or c.args.cliques.now (start_of c.args.links.now c.args.entries.now (suc (c.loop-clique.clique - 1 - 1))) 0) zero_sums = group ∙ ap (λ (k : ℕ). get_or c.loop-clique.sums.cliques.items k zero_sums) above_at in
-    rw (start, above_at) (climbed_next c.args.cliques.now (start_of c.args.links.now c.args.entries.now) c.args.links.now (entries_rise c.args.cliques.now c.args.entries.now c.args.links.now c.requires.rise) (ends_at c.args.cliques.now c.args.links.now c.requires.ends) (c.loop-clique.clique - 1 - 1) c.loop-clique.sums.nodes.items c.loop-clique.sums.cliques.items (kept l) (few_more l) t c.plus-node_sum.result c.plus-clique_sum.result
-    (λ m. rw (node_at, total_at) at (c.plus-node_sum.ensures m))
-    (λ m. rw (group_at, total_at) at (c.plus-clique_sum.ensures m)))
+    let total = total_is (goal.at.loop-clique-preserved c).After-sum_of_members-total (more l) in
+    rw start (climbed_next c.args.cliques.now (start_of c.args.links.now c.args.entries.now) c.args.links.now (entries_rise c.args.cliques.now c.args.entries.now c.args.links.now c.requires.rise) (ends_at c.args.cliques.now c.args.links.now c.requires.ends) (c.loop-clique.clique - 1 - 1) c.loop-clique.sums (kept l) (few_more l) (there l) c.sum_of_members-total.result total c.plus-sum.result
+    (λ m. rw start at (c.plus-sum.ensures m)))
 
 pub returns : goal.returns
 returns c =
     let count = c.count-clique.ensures in
     let last : c.loop-clique.clique - 1 ≡ 0 = omega arith in
-    climbed_all c.args.cliques.now c.args.entries.now c.args.links.now c.loop-clique.sums.nodes.items c.loop-clique.sums.cliques.items (rw last at c.loop-clique.invariant)
-
-pub index-requires : goal.index-requires
-index-requires c =
-    let l = (goal.at.index-requires c).In-loop-clique in
-    let start = start_at (goal.at.index-requires c).After-start_of_entry-start (more l) in
-    let t = there l in
-    let each = c.loop-clique.invariant.each_node in
-    let o = c.loop-clique.sums.nodes.ok.0 in
-    omega arith
-
-pub index_mut-requires : goal.index_mut-requires
-index_mut-requires c =
-    let l = (goal.at.index_mut-requires c).In-loop-clique in
-    let start = start_at (goal.at.index_mut-requires c).After-start_of_entry-start (more l) in
-    let t = there l in
-    let each = c.loop-clique.invariant.each_node in
-    let o = c.loop-clique.sums.nodes.ok.0 in
-    omega arith
-
-pub index-requires-in-loop-clique : goal.index-requires-in-loop-clique
-index-requires-in-loop-clique c =
-    let l = (goal.at.index-requires-in-loop-clique c).In-loop-clique in
-    let start = start_at (goal.at.index-requires-in-loop-clique c).After-start_of_entry-start (more l) in
-    let above = lt_clique_count c.args.cliques.now (start_of c.args.links.now c.args.entries.now (suc (c.loop-clique.clique - 1 - 1))) (there l) in
-    let above_at : c.of-above.result ≡ get_or c.args.cliques.now (start_of c.args.links.now c.args.entries.now (suc (c.loop-clique.clique - 1 - 1))) 0 = c.of-above.ensures ∙ ap (λ (k : ℕ). get_or c.args.cliques.now k 0) start in
-    let each = c.loop-clique.invariant.each_group in
-    let o = c.loop-clique.sums.cliques.ok.0 in
-    omega arith
-
-pub index_mut-requires-in-loop-clique : goal.index_mut-requires-in-loop-clique
-index_mut-requires-in-loop-clique c =
-    let l = (goal.at.index_mut-requires-in-loop-clique c).In-loop-clique in
-    let start = start_at (goal.at.index_mut-requires-in-loop-clique c).After-start_of_entry-start (more l) in
-    let above = lt_clique_count c.args.cliques.now (start_of c.args.links.now c.args.entries.now (suc (c.loop-clique.clique - 1 - 1))) (there l) in
-    let above_at : c.of-above.result ≡ get_or c.args.cliques.now (start_of c.args.links.now c.args.entries.now (suc (c.loop-clique.clique - 1 - 1))) 0 = c.of-above.ensures ∙ ap (λ (k : ℕ). get_or c.args.cliques.now k 0) start in
-    let each = c.loop-clique.invariant.each_group in
-    let o = c.loop-clique.sums.cliques.ok.0 in
-    omega arith
+    climbed_all c.args.cliques.now c.args.entries.now c.args.links.now c.loop-clique.sums (rw last at c.loop-clique.invariant)

@@ -1,14 +1,12 @@
-use Rattle.std.proofs.Common.{◌<◌, Some, sym, ap, ◌∙◌, arith}
-use Rattle.std.proofs.lemmas.List.{get_or_read}
-use Rattle.md_clique.specs.Cliques.{clique_count}
-use Rattle.md_cost.specs.declared.sums.Sums.{Sums}
-use Rattle.md_cost.specs.SumOf.{sum_of, zero_sums}
+use Rattle.std.proofs.Common.{Some, ℕ, sym, ap, ◌∙◌}
+use Rattle.md_cost.proofs.GiveSteps.{room_of_clique, total_of_clique}
 use Rattle.md_cost.proofs.loaded.Loaded.clique_total.Goals as goal
+
+pub sum_of_members-requires-clause-room : goal.sum_of_members-requires-clause-room
+sum_of_members-requires-clause-room c =
+    λ m. rw c.deref.ensures.value (room_of_clique c.self.inside.profile c.self.invariant.valid c.self.inside.tree.cliques c.self.inside.tree.entries.items c.self.invariant.tree c.self.inside.costs.totals.items c.self.invariant.costs.contexts c.self.invariant.costs.small c.args.clique m)
 
 pub returns : goal.returns
 returns c =
-    let kept = c.self.invariant.costs.cliques_are in
-    let each = kept.each in
-    let there : c.args.clique < clique_count c.self.inside.tree.cliques = rw (← c.self.view_is) at c.requires in
-    let read = get_or_read c.self.inside.costs.totals.cliques.items c.args.clique c.index.result.now (omega arith) c.index.ensures zero_sums in
-    λ v m is. kept.is v c.args.clique m (rw (← c.self.view_is) at is) there ∙ ap (λ (s : Sums). Some (sum_of s m)) (sym (read))
+    λ v m is. total_of_clique c.self.inside.profile c.self.invariant.valid c.self.inside.tree.cliques c.self.inside.tree.entries.items c.self.invariant.tree c.self.inside.costs.totals.items c.self.invariant.costs.contexts v (rw (← c.self.view_is) at is) c.args.clique m
+    ∙ ap (λ (x : ℕ). Some x) (sym (rw c.deref.ensures.value at (c.sum_of_members.ensures m)))

@@ -1,6 +1,7 @@
 use Rattle.std.proofs.Common.{◌≡◌, ◌<◌, length, get_or, Some, None, sym, ◌∙◌, arith}
 use Rattle.std.proofs.lemmas.List.{get_or_read}
 use Rattle.md_cost.specs.Paths.{start_of}
+use Rattle.md_cost.specs.Walking.{above}
 use Rattle.md_cost.proofs.ClimbSteps.{entries_rise, start_there}
 use Rattle.md_cost.proofs.WalkSteps.{below_top, entered, entered_less, left, left_less, key_below, mark_below}
 use Rattle.md_cost.proofs.outermost.Walk.step.Goals as goal
@@ -97,7 +98,9 @@ returns-in-None-clause-stands c =
     let le = is.at_there in
     let none : get_or c.args.self.now.first.items c.args.self.now.at None ≡ None = sym (get_or_read c.args.self.now.first.items c.args.self.now.at c.index.result.now (omega arith) c.index.ensures None) ∙ c.in-None.is in
     let there : c.args.self.now.at < length c.args.tree.now.cliques = below_top c.args.self.now.at (length c.args.tree.now.cliques) le (λ e. c.requires.more (e, none)) in
-    rw (c.leave.ensures.first, c.leave.ensures.active, c.leave.ensures.marks, c.leave.ensures.at, c.above.ensures.is)
+    let each = c.requires.parents.each in
+    let up : c.index-in-None.result.now ≡ above c.args.tree.now.cliques (start_of c.args.links.now c.args.tree.now.entries.items) c.args.self.now.at = get_or_read c.args.children.now.parents.items c.args.self.now.at c.index-in-None.result.now (omega arith) c.index-in-None.ensures 0 ∙ c.requires.parents.is c.args.self.now.at there in
+    rw (c.leave.ensures.first, c.leave.ensures.active, c.leave.ensures.marks, c.leave.ensures.at, up)
     (left c.args.tree.now.cliques (start_of c.args.links.now c.args.tree.now.entries.items)
     (entries_rise c.args.tree.now.cliques c.args.tree.now.entries.items c.args.links.now c.requires.rise)
     (start_there c.args.tree.now.cliques c.args.tree.now.entries.items c.args.links.now c.requires.rise)
@@ -111,7 +114,9 @@ returns-in-None-clause-less c =
     let le = is.at_there in
     let none : get_or c.args.self.now.first.items c.args.self.now.at None ≡ None = sym (get_or_read c.args.self.now.first.items c.args.self.now.at c.index.result.now (omega arith) c.index.ensures None) ∙ c.in-None.is in
     let there : c.args.self.now.at < length c.args.tree.now.cliques = below_top c.args.self.now.at (length c.args.tree.now.cliques) le (λ e. c.requires.more (e, none)) in
-    rw (c.leave.ensures.first, c.leave.ensures.at, c.above.ensures.is)
+    let each = c.requires.parents.each in
+    let up : c.index-in-None.result.now ≡ above c.args.tree.now.cliques (start_of c.args.links.now c.args.tree.now.entries.items) c.args.self.now.at = get_or_read c.args.children.now.parents.items c.args.self.now.at c.index-in-None.result.now (omega arith) c.index-in-None.ensures 0 ∙ c.requires.parents.is c.args.self.now.at there in
+    rw (c.leave.ensures.first, c.leave.ensures.at, up)
     (left_less c.args.tree.now.cliques (start_of c.args.links.now c.args.tree.now.entries.items)
     (entries_rise c.args.tree.now.cliques c.args.tree.now.entries.items c.args.links.now c.requires.rise)
     (start_there c.args.tree.now.cliques c.args.tree.now.entries.items c.args.links.now c.requires.rise)
