@@ -1,6 +1,6 @@
 -- From the profile of a run to the turns of a procedure's goals.
-use Rattle.std.proofs.Common.{◌≡◌, ◌∙◌, refl, sym, ap, subst, ℕ, ◌<◌, ◌^◌, List, Option, None, Some}
-use Rattle.std.specs.Prelude.{Result, Ok, Err, slice_get}
+use Rattle.std.proofs.Common.{◌≡◌, ◌∙◌, refl, sym, ap, subst, ℕ, ◌<◌, ◌^◌, List, Some}
+use Rattle.std.specs.Prelude.{slice_get}
 use Rattle.md_cover.specs.Coverage.{IsAccepted, IsCountedIn, IsCoverageOf}
 use Rattle.md_cover.specs.Covered.{Covered}
 use Rattle.md_cover.specs.Text.{cover_text}

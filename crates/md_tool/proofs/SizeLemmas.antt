@@ -1,14 +1,14 @@
 -- A profile file has at least 36 bytes for each link.
-use Rattle.std.proofs.Common.{◌≡◌, refl, ap, subst, inl, inr, ◌⊎◌, ℕ, zero, suc, ◌+◌, ◌*◌, ◌≤◌, ◌<◌, ◌^◌, List, [], ◌∷◌, ◌++◌, length, length-append, take, Option, arith}
+use Rattle.std.proofs.Common.{◌≡◌, refl, ap, inl, inr, ◌⊎◌, ℕ, zero, suc, ◌+◌, ◌*◌, ◌≤◌, ◌<◌, ◌^◌, List, [], ◌∷◌, ◌++◌, length, length-append, take, Option, arith}
 use Rattle.std.specs.Prelude.{All, flat_map, slice_index_or}
 use Rattle.md_base.specs.Files.{Files}
-use Rattle.md_deepfile.specs.Bytes.{u32, or_none, numbers_of, name_bytes, proc_bytes, site_bytes, link_bytes, each, magic, flag_byte, body_bytes, file_bytes, file_bytes1}
+use Rattle.md_deepfile.specs.Bytes.{u32, or_none, numbers_of, name_bytes, proc_bytes, site_bytes, link_bytes, each, magic, body_bytes, file_bytes, file_bytes1}
 use Rattle.md_deepfile.specs.Loads.{FileSpells}
 use Rattle.md_deepfile.specs.Spells.{Spells}
 use Rattle.md_dynamic.specs.declared.link.LinkRow.{LinkRow}
 use Rattle.md_dynamic.specs.Profile.{ProfileRows}
 use Rattle.md_cost.specs.Loading.{LoadedRows}
-use Rattle.md_tool.specs.Stored.{IsLoadedFrom, longest_profile}
+use Rattle.md_tool.specs.Stored.{longest_profile}
 use Rattle.md_tool.specs.Summed.{AreLoaded}
 
 four_bytes : (n : ℕ) → length (u32 n) ≡ 4

@@ -1,11 +1,11 @@
 -- What comes of profiles that are added up.
-use Rattle.std.proofs.Common.{◌≡◌, ◌∙◌, refl, sym, ap, subst, inl, inr, ℕ, zero, suc, ◌+◌, ◌≤◌, ◌<◌, ◌^◌, List, [], ◌∷◌, ◌++◌, length, take, drop, Option, Some, arith}
+use Rattle.std.proofs.Common.{◌≡◌, ◌∙◌, refl, sym, ap, inl, inr, ℕ, zero, suc, ◌+◌, ◌<◌, List, [], ◌∷◌, ◌++◌, length, take, drop, Option, Some, arith}
 use Rattle.std.proofs.lemmas.List.{take_more}
-use Rattle.std.specs.Prelude.{Result, Ok, Err, slice_get, slice_index_or, option_map}
+use Rattle.std.specs.Prelude.{Err, slice_get, slice_index_or, option_map}
 use Rattle.std.specs.Borrow.{Bor}
 use Rattle.md_base.specs.Files.{Files}
 use Rattle.md_cost.specs.Loading.{LoadedRows}
-use Rattle.md_dump.specs.Sums.{IsFirstOther, AreOfOne, HaveViews, AreProcSums, statics_at}
+use Rattle.md_dump.specs.Sums.{IsFirstOther, AreOfOne, HaveViews, AreProcSums}
 use Rattle.md_dump.specs.declared.summing.ProcSum.{ProcSum}
 use Rattle.md_static.specs.Tables.{Static}
 use Rattle.md_words.specs.Told.{texts}
@@ -13,7 +13,7 @@ use Rattle.md_tool.specs.declared.fault.Fault.{Fault}
 use Rattle.md_tool.specs.declared.fault.Fault.TheVariants.{Usage, Read, TooLong, Refused, OutOfSteps, Thrown, Damaged, TooLarge, TwoEntries, DamagedLine, AnotherProgram, NoSuchPage, Write, NoMemory, Network}
 use Rattle.md_tool.specs.Due.{WriteEnds}
 use Rattle.md_tool.specs.Stored.{IsLoadedFrom, ViewFails}
-use Rattle.md_tool.specs.Summed.{AreLoaded, StopsAt, AddUpFails, IsSumOf, IsOfAnother, SumEnds, SumStops, sum_text}
+use Rattle.md_tool.specs.Summed.{AreLoaded, StopsAt, AddUpFails, IsSumOf, IsOfAnother, SumEnds, sum_text}
 
 -- ---- lists of loaded profiles
 
