@@ -9,3 +9,4 @@ pub mod Judge
 pub mod Keys
 pub mod Told
 pub mod Throws
+pub mod Words

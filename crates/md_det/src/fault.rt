@@ -1,5 +1,6 @@
 // Why a program is refused by the determinism checks.
-ghost use Rattle.std.specs.Prelude.{◌≡◌};
+ghost use Rattle.std.specs.Prelude.{◌≡◌, Some};
+ghost use Rattle.md_det.specs.Words.{det_fault_words, det_fault_line};
 
 use md_base::NoMemory;
 use md_hlds::Det;
@@ -23,34 +24,32 @@ pub enum DetFault {
     NoMemory,
 }
 
-impl fmt::Display for DetFault {
-    fn fmt<W: fmt::Write>(&self, f: &mut fmt::Formatter<W>) -> fmt::Result {
+impl DetFault {
+    /// The line of the declaration or of the goal that is at fault, or `None` exactly where memory was refused.
+    pub fn line(self) -> Option<u32>
+        ensures { result ≡ det_fault_line self }
+    {
         match self {
-            DetFault::Declared {
-                declared,
-                inferred,
-                ..
-            } => write!(
-                f,
-                "declared {}, inferred {}",
-                word_of(*declared),
-                word_of(*inferred)
-            ),
-            DetFault::ManyInCondition(_) => write!(f, "condition with many solutions binds"),
-            DetFault::IoInBacktracking(_) => write!(f, "io in backtracking"),
-            DetFault::NoMemory => write!(f, "want of memory"),
+            DetFault::Declared { line, .. } => Some(line),
+            DetFault::ManyInCondition(line) => Some(line),
+            DetFault::IoInBacktracking(line) => Some(line),
+            DetFault::NoMemory => None,
         }
     }
 }
 
-/// The word for a determinism in a declaration.
-fn word_of(det: Det) -> &'static str {
-    match det {
-        Det::Det => "det",
-        Det::Semidet => "semidet",
-        Det::Multi => "multi",
-        Det::Nondet => "nondet",
-        Det::Failure => "failure",
+impl fmt::Display for DetFault {
+    ghost output = { λ fault. Some (det_fault_words fault) };
+
+    fn fmt<W: fmt::Write>(&self, f: &mut fmt::Formatter<W>) -> fmt::Result {
+        match self {
+            DetFault::Declared {
+                declared, inferred, ..
+            } => write!(f, "declared {declared}, inferred {inferred}"),
+            DetFault::ManyInCondition(_) => f.write_str("condition with many solutions binds"),
+            DetFault::IoInBacktracking(_) => f.write_str("io in backtracking"),
+            DetFault::NoMemory => f.write_str("want of memory"),
+        }
     }
 }
 

@@ -6,3 +6,4 @@ pub mod Switch
 pub mod Trace
 pub mod Run
 pub mod Sites
+pub mod Words

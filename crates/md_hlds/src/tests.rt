@@ -101,3 +101,18 @@ fn variables_are_kept_in_order(rt: HostRuntime) -> Result<(), Fail> {
     assert_eq!(rt; some.into_vec().as_slice(), [4, 0, 4].as_slice());
     Ok(())
 }
+
+#[test]
+fn determinisms_have_words(rt: HostRuntime) -> Result<(), Fail> {
+    for (det, word) in [
+        (Det::Det, "det"),
+        (Det::Semidet, "semidet"),
+        (Det::Multi, "multi"),
+        (Det::Nondet, "nondet"),
+        (Det::Failure, "failure"),
+    ] {
+        assert_eq!(rt; det.word(), word);
+        assert_eq!(rt; format!(in rt.alloc(); "{det}")?.as_str(), word);
+    }
+    Ok(())
+}

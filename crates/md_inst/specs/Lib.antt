@@ -7,3 +7,4 @@ pub mod Arguments
 pub mod Simple
 pub mod Kinds
 pub mod Found
+pub mod Words

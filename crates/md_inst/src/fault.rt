@@ -1,5 +1,6 @@
 // Why a program is refused by the mode checks.
-ghost use Rattle.std.specs.Prelude.{◌≡◌};
+ghost use Rattle.std.specs.Prelude.{◌≡◌, Some};
+ghost use Rattle.md_inst.specs.Words.{mode_fault_words, mode_fault_line};
 
 use md_base::NoMemory;
 use std::alloc::{AllocError, AllocFailed};
@@ -29,19 +30,41 @@ pub enum ModeFault {
     NoMemory,
 }
 
+impl ModeFault {
+    /// The line of the declaration, the goal or the clause that is at fault, or `None` exactly where memory was refused.
+    pub fn line(self) -> Option<u32>
+        ensures { result ≡ mode_fault_line self }
+    {
+        match self {
+            ModeFault::UnknownName(line) => Some(line),
+            ModeFault::Arity(line) => Some(line),
+            ModeFault::TypeClash(line) => Some(line),
+            ModeFault::Unbound(line) => Some(line),
+            ModeFault::BoundTwice(line) => Some(line),
+            ModeFault::BranchBinds(line) => Some(line),
+            ModeFault::IoUsed(line) => Some(line),
+            ModeFault::ClosureTest(line) => Some(line),
+            ModeFault::NoMain(line) => Some(line),
+            ModeFault::NoMemory => None,
+        }
+    }
+}
+
 impl fmt::Display for ModeFault {
+    ghost output = { λ fault. Some (mode_fault_words fault) };
+
     fn fmt<W: fmt::Write>(&self, f: &mut fmt::Formatter<W>) -> fmt::Result {
         match self {
-            ModeFault::UnknownName(_) => write!(f, "unknown name"),
-            ModeFault::Arity(_) => write!(f, "wrong number of arguments"),
-            ModeFault::TypeClash(_) => write!(f, "type clash"),
-            ModeFault::Unbound(_) => write!(f, "unbound variable"),
-            ModeFault::BoundTwice(_) => write!(f, "variable bound twice"),
-            ModeFault::BranchBinds(_) => write!(f, "branches bind differently"),
-            ModeFault::IoUsed(_) => write!(f, "io used"),
-            ModeFault::ClosureTest(_) => write!(f, "closure compared"),
-            ModeFault::NoMain(_) => write!(f, "no main"),
-            ModeFault::NoMemory => write!(f, "want of memory"),
+            ModeFault::UnknownName(_) => f.write_str("unknown name"),
+            ModeFault::Arity(_) => f.write_str("wrong number of arguments"),
+            ModeFault::TypeClash(_) => f.write_str("type clash"),
+            ModeFault::Unbound(_) => f.write_str("unbound variable"),
+            ModeFault::BoundTwice(_) => f.write_str("variable bound twice"),
+            ModeFault::BranchBinds(_) => f.write_str("branches bind differently"),
+            ModeFault::IoUsed(_) => f.write_str("io used"),
+            ModeFault::ClosureTest(_) => f.write_str("closure compared"),
+            ModeFault::NoMain(_) => f.write_str("no main"),
+            ModeFault::NoMemory => f.write_str("want of memory"),
         }
     }
 }

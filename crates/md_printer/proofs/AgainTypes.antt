@@ -7,6 +7,7 @@ use Rattle.md_hlds.specs.declared.types.Det.{Det}
 use Rattle.md_hlds.specs.declared.goal.PredName.{PredName}
 use Rattle.md_hlds.specs.Hlds.{HldsType, closure, gathered_types, HldsFunctor, HldsTypeDef}
 use Rattle.md_hlds.proofs.Bridge.{listed_types-gathered}
+use Rattle.md_hlds.specs.Words.{det_word}
 use Rattle.md_token.specs.declared.kind.Kind.{Kind}
 use Rattle.md_token.specs.declared.kind.Kind.TheVariants as kind
 use Rattle.md_token.proofs.Spelled as spelled
@@ -120,16 +121,16 @@ modes_again ms i j e a = enclosed_again (Is rule.mode_word) kind.Close (codes ")
 abbrev mode_words : List Mode → Tokens
 mode_words ms = closed (single print.mode_word) (codes ")") ms
 
-inst_onto : (ms : List Mode) (d : Det) (s : List ℕ) → onto (print.inst_tokens ms d) s ≡ codes "(" ++ 32 ∷ (codes "pred" ++ 32 ∷ (codes "(" ++ 32 ∷ onto (mode_words ms) (codes "is" ++ 32 ∷ (print.determinism_word d ++ 32 ∷ (codes ")" ++ 32 ∷ s)))))
+inst_onto : (ms : List Mode) (d : Det) (s : List ℕ) → onto (print.inst_tokens ms d) s ≡ codes "(" ++ 32 ∷ (codes "pred" ++ 32 ∷ (codes "(" ++ 32 ∷ onto (mode_words ms) (codes "is" ++ 32 ∷ (det_word d ++ 32 ∷ (codes ")" ++ 32 ∷ s)))))
 inst_onto ms d s =
     ap (λ (u : List ℕ). codes "(" ++ 32 ∷ (codes "pred" ++ 32 ∷ (codes "(" ++ 32 ∷ u)))
-    (onto-append (mode_words ms ++ codes "is" ∷ print.determinism_word d ∷ []) (codes ")" ∷ []) s
-    ∙ onto-append (mode_words ms) (codes "is" ∷ print.determinism_word d ∷ []) (codes ")" ++ 32 ∷ s))
+    (onto-append (mode_words ms ++ codes "is" ∷ det_word d ∷ []) (codes ")" ∷ []) s
+    ∙ onto-append (mode_words ms) (codes "is" ∷ det_word d ∷ []) (codes ")" ++ 32 ∷ s))
 
 inst_again : (ms : List Mode) (d : Det) (i j : Input) → g.Inst ms d i j → Good i → (n : ℕ) (s : List ℕ) (m : Input) → g.Inst ms d (at n (onto (print.inst_tokens ms d) s) m) (at n s m)
 inst_again _ _ _ _ (g.Inst.inst ms d i j k l m n o p a b c e f h z) good q s w =
     let u1 : List ℕ = codes ")" ++ 32 ∷ s in
-    let u2 : List ℕ = print.determinism_word d ++ 32 ∷ u1 in
+    let u2 : List ℕ = det_word d ++ 32 ∷ u1 in
     let u3 : List ℕ = codes "is" ++ 32 ∷ u2 in
     let u4 : List ℕ = onto (mode_words ms) u3 in
     let u5 : List ℕ = codes "(" ++ 32 ∷ u4 in
@@ -214,7 +215,7 @@ own_name home w q io e = subst (λ (q : PredName). rule.is_of_library q.qualifie
 
 -- a predicate's declaration behind its `:-`
 abbrev pub declaration_rest : rule.Declaration → Tokens
-declaration_rest d = codes "pred" ∷ print.written_name d.name ∷ (arguments print.argument_tokens d.args ++ codes "is" ∷ print.determinism_word d.det ∷ [])
+declaration_rest d = codes "pred" ∷ print.written_name d.name ∷ (arguments print.argument_tokens d.args ++ codes "is" ∷ det_word d.det ∷ [])
 
 pub declared_printable : (d : rule.Declaration) (i j : Input) → g.PredDeclaration d i j → Good i → IsPrintable i.home d.name
 declared_printable _ _ _ (g.PredDeclaration.pred_declaration q as' d i j k l m n o a b c e f h) good =
@@ -230,12 +231,12 @@ declaration_again _ _ _ (g.PredDeclaration.pred_declaration q as' d i j k l m n 
     let pr : IsPrintable i.home q = subst (λ (home : List ℕ). IsPrintable home q) (sym (same_home i j st)) (printable q j k nf.0 (st.good good)) in
     let gk : Good k = (declared_name_still q j k b).good (st.good good) in
     let z : List ℕ = 46 ∷ 10 ∷ s in
-    let u1 : List ℕ = print.determinism_word d ++ 32 ∷ z in
+    let u1 : List ℕ = det_word d ++ 32 ∷ z in
     let u2 : List ℕ = codes "is" ++ 32 ∷ u1 in
     let u3 : List ℕ = onto (arguments print.argument_tokens as') u2 in
     let u4 : List ℕ = print.written_name q ++ 32 ∷ u3 in
     subst (λ (u : List ℕ). g.PredDeclaration (record { name = q; args = as'; det = d }) (at w (codes "pred" ++ 32 ∷ (print.written_name q ++ 32 ∷ u)) i) (at (w + 1) s i))
-    (sym (onto-append (arguments print.argument_tokens as') (codes "is" ∷ print.determinism_word d ∷ []) z))
+    (sym (onto-append (arguments print.argument_tokens as') (codes "is" ∷ det_word d ∷ []) z))
     (g.PredDeclaration.pred_declaration q as' d (at w (codes "pred" ++ 32 ∷ u4) i) (at w u4 i) (at w u3 i) (at w u2 i) (at w u1 i) (at w z i) (at (w + 1) s i)
     (sign_takes kind.Pred (codes "pred") spelled.reads_pred w u4 i)
     (declared_name_takes q i pr io w u3)

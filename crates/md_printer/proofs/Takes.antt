@@ -16,6 +16,7 @@ use Rattle.md_hlds.specs.declared.goal.PredName.{PredName}
 use Rattle.md_hlds.specs.declared.goal.Term.TheVariants as term
 use Rattle.md_hlds.specs.HldsGoal.{SimpleGoal, Unifies}
 use Rattle.md_hlds.specs.Hlds.{HldsType, number, text, world, named, same_qualifier}
+use Rattle.md_hlds.specs.Words.{det_word}
 use Rattle.md_token.specs.declared.kind.Kind.{Kind}
 use Rattle.md_token.specs.declared.kind.Kind.TheVariants as kind
 use Rattle.md_token.specs.Kinds.{same_kind}
@@ -135,7 +136,7 @@ unfolding rule.ho_mode token next at
 ho_mode_takes _ input n s i = along (λ (j : Input). Is rule.ho_mode mode.In j (at n s i)) kind.Name (codes "in") spelled.reads_word_in n s i refl
 ho_mode_takes _ output n s i = along (λ (j : Input). Is rule.ho_mode mode.Out j (at n s i)) kind.Name (codes "out") spelled.reads_word_out n s i refl
 
-pub determinism_takes : (d : Det) (n : ℕ) (s : List ℕ) (i : Input) → Is rule.determinism d (at n (print.determinism_word d ++ 32 ∷ s) i) (at n s i)
+pub determinism_takes : (d : Det) (n : ℕ) (s : List ℕ) (i : Input) → Is rule.determinism d (at n (det_word d ++ 32 ∷ s) i) (at n s i)
 unfolding rule.determinism token next at
 determinism_takes det.Det n s i = along (λ (j : Input). Is rule.determinism det.Det j (at n s i)) kind.Name (codes "det") spelled.reads_word_det n s i refl
 determinism_takes det.Semidet n s i = along (λ (j : Input). Is rule.determinism det.Semidet j (at n s i)) kind.Name (codes "semidet") spelled.reads_word_semidet n s i refl

@@ -4,7 +4,6 @@ use Rattle.std.specs.List.{flat_map}
 use Rattle.md_hlds.specs.declared.types.Mode.{Mode}
 use Rattle.md_hlds.specs.declared.types.Mode.TheVariants as mode
 use Rattle.md_hlds.specs.declared.types.Det.{Det}
-use Rattle.md_hlds.specs.declared.types.Det.TheVariants as det
 use Rattle.md_hlds.specs.declared.goal.PredName.{PredName}
 use Rattle.md_hlds.specs.declared.goal.Term.{Term}
 use Rattle.md_hlds.specs.declared.goal.Term.TheVariants as term
@@ -14,6 +13,7 @@ use Rattle.md_hlds.specs.declared.goal.Cmp.{Cmp}
 use Rattle.md_hlds.specs.declared.goal.Cmp.TheVariants as cmp
 use Rattle.md_hlds.specs.HldsGoal.{HldsGoal, At, HldsGoals, nothing, also, GoalExpr, SimpleGoal, CallGoal, HoCallGoal, ConjGoal, DisjGoal, IfGoal, NotGoal, SomeGoal, Simple, Succeeds, Fails, Unifies, Computes, Compares, WritesInt, WritesText, EndsLine, Raises}
 use Rattle.md_hlds.specs.Hlds.{HldsType, number, text, world, named, closure, listed_types, HldsFunctor, HldsTypeDef, Procedure, Hlds}
+use Rattle.md_hlds.specs.Words.{det_word}
 use Rattle.md_printer.specs.Layout.{Tokens, sentence, in_parentheses, separated, arguments}
 
 -- ---- names, integers and strings
@@ -149,20 +149,13 @@ mode_word mode.Out = codes "out"
 mode_word mode.Di = codes "di"
 mode_word mode.Uo = codes "uo"
 
-abbrev pub determinism_word : Det → List ℕ
-determinism_word det.Det = codes "det"
-determinism_word det.Semidet = codes "semidet"
-determinism_word det.Multi = codes "multi"
-determinism_word det.Nondet = codes "nondet"
-determinism_word det.Failure = codes "failure"
-
 -- the types of a higher-order type's arguments, behind its word
 abbrev pub inner_types : HldsType → Tokens
 inner_types (closure args modes d) = in_parentheses (separated (single type_word) (codes ",") (listed_types args))
 inner_types _ = []
 
 abbrev pub inst_tokens : List Mode → Det → Tokens
-inst_tokens modes d = in_parentheses (codes "pred" ∷ (in_parentheses (separated (single mode_word) (codes ",") modes) ++ codes "is" ∷ determinism_word d ∷ []))
+inst_tokens modes d = in_parentheses (codes "pred" ∷ (in_parentheses (separated (single mode_word) (codes ",") modes) ++ codes "is" ∷ det_word d ∷ []))
 
 -- the modes of a higher-order type's arguments, with its determinism, behind the argument's own mode
 abbrev pub inner_modes : HldsType → Tokens
@@ -173,7 +166,7 @@ abbrev pub argument_tokens : HldsType × Mode → Tokens
 argument_tokens a = type_word a.0 ∷ (inner_types a.0 ++ codes "::" ∷ mode_word a.1 ∷ inner_modes a.0)
 
 abbrev pub declaration_tokens : Procedure → Tokens
-declaration_tokens p = codes ":-" ∷ codes "pred" ∷ written p.qualifier p.name ∷ (arguments argument_tokens p.args ++ codes "is" ∷ determinism_word p.det ∷ [])
+declaration_tokens p = codes ":-" ∷ codes "pred" ∷ written p.qualifier p.name ∷ (arguments argument_tokens p.args ++ codes "is" ∷ det_word p.det ∷ [])
 
 abbrev pub clause_tokens : Procedure → Tokens
 clause_tokens p = written p.qualifier p.name ∷ (variables_in_parentheses p.vars p.head ++ codes ":-" ∷ goal_tokens p.vars false p.body)

@@ -1,6 +1,7 @@
 // Predicates: declarations and clauses.
 ghost use Rattle.std.specs.Prelude.{◌≡◌, ◌++◌, OnOk, codes};
 ghost use Rattle.md_hlds.specs.Hlds.{args_of, procedure_of, hlds_type_of};
+ghost use Rattle.md_hlds.specs.Words.{det_word};
 ghost use Rattle.md_printer.specs.Layout.{arguments, further, laid, separated, spaced};
 ghost use Rattle.md_printer.specs.Printed as spec;
 
@@ -147,13 +148,7 @@ fn mode(text: &mut Vec<u8>, mode: Mode) -> Result<(), NoMemory>
 }
 
 fn determinism(text: &mut Vec<u8>, determinism: Det) -> Result<(), NoMemory>
-    ensures { OnOk result (text.new.items ≡ text.old.items ++ spaced (spec.determinism_word determinism)) }
+    ensures { OnOk result (text.new.items ≡ text.old.items ++ spaced (det_word determinism)) }
 {
-    match determinism {
-        Det::Det => sign(text, "det"),
-        Det::Semidet => sign(text, "semidet"),
-        Det::Multi => sign(text, "multi"),
-        Det::Nondet => sign(text, "nondet"),
-        Det::Failure => sign(text, "failure"),
-    }
+    sign(text, determinism.word())
 }

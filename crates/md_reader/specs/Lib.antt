@@ -6,3 +6,4 @@ pub mod Input
 pub mod Reading
 pub mod Rules
 pub mod Views
+pub mod Words

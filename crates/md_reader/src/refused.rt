@@ -1,5 +1,6 @@
 // Why a text is refused.
-ghost use Rattle.std.specs.Prelude.{◌≡◌};
+ghost use Rattle.std.specs.Prelude.{◌≡◌, Some};
+ghost use Rattle.md_reader.specs.Words.{refused_words, refused_line};
 
 use md_base::NoMemory;
 use std::alloc::{AllocError, AllocFailed};
@@ -62,13 +63,29 @@ pub enum Refused {
     NoMemory,
 }
 
+impl Refused {
+    /// The line of what is at fault, or `None` exactly where memory was refused.
+    pub fn line(self) -> Option<u32>
+        ensures { result ≡ refused_line self }
+    {
+        match self {
+            Refused::Syntax(line) => Some(line),
+            Refused::Limit(line) => Some(line),
+            Refused::Duplicate(line) => Some(line),
+            Refused::NoMemory => None,
+        }
+    }
+}
+
 impl fmt::Display for Refused {
+    ghost output = { λ refused. Some (refused_words refused) };
+
     fn fmt<W: fmt::Write>(&self, f: &mut fmt::Formatter<W>) -> fmt::Result {
         match self {
-            Refused::Syntax(_) => write!(f, "syntax"),
-            Refused::Limit(_) => write!(f, "limit"),
-            Refused::Duplicate(_) => write!(f, "duplicate"),
-            Refused::NoMemory => write!(f, "want of memory"),
+            Refused::Syntax(_) => f.write_str("syntax"),
+            Refused::Limit(_) => f.write_str("limit"),
+            Refused::Duplicate(_) => f.write_str("duplicate"),
+            Refused::NoMemory => f.write_str("want of memory"),
         }
     }
 }

@@ -645,3 +645,17 @@ fn what_has_no_limit_is_read_whole(rt: HostRuntime) -> Result<(), Fail> {
     }
     Ok(())
 }
+
+#[test]
+fn a_refusal_tells_its_line_and_its_words(rt: HostRuntime) -> Result<(), Fail> {
+    for (refused, line, words) in [
+        (Refused::Syntax(1), Some(1), "syntax"),
+        (Refused::Limit(70), Some(70), "limit"),
+        (Refused::Duplicate(3), Some(3), "duplicate"),
+        (Refused::NoMemory, None, "want of memory"),
+    ] {
+        assert_eq!(rt; refused.line(), line);
+        assert_eq!(rt; format!(in rt.alloc(); "{refused}")?.as_str(), words);
+    }
+    Ok(())
+}
