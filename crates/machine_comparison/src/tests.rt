@@ -9,6 +9,7 @@ mod heavy;
 mod made;
 mod order;
 mod plain;
+mod ports;
 mod programs;
 mod worked;
 

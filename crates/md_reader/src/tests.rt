@@ -2,6 +2,7 @@
 ghost use Rattle.std.specs.Prelude.{◌<◌, length};
 
 use super::*;
+use md_base::{ProcId, SiteId};
 use std::alloc::Global;
 use std::process::Abort;
 use std::test::Fail;
@@ -657,5 +658,27 @@ fn a_refusal_tells_its_line_and_its_words(rt: HostRuntime) -> Result<(), Fail> {
         assert_eq!(rt; refused.line(), line);
         assert_eq!(rt; format!(in rt.alloc(); "{refused}")?.as_str(), words);
     }
+    Ok(())
+}
+
+/// One call a line.
+const SITES: &str = ":- module t.\n:- pred p(int::in) is det.\np(F) :-\n( q ->\ncall(F)\n; not(\nr ) ).\n:- pred q is det.\nq :- some [X] ( X = X\n; s ).\n";
+
+#[test]
+fn predicates_and_call_sites_have_their_numbers(rt: HostRuntime) -> Result<(), Fail> {
+    let program = read(rt.alloc(), SITES.as_bytes())?;
+    for (number, called) in [(0, b"p".as_slice()), (1, b"q".as_slice())] {
+        let found = program.pred(ProcId::new(number)).ok_or("a predicate")?;
+        assert_eq!(rt; found.name.as_bytes(), called);
+    }
+    assert_eq!(rt; program.pred(ProcId::new(2)).is_none(), true);
+    for (number, owner, line) in [(0, 0, 4), (1, 0, 5), (2, 0, 7), (3, 1, 10)] {
+        assert_eq!(rt;
+            program.site(SiteId::new(number)),
+            Some((ProcId::new(owner), line)),
+            "site {number}"
+        );
+    }
+    assert_eq!(rt; program.site(SiteId::new(4)), None);
     Ok(())
 }
