@@ -8,3 +8,4 @@ pub mod Sets
 pub mod Fields
 pub mod Spells
 pub mod State
+pub mod Words

@@ -1,5 +1,6 @@
 // What is wrong with bytes that spell no profile, and where.
-ghost use Rattle.std.specs.Prelude.{◌≡◌};
+ghost use Rattle.std.specs.Prelude.{◌≡◌, Some};
+ghost use Rattle.md_deepfile.specs.Words.{kind_words};
 ghost use Rattle.md_deepfile.specs.declared.damage.DecodeFault.TheVariants.{NoMemory as out_of_memory};
 
 use md_base::NoMemory;
@@ -31,17 +32,19 @@ pub enum Kind {
 }
 
 impl fmt::Display for Kind {
+    ghost output = { λ kind. Some (kind_words kind) };
+
     fn fmt<W: fmt::Write>(&self, f: &mut fmt::Formatter<W>) -> fmt::Result {
         match self {
-            Kind::Magic => write!(f, "magic"),
-            Kind::Short => write!(f, "short"),
-            Kind::Trailing => write!(f, "trailing"),
-            Kind::Range => write!(f, "range"),
-            Kind::Text => write!(f, "text"),
-            Kind::SiteMismatch => write!(f, "site mismatch"),
-            Kind::DoubleLink => write!(f, "double link"),
-            Kind::Orphan => write!(f, "orphan"),
-            Kind::Flag => write!(f, "flag"),
+            Kind::Magic => f.write_str("magic"),
+            Kind::Short => f.write_str("short"),
+            Kind::Trailing => f.write_str("trailing"),
+            Kind::Range => f.write_str("range"),
+            Kind::Text => f.write_str("text"),
+            Kind::SiteMismatch => f.write_str("site mismatch"),
+            Kind::DoubleLink => f.write_str("double link"),
+            Kind::Orphan => f.write_str("orphan"),
+            Kind::Flag => f.write_str("flag"),
         }
     }
 }

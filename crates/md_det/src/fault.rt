@@ -44,7 +44,9 @@ impl fmt::Display for DetFault {
     fn fmt<W: fmt::Write>(&self, f: &mut fmt::Formatter<W>) -> fmt::Result {
         match self {
             DetFault::Declared {
-                declared, inferred, ..
+                declared,
+                inferred,
+                ..
             } => write!(f, "declared {declared}, inferred {inferred}"),
             DetFault::ManyInCondition(_) => f.write_str("condition with many solutions binds"),
             DetFault::IoInBacktracking(_) => f.write_str("io in backtracking"),

@@ -662,7 +662,8 @@ fn a_refusal_tells_its_line_and_its_words(rt: HostRuntime) -> Result<(), Fail> {
 }
 
 /// One call a line.
-const SITES: &str = ":- module t.\n:- pred p(int::in) is det.\np(F) :-\n( q ->\ncall(F)\n; not(\nr ) ).\n:- pred q is det.\nq :- some [X] ( X = X\n; s ).\n";
+const SITES: &str =
+    ":- module t.\n:- pred p(int::in) is det.\np(F) :-\n( q ->\ncall(F)\n; not(\nr ) ).\n:- pred q is det.\nq :- some [X] ( X = X\n; s ).\n";
 
 #[test]
 fn predicates_and_call_sites_have_their_numbers(rt: HostRuntime) -> Result<(), Fail> {
