@@ -1,3 +1,4 @@
+// Graphs of a given shape and size.
 ghost use Rattle.std.specs.Prelude.{◌<◌, All, IfOk};
 
 use std::alloc::{AllocError, Global};

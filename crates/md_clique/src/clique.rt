@@ -1,3 +1,4 @@
+// The cliques of a graph: the clique of each node, and the members of each clique.
 use std::marker::Model;
 
 /// The cliques of a graph. Contracts see the list of the nodes' cliques.

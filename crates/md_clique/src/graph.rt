@@ -1,3 +1,4 @@
+// The cliques of a graph that is given by its links.
 ghost use Rattle.std.specs.Prelude.{◌<◌, All, IfOk};
 ghost use Rattle.md_trace.specs.Cliques.{AreCliques};
 

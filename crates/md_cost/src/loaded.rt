@@ -1,3 +1,4 @@
+// A profile with all that its pages ask for.
 use crate::Sums;
 use crate::costs::Costs;
 use crate::incoming::own_sum;

@@ -1,3 +1,4 @@
+// Sums of counts.
 use md_base::{Counts, Measure};
 
 /// One sum for each measure, in the order in which they are always written.

@@ -16,13 +16,6 @@ use md_cost::Loaded;
 use md_det::{Checked, Switch};
 use md_hlds::{Goal, GoalKind};
 
-/// The number after this one. Goals have numbers of 32 bits: more are answered as what memory has no room for.
-fn after(number: u32) -> Result<u32, NoMemory>
-    ensures { IfOk result (λ next. next ≡ suc number) }
-{
-    number.checked_add(1).ok_or(NoMemory)
-}
-
 /// Adds the equations of a procedure, whose body has this number.
 pub(crate) fn add_body(
     checked: &Checked,
@@ -56,6 +49,13 @@ pub(crate) fn add_goal(
         ≡ equations_of equations.old.items ++ spec.goal_equations (program_findings (hlds_of checked.now)) (view_counts v) number (goal_of goal.now)) }
 {
     add_kind(checked, loaded, equations, &goal.kind, number)
+}
+
+/// The number after this one. Goals have numbers of 32 bits: more are answered as what memory has no room for.
+fn after(number: u32) -> Result<u32, NoMemory>
+    ensures { IfOk result (λ next. next ≡ suc number) }
+{
+    number.checked_add(1).ok_or(NoMemory)
 }
 
 #[cycle(building)]

@@ -1,3 +1,4 @@
+// How often the goals of a procedure had a turn.
 use md_base::ProcId;
 use std::marker::Model;
 

@@ -100,20 +100,6 @@ impl Decoder {
     }
 }
 
-/// Takes bytes one after the other.
-fn take(reader: &mut Reader, piece: &[u8]) -> Result<(), DecodeFault>
-    requires { IsReady (state_of reader.old) }
-    ensures follows { FollowsBytes (form_of (state_of reader.old)) piece.now reader.old.at (state_of reader.new) result }
-    ensures ready { OnOk result (IsReady (state_of reader.new)) }
-{
-    for byte in piece {
-        if let Err(fault) = reader.byte(*byte) {
-            return Err(fault);
-        }
-    }
-    Ok(())
-}
-
 /// The profile that these bytes spell, all of them, in either version, or the first rule that they break.
 pub fn decode(alloc: Global, bytes: &[u8]) -> Result<Profile, DecodeFault>
     ensures found { IfOk result (λ f. Spells bytes.now f) }
@@ -126,4 +112,18 @@ pub fn decode(alloc: Global, bytes: &[u8]) -> Result<Profile, DecodeFault>
         Ok(()) => decoder.finish(),
         Err(fault) => Err(fault),
     }
+}
+
+/// Takes bytes one after the other.
+fn take(reader: &mut Reader, piece: &[u8]) -> Result<(), DecodeFault>
+    requires { IsReady (state_of reader.old) }
+    ensures follows { FollowsBytes (form_of (state_of reader.old)) piece.now reader.old.at (state_of reader.new) result }
+    ensures ready { OnOk result (IsReady (state_of reader.new)) }
+{
+    for byte in piece {
+        if let Err(fault) = reader.byte(*byte) {
+            return Err(fault);
+        }
+    }
+    Ok(())
 }

@@ -57,15 +57,6 @@ pub(crate) fn put_proc(out: &mut Vec<u8>, proc: &Proc) -> Result<(), AllocError>
     Ok(())
 }
 
-fn callee_number(kind: SiteKind) -> u32
-    ensures { result ≡ or_none (callee_of kind) }
-{
-    match kind {
-        SiteKind::Plain(callee) => callee.number(),
-        SiteKind::HigherOrder => NONE,
-    }
-}
-
 /// Puts a call site: owner, line, callee.
 pub(crate) fn put_site(out: &mut Vec<u8>, site: &Site) -> Result<(), AllocError>
     ensures { OnOk result (out.new.items ≡ out.old.items ++ site_bytes site.now) }
@@ -80,6 +71,25 @@ pub(crate) fn put_context(out: &mut Vec<u8>, proc: ProcId) -> Result<(), AllocEr
     ensures { OnOk result (out.new.items ≡ out.old.items ++ u32 proc) }
 {
     put_number(out, proc.number())
+}
+
+/// Puts a link: caller, site, callee and its counts.
+pub(crate) fn put_link(out: &mut Vec<u8>, link: &LinkRow) -> Result<(), AllocError>
+    ensures { OnOk result (out.new.items ≡ out.old.items ++ link_bytes 7 link.now) }
+{
+    put_number(out, caller_number(link.caller))?;
+    put_number(out, site_number(link.site))?;
+    put_number(out, link.callee.number())?;
+    put_counts(out, &link.own)
+}
+
+fn callee_number(kind: SiteKind) -> u32
+    ensures { result ≡ or_none (callee_of kind) }
+{
+    match kind {
+        SiteKind::Plain(callee) => callee.number(),
+        SiteKind::HigherOrder => NONE,
+    }
 }
 
 fn caller_number(caller: Option<PdId>) -> u32
@@ -117,14 +127,4 @@ fn put_numbers(out: &mut Vec<u8>, numbers: &[u32]) -> Result<(), AllocError>
         put_number(out, *number)?;
     }
     Ok(())
-}
-
-/// Puts a link: caller, site, callee and its counts.
-pub(crate) fn put_link(out: &mut Vec<u8>, link: &LinkRow) -> Result<(), AllocError>
-    ensures { OnOk result (out.new.items ≡ out.old.items ++ link_bytes 7 link.now) }
-{
-    put_number(out, caller_number(link.caller))?;
-    put_number(out, site_number(link.site))?;
-    put_number(out, link.callee.number())?;
-    put_counts(out, &link.own)
 }

@@ -4,6 +4,16 @@ ghost use Rattle.md_static.specs.Names.{is_lower, is_word, are_words, is_name};
 
 use md_base::Name;
 
+/// Whether these bytes are a name of a program: a lower-case letter, and then letters, digits and `_`, 255 in all at most.
+pub(crate) fn is_program_name(bytes: &[u8]) -> bool
+    ensures { result ≡ is_name bytes.now }
+{
+    match bytes {
+        [] => false,
+        [first, rest @ ..] => is_small(*first) && are_parts(rest) && rest.len() < Name::MOST,
+    }
+}
+
 /// A lower-case letter of ASCII.
 fn is_small(byte: u8) -> bool
     ensures { result ≡ is_lower byte }
@@ -33,14 +43,4 @@ fn are_parts(bytes: &[u8]) -> bool
         rest = after;
     }
     true
-}
-
-/// Whether these bytes are a name of a program: a lower-case letter, and then letters, digits and `_`, 255 in all at most.
-pub(crate) fn is_program_name(bytes: &[u8]) -> bool
-    ensures { result ≡ is_name bytes.now }
-{
-    match bytes {
-        [] => false,
-        [first, rest @ ..] => is_small(*first) && are_parts(rest) && rest.len() < Name::MOST,
-    }
 }

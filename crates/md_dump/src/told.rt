@@ -56,13 +56,20 @@ impl Told for Site {
     }
 }
 
-fn callee_number(kind: SiteKind) -> Option<u32>
-    ensures { result ≡ callee_of kind }
+/// Puts a list: how many there are, and a line for each.
+pub(crate) fn put_each<T: Told>(
+    out: &mut Vec<u8>,
+    name: &[u8],
+    things: &[T],
+) -> Result<(), AllocError>
+    requires { length things.now < 2 ^ 32 }
+    ensures { OnOk result (out.new.items ≡ out.old.items ++ flat_map line (listed name.now T.words things.now)) }
 {
-    match kind {
-        SiteKind::Plain(callee) => Some(callee.number()),
-        SiteKind::HigherOrder => None,
+    put_count(out, name, things.len() as u32)?;
+    for thing in things {
+        thing.put(out)?;
     }
+    Ok(())
 }
 
 impl Told for ProcId {
@@ -88,6 +95,15 @@ impl Told for LinkRow {
     }
 }
 
+fn callee_number(kind: SiteKind) -> Option<u32>
+    ensures { result ≡ callee_of kind }
+{
+    match kind {
+        SiteKind::Plain(callee) => Some(callee.number()),
+        SiteKind::HigherOrder => None,
+    }
+}
+
 /// Puts the seven counts of a link, each behind a space.
 fn put_counts(out: &mut Vec<u8>, own: &Counts) -> Result<(), AllocError>
     ensures { OnOk result (out.new.items ≡ out.old.items ++ flat_map (λ n. 32 ∷ decimal n) (numbers_of own.now)) }
@@ -96,22 +112,6 @@ fn put_counts(out: &mut Vec<u8>, own: &Counts) -> Result<(), AllocError>
         own.calls, own.exits, own.fails, own.redos, own.allocs, own.words, own.excps,
     ];
     put_numbers(out, &numbers)
-}
-
-/// Puts a list: how many there are, and a line for each.
-pub(crate) fn put_each<T: Told>(
-    out: &mut Vec<u8>,
-    name: &[u8],
-    things: &[T],
-) -> Result<(), AllocError>
-    requires { length things.now < 2 ^ 32 }
-    ensures { OnOk result (out.new.items ≡ out.old.items ++ flat_map line (listed name.now T.words things.now)) }
-{
-    put_count(out, name, things.len() as u32)?;
-    for thing in things {
-        thing.put(out)?;
-    }
-    Ok(())
 }
 
 /// Puts the line that says how many of a list there are.

@@ -1,3 +1,4 @@
+// Links between contexts.
 use md_base::{Counts, PdId, SiteId};
 
 /// A link: the context that calls, the call site, the context to which it leads, and its own counts. The root link has

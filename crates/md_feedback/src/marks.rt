@@ -19,25 +19,6 @@ pub(crate) fn mark(marks: &mut Vec<bool>, places: &[u32]) -> Result<(), NoMemory
     Ok(())
 }
 
-fn mark_one(marks: &mut Vec<bool>, place: u32) -> Result<(), NoMemory>
-    ensures { OnOk result (Marks marks.old.items marks.new.items (place ∷ [])) }
-{
-    reach(marks, place)?;
-    marks[place as usize] = true;
-    Ok(())
-}
-
-/// Makes room for the mark of a variable.
-fn reach(marks: &mut Vec<bool>, place: u32) -> Result<(), NoMemory>
-    ensures same { OnOk result (Marks marks.old.items marks.new.items []) }
-    ensures room { OnOk result (place < length marks.new.items) }
-{
-    for _turn in marks.len()..place as usize + 1 {
-        marks.push(false)?;
-    }
-    Ok(())
-}
-
 /// Whether a marked variable occurs in a goal of this kind.
 #[cycle(mentions)]
 pub(crate) fn mentions(marks: &[bool], goal: &GoalKind) -> bool
@@ -57,6 +38,25 @@ pub(crate) fn mentions(marks: &[bool], goal: &GoalKind) -> bool
         }
         _ => mentions_atomic(marks, goal),
     }
+}
+
+fn mark_one(marks: &mut Vec<bool>, place: u32) -> Result<(), NoMemory>
+    ensures { OnOk result (Marks marks.old.items marks.new.items (place ∷ [])) }
+{
+    reach(marks, place)?;
+    marks[place as usize] = true;
+    Ok(())
+}
+
+/// Makes room for the mark of a variable.
+fn reach(marks: &mut Vec<bool>, place: u32) -> Result<(), NoMemory>
+    ensures same { OnOk result (Marks marks.old.items marks.new.items []) }
+    ensures room { OnOk result (place < length marks.new.items) }
+{
+    for _turn in marks.len()..place as usize + 1 {
+        marks.push(false)?;
+    }
+    Ok(())
 }
 
 #[cycle(mentions)]

@@ -36,6 +36,13 @@ pub(crate) fn size_of(goal: &Goal) -> Result<u32, NoMemory>
     }
 }
 
+/// The sum of two numbers of goals.
+pub(crate) fn sum(first: u32, second: u32) -> Result<u32, NoMemory>
+    ensures { IfOk result (λ sum. sum ≡ first + second) }
+{
+    first.checked_add(second).ok_or(NoMemory)
+}
+
 #[cycle(sizes)]
 fn size_of_all(goals: &[Goal]) -> Result<u32, NoMemory>
     ensures { IfOk result (λ size. size ≡ goals_size (gathered (goals_of goals.now))) }
@@ -45,11 +52,4 @@ fn size_of_all(goals: &[Goal]) -> Result<u32, NoMemory>
         all = sum(all, size_of(goal)?)?;
     }
     Ok(all)
-}
-
-/// The sum of two numbers of goals.
-pub(crate) fn sum(first: u32, second: u32) -> Result<u32, NoMemory>
-    ensures { IfOk result (λ sum. sum ≡ first + second) }
-{
-    first.checked_add(second).ok_or(NoMemory)
 }

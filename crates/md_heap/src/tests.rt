@@ -1,3 +1,4 @@
+// Lists that are made, taken apart and compared.
 ghost use Rattle.std.specs.Prelude.{◌≡◌, ◌<◌, ◌+◌, length, IfOk, OnOk};
 ghost use Rattle.md_heap.specs.Cells.{IsThere};
 

@@ -1,3 +1,4 @@
+// Goals and terms.
 use crate::Variables;
 use md_base::{Name, SiteId, Text};
 

@@ -1,3 +1,4 @@
+// Programs: their types and their predicates.
 ghost use Rattle.std.specs.Prelude.{◌<◌, ◌^◌, length};
 
 use crate::sites::find_site;

@@ -88,25 +88,6 @@ pub fn back<'a>(
     }
 }
 
-/// A variable that had no value gets this one.
-fn back_value<'a>(
-    bump: &'a Bump,
-    place: u32,
-    had: Option<Value<'a>>,
-    value: Option<Value<'a>>,
-    env: &'a [Option<Value<'a>>],
-) -> Result<&'a [Option<Value<'a>>], NoMemory>
-    ensures { IfOk result (λ new. env_of new.now ≡ back_value place (option_value had.entry) (option_value value.entry) (env_of env.now)) }
-{
-    match had {
-        Some(_) => Ok(env),
-        None => match value {
-            Some(value) => bound(bump, env, place, value),
-            None => Ok(env),
-        },
-    }
-}
-
 /// Each variable of the head gets the value of its argument, if that has one.
 pub fn passed<'a>(
     bump: &'a Bump,
@@ -179,6 +160,25 @@ pub fn pairs_of<'a>(
                     pairs_of(bump, variables, others)?,
                 )
             }
+        },
+    }
+}
+
+/// A variable that had no value gets this one.
+fn back_value<'a>(
+    bump: &'a Bump,
+    place: u32,
+    had: Option<Value<'a>>,
+    value: Option<Value<'a>>,
+    env: &'a [Option<Value<'a>>],
+) -> Result<&'a [Option<Value<'a>>], NoMemory>
+    ensures { IfOk result (λ new. env_of new.now ≡ back_value place (option_value had.entry) (option_value value.entry) (env_of env.now)) }
+{
+    match had {
+        Some(_) => Ok(env),
+        None => match value {
+            Some(value) => bound(bump, env, place, value),
+            None => Ok(env),
         },
     }
 }

@@ -46,6 +46,42 @@ pub fn goal_size(goal: &Goal) -> Result<u64, NoMemory>
     }
 }
 
+/// What a call of this procedure weighs.
+pub fn call_weight(pred: &Pred) -> Result<u64, NoMemory>
+    ensures { IfOk result (λ weight. weight ≡ call_weight (procedure_of pred.now)) }
+{
+    next(plus(pred.vars.len() as u64, site_count(&pred.body)?)?)
+}
+
+/// The number of the body of this procedure.
+pub fn body_number(program: &Program, procedure: u64) -> Result<u64, NoMemory>
+    ensures { IfOk result (λ number. number ≡ body_number (hlds_of program.now) procedure) }
+{
+    goals_before(program.preds.as_slice(), procedure)
+}
+
+/// These goals with their numbers, the first of which is given, and then what follows them.
+pub fn numbered_from<'a>(
+    bump: &'a Bump,
+    number: u64,
+    goals: &'a [Goal],
+    then: &'a [Numbered<'a>],
+) -> Result<&'a [Numbered<'a>], NoMemory>
+    ensures { IfOk result (λ all. numbereds_of all.now ≡ numbered_from number (gathered (goals_of goals.now)) ++ numbereds_of then.now) }
+{
+    match goals {
+        [] => Ok(then),
+        [goal, rest @ ..] => {
+            let after = plus(number, goal_size(goal)?)?;
+            cons(
+                bump,
+                Numbered { number, goal },
+                numbered_from(bump, after, rest, then)?,
+            )
+        }
+    }
+}
+
 #[cycle(size)]
 fn goals_size(goals: &[Goal]) -> Result<u64, NoMemory>
     ensures { IfOk result (λ size. size ≡ goals_size (gathered (goals_of goals.now))) }
@@ -96,20 +132,6 @@ fn sites_among(goals: &[Goal]) -> Result<u64, NoMemory>
     Ok(total)
 }
 
-/// What a call of this procedure weighs.
-pub fn call_weight(pred: &Pred) -> Result<u64, NoMemory>
-    ensures { IfOk result (λ weight. weight ≡ call_weight (procedure_of pred.now)) }
-{
-    next(plus(pred.vars.len() as u64, site_count(&pred.body)?)?)
-}
-
-/// The number of the body of this procedure.
-pub fn body_number(program: &Program, procedure: u64) -> Result<u64, NoMemory>
-    ensures { IfOk result (λ number. number ≡ body_number (hlds_of program.now) procedure) }
-{
-    goals_before(program.preds.as_slice(), procedure)
-}
-
 fn goals_before(preds: &[Pred], procedure: u64) -> Result<u64, NoMemory>
     ensures { IfOk result (λ number. number ≡ goals_before (procedures_of preds.now) procedure) }
 {
@@ -120,28 +142,6 @@ fn goals_before(preds: &[Pred], procedure: u64) -> Result<u64, NoMemory>
                 return Ok(0);
             }
             plus(goal_size(&first.body)?, goals_before(rest, procedure - 1)?)
-        }
-    }
-}
-
-/// These goals with their numbers, the first of which is given, and then what follows them.
-pub fn numbered_from<'a>(
-    bump: &'a Bump,
-    number: u64,
-    goals: &'a [Goal],
-    then: &'a [Numbered<'a>],
-) -> Result<&'a [Numbered<'a>], NoMemory>
-    ensures { IfOk result (λ all. numbereds_of all.now ≡ numbered_from number (gathered (goals_of goals.now)) ++ numbereds_of then.now) }
-{
-    match goals {
-        [] => Ok(then),
-        [goal, rest @ ..] => {
-            let after = plus(number, goal_size(goal)?)?;
-            cons(
-                bump,
-                Numbered { number, goal },
-                numbered_from(bump, after, rest, then)?,
-            )
         }
     }
 }

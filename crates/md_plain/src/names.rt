@@ -18,6 +18,23 @@ pub fn procedure_called<'a>(
     find_procedure(program.preds.as_slice(), name, 0)
 }
 
+/// The procedure of that number, with the number.
+pub fn nth_procedure(program: &Program, number: u64) -> Option<(u64, &Pred)>
+    ensures { option_procedure result ≡ nth_procedure (hlds_of program.now) number }
+{
+    nth_from(program.preds.as_slice(), number, number)
+}
+
+/// Whether a term of this name with so many arguments is a functor.
+pub fn is_functor(program: &Program, name: &PredName, arity: usize) -> bool
+    ensures { result ≡ is_functor (hlds_of program.now) name.now arity }
+{
+    match name.qualifier {
+        None => has_functor(program.types.as_slice(), name.name.as_bytes(), arity),
+        Some(_) => false,
+    }
+}
+
 /// The first of these procedures of that name, with its number, counted on from `number`.
 fn find_procedure<'a>(
     preds: &'a [Pred],
@@ -58,13 +75,6 @@ fn same_qualifier(one: &Option<Name>, other: &Option<Name>) -> bool
     }
 }
 
-/// The procedure of that number, with the number.
-pub fn nth_procedure(program: &Program, number: u64) -> Option<(u64, &Pred)>
-    ensures { option_procedure result ≡ nth_procedure (hlds_of program.now) number }
-{
-    nth_from(program.preds.as_slice(), number, number)
-}
-
 fn nth_from(preds: &[Pred], place: u64, number: u64) -> Option<(u64, &Pred)>
     ensures { option_procedure result ≡ numbered number (slice_get (procedures_of preds.now) place) }
 {
@@ -76,16 +86,6 @@ fn nth_from(preds: &[Pred], place: u64, number: u64) -> Option<(u64, &Pred)>
             }
             nth_from(rest, place - 1, number)
         }
-    }
-}
-
-/// Whether a term of this name with so many arguments is a functor.
-pub fn is_functor(program: &Program, name: &PredName, arity: usize) -> bool
-    ensures { result ≡ is_functor (hlds_of program.now) name.now arity }
-{
-    match name.qualifier {
-        None => has_functor(program.types.as_slice(), name.name.as_bytes(), arity),
-        Some(_) => false,
     }
 }
 

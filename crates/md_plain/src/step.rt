@@ -45,6 +45,74 @@ pub fn returned<'a>(
     }
 }
 
+/// What failed comes back to what waits.
+pub fn retried<'a>(bump: &'a Bump, waits: &'a [Wait<'a>], next: u64) -> Result<Step<'a>, NoMemory>
+    ensures { IfOk result (λ step. step_of step ≡ retried (waits_of waits.now) next) }
+{
+    match waits {
+        [] => Ok(Step::Ends(one(bump, Item::Fail(0))?)),
+        [wait, waits @ ..] => match *wait {
+            Wait::Others(frame, callers, arms) => { tried(bump, frame, callers, arms, waits, next) }
+            Wait::Again(a) => failed_on(bump, Item::Redo(a), waits, next),
+            Wait::Over(a) => failed_on(bump, Item::Fail(a), waits, next),
+            Wait::Condition(frame, callers, _, otherwise) => {
+                let goals = cons(bump, otherwise, frame.goals)?;
+                Ok(goes(to_do(frame, goals), callers, waits, next))
+            }
+            Wait::Negation(frame, callers) => Ok(goes(frame, callers, waits, next)),
+            Wait::Single(..) => Ok(fails(waits, next)),
+            Wait::Returning(a, ..) => failed_on(bump, Item::Fail(a), waits, next),
+        },
+    }
+}
+
+/// An exception leaves one frame, or one entry of what waits.
+pub fn unwound<'a>(
+    bump: &'a Bump,
+    callers: &'a [Frame<'a>],
+    waits: &'a [Wait<'a>],
+    next: u64,
+) -> Result<Step<'a>, NoMemory>
+    ensures { IfOk result (λ step. step_of step ≡ unwound (frames_of callers.now) (waits_of waits.now) next) }
+{
+    match callers {
+        [] => thrown_on(bump, waits, next),
+        [frame, rest @ ..] => {
+            let left = one(bump, Item::Excp(frame.act))?;
+            let now = Doing::Throws(rest);
+            Ok(Step::On(left, State { now, waits, next }))
+        }
+    }
+}
+
+/// A list of one item.
+pub fn one<'a>(bump: &'a Bump, item: Item<'a>) -> Result<&'a [Item<'a>], NoMemory>
+    ensures { IfOk result (λ items. items.now ≡ item.entry ∷ []) }
+{
+    cons(bump, item, &[])
+}
+
+/// The frame with other goals, and with another environment.
+pub fn to_do<'a>(frame: Frame<'a>, goals: &'a [Numbered<'a>]) -> Frame<'a>
+    ensures { frame_of result ≡ doing (frame_of frame.entry) (numbereds_of goals.now) }
+{
+    Frame { goals, ..frame }
+}
+
+pub fn knowing<'a>(
+    frame: Frame<'a>,
+    env: &'a [Option<Value<'a>>],
+    goals: &'a [Numbered<'a>],
+) -> Frame<'a>
+    ensures { frame_of result ≡ knowing (frame_of frame.entry) (env_of env.now) (numbereds_of goals.now) }
+{
+    Frame {
+        env,
+        goals,
+        ..frame
+    }
+}
+
 /// An answer goes by choices to what waits for it.
 fn answered<'a>(
     bump: &'a Bump,
@@ -79,27 +147,6 @@ fn answered<'a>(
     }
 }
 
-/// What failed comes back to what waits.
-pub fn retried<'a>(bump: &'a Bump, waits: &'a [Wait<'a>], next: u64) -> Result<Step<'a>, NoMemory>
-    ensures { IfOk result (λ step. step_of step ≡ retried (waits_of waits.now) next) }
-{
-    match waits {
-        [] => Ok(Step::Ends(one(bump, Item::Fail(0))?)),
-        [wait, waits @ ..] => match *wait {
-            Wait::Others(frame, callers, arms) => { tried(bump, frame, callers, arms, waits, next) }
-            Wait::Again(a) => failed_on(bump, Item::Redo(a), waits, next),
-            Wait::Over(a) => failed_on(bump, Item::Fail(a), waits, next),
-            Wait::Condition(frame, callers, _, otherwise) => {
-                let goals = cons(bump, otherwise, frame.goals)?;
-                Ok(goes(to_do(frame, goals), callers, waits, next))
-            }
-            Wait::Negation(frame, callers) => Ok(goes(frame, callers, waits, next)),
-            Wait::Single(..) => Ok(fails(waits, next)),
-            Wait::Returning(a, ..) => failed_on(bump, Item::Fail(a), waits, next),
-        },
-    }
-}
-
 /// The next arm is tried, if there is one.
 fn tried<'a>(
     bump: &'a Bump,
@@ -121,25 +168,6 @@ fn tried<'a>(
     }
 }
 
-/// An exception leaves one frame, or one entry of what waits.
-pub fn unwound<'a>(
-    bump: &'a Bump,
-    callers: &'a [Frame<'a>],
-    waits: &'a [Wait<'a>],
-    next: u64,
-) -> Result<Step<'a>, NoMemory>
-    ensures { IfOk result (λ step. step_of step ≡ unwound (frames_of callers.now) (waits_of waits.now) next) }
-{
-    match callers {
-        [] => thrown_on(bump, waits, next),
-        [frame, rest @ ..] => {
-            let left = one(bump, Item::Excp(frame.act))?;
-            let now = Doing::Throws(rest);
-            Ok(Step::On(left, State { now, waits, next }))
-        }
-    }
-}
-
 fn thrown_on<'a>(bump: &'a Bump, waits: &'a [Wait<'a>], next: u64) -> Result<Step<'a>, NoMemory>
     ensures { IfOk result (λ step. step_of step ≡ thrown_on (waits_of waits.now) next) }
 {
@@ -156,34 +184,6 @@ fn thrown_on<'a>(bump: &'a Bump, waits: &'a [Wait<'a>], next: u64) -> Result<Ste
                 Ok(throws(cons(bump, frame, callers)?, waits, next))
             }
         },
-    }
-}
-
-/// A list of one item.
-pub fn one<'a>(bump: &'a Bump, item: Item<'a>) -> Result<&'a [Item<'a>], NoMemory>
-    ensures { IfOk result (λ items. items.now ≡ item.entry ∷ []) }
-{
-    cons(bump, item, &[])
-}
-
-/// The frame with other goals, and with another environment.
-pub fn to_do<'a>(frame: Frame<'a>, goals: &'a [Numbered<'a>]) -> Frame<'a>
-    ensures { frame_of result ≡ doing (frame_of frame.entry) (numbereds_of goals.now) }
-{
-    Frame { goals, ..frame }
-}
-
-pub fn knowing<'a>(
-    frame: Frame<'a>,
-    env: &'a [Option<Value<'a>>],
-    goals: &'a [Numbered<'a>],
-) -> Frame<'a>
-    ensures { frame_of result ≡ knowing (frame_of frame.entry) (env_of env.now) (numbereds_of goals.now) }
-{
-    Frame {
-        env,
-        goals,
-        ..frame
     }
 }
 

@@ -37,6 +37,28 @@ pub fn switch_shape<'a>(
     }
 }
 
+/// The arm whose key the value has.
+pub fn arm_for<'a>(
+    value: &Value,
+    keys: &[Key],
+    arms: &[Numbered<'a>],
+) -> Result<Option<Numbered<'a>>, NoMemory>
+    ensures { IfOk result (λ arm. option_numbered arm ≡ arm_for (value_of value.now) (keys_told keys.now) (numbereds_of arms.now)) }
+{
+    match keys {
+        [] => Ok(None),
+        [key, others @ ..] => match arms {
+            [] => Ok(None),
+            [arm, rest @ ..] => {
+                if has_the_key(value, key)? {
+                    return Ok(Some(*arm));
+                }
+                arm_for(value, others, rest)
+            }
+        },
+    }
+}
+
 fn switch_on<'a>(
     bump: &'a Bump,
     program: &Program,
@@ -201,28 +223,6 @@ fn same_key(one: &Key, other: &Key) -> bool
             Key::Functor(g, n) => *f == *g && *m == *n,
             Key::Int(_) => false,
             Key::Text(_) => false,
-        },
-    }
-}
-
-/// The arm whose key the value has.
-pub fn arm_for<'a>(
-    value: &Value,
-    keys: &[Key],
-    arms: &[Numbered<'a>],
-) -> Result<Option<Numbered<'a>>, NoMemory>
-    ensures { IfOk result (λ arm. option_numbered arm ≡ arm_for (value_of value.now) (keys_told keys.now) (numbereds_of arms.now)) }
-{
-    match keys {
-        [] => Ok(None),
-        [key, others @ ..] => match arms {
-            [] => Ok(None),
-            [arm, rest @ ..] => {
-                if has_the_key(value, key)? {
-                    return Ok(Some(*arm));
-                }
-                arm_for(value, others, rest)
-            }
         },
     }
 }

@@ -58,6 +58,16 @@ impl<'a> Modules<'a> {
     }
 }
 
+/// The module of a predicate: its qualifier, or the file's module where it has none.
+pub(crate) fn module_of<'a>(program: &'a Program, pred: &'a Pred) -> &'a Name
+    ensures { result.now ≡ module_of (hlds_of program.now) (procedure_of pred.now) }
+{
+    match &pred.qualifier {
+        Some(name) => name,
+        None => &program.module,
+    }
+}
+
 /// Adds a module, if it is none of those that are there.
 fn add_module<'a>(
     alloc: Global,
@@ -73,14 +83,4 @@ fn add_module<'a>(
         names.push(name.copy(alloc)?)?;
     }
     Ok(())
-}
-
-/// The module of a predicate: its qualifier, or the file's module where it has none.
-pub(crate) fn module_of<'a>(program: &'a Program, pred: &'a Pred) -> &'a Name
-    ensures { result.now ≡ module_of (hlds_of program.now) (procedure_of pred.now) }
-{
-    match &pred.qualifier {
-        Some(name) => name,
-        None => &program.module,
-    }
 }

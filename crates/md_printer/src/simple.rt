@@ -24,18 +24,6 @@ pub(crate) fn unification(
     term(text, names, right)
 }
 
-#[tactic(auto, unfolding(crate::specs::Layout::laid))]
-fn term(text: &mut Vec<u8>, names: &[Name], term: &Term) -> Result<(), NoMemory>
-    ensures { OnOk result (text.new.items ≡ text.old.items ++ laid (spec.term_tokens names.now term.now)) }
-{
-    match term {
-        Term::Var(y) => variable(text, names, *y),
-        Term::Int(number) => integer(text, *number),
-        Term::Str(bytes) => quoted(text, bytes.as_bytes()),
-        Term::Name(name, places) => applied(text, names, name, places),
-    }
-}
-
 /// Adds a name, and variables in parentheses where there are any.
 #[tactic(auto, unfolding(crate::specs::Layout::laid))]
 pub(crate) fn applied(
@@ -68,16 +56,6 @@ pub(crate) fn arithmetic(
     variable(text, names, b)
 }
 
-fn operator(text: &mut Vec<u8>, op: Op) -> Result<(), NoMemory>
-    ensures { OnOk result (text.new.items ≡ text.old.items ++ spaced (spec.operator op)) }
-{
-    match op {
-        Op::Add => sign(text, "+"),
-        Op::Sub => sign(text, "-"),
-        Op::Mul => sign(text, "*"),
-    }
-}
-
 #[tactic(auto, unfolding(crate::specs::Layout::laid))]
 pub(crate) fn comparison(
     text: &mut Vec<u8>,
@@ -91,17 +69,6 @@ pub(crate) fn comparison(
     variable(text, names, a)?;
     compared(text, cmp)?;
     variable(text, names, b)
-}
-
-fn compared(text: &mut Vec<u8>, cmp: Cmp) -> Result<(), NoMemory>
-    ensures { OnOk result (text.new.items ≡ text.old.items ++ spaced (spec.comparison cmp)) }
-{
-    match cmp {
-        Cmp::Lt => sign(text, "<"),
-        Cmp::Le => sign(text, "=<"),
-        Cmp::Gt => sign(text, ">"),
-        Cmp::Ge => sign(text, ">="),
-    }
 }
 
 /// Adds a builtin goal that writes a variable.
@@ -158,4 +125,37 @@ pub(crate) fn closure_call(
     variable(text, names, closure)?;
     further_variables(text, names, places.as_slice())?;
     sign(text, ")")
+}
+
+#[tactic(auto, unfolding(crate::specs::Layout::laid))]
+fn term(text: &mut Vec<u8>, names: &[Name], term: &Term) -> Result<(), NoMemory>
+    ensures { OnOk result (text.new.items ≡ text.old.items ++ laid (spec.term_tokens names.now term.now)) }
+{
+    match term {
+        Term::Var(y) => variable(text, names, *y),
+        Term::Int(number) => integer(text, *number),
+        Term::Str(bytes) => quoted(text, bytes.as_bytes()),
+        Term::Name(name, places) => applied(text, names, name, places),
+    }
+}
+
+fn operator(text: &mut Vec<u8>, op: Op) -> Result<(), NoMemory>
+    ensures { OnOk result (text.new.items ≡ text.old.items ++ spaced (spec.operator op)) }
+{
+    match op {
+        Op::Add => sign(text, "+"),
+        Op::Sub => sign(text, "-"),
+        Op::Mul => sign(text, "*"),
+    }
+}
+
+fn compared(text: &mut Vec<u8>, cmp: Cmp) -> Result<(), NoMemory>
+    ensures { OnOk result (text.new.items ≡ text.old.items ++ spaced (spec.comparison cmp)) }
+{
+    match cmp {
+        Cmp::Lt => sign(text, "<"),
+        Cmp::Le => sign(text, "=<"),
+        Cmp::Gt => sign(text, ">"),
+        Cmp::Ge => sign(text, ">="),
+    }
 }

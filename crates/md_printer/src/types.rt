@@ -20,6 +20,31 @@ pub(crate) fn type_declaration(text: &mut Vec<u8>, declared: &TypeDef) -> Result
     functors(text, &declared.functors)
 }
 
+/// Adds the words of types with commas between them.
+#[tactic(auto, unfolding(crate::specs::Layout::laid))]
+pub(crate) fn type_words(text: &mut Vec<u8>, types: &[Ty]) -> Result<(), NoMemory>
+    ensures { OnOk result (text.new.items ≡ text.old.items ++ laid (separated (spec.single spec.type_word) (codes ",") (hlds_types_of types.now))) }
+{
+    if let [first, rest @ ..] = types {
+        type_word(text, first)?;
+        further_type_words(text, rest)?;
+    }
+    Ok(())
+}
+
+/// Adds the word of a type: its name, or `pred` where it is higher-order.
+pub(crate) fn type_word(text: &mut Vec<u8>, ty: &Ty) -> Result<(), NoMemory>
+    ensures { OnOk result (text.new.items ≡ text.old.items ++ spaced (spec.type_word (hlds_type_of ty.now))) }
+{
+    match ty {
+        Ty::Int => sign(text, "int"),
+        Ty::Str => sign(text, "string"),
+        Ty::Io => sign(text, "io"),
+        Ty::User(name) => token(text, name.as_bytes()),
+        Ty::Ho(_) => sign(text, "pred"),
+    }
+}
+
 /// Adds functors with `;` between them.
 #[tactic(auto, unfolding(crate::specs::Layout::laid))]
 fn functors(text: &mut Vec<u8>, functors: &[Functor]) -> Result<(), NoMemory>
@@ -65,18 +90,6 @@ fn types_in_parentheses(text: &mut Vec<u8>, types: &[Ty]) -> Result<(), NoMemory
     Ok(())
 }
 
-/// Adds the words of types with commas between them.
-#[tactic(auto, unfolding(crate::specs::Layout::laid))]
-pub(crate) fn type_words(text: &mut Vec<u8>, types: &[Ty]) -> Result<(), NoMemory>
-    ensures { OnOk result (text.new.items ≡ text.old.items ++ laid (separated (spec.single spec.type_word) (codes ",") (hlds_types_of types.now))) }
-{
-    if let [first, rest @ ..] = types {
-        type_word(text, first)?;
-        further_type_words(text, rest)?;
-    }
-    Ok(())
-}
-
 #[tactic(auto, unfolding(crate::specs::Layout::laid))]
 fn further_type_words(text: &mut Vec<u8>, types: &[Ty]) -> Result<(), NoMemory>
     ensures { OnOk result (text.new.items ≡ text.old.items ++ laid (further (spec.single spec.type_word) (codes ",") (hlds_types_of types.now))) }
@@ -86,17 +99,4 @@ fn further_type_words(text: &mut Vec<u8>, types: &[Ty]) -> Result<(), NoMemory>
         type_word(text, next)?;
     }
     Ok(())
-}
-
-/// Adds the word of a type: its name, or `pred` where it is higher-order.
-pub(crate) fn type_word(text: &mut Vec<u8>, ty: &Ty) -> Result<(), NoMemory>
-    ensures { OnOk result (text.new.items ≡ text.old.items ++ spaced (spec.type_word (hlds_type_of ty.now))) }
-{
-    match ty {
-        Ty::Int => sign(text, "int"),
-        Ty::Str => sign(text, "string"),
-        Ty::Io => sign(text, "io"),
-        Ty::User(name) => token(text, name.as_bytes()),
-        Ty::Ho(_) => sign(text, "pred"),
-    }
 }

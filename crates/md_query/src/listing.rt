@@ -64,6 +64,19 @@ pub fn push_context(
     push_links(rows, loaded, threads.first[node as usize], &threads.next)
 }
 
+/// Adds the row of each module.
+pub fn push_modules(alloc: Global, rows: &mut Vec<Row>, loaded: &Loaded) -> Result<(), NoMemory>
+    ensures { (v : View) → IsFileView loaded.now.profile v → OnOk result (rows.new.items ≡ rows.old.items ++ map (module_row v) (range_with_len 0 (length loaded.now.profile.statics.modules))) }
+{
+    let statics = loaded.profile().statics();
+    let count = statics.modules().len();
+    let sizes = sizes_of_modules(alloc, statics.procs(), count)?;
+    for id in 0..count {
+        rows.push(module_row(loaded, id as u32, sizes[id]))?;
+    }
+    Ok(())
+}
+
 /// Adds the rows of the links of a thread.
 fn push_links(
     rows: &mut Vec<Row>,
@@ -80,19 +93,6 @@ fn push_links(
     while let Some(link) = at {
         rows.push(link_row(loaded, CsdId::new(link)))?;
         at = next[link as usize];
-    }
-    Ok(())
-}
-
-/// Adds the row of each module.
-pub fn push_modules(alloc: Global, rows: &mut Vec<Row>, loaded: &Loaded) -> Result<(), NoMemory>
-    ensures { (v : View) → IsFileView loaded.now.profile v → OnOk result (rows.new.items ≡ rows.old.items ++ map (module_row v) (range_with_len 0 (length loaded.now.profile.statics.modules))) }
-{
-    let statics = loaded.profile().statics();
-    let count = statics.modules().len();
-    let sizes = sizes_of_modules(alloc, statics.procs(), count)?;
-    for id in 0..count {
-        rows.push(module_row(loaded, id as u32, sizes[id]))?;
     }
     Ok(())
 }

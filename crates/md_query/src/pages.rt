@@ -44,13 +44,6 @@ pub fn menu_page(alloc: Global, loaded: &Loaded) -> Result<Page, NoMemory>
     Ok(Page::from_parts(Title::Menu, rows))
 }
 
-/// How much there is of something.
-fn number(what: What, n: u64) -> Row
-    ensures { result ≡ Row.Number what n }
-{
-    Row::Number { what, n }
-}
-
 /// A clique: the link that enters it, its total, and its contexts with the links that start there.
 pub fn clique_page(alloc: Global, loaded: &Loaded, id: u32) -> Result<Page, NoMemory>
     requires { id < clique_count loaded.now.cliques }
@@ -126,4 +119,11 @@ pub fn module_page(alloc: Global, loaded: &Loaded, id: u32) -> Result<Page, NoMe
     rows.push(Row::Total(loaded.module_total(id)))?;
     push_procs(&mut rows, loaded, &ids)?;
     Ok(Page::from_parts(Title::Module(id), rows))
+}
+
+/// How much there is of something.
+fn number(what: What, n: u64) -> Row
+    ensures { result ≡ Row.Number what n }
+{
+    Row::Number { what, n }
 }

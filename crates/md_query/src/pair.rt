@@ -60,6 +60,17 @@ pub fn number_within(least: u32, most: u32, text: &[u8]) -> Option<u32>
     }
 }
 
+/// The measure that the first pair `by` names.
+pub(crate) fn measure_in(alloc: Global, pairs: &[u8]) -> Result<Option<Measure>, NoMemory>
+    ensures measure { IfOk result (λ found. found ≡ measure_in pairs.now) }
+    ensures plain { ArePlain pairs.now → IsOk result }
+{
+    match value_of(alloc, "by", pairs)? {
+        Some(name) => Ok(measure_named(name.as_str())),
+        None => Ok(None),
+    }
+}
+
 /// A number, where it is from `least` to `most`.
 fn within(least: u32, most: u32, number: u64) -> Option<u32>
     ensures { result ≡ within least most number }
@@ -83,17 +94,6 @@ fn are_digits(bytes: &[u8]) -> bool
     ensures { result ≡ list_all is_ascii_digit bytes.now }
 {
     bytes.iter().all(|byte| byte.is_ascii_digit())
-}
-
-/// The measure that the first pair `by` names.
-pub(crate) fn measure_in(alloc: Global, pairs: &[u8]) -> Result<Option<Measure>, NoMemory>
-    ensures measure { IfOk result (λ found. found ≡ measure_in pairs.now) }
-    ensures plain { ArePlain pairs.now → IsOk result }
-{
-    match value_of(alloc, "by", pairs)? {
-        Some(name) => Ok(measure_named(name.as_str())),
-        None => Ok(None),
-    }
 }
 
 /// The measure of this name.

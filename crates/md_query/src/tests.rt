@@ -1,3 +1,4 @@
+// Queries that are read, and words that are none.
 use crate::{Query, QueryFault, read_query};
 use md_base::Measure;
 use std::alloc::Global;

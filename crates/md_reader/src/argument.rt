@@ -22,6 +22,20 @@ pub(crate) fn declared_arguments(input: &mut Input<'_>) -> Result<Vec<(Ty, Mode)
     arguments_at_most(input, MOST)
 }
 
+/// Takes a determinism.
+#[tactic(auto, unfolding(crate::specs::Rules::determinism))]
+pub(crate) fn determinism(input: &mut Input<'_>) -> Result<Det, Refusal>
+    ensures { Reads (λ det. det) (spec.determinism (input_of input.old)) result (input_of input.new) }
+{
+    match det_named(input.token().text) {
+        None => Err(input.refuse()),
+        Some(det) => {
+            input.advance();
+            Ok(det)
+        }
+    }
+}
+
 fn arguments_at_most(input: &mut Input<'_>, count: usize) -> Result<Vec<(Ty, Mode)>, Refusal>
     ensures { Reads (λ args. args_of args.items) (spec.arguments_from count [] (input_of input.old)) result (input_of input.new) }
 {
@@ -177,20 +191,6 @@ fn ho_mode(input: &mut Input<'_>) -> Result<Mode, Refusal>
             Ok(Mode::Out)
         }
         _ => Err(input.refuse()),
-    }
-}
-
-/// Takes a determinism.
-#[tactic(auto, unfolding(crate::specs::Rules::determinism))]
-pub(crate) fn determinism(input: &mut Input<'_>) -> Result<Det, Refusal>
-    ensures { Reads (λ det. det) (spec.determinism (input_of input.old)) result (input_of input.new) }
-{
-    match det_named(input.token().text) {
-        None => Err(input.refuse()),
-        Some(det) => {
-            input.advance();
-            Ok(det)
-        }
     }
 }
 

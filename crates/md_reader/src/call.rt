@@ -28,6 +28,33 @@ pub(crate) fn relation(input: &mut Input<'_>) -> Result<GoalKind, Refusal>
     }
 }
 
+/// Takes a call of a predicate, or a builtin goal.
+#[tactic(auto, unfolding(crate::specs::Rules::call))]
+pub(crate) fn call(input: &mut Input<'_>) -> Result<GoalKind, Refusal>
+    ensures { Reads expr_of (spec.call (input_of input.old)) result (input_of input.new) }
+{
+    let name = pred_name(input)?;
+    let variables = arguments(input, None)?;
+    match builtin(&name, variables.as_slice()) {
+        Some(goal) => Ok(goal),
+        None => {
+            let site = input.site()?;
+            Ok(GoalKind::Call(SiteId::new(site), name, variables))
+        }
+    }
+}
+
+/// Takes a call of a closure.
+#[tactic(auto, unfolding(crate::specs::Rules::closure_call))]
+pub(crate) fn closure_call(input: &mut Input<'_>) -> Result<GoalKind, Refusal>
+    ensures { Reads expr_of (spec.closure_call (input_of input.old)) result (input_of input.new) }
+{
+    input.expect(Kind::Call)?;
+    input.expect(Kind::Open)?;
+    let variables = variables(input, Kind::Close, None)?;
+    applied(input, variables)
+}
+
 fn compared(input: &mut Input<'_>, x: u32, comparison: Option<Cmp>) -> Result<GoalKind, Refusal>
     ensures { Reads expr_of (spec.compared x comparison (input_of input.old)) result (input_of input.new) }
 {
@@ -50,22 +77,6 @@ fn comparison(kind: Kind) -> Option<Cmp>
         Kind::Greater => Some(Cmp::Gt),
         Kind::AtLeast => Some(Cmp::Ge),
         _ => None,
-    }
-}
-
-/// Takes a call of a predicate, or a builtin goal.
-#[tactic(auto, unfolding(crate::specs::Rules::call))]
-pub(crate) fn call(input: &mut Input<'_>) -> Result<GoalKind, Refusal>
-    ensures { Reads expr_of (spec.call (input_of input.old)) result (input_of input.new) }
-{
-    let name = pred_name(input)?;
-    let variables = arguments(input, None)?;
-    match builtin(&name, variables.as_slice()) {
-        Some(goal) => Ok(goal),
-        None => {
-            let site = input.site()?;
-            Ok(GoalKind::Call(SiteId::new(site), name, variables))
-        }
     }
 }
 
@@ -100,17 +111,6 @@ fn is_qualified_by(library: &str, qualifier: &Option<Name>) -> bool
         None => false,
         Some(qualifier) => is_word(qualifier.as_bytes(), library),
     }
-}
-
-/// Takes a call of a closure.
-#[tactic(auto, unfolding(crate::specs::Rules::closure_call))]
-pub(crate) fn closure_call(input: &mut Input<'_>) -> Result<GoalKind, Refusal>
-    ensures { Reads expr_of (spec.closure_call (input_of input.old)) result (input_of input.new) }
-{
-    input.expect(Kind::Call)?;
-    input.expect(Kind::Open)?;
-    let variables = variables(input, Kind::Close, None)?;
-    applied(input, variables)
 }
 
 fn applied(input: &mut Input<'_>, variables: Variables) -> Result<GoalKind, Refusal>

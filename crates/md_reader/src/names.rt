@@ -35,34 +35,6 @@ pub(crate) fn name_in<'a>(token: Token<'a>) -> Option<Written<'a>>
     }
 }
 
-/// The qualified name that is written so, unless a word that is no name stands after the qualifier.
-#[tactic(auto, unfolding(crate::specs::Rules::qualified))]
-fn qualified<'a>(text: &'a [u8]) -> Option<Written<'a>>
-    ensures { option_map written_of result ≡ spec.qualified text.now }
-{
-    let length = word_length(text);
-    let (qualifier, _) = text.split_at(length);
-    let name = past(text, length + 1);
-    if !same_kind(word_kind(name), Kind::Name) {
-        return None;
-    }
-    Some(Written {
-        qualifier: Some(qualifier),
-        name,
-    })
-}
-
-/// The bytes past the first ones.
-fn past<'a>(text: &'a [u8], count: usize) -> &'a [u8]
-    ensures { result.now ≡ drop count text.now }
-{
-    if count > text.len() {
-        return b"";
-    }
-    let (_, rest) = text.split_at(count);
-    rest
-}
-
 /// The name of these bytes. No token is empty, so there is one.
 pub(crate) fn name_of(alloc: Global, bytes: &[u8]) -> Result<Name, NoMemory>
     ensures { IfOk result (λ name. name ≡ bytes.now) }
@@ -115,18 +87,6 @@ pub(crate) fn pred_name(input: &mut Input<'_>) -> Result<PredName, Refusal>
     }
 }
 
-#[tactic(auto, unfolding(crate::specs::Input::input_of))]
-fn take_written(input: &mut Input<'_>, written: Written<'_>) -> Result<PredName, Refusal>
-    ensures { Reads (λ name. name) (spec.take_written (Some (written_of written.entry)) (input_of input.old)) result (input_of input.new) }
-{
-    if is_long(written) {
-        return Err(input.limit());
-    }
-    let name = meant(input.alloc, input.home(), written)?;
-    input.advance();
-    Ok(name)
-}
-
 /// Takes the name of a predicate that is declared: it is of no module that the builtin goals are of.
 #[tactic(auto, unfolding(crate::specs::Rules::declared_name))]
 pub(crate) fn declared_name(input: &mut Input<'_>) -> Result<PredName, Refusal>
@@ -136,15 +96,6 @@ pub(crate) fn declared_name(input: &mut Input<'_>) -> Result<PredName, Refusal>
         None => Err(input.refuse()),
         Some(written) if is_of_library(written.qualifier) => Err(input.refuse()),
         Some(written) => take_written(input, written),
-    }
-}
-
-fn is_of_library(qualifier: Option<&[u8]>) -> bool
-    ensures { result ≡ spec.is_of_library (option_map (λ q. q.now) qualifier.entry) }
-{
-    match qualifier {
-        None => false,
-        Some(qualifier) => is_library(qualifier),
     }
 }
 
@@ -166,6 +117,55 @@ pub(crate) fn this_name(input: &mut Input<'_>, name: &PredName) -> Result<(), Re
             Ok(())
         }
         _ => Err(input.refuse()),
+    }
+}
+
+/// The qualified name that is written so, unless a word that is no name stands after the qualifier.
+#[tactic(auto, unfolding(crate::specs::Rules::qualified))]
+fn qualified<'a>(text: &'a [u8]) -> Option<Written<'a>>
+    ensures { option_map written_of result ≡ spec.qualified text.now }
+{
+    let length = word_length(text);
+    let (qualifier, _) = text.split_at(length);
+    let name = past(text, length + 1);
+    if !same_kind(word_kind(name), Kind::Name) {
+        return None;
+    }
+    Some(Written {
+        qualifier: Some(qualifier),
+        name,
+    })
+}
+
+/// The bytes past the first ones.
+fn past<'a>(text: &'a [u8], count: usize) -> &'a [u8]
+    ensures { result.now ≡ drop count text.now }
+{
+    if count > text.len() {
+        return b"";
+    }
+    let (_, rest) = text.split_at(count);
+    rest
+}
+
+#[tactic(auto, unfolding(crate::specs::Input::input_of))]
+fn take_written(input: &mut Input<'_>, written: Written<'_>) -> Result<PredName, Refusal>
+    ensures { Reads (λ name. name) (spec.take_written (Some (written_of written.entry)) (input_of input.old)) result (input_of input.new) }
+{
+    if is_long(written) {
+        return Err(input.limit());
+    }
+    let name = meant(input.alloc, input.home(), written)?;
+    input.advance();
+    Ok(name)
+}
+
+fn is_of_library(qualifier: Option<&[u8]>) -> bool
+    ensures { result ≡ spec.is_of_library (option_map (λ q. q.now) qualifier.entry) }
+{
+    match qualifier {
+        None => false,
+        Some(qualifier) => is_library(qualifier),
     }
 }
 

@@ -40,22 +40,6 @@ pub(crate) fn simple_types(input: &mut Input<'_>) -> Result<Vec<Ty>, Refusal>
     simple_types_at_most(input, MOST)
 }
 
-fn simple_types_at_most(input: &mut Input<'_>, count: usize) -> Result<Vec<Ty>, Refusal>
-    ensures { Reads (λ types. hlds_types_of types.items) (spec.simple_types_from count [] (input_of input.old)) result (input_of input.new) }
-{
-    let mut found = Vec::new(input.alloc);
-    for _turn in 0..count {
-        found.push(simple_type(input)?)?;
-        if !input.eat(Kind::Comma) {
-            input.expect(Kind::Close)?;
-            return Ok(found);
-        }
-    }
-    let excess = input.limit();
-    simple_type(input)?;
-    Err(excess)
-}
-
 /// Takes the declaration of a type from `type` on. Its line is that of its `:-`.
 #[tactic(auto, unfolding(crate::specs::Rules::type_definition))]
 pub(crate) fn type_definition(input: &mut Input<'_>, line: u32) -> Result<TypeDef, Refusal>
@@ -70,6 +54,22 @@ pub(crate) fn type_definition(input: &mut Input<'_>, line: u32) -> Result<TypeDe
         line,
         functors,
     })
+}
+
+fn simple_types_at_most(input: &mut Input<'_>, count: usize) -> Result<Vec<Ty>, Refusal>
+    ensures { Reads (λ types. hlds_types_of types.items) (spec.simple_types_from count [] (input_of input.old)) result (input_of input.new) }
+{
+    let mut found = Vec::new(input.alloc);
+    for _turn in 0..count {
+        found.push(simple_type(input)?)?;
+        if !input.eat(Kind::Comma) {
+            input.expect(Kind::Close)?;
+            return Ok(found);
+        }
+    }
+    let excess = input.limit();
+    simple_type(input)?;
+    Err(excess)
 }
 
 /// Takes the name of a type that is declared: none of `int`, `string` and `io`.

@@ -24,6 +24,28 @@ pub(crate) fn variables(
     at_most(input, closing, MOST, seen)
 }
 
+/// Takes nothing, or variables in parentheses.
+#[tactic(auto, unfolding(crate::specs::Rules::arguments))]
+pub(crate) fn arguments(input: &mut Input<'_>, before: Option<u32>) -> Result<Variables, Refusal>
+    ensures { Reads (λ found. found) (spec.arguments (spec.seen_before before) (input_of input.old)) result (input_of input.new) }
+{
+    if !input.eat(Kind::Open) {
+        return Ok(Variables::new(input.alloc));
+    }
+    variables(input, Kind::Close, before)
+}
+
+/// Takes any number of variables, and `]`.
+#[tactic(auto, unfolding(crate::specs::Rules::quantified))]
+pub(crate) fn quantified(input: &mut Input<'_>) -> Result<Variables, Refusal>
+    ensures { Reads (λ found. found) (spec.quantified (input_of input.old)) result (input_of input.new) }
+{
+    if input.eat(Kind::CloseList) {
+        return Ok(Variables::new(input.alloc));
+    }
+    variables(input, Kind::CloseList, None)
+}
+
 /// Takes at most `count` variables, none of which is among those seen, and the closing sign.
 fn at_most(
     input: &mut Input<'_>,
@@ -56,26 +78,4 @@ fn seen_before(alloc: Global, before: Option<u32>) -> Result<Vec<u32>, NoMemory>
         seen.push(variable)?;
     }
     Ok(seen)
-}
-
-/// Takes nothing, or variables in parentheses.
-#[tactic(auto, unfolding(crate::specs::Rules::arguments))]
-pub(crate) fn arguments(input: &mut Input<'_>, before: Option<u32>) -> Result<Variables, Refusal>
-    ensures { Reads (λ found. found) (spec.arguments (spec.seen_before before) (input_of input.old)) result (input_of input.new) }
-{
-    if !input.eat(Kind::Open) {
-        return Ok(Variables::new(input.alloc));
-    }
-    variables(input, Kind::Close, before)
-}
-
-/// Takes any number of variables, and `]`.
-#[tactic(auto, unfolding(crate::specs::Rules::quantified))]
-pub(crate) fn quantified(input: &mut Input<'_>) -> Result<Variables, Refusal>
-    ensures { Reads (λ found. found) (spec.quantified (input_of input.old)) result (input_of input.new) }
-{
-    if input.eat(Kind::CloseList) {
-        return Ok(Variables::new(input.alloc));
-    }
-    variables(input, Kind::CloseList, None)
 }

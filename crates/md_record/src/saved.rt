@@ -1,3 +1,4 @@
+// What the recorder hands out at a call, and takes back at the ports after it.
 use md_base::{CsdId, PdId};
 
 /// The mark of an activation: its context, its link, and the active context of its procedure before its call, which is

@@ -29,6 +29,22 @@ pub(crate) fn add_proc(out: &mut Vec<u8>, form: Form, id: u32) -> Result<(), All
     add_linked(out, form, b"/proc?id=", b"proc ", id as u64)
 }
 
+/// Adds a module by its name.
+pub(crate) fn add_module(out: &mut Vec<u8>, form: Form, name: &[u8]) -> Result<(), AllocError>
+    ensures { OnOk result (out.new.items ≡ out.old.items ++ module_words form name.now) }
+{
+    match form {
+        Form::Text => add_plain_module(out, name),
+        Form::Html => {
+            add(out, b"<a href=\"")?;
+            add_module_address(out, name)?;
+            add(out, b"\">")?;
+            add_plain_module(out, name)?;
+            add(out, b"</a>")
+        }
+    }
+}
+
 /// Adds words with a number, which is in the address too.
 fn add_linked(
     out: &mut Vec<u8>,
@@ -46,22 +62,6 @@ fn add_linked(
             add_number(out, address, number)?;
             add(out, b"\">")?;
             add_number(out, words, number)?;
-            add(out, b"</a>")
-        }
-    }
-}
-
-/// Adds a module by its name.
-pub(crate) fn add_module(out: &mut Vec<u8>, form: Form, name: &[u8]) -> Result<(), AllocError>
-    ensures { OnOk result (out.new.items ≡ out.old.items ++ module_words form name.now) }
-{
-    match form {
-        Form::Text => add_plain_module(out, name),
-        Form::Html => {
-            add(out, b"<a href=\"")?;
-            add_module_address(out, name)?;
-            add(out, b"\">")?;
-            add_plain_module(out, name)?;
             add(out, b"</a>")
         }
     }

@@ -31,6 +31,24 @@ pub(crate) fn add_title(
     }
 }
 
+/// What a number on the menu counts.
+pub(crate) fn what_word(what: What) -> &'static [u8]
+    ensures { result.now ≡ what_word what }
+{
+    match what {
+        What::Contexts => b"contexts",
+        What::Links => b"links",
+        What::Cliques => b"cliques",
+        What::Calls => b"calls",
+        What::Exits => b"exits",
+        What::Fails => b"fails",
+        What::Redos => b"redos",
+        What::Allocs => b"allocs",
+        What::Words => b"words",
+        What::Excps => b"excps",
+    }
+}
+
 /// Adds the title of the first procedures by a measure.
 fn add_first(out: &mut Vec<u8>, by: Measure, n: u32) -> Result<(), AllocError>
     ensures { OnOk result (out.new.items ≡ out.old.items ++ (codes "mdprof top " ++ (measure_word by ++ (codes " " ++ decimal n)))) }
@@ -68,23 +86,5 @@ fn measure_word(measure: Measure) -> &'static [u8]
         Measure::Allocs => b"allocs",
         Measure::Words => b"words",
         Measure::Excps => b"excps",
-    }
-}
-
-/// What a number on the menu counts.
-pub(crate) fn what_word(what: What) -> &'static [u8]
-    ensures { result.now ≡ what_word what }
-{
-    match what {
-        What::Contexts => b"contexts",
-        What::Links => b"links",
-        What::Cliques => b"cliques",
-        What::Calls => b"calls",
-        What::Exits => b"exits",
-        What::Fails => b"fails",
-        What::Redos => b"redos",
-        What::Allocs => b"allocs",
-        What::Words => b"words",
-        What::Excps => b"excps",
     }
 }

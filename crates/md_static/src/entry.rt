@@ -1,3 +1,4 @@
+// The rows of the tables of a program: procedures and call sites.
 use md_base::{Name, ProcId};
 
 /// A procedure: its module by number, its name and its number of arguments.

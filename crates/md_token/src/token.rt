@@ -1,3 +1,4 @@
+// Tokens.
 use crate::Kind;
 
 /// A token: its kind, the bytes that spell it, and its line, counted from 1.

@@ -24,14 +24,6 @@ pub(crate) fn name_at(text: &[u8]) -> (Kind, usize)
     (word_kind(&text[..length + 1]), length)
 }
 
-/// Whether what follows a name makes it a qualifier.
-fn qualifies(after: &[u8]) -> bool
-    ensures qualifies { result ≡ spec.qualifies after.now }
-    ensures more { IsTrue result → 2 ≤ length after.now }
-{
-    byte_at(after, 0) == b'.' && is_lower(byte_at(after, 1))
-}
-
 /// The variable that begins with a byte: how many bytes it has after that byte.
 #[tactic(auto, unfolding(crate::specs::Token::variable_at))]
 pub(crate) fn variable_at(byte: u8, bytes: &[u8]) -> Option<(Kind, usize)>
@@ -75,4 +67,12 @@ pub fn is_word(text: &[u8], word: &str) -> bool
     ensures { result ≡ bytes_eq text.now word.now }
 {
     text == word.as_bytes()
+}
+
+/// Whether what follows a name makes it a qualifier.
+fn qualifies(after: &[u8]) -> bool
+    ensures qualifies { result ≡ spec.qualifies after.now }
+    ensures more { IsTrue result → 2 ≤ length after.now }
+{
+    byte_at(after, 0) == b'.' && is_lower(byte_at(after, 1))
 }

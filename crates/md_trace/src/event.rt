@@ -1,3 +1,4 @@
+// The events of a run.
 use md_base::{ProcId, SiteId};
 
 /// One port of one activation, or an allocation by it. Activations are numbered from 0 in the order of their
