@@ -7,6 +7,8 @@ file, changes a byte or a number, moves, doubles or drops some bytes, or does se
 the two readings differ.
 """
 
+import collections
+import concurrent.futures
 import os
 import pathlib
 import random
@@ -17,6 +19,10 @@ import tempfile
 import reader
 
 EXAMPLES = pathlib.Path(__file__).resolve().parents[2] / "examples"
+
+# The edits are made in so many parts, each with a seed of its own, as many at a time as there are processors.
+PARTS = 64
+
 NUMBERS = [0, 1, 2, 3, 255, 256, 0x7FFFFFFF, 0xFFFFFFFE, 0xFFFFFFFF]
 
 
@@ -111,7 +117,7 @@ def edited(data, chance):
 
 def told(program, path):
     """What the program says of a file."""
-    ended = subprocess.run([program, "page", str(path), "menu"], capture_output=True)
+    ended = subprocess.run([program, "page", str(path), "menu"], capture_output=True, close_fds=False)
     if ended.returncode == 0 and ended.stdout.startswith(b"mdprof menu\n") and not ended.stderr:
         return "a profile"
     start = f"mdprof: {path}: "
@@ -131,25 +137,43 @@ def expected(data):
     return "a profile"
 
 
-def main():
-    program, edits = os.path.abspath(sys.argv[1]), int(sys.argv[2])
-    chance = random.Random(int(sys.argv[3]) if len(sys.argv) > 3 else 1)
-    differ, kinds = 0, {}
+def compared(program, files):
+    """How many of the files are of each kind, and the lines that tell of those on which the readings differ."""
+    kinds, differ = collections.Counter(), []
     with tempfile.TemporaryDirectory() as name:
-        folder = pathlib.Path(name)
-        whole = list(profiles(program, folder)) + [pathlib.Path(file).read_bytes() for file in sys.argv[4:]]
-        path = folder / "edited.data"
-        for number in range(edits + len(whole)):
-            data = whole[number] if number < len(whole) else edited(chance.choice(whole), chance)
+        path = pathlib.Path(name) / "edited.data"
+        for data in files:
             path.write_bytes(data)
             wanted, said = expected(data), told(program, path)
-            kinds[wanted.rpartition(": ")[2]] = kinds.get(wanted.rpartition(": ")[2], 0) + 1
+            kinds[wanted.rpartition(": ")[2]] += 1
             if wanted != said:
-                differ += 1
-                print(f"{data.hex()}\n  wanted: {wanted}\n  said:   {said}")
+                differ.append(f"{data.hex()}\n  wanted: {wanted}\n  said:   {said}")
+    return kinds, differ
+
+
+def compared_part(program, whole, edits, seed):
+    """The same of so many edited files."""
+    chance = random.Random(seed)
+    return compared(program, (edited(chance.choice(whole), chance) for _ in range(edits)))
+
+
+def main():
+    program, edits = os.path.abspath(sys.argv[1]), int(sys.argv[2])
+    seed = int(sys.argv[3]) if len(sys.argv) > 3 else 1
+    with tempfile.TemporaryDirectory() as name:
+        whole = list(profiles(program, pathlib.Path(name)))
+    whole += [pathlib.Path(file).read_bytes() for file in sys.argv[4:]]
+    kinds, differ = compared(program, whole)
+    with concurrent.futures.ProcessPoolExecutor() as pool:
+        parts = [(edits * (part + 1) // PARTS - edits * part // PARTS, f"{seed} {part}") for part in range(PARTS)]
+        for some, lines in pool.map(compared_part, *zip(*[(program, whole, *part) for part in parts])):
+            kinds += some
+            differ += lines
+    for line in differ:
+        print(line)
     for kind in sorted(kinds):
         print(f"{kinds[kind]:>8} {kind}")
-    print(f"{edits} edits of {len(whole)} files, {differ} differ")
+    print(f"{edits} edits of {len(whole)} files, {len(differ)} differ")
     return 1 if differ else 0
 
 
