@@ -3,10 +3,15 @@ use Rattle.std.proofs.Common.{◌≡◌, [], ◌∷◌, codes, refl}
 use Rattle.std.specs.Prelude.{⊤}
 use Rattle.std.specs.Fmt.{digits}
 use Rattle.md_deepfile.specs.declared.damage.Kind.TheVariants as kind
+use Rattle.md_det.specs.declared.fault.DetFault.TheVariants.{Declared}
+use Rattle.md_hlds.specs.declared.types.Det.TheVariants as det
 use Rattle.md_hlds.specs.Trace.{Answer, Throw}
+use Rattle.md_inst.specs.declared.fault.ModeFault.TheVariants.{Arity, NoMemory}
+use Rattle.md_reader.specs.declared.refused.Refused.TheVariants.{Syntax}
+use Rattle.md_tool.specs.Accepted.{modes_refusal, determinism_refusal}
 use Rattle.md_tool.specs.declared.fault.Fault.TheVariants.{Damaged, TooLarge, TwoEntries, DamagedLine, AnotherProgram}
-use Rattle.md_tool.specs.declared.fault.Why.TheVariants as why
 use Rattle.md_tool.specs.declared.fault.Fault.TheVariants as faults
+use Rattle.md_tool.specs.declared.fault.Refusal.TheVariants.{Text, Modes, Determinism}
 use Rattle.md_tool.specs.Ends.{end_of, Finished, Threw, RanOut}
 use Rattle.md_tool.specs.Fault.{fault_line}
 use Rattle.md_tool.specs.Generated.{gen_text}
@@ -40,9 +45,22 @@ two-links-enter-a-clique : fault_line (TwoEntries 1 2 7) (codes "f") ≡ codes "
 unfolding on_numbers
 two-links-enter-a-clique = refl
 
-a-refused-text-has-its-line : fault_line (faults.Refused 4 why.Syntax) (codes "a.m") ≡ codes "mdprof: a.m:4: syntax\n"
+a-refused-text-has-its-line : fault_line (faults.Refused 4 (Text (Syntax 4))) (codes "a.m") ≡ codes "mdprof: a.m:4: syntax\n"
 unfolding on_numbers
 a-refused-text-has-its-line = refl
+
+a-fault-of-modes-has-its-line : fault_line (modes_refusal (Arity 12)) (codes "a.m") ≡ codes "mdprof: a.m:12: wrong number of arguments\n"
+unfolding on_numbers
+a-fault-of-modes-has-its-line = refl
+
+a-fault-of-determinism-has-its-line :
+    fault_line (determinism_refusal (Declared 7 det.Semidet det.Nondet)) (codes "a.m") ≡ codes "mdprof: a.m:7: declared semidet, inferred nondet\n"
+unfolding on_numbers
+a-fault-of-determinism-has-its-line = refl
+
+want-of-memory-is-no-refusal : fault_line (modes_refusal NoMemory) (codes "a.m") ≡ codes "mdprof: want of memory\n"
+unfolding on_numbers
+want-of-memory-is-no-refusal = refl
 
 -- ---- generated programs
 

@@ -1,21 +1,22 @@
 -- Which texts are accepted as programs, and why others aren't.
-use Rattle.std.specs.Prelude.{ℕ, ◌≡◌, ◌⊎◌, List, None, Some, Ok, Err}
+use Rattle.std.specs.Prelude.{ℕ, ◌≡◌, ◌⊎◌, List, Option, None, Some, Ok, Err}
 use Rattle.md_hlds.specs.declared.program.Program.{Program}
 use Rattle.md_hlds.specs.Hlds.{Hlds, hlds_of}
 use Rattle.md_reader.specs.declared.refused.Refused.{Refused}
-use Rattle.md_reader.specs.declared.refused.Refused.TheVariants as refused
 use Rattle.md_reader.specs.Grammar.{Spells}
 use Rattle.md_reader.specs.Reading.{reading, HasCause}
+use Rattle.md_reader.specs.Words.{refused_line}
 use Rattle.md_inst.specs.declared.fault.ModeFault.{ModeFault}
-use Rattle.md_inst.specs.declared.fault.ModeFault.TheVariants as modes
+use Rattle.md_inst.specs.Words.{mode_fault_line}
 use Rattle.md_modes.specs.Modes.{mode_fault}
 use Rattle.md_det.specs.declared.fault.DetFault.{DetFault}
-use Rattle.md_det.specs.declared.fault.DetFault.TheVariants as determinism
 use Rattle.md_det.specs.Faults.{det_fault}
+use Rattle.md_det.specs.Words.{det_fault_line}
 use Rattle.md_tool.specs.declared.fault.Fault.{Fault}
 use Rattle.md_tool.specs.declared.fault.Fault.TheVariants.{NoMemory}
 use Rattle.md_tool.specs.declared.fault.Fault.TheVariants.{Refused as RefusedAt}
-use Rattle.md_tool.specs.declared.fault.Why.TheVariants as why
+use Rattle.md_tool.specs.declared.fault.Refusal.{Refusal}
+use Rattle.md_tool.specs.declared.fault.Refusal.TheVariants.{Text, Modes, Determinism}
 
 -- A text that is accepted: it spells a program without a fault of modes or determinism. The program is also what the rules
 -- of the language read, so it is the only one.
@@ -28,29 +29,19 @@ pub record Accepted (text : List ℕ) : Type 0 where
 
 -- ---- the faults of a text, of modes and of determinism, as a command tells them
 
+-- a refusal at this line; where there is none, memory was refused
+abbrev pub refused_at : Option ℕ → Refusal → Fault
+refused_at None why = NoMemory
+refused_at (Some line) why = RefusedAt line why
+
 abbrev pub refusal_of : Refused → Fault
-refusal_of (refused.Syntax line) = RefusedAt line why.Syntax
-refusal_of (refused.Limit line) = RefusedAt line why.Limit
-refusal_of (refused.Duplicate line) = RefusedAt line why.Duplicate
-refusal_of refused.NoMemory = NoMemory
+refusal_of refused = refused_at (refused_line refused) (Text refused)
 
 abbrev pub modes_refusal : ModeFault → Fault
-modes_refusal (modes.UnknownName line) = RefusedAt line why.UnknownName
-modes_refusal (modes.Arity line) = RefusedAt line why.Arity
-modes_refusal (modes.TypeClash line) = RefusedAt line why.TypeClash
-modes_refusal (modes.Unbound line) = RefusedAt line why.Unbound
-modes_refusal (modes.BoundTwice line) = RefusedAt line why.BoundTwice
-modes_refusal (modes.BranchBinds line) = RefusedAt line why.BranchBinds
-modes_refusal (modes.IoUsed line) = RefusedAt line why.IoUsed
-modes_refusal (modes.ClosureTest line) = RefusedAt line why.ClosureTest
-modes_refusal (modes.NoMain line) = RefusedAt line why.NoMain
-modes_refusal modes.NoMemory = NoMemory
+modes_refusal fault = refused_at (mode_fault_line fault) (Modes fault)
 
 abbrev pub determinism_refusal : DetFault → Fault
-determinism_refusal (determinism.Declared line declared inferred) = RefusedAt line (why.Declared declared inferred)
-determinism_refusal (determinism.ManyInCondition line) = RefusedAt line why.ManyInCondition
-determinism_refusal (determinism.IoInBacktracking line) = RefusedAt line why.IoInBacktracking
-determinism_refusal determinism.NoMemory = NoMemory
+determinism_refusal fault = refused_at (det_fault_line fault) (Determinism fault)
 
 -- ---- why a text isn't accepted: the first of its faults
 

@@ -1,14 +1,14 @@
 -- Faults, with their exit statuses and the lines that tell of them.
 use Rattle.std.specs.Prelude.{ℕ, List, [], ◌∷◌, ◌++◌, codes}
 use Rattle.std.specs.Fmt.{decimal}
-use Rattle.md_deepfile.specs.declared.damage.Kind.{Kind}
-use Rattle.md_deepfile.specs.declared.damage.Kind.TheVariants as kind
-use Rattle.md_hlds.specs.declared.types.Det.{Det}
-use Rattle.md_hlds.specs.declared.types.Det.TheVariants as det
+use Rattle.md_reader.specs.Words.{refused_words}
+use Rattle.md_inst.specs.Words.{mode_fault_words}
+use Rattle.md_det.specs.Words.{det_fault_words}
+use Rattle.md_deepfile.specs.Words.{damage_words}
 use Rattle.md_tool.specs.declared.fault.Fault.{Fault}
 use Rattle.md_tool.specs.declared.fault.Fault.TheVariants.{Usage, Read, TooLong, Refused, OutOfSteps, Thrown, Damaged, TooLarge, TwoEntries, DamagedLine, AnotherProgram, NoSuchPage, Network, Write, NoMemory}
-use Rattle.md_tool.specs.declared.fault.Why.{Why}
-use Rattle.md_tool.specs.declared.fault.Why.TheVariants as why
+use Rattle.md_tool.specs.declared.fault.Refusal.{Refusal}
+use Rattle.md_tool.specs.declared.fault.Refusal.TheVariants.{Text, Modes, Determinism}
 
 abbrev pub status_of : Fault → ℕ
 status_of Usage = 1
@@ -41,49 +41,11 @@ file_line file text = codes "mdprof: " ++ (file ++ (codes ": " ++ (text ++ 10 �
 abbrev pub place_line : List ℕ → ℕ → List ℕ → List ℕ
 place_line file line text = codes "mdprof: " ++ (file ++ (codes ":" ++ (decimal line ++ (codes ": " ++ (text ++ 10 ∷ [])))))
 
-abbrev pub word_of : Det → List ℕ
-word_of det.Det = codes "det"
-word_of det.Semidet = codes "semidet"
-word_of det.Multi = codes "multi"
-word_of det.Nondet = codes "nondet"
-word_of det.Failure = codes "failure"
-
--- a body does more than its declaration says
-abbrev pub declared_text : List ℕ → List ℕ → List ℕ
-declared_text declared inferred = codes "declared " ++ (declared ++ (codes ", inferred " ++ inferred))
-
 -- why a text isn't accepted, in words
-abbrev pub text_of : Why → List ℕ
-text_of why.Syntax = codes "syntax"
-text_of why.Limit = codes "limit"
-text_of why.Duplicate = codes "duplicate"
-text_of why.UnknownName = codes "unknown name"
-text_of why.Arity = codes "wrong number of arguments"
-text_of why.TypeClash = codes "type clash"
-text_of why.Unbound = codes "unbound variable"
-text_of why.BoundTwice = codes "variable bound twice"
-text_of why.BranchBinds = codes "branches bind differently"
-text_of why.IoUsed = codes "io used"
-text_of why.ClosureTest = codes "closure compared"
-text_of why.NoMain = codes "no main"
-text_of (why.Declared declared inferred) = declared_text (word_of declared) (word_of inferred)
-text_of why.ManyInCondition = codes "condition with many solutions binds"
-text_of why.IoInBacktracking = codes "io in backtracking"
-
--- what is wrong with a profile file, in words
-abbrev pub word_of_kind : Kind → List ℕ
-word_of_kind kind.Magic = codes "magic"
-word_of_kind kind.Short = codes "short"
-word_of_kind kind.Trailing = codes "trailing"
-word_of_kind kind.Range = codes "range"
-word_of_kind kind.Text = codes "text"
-word_of_kind kind.SiteMismatch = codes "site mismatch"
-word_of_kind kind.DoubleLink = codes "double link"
-word_of_kind kind.Orphan = codes "orphan"
-word_of_kind kind.Flag = codes "flag"
-
-abbrev pub damage_text : ℕ → List ℕ → List ℕ
-damage_text at kind = codes "damaged at " ++ (decimal at ++ (codes ": " ++ kind))
+abbrev pub refusal_words : Refusal → List ℕ
+refusal_words (Text refused) = refused_words refused
+refusal_words (Modes fault) = mode_fault_words fault
+refusal_words (Determinism fault) = det_fault_words fault
 
 abbrev pub damaged_line_text : ℕ → List ℕ
 damaged_line_text line = codes "damaged at line " ++ decimal line
@@ -99,10 +61,10 @@ abbrev pub fault_line : Fault → List ℕ → List ℕ
 fault_line Usage file = plain_line (codes "usage: see the table of commands")
 fault_line Read file = file_line file (codes "read fault")
 fault_line TooLong file = file_line file (codes "longer than 1048576 bytes")
-fault_line (Refused line w) file = place_line file line (text_of w)
+fault_line (Refused line w) file = place_line file line (refusal_words w)
 fault_line OutOfSteps file = plain_line (codes "out of steps")
 fault_line (Thrown error) file = uncaught_line error.items
-fault_line (Damaged at kind) file = file_line file (damage_text at (word_of_kind kind))
+fault_line (Damaged at kind) file = file_line file (damage_words at kind)
 fault_line (TooLarge most) file = file_line file (size_text most)
 fault_line (TwoEntries clique a b) file = file_line file (entries_text clique a b)
 fault_line (DamagedLine line) file = file_line file (damaged_line_text line)

@@ -7,7 +7,7 @@ use Rattle.md_hlds.specs.Hlds.{Hlds}
 use Rattle.md_words.specs.Form.{Form, Check, Run, Report, Page, Serve, Gen, Migrate, Feedback, Dump, Undump, Cover, Sum}
 use Rattle.md_tool.specs.declared.fault.Fault.{Fault}
 use Rattle.md_tool.specs.declared.fault.Fault.TheVariants.{Refused}
-use Rattle.md_tool.specs.declared.fault.Why.{Why}
+use Rattle.md_tool.specs.declared.fault.Refusal.{Refusal}
 use Rattle.md_tool.specs.Accepted.{Accepted}
 use Rattle.md_tool.specs.Due.{IsText, IsWrittenInPart, HasChecked, HasCheckedInPart, IsRefused, longest}
 use Rattle.md_tool.specs.Ends.{RunEnd, Finished, Threw, RanOut}
@@ -25,7 +25,7 @@ use Rattle.md_tool.specs.Turns.{IsCoverageOfRun, HasNoProcedure}
 -- a file's text isn't accepted as a program: it is too long, or has a fault at a line
 pub data RefusedText (held : Option Files) (file : List ℕ) (before now : Option (List ℕ)) : Type 0 where
   LongerText : FileIsLonger held file longest → now ≡ before → RefusedText held file before now
-  AtLine : (line : ℕ) (why : Why) → IsRefused held file before now (Refused line why) → RefusedText held file before now
+  AtLine : (line : ℕ) (why : Refusal) → IsRefused held file before now (Refused line why) → RefusedText held file before now
 
 abbrev pub choose : Bool → Type 0 → Type 0 → Type 0
 choose true a b = a

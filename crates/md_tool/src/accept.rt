@@ -2,11 +2,10 @@
 ghost use Rattle.std.specs.Prelude.{◌≡◌, ◌≤◌, length, MatchResult};
 ghost use Rattle.md_base.specs.Outside.{Rose};
 ghost use Rattle.md_hlds.specs.Hlds.{hlds_of};
-ghost use Rattle.md_tool.specs.Accepted.{Accepts, IsAccepted, ProgramHas, TextFault, refusal_of, modes_refusal, determinism_refusal};
+ghost use Rattle.md_tool.specs.Accepted.{Accepts, IsAccepted, ProgramHas, TextFault, refusal_of, modes_refusal, determinism_refusal, refused_at};
 ghost use Rattle.md_tool.specs.Due.{IsText, ReadFails};
-ghost use Rattle.md_tool.specs.declared.fault.Fault.TheVariants as faults;
 
-use crate::fault::{Fault, Why};
+use crate::fault::{Fault, Refusal};
 use md_base::{ReadFault, Store, read_all};
 use md_det::{Checked, DetFault, check_det};
 use md_hlds::Program;
@@ -60,51 +59,29 @@ fn check(alloc: Global, program: Program) -> Result<Checked, Fault>
 fn refusal(refused: Refused) -> Fault
     ensures { result ≡ refusal_of refused }
 {
-    match refused {
-        Refused::Syntax(line) => refused_at(line, Why::Syntax),
-        Refused::Limit(line) => refused_at(line, Why::Limit),
-        Refused::Duplicate(line) => refused_at(line, Why::Duplicate),
-        Refused::NoMemory => Fault::NoMemory,
-    }
+    refused_at(refused.line(), Refusal::Text(refused))
 }
 
 /// The fault that one of modes is.
 fn modes_refusal(fault: ModeFault) -> Fault
     ensures { result ≡ modes_refusal fault }
 {
-    match fault {
-        ModeFault::UnknownName(line) => refused_at(line, Why::UnknownName),
-        ModeFault::Arity(line) => refused_at(line, Why::Arity),
-        ModeFault::TypeClash(line) => refused_at(line, Why::TypeClash),
-        ModeFault::Unbound(line) => refused_at(line, Why::Unbound),
-        ModeFault::BoundTwice(line) => refused_at(line, Why::BoundTwice),
-        ModeFault::BranchBinds(line) => refused_at(line, Why::BranchBinds),
-        ModeFault::IoUsed(line) => refused_at(line, Why::IoUsed),
-        ModeFault::ClosureTest(line) => refused_at(line, Why::ClosureTest),
-        ModeFault::NoMain(line) => refused_at(line, Why::NoMain),
-        ModeFault::NoMemory => Fault::NoMemory,
-    }
+    refused_at(fault.line(), Refusal::Modes(fault))
 }
 
 /// The fault that one of determinism is.
 fn determinism_refusal(fault: DetFault) -> Fault
     ensures { result ≡ determinism_refusal fault }
 {
-    match fault {
-        DetFault::Declared {
-            line,
-            declared,
-            inferred,
-        } => refused_at(line, Why::Declared { declared, inferred }),
-        DetFault::ManyInCondition(line) => refused_at(line, Why::ManyInCondition),
-        DetFault::IoInBacktracking(line) => refused_at(line, Why::IoInBacktracking),
-        DetFault::NoMemory => Fault::NoMemory,
-    }
+    refused_at(fault.line(), Refusal::Determinism(fault))
 }
 
-/// The fault of a text that isn't accepted, at this line.
-fn refused_at(line: u32, why: Why) -> Fault
-    ensures { result ≡ faults.Refused line why }
+/// The fault of a text that isn't accepted, at this line; where there is none, memory was refused.
+fn refused_at(line: Option<u32>, why: Refusal) -> Fault
+    ensures { result ≡ refused_at line why }
 {
-    Fault::Refused { line, why }
+    match line {
+        Some(line) => Fault::Refused { line, why },
+        None => Fault::NoMemory,
+    }
 }

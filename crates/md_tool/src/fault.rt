@@ -1,11 +1,14 @@
 // Why a command ended without all that it was asked for, and the line that says so.
-ghost use Rattle.std.specs.Prelude.{◌≡◌, IfOk, string_bytes};
-ghost use Rattle.md_tool.specs.Fault.{status_of, fault_line, plain_line, uncaught_line, file_line, place_line, text_of, word_of, word_of_kind, declared_text, damage_text, damaged_line_text, size_text, entries_text};
-ghost use Rattle.md_tool.specs.declared.fault.Why.TheVariants as why;
+ghost use Rattle.std.specs.Prelude.{◌≡◌, Some, IfOk, string_bytes};
+ghost use Rattle.md_deepfile.specs.Words.{damage_words};
+ghost use Rattle.md_tool.specs.Fault.{status_of, fault_line, plain_line, uncaught_line, file_line, place_line, refusal_words, damaged_line_text, size_text, entries_text};
 
 use md_deepfile::Kind;
-use md_hlds::Det;
+use md_det::DetFault;
+use md_modes::ModeFault;
+use md_reader::Refused;
 use std::alloc::{AllocError, Global};
+use std::fmt;
 
 /// Why a command ended without all that it was asked for.
 #[derive(Debug, Drop)]
@@ -17,7 +20,7 @@ pub enum Fault {
     /// The file is longer than a program may be.
     TooLong,
     /// The text isn't accepted as a program.
-    Refused { line: u32, why: Why },
+    Refused { line: u32, why: Refusal },
     /// The run isn't finished within its budget.
     OutOfSteps,
     /// An exception with these bytes left the program's `main`.
@@ -44,26 +47,25 @@ pub enum Fault {
 
 /// Why a text isn't accepted as a program.
 #[derive(Clone, Copy, Debug, PartialEq, Eq)]
-pub enum Why {
-    /// A token with which no program goes on.
-    Syntax,
-    /// It passes a limit.
-    Limit,
-    /// Something is declared a second time.
-    Duplicate,
-    UnknownName,
-    Arity,
-    TypeClash,
-    Unbound,
-    BoundTwice,
-    BranchBinds,
-    IoUsed,
-    ClosureTest,
-    NoMain,
-    /// A body does more than its declaration says.
-    Declared { declared: Det, inferred: Det },
-    ManyInCondition,
-    IoInBacktracking,
+pub enum Refusal {
+    /// It spells no program.
+    Text(Refused),
+    /// Its program has a fault of modes.
+    Modes(ModeFault),
+    /// Its program has a fault of determinism.
+    Determinism(DetFault),
+}
+
+impl fmt::Display for Refusal {
+    ghost output = { λ refusal. Some (refusal_words refusal) };
+
+    fn fmt<W: fmt::Write>(&self, f: &mut fmt::Formatter<W>) -> fmt::Result {
+        match self {
+            Refusal::Text(refused) => write!(f, "{refused}"),
+            Refusal::Modes(fault) => write!(f, "{fault}"),
+            Refusal::Determinism(fault) => write!(f, "{fault}"),
+        }
+    }
 }
 
 impl Fault {
@@ -116,33 +118,16 @@ impl Fault {
 
 /// The line that tells of damage to a profile file.
 fn damaged(alloc: Global, file: &str, at: u64, kind: Kind) -> Result<Vec<u8>, AllocError>
-    ensures { IfOk result (λ told. told.items ≡ file_line file.now (damage_text at (word_of_kind kind))) }
+    ensures { IfOk result (λ told. told.items ≡ file_line file.now (damage_words at kind)) }
 {
-    let text = damage_text(alloc, at, word_of_kind(kind))?;
+    let text = damage_text(alloc, at, kind)?;
     of_file(alloc, file, text.as_str())
 }
 
-fn damage_text(alloc: Global, at: u64, kind: &str) -> Result<String, AllocError>
-    ensures { IfOk result (λ text. string_bytes text ≡ damage_text at kind.now) }
+fn damage_text(alloc: Global, at: u64, kind: Kind) -> Result<String, AllocError>
+    ensures { IfOk result (λ text. string_bytes text ≡ damage_words at kind) }
 {
     format!(in alloc; "damaged at {at}: {kind}")
-}
-
-/// The word for a kind of damage.
-fn word_of_kind(kind: Kind) -> &'static str
-    ensures { result.now ≡ word_of_kind kind }
-{
-    match kind {
-        Kind::Magic => "magic",
-        Kind::Short => "short",
-        Kind::Trailing => "trailing",
-        Kind::Range => "range",
-        Kind::Text => "text",
-        Kind::SiteMismatch => "site mismatch",
-        Kind::DoubleLink => "double link",
-        Kind::Orphan => "orphan",
-        Kind::Flag => "flag",
-    }
 }
 
 /// The line that tells of damage to the text of a profile.
@@ -193,62 +178,6 @@ fn entries_text(alloc: Global, clique: u32, a: u32, b: u32) -> Result<String, Al
     format!(in alloc; "clique {clique} is entered by links {a} and {b}")
 }
 
-/// The line that tells why a text isn't accepted.
-fn refused(alloc: Global, file: &str, line: u32, why: Why) -> Result<Vec<u8>, AllocError>
-    ensures { IfOk result (λ told. told.items ≡ place_line file.now line (text_of why)) }
-{
-    match why {
-        Why::Syntax => of_line(alloc, file, line, "syntax"),
-        Why::Limit => of_line(alloc, file, line, "limit"),
-        Why::Duplicate => of_line(alloc, file, line, "duplicate"),
-        Why::UnknownName => of_line(alloc, file, line, "unknown name"),
-        Why::Arity => of_line(alloc, file, line, "wrong number of arguments"),
-        Why::TypeClash => of_line(alloc, file, line, "type clash"),
-        Why::Unbound => of_line(alloc, file, line, "unbound variable"),
-        Why::BoundTwice => of_line(alloc, file, line, "variable bound twice"),
-        Why::BranchBinds => of_line(alloc, file, line, "branches bind differently"),
-        Why::IoUsed => of_line(alloc, file, line, "io used"),
-        Why::ClosureTest => of_line(alloc, file, line, "closure compared"),
-        Why::NoMain => of_line(alloc, file, line, "no main"),
-        Why::Declared { declared, inferred } => otherwise(alloc, file, line, declared, inferred),
-        Why::ManyInCondition => of_line(alloc, file, line, "condition with many solutions binds"),
-        Why::IoInBacktracking => of_line(alloc, file, line, "io in backtracking"),
-    }
-}
-
-/// The line that tells of a body that does more than its declaration says.
-fn otherwise(
-    alloc: Global,
-    file: &str,
-    line: u32,
-    declared: Det,
-    inferred: Det,
-) -> Result<Vec<u8>, AllocError>
-    ensures { IfOk result (λ told. told.items ≡ place_line file.now line (text_of (why.Declared declared inferred))) }
-{
-    let text = declared_text(alloc, word_of(declared), word_of(inferred))?;
-    of_line(alloc, file, line, text.as_str())
-}
-
-fn declared_text(alloc: Global, declared: &str, inferred: &str) -> Result<String, AllocError>
-    ensures { IfOk result (λ text. string_bytes text ≡ declared_text declared.now inferred.now) }
-{
-    format!(in alloc; "declared {declared}, inferred {inferred}")
-}
-
-/// The word for a determinism.
-fn word_of(det: Det) -> &'static str
-    ensures { result.now ≡ word_of det }
-{
-    match det {
-        Det::Det => "det",
-        Det::Semidet => "semidet",
-        Det::Multi => "multi",
-        Det::Nondet => "nondet",
-        Det::Failure => "failure",
-    }
-}
-
 fn plain(alloc: Global, text: &str) -> Result<Vec<u8>, AllocError>
     ensures { IfOk result (λ line. line.items ≡ plain_line text.now) }
 {
@@ -273,9 +202,10 @@ fn of_file(alloc: Global, file: &str, text: &str) -> Result<Vec<u8>, AllocError>
     Ok(line.into_bytes())
 }
 
-fn of_line(alloc: Global, file: &str, line: u32, text: &str) -> Result<Vec<u8>, AllocError>
-    ensures { IfOk result (λ told. told.items ≡ place_line file.now line text.now) }
+/// The line that tells why a text isn't accepted.
+fn refused(alloc: Global, file: &str, line: u32, why: Refusal) -> Result<Vec<u8>, AllocError>
+    ensures { IfOk result (λ told. told.items ≡ place_line file.now line (refusal_words why)) }
 {
-    let told = format!(in alloc; "mdprof: {file}:{line}: {text}\n")?;
+    let told = format!(in alloc; "mdprof: {file}:{line}: {why}\n")?;
     Ok(told.into_bytes())
 }

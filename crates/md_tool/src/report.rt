@@ -62,28 +62,6 @@ pub fn profile_text(alloc: Global, text: &[u8], steps: u32) -> Result<Profiled, 
     }
 }
 
-/// Writes a run's output to `err` and its page to `out`, and answers how it ended.
-fn show<O: Sink, E: Sink>(
-    alloc: Global,
-    profiled: Profiled,
-    query: &Query,
-    out: &mut O,
-    err: &mut E,
-) -> Result<(), Fault>
-    requires { (program : Hlds) × (steps : ℕ) × IsWithinBounds program steps × IsProfiled program steps profiled }
-    ensures ends { (program : Hlds) (steps : ℕ) → IsWithinBounds program steps → IsProfiled program steps profiled
-        → ShowEnds (IsPageOfRun (asked query.now) steps program) (HasNoPageOfRun (asked query.now) steps program) program steps (O.held out.old) (O.held out.new) (E.held err.old) (E.held err.new)
-        (Rose (O.write_faults out.old) (O.write_faults out.new)) (Rose (E.write_faults err.old) (E.write_faults err.new)) result }
-    ensures later { E.write_faults err.old ≤ E.write_faults err.new }
-{
-    let Profiled { ran, profile } = profiled;
-    show_output(err, &ran.output)?;
-    match show_page(alloc, profile, query, out) {
-        Ok(()) => ended(ran),
-        Err(fault) => Err(fault),
-    }
-}
-
 /// Writes a run's output, and the line that ends it.
 pub fn show_output<E: Sink>(err: &mut E, output: &[u8]) -> Result<(), Fault>
     ensures ends { WriteEnds (output.now ++ codes "-- end of output\n") (E.held err.old) (E.held err.new) (Rose (E.write_faults err.old) (E.write_faults err.new)) result }
@@ -108,5 +86,27 @@ pub fn show_page<O: Sink>(
     match load_run(alloc, profile) {
         Ok(loaded) => write_page(alloc, &loaded, query, out),
         Err(_) => Err(Fault::NoMemory),
+    }
+}
+
+/// Writes a run's output to `err` and its page to `out`, and answers how it ended.
+fn show<O: Sink, E: Sink>(
+    alloc: Global,
+    profiled: Profiled,
+    query: &Query,
+    out: &mut O,
+    err: &mut E,
+) -> Result<(), Fault>
+    requires { (program : Hlds) × (steps : ℕ) × IsWithinBounds program steps × IsProfiled program steps profiled }
+    ensures ends { (program : Hlds) (steps : ℕ) → IsWithinBounds program steps → IsProfiled program steps profiled
+        → ShowEnds (IsPageOfRun (asked query.now) steps program) (HasNoPageOfRun (asked query.now) steps program) program steps (O.held out.old) (O.held out.new) (E.held err.old) (E.held err.new)
+        (Rose (O.write_faults out.old) (O.write_faults out.new)) (Rose (E.write_faults err.old) (E.write_faults err.new)) result }
+    ensures later { E.write_faults err.old ≤ E.write_faults err.new }
+{
+    let Profiled { ran, profile } = profiled;
+    show_output(err, &ran.output)?;
+    match show_page(alloc, profile, query, out) {
+        Ok(()) => ended(ran),
+        Err(fault) => Err(fault),
     }
 }

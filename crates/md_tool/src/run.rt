@@ -38,26 +38,6 @@ pub fn run_file<S: Store, O: Sink>(
     keep(alloc, profiled, name, store, out)
 }
 
-/// Writes a run's output, stores its profile, and answers how it ended.
-fn keep<S: Store, O: Sink>(
-    alloc: Global,
-    profiled: Profiled,
-    name: &str,
-    store: &mut S,
-    out: &mut O,
-) -> Result<(), Fault>
-    requires { IsValid profiled.profile }
-    ensures ends { (program : Hlds) (steps : ℕ) → IsProfiled program steps profiled
-        → KeepEnds (IsRunFile steps program) program steps name.now (S.held store.old) (S.held store.new) (O.held out.old) (O.held out.new)
-        (Rose (S.write_faults store.old) (S.write_faults store.new)) (Rose (O.write_faults out.old) (O.write_faults out.new)) result }
-    ensures reads { S.read_faults store.new ≡ S.read_faults store.old }
-{
-    let Profiled { ran, profile } = profiled;
-    write(out, &ran.output)?;
-    store_profile(alloc, &profile, name, store)?;
-    ended(ran)
-}
-
 /// Stores a profile under a name.
 pub fn store_profile<S: Store>(
     alloc: Global,
@@ -85,4 +65,24 @@ pub fn ended(ran: Ran) -> Result<(), Fault>
         End::Thrown => Err(Fault::Thrown(ran.error)),
         End::OutOfSteps => Err(Fault::OutOfSteps),
     }
+}
+
+/// Writes a run's output, stores its profile, and answers how it ended.
+fn keep<S: Store, O: Sink>(
+    alloc: Global,
+    profiled: Profiled,
+    name: &str,
+    store: &mut S,
+    out: &mut O,
+) -> Result<(), Fault>
+    requires { IsValid profiled.profile }
+    ensures ends { (program : Hlds) (steps : ℕ) → IsProfiled program steps profiled
+        → KeepEnds (IsRunFile steps program) program steps name.now (S.held store.old) (S.held store.new) (O.held out.old) (O.held out.new)
+        (Rose (S.write_faults store.old) (S.write_faults store.new)) (Rose (O.write_faults out.old) (O.write_faults out.new)) result }
+    ensures reads { S.read_faults store.new ≡ S.read_faults store.old }
+{
+    let Profiled { ran, profile } = profiled;
+    write(out, &ran.output)?;
+    store_profile(alloc, &profile, name, store)?;
+    ended(ran)
 }
