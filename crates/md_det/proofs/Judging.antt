@@ -17,7 +17,7 @@ use Rattle.md_det.specs.Bounds.{product, sum, greatest, is_many}
 use Rattle.md_det.specs.Pairs.{in_turn, one_of_two}
 use Rattle.md_det.specs.Judge.{Reading, Judgement, judgement, Found, found, whole, or_else, beside, and_then, or_arm, condition_fault, judge_part, judge_expr, judge_each, judge_arms, onto}
 use Rattle.md_det.specs.Told.{found_told, found_onto}
-use Rattle.md_det.proofs.KeyLemmas.{parts-step}
+use Rattle.md_switch.proofs.KeyLemmas.{parts-step}
 
 -- ---- what is combined, is combined in any grouping
 
@@ -153,7 +153,7 @@ pub choice_found : (r : Reading) (n : ℕ) (at : Option ℕ) (again : Bool) (l :
     (olds first second news : List Finding) (p q s : Pair) (f g h own : Option DetFault)
     → k ≡ If cb tb eb → c ≡ cb.value → t ≡ tb.value → e ≡ eb.value → suc n ≡ length olds
     → judgement p f first ≡ onto olds (judge_part r (length olds) None again (goal_of c))
-    → own ≡ condition_fault r l (suc n) (goal_of c) p
+    → own ≡ condition_fault r l (suc n) p
     → judgement q g second ≡ onto first (judge_part r (length first) None again (goal_of t))
     → judgement s h news ≡ onto second (judge_part r (length second) None again (goal_of e))
     → found None (one_of_two q s) (or_else own (or_else f (or_else g h))) news ≡ found_onto olds (judge_expr r n at again l (expr_of k))
@@ -173,7 +173,7 @@ choice_found r n at again l k cb tb eb c t e olds first second news p q s f g h 
     ∙ (ap (λ fs. fs ++ m'.findings) (ap (λ (x : Judgement). x.findings) second_is ∙ ap (λ fs. fs ++ k'.findings) (ap (λ (x : Judgement). x.findings) first_is))
     ∙ (append_assoc (olds ++ j.findings) k'.findings m'.findings ∙ append_assoc olds j.findings (k'.findings ++ m'.findings))) in
     let pairs : p ≡ j.pair = ap (λ (x : Judgement). x.pair) first_is in
-    let owns : own ≡ condition_fault r l (suc n) (goal_of c) j.pair = two ∙ ap (condition_fault r l (suc n) (goal_of c)) pairs in
+    let owns : own ≡ condition_fault r l (suc n) j.pair = two ∙ ap (condition_fault r l (suc n)) pairs in
     let fs : f ≡ j.fault = ap (λ (x : Judgement). x.fault) first_is in
     let gs : g ≡ k'.fault = ap (λ (x : Judgement). x.fault) second_is in
     let hs : h ≡ m'.fault = ap (λ (x : Judgement). x.fault) third_is in

@@ -2,7 +2,6 @@ mod Rules
 pub mod Worked
 pub mod Noted
 pub mod Functors
-pub mod Arms
 pub mod KeyLemmas
 pub mod Judging
 pub mod Whole

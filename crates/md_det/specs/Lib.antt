@@ -6,7 +6,6 @@ pub mod Faults
 pub mod Findings
 pub mod Main
 pub mod Judge
-pub mod Keys
 pub mod Told
 pub mod Throws
 pub mod Words

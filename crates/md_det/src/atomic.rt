@@ -1,37 +1,36 @@
-// The pairs of goals without parts.
+// The pairs of goals without parts, and the faults of single goals.
 ghost use Rattle.std.specs.Prelude.{◌≡◌};
-ghost use Rattle.md_hlds.specs.Hlds.{hlds_of, procedure_called};
+ghost use Rattle.md_hlds.specs.Hlds.{hlds_of};
 ghost use Rattle.md_hlds.specs.HldsGoal.{expr_of};
+ghost use Rattle.md_names.specs.Named.{name_at};
 ghost use Rattle.md_modes.specs.Notes.{program_notes};
 ghost use Rattle.md_modes.specs.Classes.{role_at};
-ghost use Rattle.md_det.specs.Determinism.{call_pair, one_functor};
-ghost use Rattle.md_det.specs.Judge.{read_atomic, read_unification, read_apply, is_apart, io_fault};
-ghost use Rattle.md_det.specs.Told.{reading_in};
+ghost use Rattle.md_det.specs.Judge.{read_atomic, read_unification, read_call, read_apply, named_alone, type_of_name, is_apart, io_fault, condition_fault};
+ghost use Rattle.md_det.specs.Told.{reading_in, family_told};
 
 use crate::context::Context;
 use crate::fault::DetFault;
 use crate::pair::Pair;
-use md_hlds::{GoalKind, PredName, Term};
-use md_modes::{Class, Moded};
-use md_names::Names;
+use md_hlds::{GoalKind, TypeDef};
+use md_modes::{Class, Moded, Named};
 
 /// The pair of the goal of this number, where it has no parts. `at` is the variable of the switch whose arm it begins.
-pub fn atomic_pair(context: &Context, kind: &GoalKind, number: u32, at: Option<u32>) -> Pair
-    ensures { result ≡ read_atomic (hlds_of context.now.moded.now) at
-        (role_at (program_notes (hlds_of context.now.moded.now)) number) (expr_of kind.now) }
+pub fn atomic_pair(moded: &Moded, kind: &GoalKind, number: u32, at: Option<u32>) -> Pair
+    ensures { result ≡ read_atomic (hlds_of moded.now) at (name_at (hlds_of moded.now) number)
+        (role_at (program_notes (hlds_of moded.now)) number) (expr_of kind.now) }
 {
     match kind {
         GoalKind::True => Pair::SURE,
         GoalKind::Fail => Pair::FAILURE,
-        GoalKind::Unify(x, term) => unification_pair(context, *x, term, number, at),
+        GoalKind::Unify(x, _) => unification_pair(moded, *x, number, at),
         GoalKind::Arith(..) => Pair::SURE,
         GoalKind::Compare(..) => Pair::UNSURE,
         GoalKind::WriteInt(..) => Pair::SURE,
         GoalKind::WriteStr(..) => Pair::SURE,
         GoalKind::Nl(..) => Pair::SURE,
-        GoalKind::Call(_, name, _) => call_pair(context.names, name),
+        GoalKind::Call(..) => call_pair(moded, number),
         GoalKind::Error(_) => Pair::THROWS,
-        GoalKind::HoCall(..) => closure_pair(context.moded, number),
+        GoalKind::HoCall(..) => closure_pair(moded, number),
         GoalKind::Conj(_)
         | GoalKind::Disj(_)
         | GoalKind::If(..)
@@ -40,11 +39,11 @@ pub fn atomic_pair(context: &Context, kind: &GoalKind, number: u32, at: Option<u
     }
 }
 
-fn unification_pair(context: &Context, x: u32, term: &Term, number: u32, at: Option<u32>) -> Pair
-    ensures { result ≡ read_unification (hlds_of context.now.moded.now) at x term.now
-        (role_at (program_notes (hlds_of context.now.moded.now)) number) }
+fn unification_pair(moded: &Moded, x: u32, number: u32, at: Option<u32>) -> Pair
+    ensures { result ≡ read_unification (hlds_of moded.now) at x (name_at (hlds_of moded.now) number)
+        (role_at (program_notes (hlds_of moded.now)) number) }
 {
-    match context.moded.class(number) {
+    match moded.class(number) {
         None => Pair::UNSURE,
         Some(class) => match class {
             Class::Construct => Pair::SURE,
@@ -53,7 +52,7 @@ fn unification_pair(context: &Context, x: u32, term: &Term, number: u32, at: Opt
             Class::Test => Pair::UNSURE,
             Class::Closure(_) => Pair::UNSURE,
             Class::Deconstruct { bound } => {
-                if bound.is_empty() && (at == Some(x) || is_only_functor(context.names, term)) {
+                if bound.is_empty() && (at == Some(x) || is_only_functor(moded, number)) {
                     Pair::SURE
                 } else {
                     Pair::UNSURE
@@ -63,28 +62,38 @@ fn unification_pair(context: &Context, x: u32, term: &Term, number: u32, at: Opt
     }
 }
 
-/// Whether a term is made with the only functor of its type.
-fn is_only_functor(names: &Names, term: &Term) -> bool
-    ensures { result ≡ one_functor (hlds_of names.now) term.now }
+/// Whether the name in the goal of this number stands for the only functor of its type.
+fn is_only_functor(moded: &Moded, number: u32) -> bool
+    ensures { result ≡ named_alone (hlds_of moded.now) (name_at (hlds_of moded.now) number) }
 {
-    match term {
-        Term::Var(_) => false,
-        Term::Int(_) => false,
-        Term::Str(_) => false,
-        Term::Name(name, places) => match names.functor(&name.name, places.len()) {
-            None => false,
-            Some((family, _)) => family.functors.len() == 1,
-        },
+    match family_of(moded, number) {
+        None => false,
+        Some(family) => family.functors.len() == 1,
+    }
+}
+
+/// The type of the functor that the name in the goal of this number stands for.
+pub fn family_of(moded: &Moded, number: u32) -> Option<&TypeDef>
+    ensures { family_told result ≡ type_of_name (hlds_of moded.now) (name_at (hlds_of moded.now) number) }
+{
+    match moded.named(number) {
+        Named::Functor(place) => moded.program().types.get(place),
+        Named::Predicate(_) => None,
+        Named::Nothing => None,
     }
 }
 
 /// A call is as its predicate is declared.
-fn call_pair(names: &Names, name: &PredName) -> Pair
-    ensures { result ≡ call_pair (procedure_called (hlds_of names.now) name.now) }
+fn call_pair(moded: &Moded, number: u32) -> Pair
+    ensures { result ≡ read_call (hlds_of moded.now) (name_at (hlds_of moded.now) number) }
 {
-    match names.predicate(name) {
-        None => Pair::UNSURE,
-        Some((_, pred)) => Pair::of(pred.det),
+    match moded.named(number) {
+        Named::Functor(_) => Pair::UNSURE,
+        Named::Nothing => Pair::UNSURE,
+        Named::Predicate(callee) => match moded.program().pred(callee) {
+            None => Pair::UNSURE,
+            Some(pred) => Pair::of(pred.det),
+        },
     }
 }
 
@@ -121,6 +130,18 @@ pub fn io_fault(context: &Context, number: u32, again: bool, line: u32) -> Optio
 {
     if again && context.moded.names_io(number) {
         Some(DetFault::IoInBacktracking(line))
+    } else {
+        None
+    }
+}
+
+/// The fault of an if-then-else on this line whose condition has this number and this pair: the condition has many
+/// solutions, and binds a variable that occurs outside it.
+pub fn condition_fault(context: &Context, line: u32, number: u32, pair: Pair) -> Option<DetFault>
+    ensures { result ≡ condition_fault (reading_in context.now) line number pair }
+{
+    if pair.bound.is_many() && context.moded.binds_outside(number) {
+        Some(DetFault::ManyInCondition(line))
     } else {
         None
     }

@@ -11,7 +11,6 @@ use crate::finding::Finding;
 use crate::main_predicate::main_of;
 use crate::predicate::judge_predicate;
 use md_modes::Moded;
-use md_names::Names;
 use std::alloc::Global;
 
 /// Checks the determinism of a program: answers its first fault, in text order, or the same program with what was found at
@@ -40,10 +39,9 @@ fn judge_all(alloc: Global, moded: &Moded) -> Result<Vec<Finding>, DetFault>
     ensures refused { IfErr result (λ fault. fault ≢ NoMemory → det_fault (hlds_of moded.now) ≡ Some fault) }
 {
     let program = moded.program();
-    let names = Names::new(alloc, program)?;
     let mut findings = Vec::new(alloc);
     for pred in program.preds.as_slice() {
-        judge_predicate(alloc, moded, &names, pred, &mut findings)?;
+        judge_predicate(alloc, moded, pred, &mut findings)?;
     }
     Ok(findings)
 }

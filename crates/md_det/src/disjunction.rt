@@ -9,9 +9,10 @@ use crate::atomic::is_apart;
 use crate::context::Context;
 use crate::finding::Switch;
 use crate::pair::{Bound, Pair};
-use crate::switch::switch_among;
+use crate::switch::is_whole;
 use md_base::NoMemory;
 use md_hlds::{Goal, GoalKind};
+use md_switch::shape_of;
 
 /// The switch that a disjunction of these arms is, where the first of them has this number.
 pub fn find_switch(
@@ -22,10 +23,19 @@ pub fn find_switch(
     requires { number < 4294967295 }
     ensures { IfOk result (λ switch. switch ≡ spec.read_switch (reading_in context.now) number (gathered (goals_of arms.now))) }
 {
-    if is_apart(context.moded, first_goal(arms, number)) {
-        switch_among(context.alloc, context.names, arms)
-    } else {
-        Ok(None)
+    let first = first_goal(arms, number);
+    if !is_apart(context.moded, first) {
+        return Ok(None);
+    }
+    match shape_of(context.alloc, context.moded, arms, number)? {
+        None => Ok(None),
+        Some(shape) => {
+            let whole = is_whole(context.moded, first, &shape.keys);
+            Ok(Some(Switch {
+                var: shape.var,
+                whole,
+            }))
+        }
     }
 }
 

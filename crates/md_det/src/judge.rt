@@ -4,8 +4,7 @@ ghost use Rattle.md_hlds.specs.HldsGoal.{ConjGoal, DisjGoal, IfGoal, goal_of, go
 ghost use Rattle.md_det.specs.Judge.{judge_part, judge_expr, judge_each, judge_arms, onto};
 ghost use Rattle.md_det.specs.Told.{reading_in, judged_told, found_told, found_onto};
 
-use crate::atomic::{atomic_pair, io_fault};
-use crate::condition::condition_fault;
+use crate::atomic::{atomic_pair, condition_fault, io_fault};
 use crate::context::Context;
 use crate::disjunction::{beside, find_switch, if_missing, no_arm, variable_of};
 use crate::fault::DetFault;
@@ -102,7 +101,7 @@ fn judge_kind(
         }
         GoalKind::If(condition, then, otherwise) => {
             let tested = judge(context, condition, None, again, findings)?;
-            let fault = condition_fault(context, goal.line, number + 1, condition, tested.pair)?;
+            let fault = condition_fault(context, goal.line, number + 1, tested.pair);
             let first = judge(context, then, None, again, findings)?;
             let second = judge(context, otherwise, None, again, findings)?;
             let fault = fault.or(tested.fault.or(first.fault.or(second.fault)));
@@ -119,7 +118,7 @@ fn judge_kind(
             Ok(Found::plain(judged.pair.cut(), fault))
         }
         _ => {
-            let pair = atomic_pair(context, &goal.kind, number, at);
+            let pair = atomic_pair(context.moded, &goal.kind, number, at);
             let fault = io_fault(context, number, again, goal.line);
             Ok(Found::plain(pair, fault))
         }

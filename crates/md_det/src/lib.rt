@@ -5,21 +5,15 @@
 mod atomic;
 mod check;
 mod checked;
-mod condition;
 mod context;
 mod disjunction;
 mod fault;
 mod finding;
 mod judge;
-mod key;
 mod main_predicate;
 mod pair;
 mod predicate;
-#[cfg(test)]
-mod program_tests;
 mod switch;
-#[cfg(test)]
-mod tests;
 mod throws;
 
 pub use check::check_det;

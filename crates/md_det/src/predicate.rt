@@ -12,8 +12,7 @@ use crate::judge::judge;
 use crate::main_predicate::has_io;
 use crate::pair::Pair;
 use md_hlds::{Det, Pred};
-use md_modes::{Moded, counts_of_clause};
-use md_names::Names;
+use md_modes::Moded;
 use std::alloc::Global;
 
 /// Judges a predicate, whose body's number is the number of goals so far: adds what is found at the goals of its clause, or
@@ -21,25 +20,16 @@ use std::alloc::Global;
 pub fn judge_predicate(
     alloc: Global,
     moded: &Moded,
-    names: &Names,
     pred: &Pred,
     findings: &mut Vec<Finding>,
 ) -> Result<(), DetFault>
-    requires same_program { names.now ≡ moded.now }
     ensures sound { OnOk result ((spec.judge_procedure (hlds_of moded.now) (program_notes (hlds_of moded.now)) (length findings.old.items) (procedure_of pred.now)).fault ≡ None) }
     ensures found { OnOk result (findings.new.items ≡ findings.old.items
         ++ (spec.judge_procedure (hlds_of moded.now) (program_notes (hlds_of moded.now)) (length findings.old.items) (procedure_of pred.now)).findings) }
     ensures refused { IfErr result (λ fault. fault ≢ NoMemory
         → (spec.judge_procedure (hlds_of moded.now) (program_notes (hlds_of moded.now)) (length findings.old.items) (procedure_of pred.now)).fault ≡ Some fault) }
 {
-    let counts = counts_of_clause(alloc, pred)?;
-    let context = Context {
-        alloc,
-        moded,
-        names,
-        pred,
-        counts: counts.as_slice(),
-    };
+    let context = Context { alloc, moded };
     let judged = judge(&context, &pred.body, None, false, findings)?;
     let declared = declared_fault(pred, judged.pair);
     match state_fault(pred).or(judged.fault.or(declared)) {

@@ -20,6 +20,3 @@ pub use inst::{Inst, inst_at, inst_in, set_inst};
 pub use kind::Kind;
 pub use names::{Found, functor_called};
 pub use simple::atomic;
-
-#[cfg(test)]
-mod tests;

@@ -1,7 +1,9 @@
 -- The code's view of a goal's variables.
 use Rattle.std.proofs.Common.{◌≡◌, refl, sym, ap, ◌∙◌, subst, arith, ℕ, zero, suc, ◌+◌, ◌<◌, Bool, cond, ◌||◌, List, [], ◌∷◌, ◌++◌, length, get_or, slice_index, Option, Result, Ok, Err}
 use Rattle.md_hlds.specs.declared.goal.Goal.{Goal}
-use Rattle.md_hlds.specs.HldsGoal.{HldsGoal, GoalExpr, At, SimpleGoal, CallGoal, HoCallGoal, ConjGoal, DisjGoal, IfGoal, NotGoal, SomeGoal, goal_of}
+use Rattle.md_hlds.specs.HldsGoal.{HldsGoal, GoalExpr, At, SimpleGoal, CallGoal, HoCallGoal, ConjGoal, DisjGoal, IfGoal, NotGoal, SomeGoal, goal_of, goal_size}
+use Rattle.md_names.specs.declared.named.Named.{Named}
+use Rattle.md_names.specs.Named.{expr_name}
 use Rattle.md_inst.specs.declared.fault.ModeFault.{ModeFault}
 use Rattle.md_inst.specs.Verdict.{Verdict}
 use Rattle.md_inst.specs.Instantiation.{InstMap, known_at}
@@ -127,16 +129,23 @@ names_by (IfGoal p t e) places counts s r h = refl
 names_by (NotGoal p) places counts s r h = state_by places counts _ s r h
 names_by (SomeGoal vs p) places counts s r h = state_by places counts _ s r h
 
-abbrev pub note_with : Option Role → List ℕ → Bool → Note
-note_with role bound state = record { role = role; binds = bound; state = state }
+abbrev pub note_with : Option Role → List ℕ → Bool → Named → ℕ → Bool → Note
+note_with role bound state named size outside = record { role = role; binds = bound; state = state; named = named; size = size; outside = outside }
 
-pub own_note : (c : Scope) (l : ℕ) (t : GoalExpr) (places counts xs : List ℕ) (s r b a : InstMap) (reach : Bool) (role own : Option Role) (n : Note)
+-- the note of a goal, from what the code finds before and after it
+pub own_note : (c : Scope) (l : ℕ) (t : GoalExpr) (places counts xs : List ℕ) (s r b a : InstMap) (reach : Bool) (role own : Option Role) (bound : List ℕ) (state out : Bool)
+    (name : Named) (size : ℕ)
     → IsLocal places counts (expr_variables t) → xs ≡ places → expr c l t s ≡ Ok (after r reach) → b ≡ seen places s → a ≡ seen places r → role ≡ own
-    → n ≡ note_with role (cond reach (picked xs b a) []) (names_seen t b a)
-    → n ≡ note_with own (binds s (goal c (At l t) s)) (names_state t s (known_after s (goal c (At l t) s)))
-own_note c l t places counts xs s r b a reach role own n h same is before after' roles note =
+    → bound ≡ cond reach (picked xs b a) [] → state ≡ names_seen t b a → name ≡ expr_name c.program t → size ≡ goal_size (At l t)
+    → out ≡ some_of (outside c.all (expr_variables t)) bound
+    → note_with role bound state name size out
+    ≡ note_with own (binds s (goal c (At l t) s)) (names_state t s (known_after s (goal c (At l t) s))) (expr_name c.program t) (goal_size (At l t))
+    (some_of (outside c.all (expr_variables t)) (binds s (goal c (At l t) s)))
+own_note c l t places counts xs s r b a reach role own bound state out name size h same is before after' roles bound-is state-is name-is size-is out-is =
     let leaves : Leaves places s r = leaves_among (expr_variables t) places s r (λ x e. h.all x e) (expr_leaves c l t s (after r reach) is) in
-    note ∙ rw (same, before, after', roles, is, names_by t places counts s r h, newly_seen places s r h.rising leaves) refl
+    let all : bound ≡ binds s (goal c (At l t) s) = bound-is ∙ rw (same, before, after', is, newly_seen places s r h.rising leaves) refl in
+    let states : state ≡ names_state t s (known_after s (goal c (At l t) s)) = state-is ∙ rw (before, after', is, names_by t places counts s r h) refl in
+    rw (roles, states, name-is, size-is, out-is, all) refl
 
 -- the counts of a clause, as the view has them
 pub view_counts : (k : Clause) (view : View) (vars : List ℕ) (s : InstMap) (strict : Bool) → IsViewOf k view vars s → AreCounts view.outside.all.now (scope_at k strict).all

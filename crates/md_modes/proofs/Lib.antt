@@ -9,6 +9,7 @@ pub mod ArmLemmas
 pub mod GoalLemmas
 pub mod Choices
 pub mod NoteLemmas
+pub mod NoteNames
 pub mod Notings
 pub mod InstantiationLemmas
 pub mod Leaving

@@ -1,6 +1,6 @@
 -- The mode rules, computed on small programs: accepted ones and what is found at their goals, and then each fault in each
 -- place. The words of each theorem were worked out by hand from the rules, and `refl` says that the definitions give them.
-use Rattle.std.proofs.Common.{◌≡◌, refl, ℕ, zero, suc, pos, true, false, List, [], ◌∷◌, Option, Some, None, length, map}
+use Rattle.std.proofs.Common.{◌≡◌, refl, ℕ, zero, suc, pos, Bool, true, false, List, [], ◌∷◌, Option, Some, None, length, map}
 use Rattle.std.specs.Prelude.{codes}
 use Rattle.md_hlds.specs.declared.types.Mode.{Mode}
 use Rattle.md_hlds.specs.declared.types.Mode.TheVariants.{In, Out, Di, Uo}
@@ -267,16 +267,20 @@ accepted = refl
 
 -- ---- what is found at the goals
 
-abbrev pub note : Option Role → List ℕ → Note
-note role binds = record { role = role; binds = binds; state = false }
+-- a goal's role, what it binds, and whether it names an io state
+abbrev pub told : Note → (Option Role × List ℕ) × Bool
+told n = ((n.role, n.binds), n.state)
+
+abbrev pub note : Option Role → List ℕ → (Option Role × List ℕ) × Bool
+note role binds = ((role, binds), false)
 
 -- the same of a goal that names an io state
-abbrev pub io_note : Option Role → List ℕ → Note
-io_note role binds = record { role = role; binds = binds; state = true }
+abbrev pub io_note : Option Role → List ℕ → (Option Role × List ℕ) × Bool
+io_note role binds = ((role, binds), true)
 
 -- main of one_member, and member: in L = cons(H, T) no argument is bound before it
 one_member_notes :
-    program_notes one_member
+    map told (program_notes one_member)
     ≡ (note None (1 ∷ 2 ∷ 3 ∷ 4 ∷ 6 ∷ [])
     ∷ note (Some constructs) (2 ∷ []) ∷ note (Some constructs) (3 ∷ []) ∷ note (Some constructs) (4 ∷ [])
     ∷ note None (6 ∷ []) ∷ note None [] ∷ note None (5 ∷ []) ∷ note (Some constructs) (6 ∷ []) ∷ note (Some constructs) (6 ∷ [])
@@ -289,7 +293,7 @@ one_member_notes = refl
 
 -- main of closures, and the closure that drive calls
 closure_notes :
-    program_notes closures
+    map told (program_notes closures)
     ≡ (note None (1 ∷ 2 ∷ 3 ∷ 4 ∷ 5 ∷ [])
     ∷ note (Some constructs) (2 ∷ []) ∷ note (Some constructs) (3 ∷ []) ∷ note (Some closes) (4 ∷ []) ∷ note (Some closes) (5 ∷ [])
     ∷ note None [] ∷ io_note (Some (assigns 1)) (1 ∷ [])
@@ -309,7 +313,7 @@ taken_apart = program (list_type ∷ []) (main 8 (conj 3 (is_int 3 2 1 ∷ made 
 
 -- of L = cons(B, T) the first argument is bound; what is bound on the way to `fail` isn't bound by what ends in it
 taken_apart_notes :
-    program_notes taken_apart
+    map told (program_notes taken_apart)
     ≡ (note None (1 ∷ 2 ∷ 3 ∷ 4 ∷ 5 ∷ 6 ∷ [])
     ∷ note (Some constructs) (2 ∷ []) ∷ note (Some constructs) (3 ∷ []) ∷ note (Some constructs) (4 ∷ []) ∷ note (Some constructs) (5 ∷ [])
     ∷ note (Some tests) [] ∷ note (Some (takes_apart [])) [] ∷ note (Some (takes_apart (0 ∷ []))) (6 ∷ [])

@@ -1,7 +1,10 @@
 -- What is found at the goals, as the code has it.
 use Rattle.std.specs.Prelude.{ℕ, Bool, false, List, [], ◌∷◌, Option, Some, None, slice_get}
 use Rattle.md_hlds.specs.declared.types.Ty.TheVariants.{Ho}
-use Rattle.md_hlds.specs.Hlds.{hlds_type_of}
+use Rattle.md_hlds.specs.HldsGoal.{HldsGoal, goal_size}
+use Rattle.md_hlds.specs.Hlds.{hlds_type_of, Hlds, goal_at}
+use Rattle.md_names.specs.declared.named.Named.{Named}
+use Rattle.md_names.specs.declared.named.Named.TheVariants.{Nothing}
 use Rattle.md_modes.specs.declared.class.Class.{Class}
 use Rattle.md_modes.specs.declared.class.Class.TheVariants as class
 use Rattle.md_modes.specs.declared.class.Note as code
@@ -20,7 +23,14 @@ class_told None = None
 class_told (Some c) = Some (role_told c)
 
 abbrev pub note_told : code.Note → Note
-note_told n = record { role = class_told n.class; binds = n.binds.items; state = n.names_io }
+note_told n = record {
+  role = class_told n.class;
+  binds = n.binds.items;
+  state = n.names_io;
+  named = n.named;
+  size = n.size;
+  outside = n.binds_outside;
+}
 
 abbrev pub notes_told : List code.Note → List Note
 notes_told [] = []
@@ -48,3 +58,34 @@ state_of_note (Some n) = n.state
 
 abbrev pub state_at : List Note → ℕ → Bool
 state_at ns n = state_of_note (slice_get ns n)
+
+abbrev pub name_of_note : Option Note → Named
+name_of_note None = Nothing
+name_of_note (Some n) = n.named
+
+abbrev pub named_at : List Note → ℕ → Named
+named_at ns n = name_of_note (slice_get ns n)
+
+abbrev pub size_of_note : Option Note → ℕ
+size_of_note None = 0
+size_of_note (Some n) = n.size
+
+abbrev pub noted_size : List Note → ℕ → ℕ
+noted_size ns n = size_of_note (slice_get ns n)
+
+abbrev pub outside_of_note : Option Note → Bool
+outside_of_note None = false
+outside_of_note (Some n) = n.outside
+
+abbrev pub outside_at : List Note → ℕ → Bool
+outside_at ns n = outside_of_note (slice_get ns n)
+
+-- ---- the goals of a program by their numbers
+
+abbrev pub size_of : Option HldsGoal → ℕ
+size_of None = 0
+size_of (Some p) = goal_size p
+
+-- how many goals the goal of this number has, itself among them
+abbrev pub size_at : Hlds → ℕ → ℕ
+size_at s n = size_of (goal_at s n)

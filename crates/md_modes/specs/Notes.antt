@@ -1,14 +1,17 @@
--- What the checks find at each goal: what a unification does, the type of the closure that is called, and what a goal binds.
+-- What the checks find at each goal: what a unification does, the type of the closure that is called, what a goal binds, and
+-- what its name stands for.
 use Rattle.std.specs.Prelude.{ℕ, suc, Bool, true, false, ◌||◌, List, [], ◌∷◌, ◌++◌, length, Option, Some, None, Ok, Err, cond}
 use Rattle.md_hlds.specs.declared.goal.Term.{Term}
 use Rattle.md_hlds.specs.declared.goal.Term.TheVariants.{Var, Int, Str, Name}
-use Rattle.md_hlds.specs.HldsGoal.{Unifies, HldsGoal, At, GoalExpr, SimpleGoal, CallGoal, HoCallGoal, ConjGoal, DisjGoal, IfGoal, NotGoal, SomeGoal, HldsGoals, nothing, also}
+use Rattle.md_hlds.specs.HldsGoal.{Unifies, HldsGoal, At, GoalExpr, SimpleGoal, CallGoal, HoCallGoal, ConjGoal, DisjGoal, IfGoal, NotGoal, SomeGoal, HldsGoals, nothing, also, goal_size}
 use Rattle.md_hlds.specs.Hlds.{HldsType, closure, Procedure, Hlds}
 use Rattle.md_inst.specs.Verdict.{Verdict}
 use Rattle.md_inst.specs.Instantiation.{Instantiation, free, has, InstMap, known_at, is_bound, is_newly_bound}
 use Rattle.md_inst.specs.Named.{Functor, functor_called}
 use Rattle.md_inst.specs.HldsTypes.{is_world}
-use Rattle.md_modes.specs.Branches.{After, some_of}
+use Rattle.md_names.specs.declared.named.Named.{Named}
+use Rattle.md_names.specs.Named.{expr_name}
+use Rattle.md_modes.specs.Branches.{After, outside, some_of}
 use Rattle.md_modes.specs.Goals.{Scope, within, expr_variables, goal}
 use Rattle.md_modes.specs.Modes.{entry, scope_of}
 
@@ -99,6 +102,12 @@ pub record Note : Type 0 where
   pub binds : List ℕ
   -- the goal names an io state; the determinism checks read this
   pub state : Bool
+  -- what the name in the goal stands for
+  pub named : Named
+  -- how many goals it has, itself among them
+  pub size : ℕ
+  -- it binds a variable that occurs outside it
+  pub outside : Bool
 
 -- what is known after a goal; after one with a fault, what was known before it
 abbrev pub known_after : InstMap → Verdict After → InstMap
@@ -112,6 +121,9 @@ abbrev mutual
     role = role_of c.program t s;
     binds = binds s (goal c (At l t) s);
     state = names_state t s (known_after s (goal c (At l t) s));
+    named = expr_name c.program t;
+    size = goal_size (At l t);
+    outside = some_of (outside c.all (expr_variables t)) (binds s (goal c (At l t) s));
   } ∷ inner_notes c t s
 
   pub inner_notes : Scope → GoalExpr → InstMap → List Note

@@ -1,6 +1,7 @@
 // What the mode checks find at a goal.
 
 use md_hlds::HoTy;
+use md_names::Named;
 use std::alloc::Global;
 
 /// What a unification does, or the type of the closure that a higher-order call calls.
@@ -25,9 +26,15 @@ pub enum Class {
 pub struct Note {
     /// Of a unification or a higher-order call.
     pub class: Option<Class>,
+    /// What the name in the goal stands for.
+    pub named: Named,
+    /// How many goals it has, itself among them.
+    pub size: usize,
     /// The variables that are bound after the goal and not before it, in rising order; none where the place after it isn't
     /// reachable.
     pub binds: Vec<u32>,
+    /// Whether one of these occurs outside the goal.
+    pub binds_outside: bool,
     /// Whether an io state is a variable of the goal, before or after it; a conjunction, disjunction or if-then-else names
     /// none itself.
     pub names_io: bool,
@@ -35,10 +42,13 @@ pub struct Note {
 
 impl Note {
     /// A note that says nothing.
-    pub(crate) fn blank(alloc: Global) -> Note {
+    pub fn blank(alloc: Global) -> Note {
         Note {
             class: None,
+            named: Named::Nothing,
+            size: 0,
             binds: Vec::new(alloc),
+            binds_outside: false,
             names_io: false,
         }
     }

@@ -6,9 +6,9 @@ ghost use Rattle.md_inst.specs.Kinds.{kind_sort, instantiation_of, inst_map_of};
 ghost use Rattle.md_modes.specs.Notes.{role_of, role_of_variables, role_of_term, role_of_name, role_of_sort, role_of_closure, role_of_unification, bound_places, is_state};
 ghost use Rattle.md_modes.specs.Views.{picked, some_state, names_seen};
 ghost use Rattle.md_inst.specs.Named as named;
-ghost use Rattle.md_modes.specs.Classes.{role_told, class_told, note_told};
+ghost use Rattle.md_modes.specs.Classes.{role_told, class_told};
 
-use crate::class::{Class, Note};
+use crate::class::Class;
 use crate::copies::{copy_closure, open_closure};
 use md_base::NoMemory;
 use md_hlds::{GoalKind, PredName, Term};
@@ -166,30 +166,16 @@ pub struct Change<'a, 'b> {
 }
 
 impl<'a, 'b> Change<'a, 'b> {
-    /// What there is to say of the goal, which is of this kind. `reach` says whether the place after it is reachable.
-    pub fn note(
-        self,
-        alloc: Global,
-        class: Option<Class>,
-        goal: &GoalKind,
-        reach: bool,
-    ) -> Result<Note, NoMemory>
-        ensures { IfOk result (λ note. note_told note ≡ record {
-          role = class_told class;
-          binds = cond reach (picked self.entry.places.now (inst_map_of self.entry.before.now) (inst_map_of self.entry.after.now)) [];
-          state = names_seen (expr_of goal.now) (inst_map_of self.entry.before.now) (inst_map_of self.entry.after.now);
-        }) }
+    /// The variables that the goal binds; none where the place after it isn't reachable.
+    pub fn binds(self, alloc: Global, reach: bool) -> Result<Vec<u32>, NoMemory>
+        ensures { IfOk result (λ bound. bound.items
+            ≡ cond reach (picked self.entry.places.now (inst_map_of self.entry.before.now) (inst_map_of self.entry.after.now)) []) }
     {
-        let binds = if reach {
-            self.newly_bound(alloc)?
+        if reach {
+            self.newly_bound(alloc)
         } else {
-            Vec::new(alloc)
-        };
-        Ok(Note {
-            class,
-            binds,
-            names_io: self.names_io(goal),
-        })
+            Ok(Vec::new(alloc))
+        }
     }
 
     /// The variables that are free before and bound after.
@@ -207,7 +193,7 @@ impl<'a, 'b> Change<'a, 'b> {
 
     /// Whether a variable of the goal is an io state before or after it; a conjunction, a disjunction and an if-then-else
     /// name none.
-    fn names_io(self, goal: &GoalKind) -> bool
+    pub fn names_io(self, goal: &GoalKind) -> bool
         ensures { result ≡ names_seen (expr_of goal.now) (inst_map_of self.entry.before.now) (inst_map_of self.entry.after.now) }
     {
         match goal {

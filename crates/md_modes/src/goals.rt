@@ -57,7 +57,17 @@ impl<'a, 'b> Clause<'a, 'b> {
             before: &before,
             after: &after,
         };
-        notes[number] = change.note(alloc, class, &goal.kind, reach)?;
+        let binds = change.binds(alloc, reach)?;
+        let binds_outside = outside.has_some(&binds);
+        let size = notes.len() - number;
+        notes[number] = Note {
+            class,
+            named: self.names.in_goal(&goal.kind),
+            size,
+            binds,
+            binds_outside,
+            names_io: change.names_io(&goal.kind),
+        };
         Ok(reach)
     }
 

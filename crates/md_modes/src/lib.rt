@@ -19,15 +19,11 @@ mod moded;
 mod nonlocals;
 mod occurrences;
 mod tally;
-#[cfg(test)]
-mod tests;
 mod view;
 
 pub use check::check_modes;
-pub use class::{Class, Note};
-pub use local::Local;
+pub use class::Class;
 pub use main_predicate::is_main;
 pub use md_inst::ModeFault;
+pub use md_names::Named;
 pub use moded::Moded;
-pub use nonlocals::Nonlocals;
-pub use tally::{count_at, counts_of_clause};

@@ -3,10 +3,12 @@ ghost use Rattle.std.specs.Prelude.{◌≡◌, true, false, is_some, None, Some,
 ghost use Rattle.md_hlds.specs.Hlds.{hlds_of, goal_at};
 ghost use Rattle.md_modes.specs.Modes.{mode_fault};
 ghost use Rattle.md_modes.specs.Notes.{program_notes, is_with_role};
-ghost use Rattle.md_modes.specs.Classes.{notes_told, note_told, role_told, role_at, binds_at, state_at};
+ghost use Rattle.md_modes.specs.Classes.{notes_told, note_told, role_told, role_at, binds_at, state_at, named_at, noted_size, outside_at, size_at};
+ghost use Rattle.md_names.specs.Named.{name_at};
 
 use crate::class::{Class, Note};
 use md_hlds::Program;
+use md_names::Named;
 use std::marker::Model;
 
 /// A program without a fault of the mode checks, with what they found at each goal. Contracts see the program. Goals are
@@ -93,11 +95,45 @@ impl Moded {
         }
     }
 
+    /// What the name in the goal of this number stands for: that of the term of a unification, or that of a call, in which
+    /// it is a predicate. Nothing, where the goal has no name or there is no such goal.
+    pub fn named(&self, goal: u32) -> Named
+        ensures { result ≡ name_at (hlds_of self.now) goal }
+    {
+        match self.note(goal) {
+            None => Named::Nothing,
+            Some(note) => note.named,
+        }
+    }
+
+    /// How many goals the goal of this number has, itself among them; none, where there is no such goal. The goal that
+    /// comes after it in the text has this number and that one together.
+    pub fn size(&self, goal: u32) -> usize
+        ensures { result ≡ size_at (hlds_of self.now) goal }
+    {
+        match self.note(goal) {
+            None => 0,
+            Some(note) => note.size,
+        }
+    }
+
+    /// Whether the goal of this number binds a variable that occurs outside it.
+    pub fn binds_outside(&self, goal: u32) -> bool
+        ensures { result ≡ outside_at (program_notes (hlds_of self.now)) goal }
+    {
+        match self.note(goal) {
+            None => false,
+            Some(note) => note.binds_outside,
+        }
+    }
+
     /// What was found at the goal of this number.
     fn note(&self, goal: u32) -> Option<&Note>
         ensures found { MatchOption result (slice_get (program_notes (hlds_of self.now)) goal ≡ None)
             (λ note. slice_get (program_notes (hlds_of self.now)) goal ≡ Some (note_told note.now)) }
         ensures kind { is_some (role_at (program_notes (hlds_of self.now)) goal) ≡ is_with_role (goal_at (hlds_of self.now) goal) }
+        ensures named { named_at (program_notes (hlds_of self.now)) goal ≡ name_at (hlds_of self.now) goal }
+        ensures size { noted_size (program_notes (hlds_of self.now)) goal ≡ size_at (hlds_of self.now) goal }
     {
         self.notes.get(goal as usize)
     }

@@ -16,7 +16,7 @@ pub fn count_at(counts: &[u64], place: u32) -> u64
     count_in(counts, place as usize)
 }
 
-/// The same for a place that may be any number.
+/// The same of a place of any size.
 pub fn count_in(counts: &[u64], place: usize) -> u64
     ensures { result ≡ slice_index counts.now place }
 {
@@ -37,7 +37,7 @@ pub fn counts_of_clause(alloc: Global, pred: &Pred) -> Result<Vec<u64>, NoMemory
     Ok(counts)
 }
 
-/// Counts variables besides.
+/// Adds one to the count of a variable for each of its occurrences in this list.
 fn add_variables(counts: &mut Vec<u64>, places: &[u32]) -> Result<(), NoMemory>
     ensures { OnOk result (Adds counts.old.items counts.new.items places.now) }
 {
@@ -47,6 +47,7 @@ fn add_variables(counts: &mut Vec<u64>, places: &[u32]) -> Result<(), NoMemory>
     Ok(())
 }
 
+/// Adds one to the count of this variable.
 fn add_variable(counts: &mut Vec<u64>, place: u32) -> Result<(), NoMemory>
     ensures { OnOk result (Adds counts.old.items counts.new.items (place ∷ [])) }
 {
@@ -56,7 +57,7 @@ fn add_variable(counts: &mut Vec<u64>, place: u32) -> Result<(), NoMemory>
     Ok(())
 }
 
-/// Makes room for the count of a variable.
+/// Makes room for the count of a variable: counts of 0 are put at the end, as far as there is none yet.
 fn reach(counts: &mut Vec<u64>, place: u32) -> Result<(), NoMemory>
     ensures same { OnOk result (Adds counts.old.items counts.new.items []) }
     ensures room { OnOk result (place < length counts.new.items) }

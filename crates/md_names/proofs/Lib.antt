@@ -1,2 +1,4 @@
 mod Lookups
 mod Steps
+pub mod Placed
+pub mod Standing

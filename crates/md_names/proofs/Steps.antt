@@ -1,5 +1,5 @@
 -- One more predicate, functor or type in front of those that a map or a set has.
-use Rattle.std.proofs.Common.{◌≡◌, refl, ap, ◌∙◌, sym, subst, ℕ, suc, ◌+◌, ◌-◌, ◌<◌, List, [], ◌∷◌, length, drop, Bool, true, false, cond, ◌&&◌, ◌||◌, Option, Some, None, nat_eq, get_or, Bor}
+use Rattle.std.proofs.Common.{◌≡◌, refl, ap, ◌∙◌, sym, subst, ℕ, suc, ◌<◌, List, [], ◌∷◌, length, drop, Bool, true, false, cond, ◌&&◌, Option, Some, None, nat_eq, get_or, Bor}
 use Rattle.std.proofs.Math.Seq.{drop-cons}
 use Rattle.std.specs.Map.{lookup}
 use Rattle.std.specs.Option.{option_eq}
@@ -12,9 +12,10 @@ use Rattle.md_hlds.specs.declared.program.TypeDef.{TypeDef}
 use Rattle.md_hlds.specs.declared.goal.PredName.{PredName}
 use Rattle.md_hlds.specs.declared.types.Ty.{Ty}
 use Rattle.md_hlds.specs.Hlds.{HldsFunctor, HldsTypeDef, Procedure, hlds_functor_of, hlds_functors_of, type_def_of, type_defs_of, hlds_types_of, procedure_of, procedures_of, find_procedure, is_called, same_qualifier}
+use Rattle.md_names.specs.declared.functors.Declared.{Declared}
 use Rattle.md_names.specs.declared.key.FunctorKey.{FunctorKey}
 use Rattle.md_names.specs.declared.key.PredicateKey.{PredicateKey}
-use Rattle.md_names.specs.Named.{construct_among, found_in, is_type}
+use Rattle.md_names.specs.Named.{construct_among, found_in}
 use Rattle.md_names.specs.Maps.{functor_told, is_functor_key, predicate_told, slice_now, is_predicate_key}
 use Rattle.md_names.proofs.Lookups.{Fits, both, text_is, text_same, number_is, number_same, pointwise-bytes_eq, lookup-insert}
 
@@ -43,7 +44,7 @@ functor_apart name arity a e differ one other =
 pub functor_fits : (name : List ℕ) (arity : ℕ) (a : FunctorKey) → Fits (is_functor_key name arity) same_functor a
 functor_fits name arity a = record { alike = functor_alike name arity a; apart = functor_apart name arity a }
 
-told_cond : (b : Bool) (v : Bor TypeDef × Bor Functor) (r : Option (Bor TypeDef × Bor Functor))
+told_cond : (b : Bool) (v : Declared) (r : Option Declared)
     → functor_told (cond b (Some v) r) ≡ cond b (functor_told (Some v)) (functor_told r)
 told_cond true v r = refl
 told_cond false v r = refl
@@ -52,7 +53,7 @@ length-hlds_types_of : (ts : List Ty) → length (hlds_types_of ts) ≡ length t
 length-hlds_types_of [] = refl
 length-hlds_types_of (t ∷ ts) = ap suc (length-hlds_types_of ts)
 
-found_cond : (b : Bool) (t : HldsTypeDef) (f : HldsFunctor) (r : Option HldsFunctor) (others : Option (HldsTypeDef × HldsFunctor))
+found_cond : (b : Bool) (t : ℕ × HldsTypeDef) (f : HldsFunctor) (r : Option HldsFunctor) (others : Option ((ℕ × HldsTypeDef) × HldsFunctor))
     → found_in t (cond b (Some f) r) others ≡ cond b (Some (t, f)) (found_in t r others)
 found_cond true t f r others = refl
 found_cond false t f r others = refl
@@ -64,22 +65,24 @@ constructs-step fs i n f at lt is =
     rw (at, front) refl
 
 -- what a map has after a functor of a type is put in
-pub functor_put : (name : List ℕ) (arity : ℕ) (es : List (FunctorKey × (Bor TypeDef × Bor Functor))) (key : FunctorKey) (t : Bor TypeDef) (f : Bor Functor)
-    (fs : List Functor) (others : Option (HldsTypeDef × HldsFunctor))
-    → key.name.now ≡ f.now.name → key.arity ≡ length f.now.args.items
-    → functor_told (lookup (is_functor_key name arity) es) ≡ found_in (type_def_of t.now) (construct_among name arity (hlds_functors_of fs)) others
-    → functor_told (lookup (is_functor_key name arity) (insert_entry same_functor es key (t, f)))
-    ≡ found_in (type_def_of t.now) (construct_among name arity (hlds_functor_of f.now ∷ hlds_functors_of fs)) others
-functor_put name arity es key t f fs others named counted had =
-    let passes : is_functor_key name arity key ≡ (bytes_eq name f.now.name && nat_eq arity (length (hlds_types_of f.now.args.items)))
+pub functor_put : (name : List ℕ) (arity : ℕ) (es : List (FunctorKey × Declared)) (key : FunctorKey) (d : Declared)
+    (fs : List Functor) (others : Option ((ℕ × HldsTypeDef) × HldsFunctor))
+    → key.name.now ≡ d.functor.now.name → key.arity ≡ length d.functor.now.args.items
+    → functor_told (lookup (is_functor_key name arity) es) ≡ found_in (d.place, type_def_of d.family.now) (construct_among name arity (hlds_functors_of fs)) others
+    → functor_told (lookup (is_functor_key name arity) (insert_entry same_functor es key d))
+    ≡ found_in (d.place, type_def_of d.family.now) (construct_among name arity (hlds_functor_of d.functor.now ∷ hlds_functors_of fs)) others
+functor_put name arity es key d fs others named counted had =
+    let f = d.functor.now in
+    let t : ℕ × HldsTypeDef = (d.place, type_def_of d.family.now) in
+    let passes : is_functor_key name arity key ≡ (bytes_eq name f.name && nat_eq arity (length (hlds_types_of f.args.items)))
     = ap (λ (xs : List ℕ). pointwise nat_eq name xs && nat_eq arity key.arity) named
-    ∙ (ap (λ (b : Bool). b && nat_eq arity key.arity) (pointwise-bytes_eq name f.now.name)
-    ∙ ap (λ (n : ℕ). bytes_eq name f.now.name && nat_eq arity n) (counted ∙ sym (length-hlds_types_of f.now.args.items))) in
-    ap functor_told (lookup-insert (is_functor_key name arity) same_functor key (t, f) es (functor_fits name arity key))
-    ∙ (told_cond (is_functor_key name arity key) (t, f) (lookup (is_functor_key name arity) es)
-    ∙ (ap (λ (r : Option (HldsTypeDef × HldsFunctor)). cond (is_functor_key name arity key) (Some (type_def_of t.now, hlds_functor_of f.now)) r) had
-    ∙ (ap (λ (b : Bool). cond b (Some (type_def_of t.now, hlds_functor_of f.now)) (found_in (type_def_of t.now) (construct_among name arity (hlds_functors_of fs)) others)) passes
-    ∙ sym (found_cond (bytes_eq name f.now.name && nat_eq arity (length (hlds_types_of f.now.args.items))) (type_def_of t.now) (hlds_functor_of f.now) (construct_among name arity (hlds_functors_of fs)) others))))
+    ∙ (ap (λ (b : Bool). b && nat_eq arity key.arity) (pointwise-bytes_eq name f.name)
+    ∙ ap (λ (n : ℕ). bytes_eq name f.name && nat_eq arity n) (counted ∙ sym (length-hlds_types_of f.args.items))) in
+    ap functor_told (lookup-insert (is_functor_key name arity) same_functor key d es (functor_fits name arity key))
+    ∙ (told_cond (is_functor_key name arity key) d (lookup (is_functor_key name arity) es)
+    ∙ (ap (λ (r : Option ((ℕ × HldsTypeDef) × HldsFunctor)). cond (is_functor_key name arity key) (Some (t, hlds_functor_of f)) r) had
+    ∙ (ap (λ (b : Bool). cond b (Some (t, hlds_functor_of f)) (found_in t (construct_among name arity (hlds_functors_of fs)) others)) passes
+    ∙ sym (found_cond (bytes_eq name f.name && nat_eq arity (length (hlds_types_of f.args.items))) t (hlds_functor_of f) (construct_among name arity (hlds_functors_of fs)) others))))
 
 -- ---- predicates
 

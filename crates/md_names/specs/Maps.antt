@@ -3,32 +3,35 @@ use Rattle.std.specs.Prelude.{ℕ, ◌≡◌, Bool, ◌&&◌, ◌||◌, List, Op
 use Rattle.std.specs.Borrow.{Bor}
 use Rattle.std.specs.Cmp.Lexicographic.{pointwise}
 use Rattle.std.specs.Str.{bytes_eq}
-use Rattle.md_hlds.specs.declared.program.Functor.{Functor}
 use Rattle.md_hlds.specs.declared.program.Pred.{Pred}
-use Rattle.md_hlds.specs.declared.program.TypeDef.{TypeDef}
+use Rattle.md_names.specs.declared.functors.Declared.{Declared}
 use Rattle.md_hlds.specs.Hlds.{HldsFunctor, HldsTypeDef, Procedure, hlds_functor_of, type_def_of, procedure_of, find_procedure, same_qualifier}
 use Rattle.md_hlds.specs.declared.goal.PredName.{PredName}
 use Rattle.md_names.specs.declared.key.FunctorKey.{FunctorKey}
 use Rattle.md_names.specs.declared.key.PredicateKey.{PredicateKey}
-use Rattle.md_names.specs.Named.{is_type, has_name, some_has_name, functor_found}
+use Rattle.md_names.specs.Named.{is_type, has_name, some_has_name, functor_placed}
 use Rattle.indexmap.specs.IndexMap.{IndexMap, get_by}
 use Rattle.indexmap.specs.IndexSet.{IndexSet, contains_by}
 
 -- ---- functors
 
-abbrev pub functor_told : Option (Bor TypeDef × Bor Functor) → Option (HldsTypeDef × HldsFunctor)
+abbrev pub functor_told : Option Declared → Option ((ℕ × HldsTypeDef) × HldsFunctor)
 functor_told None = None
-functor_told (Some found) = Some (type_def_of found.0.now, hlds_functor_of found.1.now)
+functor_told (Some found) = Some ((found.place, type_def_of found.family.now), hlds_functor_of found.functor.now)
 
 abbrev pub is_functor_key : List ℕ → ℕ → FunctorKey → Bool
 is_functor_key name arity k = pointwise nat_eq name k.name.now && nat_eq arity k.arity
 
 -- what a map has at a name and an arity
-abbrev pub functor_in : {S : Type 0} → IndexMap FunctorKey (Bor TypeDef × Bor Functor) S → List ℕ → ℕ → Option (HldsTypeDef × HldsFunctor)
+abbrev pub functor_in : {S : Type 0} → IndexMap FunctorKey Declared S → List ℕ → ℕ → Option ((ℕ × HldsTypeDef) × HldsFunctor)
 functor_in m name arity = functor_told (get_by (is_functor_key name arity) m)
 
-abbrev pub AreFunctors : {S : Type 0} → IndexMap FunctorKey (Bor TypeDef × Bor Functor) S → List HldsTypeDef → Type 0
-AreFunctors m ts = (name : List ℕ) → (arity : ℕ) → functor_in m name arity ≡ functor_found name arity ts
+-- it is the first functor of each name and arity among those of these types, counted on from n
+abbrev pub AreFunctorsFrom : {S : Type 0} → IndexMap FunctorKey Declared S → ℕ → List HldsTypeDef → Type 0
+AreFunctorsFrom m n ts = (name : List ℕ) → (arity : ℕ) → functor_in m name arity ≡ functor_placed name arity n ts
+
+abbrev pub AreFunctors : {S : Type 0} → IndexMap FunctorKey Declared S → List HldsTypeDef → Type 0
+AreFunctors m ts = AreFunctorsFrom m 0 ts
 
 -- ---- predicates
 

@@ -4,12 +4,12 @@
 
 mod functors;
 mod key;
+mod named;
 mod names;
 mod predicates;
 mod types;
 
+pub use functors::Declared;
 pub use key::{FunctorKey, PredicateKey};
+pub use named::Named;
 pub use names::Names;
-
-#[cfg(test)]
-mod tests;

@@ -23,7 +23,7 @@ returns-in_err-judge_predicate-clause-refused c =
     let is : c.pred-item.result ≡ get_or c.args.moded.now.preds.items i c.pred-item.result
     = subst (λ (ps : List Pred). c.pred-item.result ≡ get_or ps i c.pred-item.result) items c.pred-item.is in
     let whole = sym (ap (λ (j : Judgement). j.fault) (judged_program s)) ∙ ap (λ (j : Judgement). j.fault) c.loop-pred.invariant in
-    handed_on c.from_residual-in_err-judge_predicate.result c.in_err-judge_predicate.field-0.0 (det_fault s) c.from_residual-in_err-judge_predicate.ensures.1
+    handed_on c.from_residual.result c.in_err-judge_predicate.field-0.0 (det_fault s) c.from_residual.ensures.1
     (λ known. whole ∙ others_refused s (program_notes s) c.args.moded.now.preds.items i c.pred-item.result c.loop-pred.findings.items _ lt is
     (c.in_err-judge_predicate.ensures.refused known))
 

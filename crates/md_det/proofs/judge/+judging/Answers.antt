@@ -33,17 +33,15 @@ judge_kind-returns-in-Disj t c =
 pub judge_kind-returns-in_ok-second-in-If : goal.judge_kind-returns-in_ok-second-in-If
 judge_kind-returns-in_ok-second-in-If t c =
     let r = reading_in c.args.context.now in
-    let own : c.in_ok-fault-in-If.fault ≡ condition_fault r c.args.goal.now.line (suc c.args.number) (goal_of c.deref.result.now) c.in_ok-tested-in-If.tested.pair
-    = c.in_ok-fault-in-If.ensures
-    ∙ rw add-one (ap (λ (g : Goal). condition_fault r c.args.goal.now.line (suc c.args.number) (goal_of g) c.in_ok-tested-in-If.tested.pair)
-    (c.deref-in-If.ensures ∙ sym c.deref.ensures)) in
+    let own : c.condition_fault-fault.result ≡ condition_fault r c.args.goal.now.line (suc c.args.number) c.in_ok-tested-in-If.tested.pair
+    = c.condition_fault-fault.ensures ∙ rw add-one refl in
     rw (c.plain-in-If.ensures, c.or-in-If-2.ensures, c.or-fault.ensures, c.or-in-If.ensures, c.or.ensures)
     (choice_found (reading_in c.args.context.now) c.args.number c.args.at c.args.again c.args.goal.now.line c.args.goal.now.kind
-    c.in-If.condition c.in-If.then c.in-If.otherwise c.deref.result.now c.deref-in-If-2.result.now c.deref-in-If-3.result.now
+    c.in-If.condition c.in-If.then c.in-If.otherwise c.deref.result.now c.deref-in-If.result.now c.deref-in-If-2.result.now
     c.args.findings.now.items c.judge.new.findings.items c.judge-in-If.new.findings.items c.judge-in-If-2.new.findings.items
     c.in_ok-tested-in-If.tested.pair c.in_ok-first-in-If.first.pair c.in_ok-second-in-If.second.pair
-    c.in_ok-tested-in-If.tested.fault c.in_ok-first-in-If.first.fault c.in_ok-second-in-If.second.fault c.in_ok-fault-in-If.fault
-    c.in-If.is c.deref.ensures c.deref-in-If-2.ensures c.deref-in-If-3.ensures c.requires.numbered
+    c.in_ok-tested-in-If.tested.fault c.in_ok-first-in-If.first.fault c.in_ok-second-in-If.second.fault c.condition_fault-fault.result
+    c.in-If.is c.deref.ensures c.deref-in-If.ensures c.deref-in-If-2.ensures c.requires.numbered
     c.in_ok-tested-in-If.ensures own c.in_ok-first-in-If.ensures c.in_ok-second-in-If.ensures)
 
 pub judge_each-loop-goal-preserved : goal.judge_each-loop-goal-preserved

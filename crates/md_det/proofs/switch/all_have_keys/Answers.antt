@@ -1,10 +1,11 @@
 use Rattle.std.proofs.Common.{◌≡◌, ◌∙◌, ◌+◌, sym, ap, arith, List, drop, false, true, ◌&&◌}
 use Rattle.md_hlds.specs.Switch.{Key, has_key}
 use Rattle.md_hlds.specs.Hlds.{HldsFunctor, hlds_functor_of, hlds_functors_of}
-use Rattle.md_det.specs.declared.key.Key.TheVariants.{Functor}
-use Rattle.md_det.specs.Keys.{keys_told}
+use Rattle.md_switch.specs.declared.key.Key.TheVariants.{Functor}
+use Rattle.md_switch.specs.Keys.{keys_told}
 use Rattle.md_det.specs.Switches.{key_of, all_have_keys}
-use Rattle.md_det.proofs.KeyLemmas.{any_told, constructs-step, key_is}
+use Rattle.md_switch.proofs.KeyLemmas.{any_told}
+use Rattle.md_det.proofs.KeyLemmas.{constructs-step, key_is}
 use Rattle.md_det.proofs.switch.all_have_keys.Goals as goal
 
 pub returns-then-not-contains : goal.returns-then-not-contains

@@ -1,7 +1,7 @@
 use Rattle.std.proofs.Common.{◌≡◌, drop}
 use Rattle.md_hlds.specs.Hlds.{hlds_functors_of}
 use Rattle.md_det.specs.Switches.{all_have_keys}
-use Rattle.md_det.specs.Keys.{keys_told}
+use Rattle.md_switch.specs.Keys.{keys_told}
 use Rattle.md_det.proofs.switch.all_have_keys.Given as goal
 
 abbrev pub invariant-loop-functor : goal.invariant-loop-functor

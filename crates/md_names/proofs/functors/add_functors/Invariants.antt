@@ -4,6 +4,6 @@ use Rattle.md_names.specs.Named.{construct_among, found_in}
 use Rattle.md_names.specs.Maps.{functor_in}
 use Rattle.md_names.proofs.functors.add_functors.Given as goal
 
-abbrev pub invariant-loop-place : goal.invariant-loop-place
-invariant-loop-place l = (name : List ℕ) → (arity : ℕ) → functor_in l.functors name arity
-    ≡ found_in (type_def_of l.family) (construct_among name arity (hlds_functors_of (drop l.place l.family.functors.items))) (functor_in l.initial.functors name arity)
+abbrev pub invariant-loop-number : goal.invariant-loop-number
+invariant-loop-number l = (name : List ℕ) → (arity : ℕ) → functor_in l.functors name arity
+    ≡ found_in (l.place, type_def_of l.family) (construct_among name arity (hlds_functors_of (drop l.number l.family.functors.items))) (functor_in l.initial.functors name arity)

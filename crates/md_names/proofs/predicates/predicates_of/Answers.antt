@@ -1,4 +1,4 @@
-use Rattle.std.proofs.Common.{◌≡◌, ◌∙◌, ap, arith, ℕ, suc, ◌-◌, ◌<◌, length}
+use Rattle.std.proofs.Common.{◌≡◌, ◌∙◌, ap, arith, suc, ◌-◌}
 use Rattle.std.specs.Map.{lookup}
 use Rattle.md_names.specs.Maps.{predicate_told, is_predicate_key}
 use Rattle.md_names.proofs.Steps.{predicate_put}

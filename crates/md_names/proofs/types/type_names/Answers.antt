@@ -1,10 +1,8 @@
-use Rattle.std.proofs.Common.{◌≡◌, ◌∙◌, sym, ap, arith, ℕ, suc, ◌-◌, ◌<◌, ◌||◌, Bool, List, length, drop, nat_eq}
+use Rattle.std.proofs.Common.{◌≡◌, ◌∙◌, sym, ap, arith, ℕ, suc, ◌-◌, ◌||◌, Bool, List, drop, nat_eq}
 use Rattle.std.specs.List.{list_any}
 use Rattle.std.specs.Cmp.Lexicographic.{pointwise}
-use Rattle.std.specs.Str.{bytes_eq}
 use Rattle.md_hlds.specs.Hlds.{HldsTypeDef, type_defs_of}
 use Rattle.md_names.specs.Named.{is_type}
-use Rattle.md_names.specs.Maps.{is_in}
 use Rattle.md_names.proofs.Lookups.{any-insert, pointwise-bytes_eq}
 use Rattle.md_names.proofs.Steps.{same_bytes, text_fits, families-step}
 use Rattle.md_names.proofs.types.type_names.Goals as goal

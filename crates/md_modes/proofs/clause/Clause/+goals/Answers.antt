@@ -1,12 +1,13 @@
-use Rattle.std.proofs.Common.{◌≡◌, ◌∙◌, refl, sym, ap, arith, subst, false, true, [], ◌∷◌, ◌++◌, List, Ok, Err, add-one}
+use Rattle.std.proofs.Common.{◌≡◌, ◌∙◌, refl, sym, ap, arith, subst, ℕ, false, true, [], ◌∷◌, ◌++◌, List, Ok, Err, add-one}
 use Rattle.std.proofs.lemmas.Result.{err_from_is_err_and}
 use Rattle.md_hlds.specs.HldsGoal.{DisjGoal, goal_of, goals_of, expr_of, gathered}
 use Rattle.md_inst.specs.Instantiation.{InstMap}
 use Rattle.md_inst.specs.Kinds.{inst_map_of}
-use Rattle.md_modes.specs.Branches.{After, after, binds_some}
-use Rattle.md_modes.specs.Goals.{goal, expr, each, arms, variables}
-use Rattle.md_modes.specs.Notes.{inner_notes, each_notes, arm_notes}
-use Rattle.md_modes.specs.Classes.{notes_told}
+use Rattle.md_modes.specs.Branches.{After, after, binds_some, some_of, outside}
+use Rattle.md_modes.specs.Goals.{goal, expr, each, arms, variables, expr_variables}
+use Rattle.md_modes.specs.Notes.{role_of, inner_notes, each_notes, arm_notes}
+use Rattle.md_modes.specs.Classes.{class_told, notes_told}
+use Rattle.md_modes.specs.Tally.{AreCounts}
 use Rattle.md_modes.specs.Joins.{occurs, Ends}
 use Rattle.md_modes.specs.Views.{seen, put_all, seen_ends, Leaves}
 use Rattle.md_modes.specs.Clauses.{scope_at}
@@ -15,6 +16,7 @@ use Rattle.md_modes.proofs.Choices.{reaches_along, conj_is, disj_is, choose_is, 
 use Rattle.md_modes.proofs.GoalLemmas.{arms-begin, arms-more, arms-fault, either_fault, arms-end}
 use Rattle.md_modes.proofs.Insides.{places_of, view_leaves, views_leave, put_back, put_own, own_leaves, is_arm, among_first, among_others, among_itself, among_second, among_third, among_goals, binds_by, branch_end, own_note, view_counts, view_along, ends_seen, ends_viewed, reaches_from}
 use Rattle.md_modes.proofs.Listed.{goals_variables, goals_variables-Disj, variables-If}
+use Rattle.md_modes.proofs.NoteNames.{own_size}
 use Rattle.md_modes.proofs.Notings.{within_notes, goal_notes, notes_along, each_notes_is, arm_notes_is, arms-loop, arms-loop-end, choice_notes, choice_notes_is, always}
 use Rattle.md_modes.proofs.clause.Clause.+goals.Goals as goals
 
@@ -23,20 +25,35 @@ check-index_mut-requires t c =
     let lt = within_notes c.args.notes.now.items c.push.new.self.items c.check_kind.new.notes.items c.blank.result _ c.in_ok-push.ensures.items c.in_ok-reach.ensures.notes in
     omega (arith, lt, c.len-number.ensures)
 
+pub check-overflow_sub-size : goals.check-overflow_sub-size
+check-overflow_sub-size t c =
+    let lt = within_notes c.args.notes.now.items c.push.new.self.items c.check_kind.new.notes.items c.blank.result _ c.in_ok-push.ensures.items c.in_ok-reach.ensures.notes in
+    omega (arith, lt, c.len-number.ensures, c.len.ensures)
+
 pub check-returns-clause-notes : goals.check-returns-clause-notes
 check-returns-clause-notes t c =
-    let scope = scope_at c.args.self.now c.args.strict in
+    let k = c.args.self.now in
+    let scope = scope_at k c.args.strict in
     let s = inst_map_of c.args.insts.now.items in
     let r = inst_map_of c.check_kind.new.insts.items in
-    let k = expr_of c.args.goal.now.kind in
+    let l = c.args.goal.now.line in
+    let kind = expr_of c.args.goal.now.kind in
     let local = c.in_ok-local.local in
-    let before = ap inst_map_of c.deref-9.ensures.value ∙ (c.in_ok-before.ensures.known ∙ rw (c.deref-2.ensures.value, c.deref-3.ensures.value) refl) in
-    let after' = ap inst_map_of c.deref-10.ensures.value ∙ (c.in_ok-after.ensures.known ∙ rw (c.deref-6.ensures.value, c.deref-7.ensures.value) refl) in
-    goal_notes c.args.notes.now.items c.push.new.self.items c.check_kind.new.notes.items _ c.len-number.result c.blank.result c.in_ok-notes.field-0 _ (inner_notes scope k s)
+    let before : inst_map_of c.deref-9.result.now ≡ seen local.places.items s
+    = ap inst_map_of c.deref-9.ensures.value ∙ (c.in_ok-before.ensures.known ∙ rw (c.deref-2.ensures.value, c.deref-3.ensures.value) refl) in
+    let after' : inst_map_of c.deref-10.result.now ≡ seen local.places.items r
+    = ap inst_map_of c.deref-10.ensures.value ∙ (c.in_ok-after.ensures.known ∙ rw (c.deref-6.ensures.value, c.deref-7.ensures.value) refl) in
+    let size = own_size scope l kind s c.args.notes.now.items c.push.new.self.items c.check_kind.new.notes.items c.blank.result c.len-number.result c.len.result _
+    c.in_ok-push.ensures.items (omega (arith, c.len-number.ensures)) c.in_ok-reach.ensures.notes (omega (arith, c.len.ensures)) refl in
+    let counted = subst (λ (cs : List ℕ). AreCounts cs scope.all) (sym c.deref-4.ensures.value) k.counted in
+    goal_notes c.args.notes.now.items c.push.new.self.items c.check_kind.new.notes.items _ c.len-number.result c.blank.result _ _ (inner_notes scope kind s)
     c.in_ok-push.ensures.items (omega (arith, c.len-number.ensures)) c.in_ok-reach.ensures.notes refl
-    (own_note scope c.args.goal.now.line k local.places.items local.counts.items c.deref-8.result.now s r (inst_map_of c.deref-9.result.now) (inst_map_of c.deref-10.result.now)
-    c.in_ok-reach.reach _ _ _ c.in_ok-local.ensures c.deref-8.ensures.value c.in_ok-reach.ensures.reaches before after'
-    (c.in_ok-class.ensures ∙ rw c.deref.ensures.value refl) c.in_ok-notes.ensures)
+    (own_note scope l kind local.places.items local.counts.items c.deref-8.result.now s r (inst_map_of c.deref-9.result.now) (inst_map_of c.deref-10.result.now)
+    c.in_ok-reach.reach (class_told c.in_ok-class.class) (role_of scope.program kind s) c.in_ok-binds.binds.items c.names_io.result c.has_some-binds_outside.result c.in_goal.result _
+    c.in_ok-local.ensures c.deref-8.ensures.value c.in_ok-reach.ensures.reaches before after'
+    (c.in_ok-class.ensures ∙ rw c.deref.ensures.value refl) c.in_ok-binds.ensures c.names_io.ensures c.in_goal.ensures size
+    (c.has_some-binds_outside.ensures scope.all (expr_variables kind) counted c.in_ok-local.ensures
+    ∙ ap (λ (xs : List ℕ). some_of (outside scope.all (expr_variables kind)) xs) c.deref-11.ensures.value))
 
 pub check_arms-loop-goal-init : goals.check_arms-loop-goal-init
 check_arms-loop-goal-init t c view = record {

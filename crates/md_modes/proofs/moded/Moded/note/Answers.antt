@@ -3,6 +3,7 @@ use Rattle.md_hlds.specs.Hlds.{hlds_of}
 use Rattle.md_hlds.specs.declared.program.Program.{Program}
 use Rattle.md_modes.specs.Notes.{program_notes}
 use Rattle.md_modes.proofs.NoteLemmas.{note_found}
+use Rattle.md_modes.proofs.NoteNames.{named_told, size_told}
 use Rattle.md_modes.proofs.RoleLemmas.{role_told}
 use Rattle.md_modes.proofs.moded.Moded.note.Goals as goal
 
@@ -14,3 +15,9 @@ returns-clause-found c =
 
 pub returns-clause-kind : goal.returns-clause-kind
 returns-clause-kind c = role_told (hlds_of c.args.self.now) c.args.goal (rw c.self.view_is at c.self.invariant.0)
+
+pub returns-clause-named : goal.returns-clause-named
+returns-clause-named c = named_told (hlds_of c.args.self.now) c.args.goal
+
+pub returns-clause-size : goal.returns-clause-size
+returns-clause-size c = size_told (hlds_of c.args.self.now) c.args.goal

@@ -1,0 +1,3 @@
+mod Arms
+pub mod KeyLemmas
+pub mod Tells
