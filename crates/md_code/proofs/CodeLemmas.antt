@@ -1,12 +1,13 @@
 -- The table of a program: from each of its places it goes on as the definition has it.
-use Rattle.std.proofs.Common.{◌≡◌, refl, ap, ◌∙◌, sym, subst, arith, ℕ, zero, suc, ◌+◌, ◌<◌, Bool, true, false, List, [], ◌∷◌, length, Option, Some, None, nat_eq, slice_get, length-append}
+use Rattle.std.proofs.Common.{◌≡◌, refl, ap, ◌∙◌, sym, subst, arith, ℕ, zero, suc, ◌+◌, ◌<◌, Bool, true, false, List, [], ◌∷◌, length, Option, Some, None, nat_eq, slice_get, length-append, append-nil}
 use Rattle.std.proofs.lemmas.Bool.{eqb-true}
 use Rattle.std.proofs.lemmas.Cmp.{nat_eq_equiv}
 use Rattle.md_hlds.specs.HldsGoal.{HldsGoal, goal_size, goals_within, Numbered, numbered_goal}
 use Rattle.md_hlds.specs.Hlds.{Hlds, Procedure, goals_before, clause_goals}
+use Rattle.md_switch.proofs.Tells.{Tells, tells-goal, tells-from, length-within}
 use Rattle.md_code.specs.Layout.{Cell, cell, Begun, table, clause_table, routine_of, routines_from}
 use Rattle.md_code.specs.IsCode.{goals_along, goals_from, IsEntry, IsRoutine, Stands, IsTableOf}
-use Rattle.md_code.proofs.TableLemmas.{length-table, length-within, From, from_less, Ahead, ahead-join, table_ahead, Linked, first-split, goal_leads, IsStep, AreSteps, first-join, table_steps}
+use Rattle.md_code.proofs.TableLemmas.{length-table, From, from_less, Ahead, ahead-join, table_ahead, Linked, first-split, goal_leads, IsStep, AreSteps, first-join, table_steps}
 
 -- ---- ways along a table
 
@@ -58,12 +59,13 @@ clauses_ahead s n (p ∷ ps) =
     (table_ahead s n None p.body tt) (clauses_ahead s (n + goal_size p.body) ps)
 
 clauses_steps : (from : Option ℕ → List Numbered) (s : Hlds) (n : ℕ) (ps : List Procedure) → from None ≡ []
-    → Linked from n (clause_goals ps) (clause_table s n ps) → AreSteps s from n (clause_goals ps) (clause_table s n ps)
-clauses_steps from s n [] none h = tt
-clauses_steps from s n (p ∷ ps) none h =
+    → Linked from n (clause_goals ps) (clause_table s n ps) → Tells s n (clause_goals ps) → AreSteps s from n (clause_goals ps) (clause_table s n ps)
+clauses_steps from s n [] none h tells = tt
+clauses_steps from s n (p ∷ ps) none h tells =
+    let told = tells-goal s n p.body (clause_goals ps) tells in
     let parts = first-split from s n None p.body (clause_goals ps) (clause_table s (n + goal_size p.body) ps) h in
     first-join s from n p.body (clause_goals ps) (table s n None p.body) (clause_table s (n + goal_size p.body) ps)
-    (table_steps from s n None p.body none parts.0) (clauses_steps from s (n + goal_size p.body) ps none parts.1)
+    (table_steps from s n None p.body none parts.0 told.0) (clauses_steps from s (n + goal_size p.body) ps none parts.1 told.1)
 
 pub length-routines : (n : ℕ) (ps : List Procedure) → length (routines_from n ps) ≡ length ps
 length-routines n [] = refl
@@ -162,7 +164,7 @@ routine_is s q r e =
 step_of : (s : Hlds) (n : ℕ) (g : HldsGoal) (c : Cell) → Stands s (clause_table s 0 s.procedures) n g c.step c.next → IsStep s (way s) n c.next g c.step
 step_of s n g c h =
     step_at s (way s) 0 (clause_goals s.procedures) (clause_table s 0 s.procedures)
-    (clauses_steps (way s) s 0 s.procedures refl (links s)) n n g c (omega arith) h.goal h.entry
+    (clauses_steps (way s) s 0 s.procedures refl (links s) (tells-from s 0 (clause_goals s.procedures) [] (sym (append-nil (clause_goals s.procedures))))) n n g c (omega arith) h.goal h.entry
 
 pub table_is : (s : Hlds) → IsTableOf s (clause_table s 0 s.procedures) (routines_from 0 s.procedures)
 table_is s = record {

@@ -7,7 +7,7 @@ use Rattle.md_hlds.specs.HldsGoal.{HldsGoal, At, HldsGoals, also, expr_of, gathe
 use Rattle.md_hlds.proofs.Bridge.{expr_of-Conj, expr_of-Disj}
 use Rattle.md_code.specs.declared.extent.Extent.{Extent}
 use Rattle.md_code.specs.Extents.{extent, extent_of, extents_of, both_extents}
-use Rattle.md_code.proofs.KeyLemmas.{parts-step}
+use Rattle.md_switch.proofs.KeyLemmas.{parts-step}
 
 -- the extent of these goals
 abbrev pub extents_in : List Goal → Extent

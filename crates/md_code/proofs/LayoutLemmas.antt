@@ -12,7 +12,7 @@ use Rattle.md_code.specs.declared.code.Entry.{Entry}
 use Rattle.md_code.specs.declared.code.Routine.{Routine}
 use Rattle.md_code.specs.Layout.{Cell, cell, Begun, planned, begins, places, table, inner_table, conjunction_table, arm_table, clause_table, routine_of, routines_from}
 use Rattle.md_code.specs.Told.{cell_of, cells_of, routine_told, routines_told}
-use Rattle.md_code.proofs.KeyLemmas.{parts-step}
+use Rattle.md_switch.proofs.KeyLemmas.{parts-step}
 use Rattle.md_code.specs.IsCode.{IsTableOf}
 use Rattle.md_code.proofs.TableLemmas.{length-table}
 use Rattle.md_code.proofs.CodeLemmas.{table_is}
@@ -39,16 +39,15 @@ length-laid s olds news next p e =
     ∙ (ap (λ n. n + length (table s (length olds) next p)) (length-cells olds) ∙ ap (λ n. length olds + n) (length-table s (length olds) next p))))
 
 -- a goal's own entry, and those of the goals within it
-pub laid : (s : Hlds) (olds pushed : List Entry) (e : Entry) (next : Option ℕ) (g : Goal) (inner : ℕ) → pushed ≡ olds ++ e ∷ [] → inner ≡ length olds + 1
-    → cell_of e ≡ cell (planned s inner next (expr_of g.kind)) next
+pub laid : (s : Hlds) (olds pushed : List Entry) (e : Entry) (next : Option ℕ) (g : Goal) (number : ℕ) → pushed ≡ olds ++ e ∷ [] → number ≡ length olds
+    → cell_of e ≡ cell (planned s number next (expr_of g.kind)) next
     → cells_of pushed ++ inner_table s (length pushed) next (expr_of g.kind) ≡ cells_of olds ++ table s (length olds) next (goal_of g)
-laid s olds pushed e next g inner is at told =
+laid s olds pushed e next g number is at told =
     let long : length pushed ≡ suc (length olds) = omega (arith, ap length is, length-append olds (e ∷ [])) in
-    let here : inner ≡ suc (length olds) = omega (arith, at) in
     ap (λ n. cells_of pushed ++ inner_table s n next (expr_of g.kind)) long
     ∙ (ap (λ cs. cs ++ inner_table s (suc (length olds)) next (expr_of g.kind))
     (ap cells_of is ∙ (cells-append olds e
-    ∙ ap (λ (c : Cell). cells_of olds ++ c ∷ []) (told ∙ ap (λ n. cell (planned s n next (expr_of g.kind)) next) here)))
+    ∙ ap (λ (c : Cell). cells_of olds ++ c ∷ []) (told ∙ ap (λ n. cell (planned s n next (expr_of g.kind)) next) at)))
     ∙ append_assoc (cells_of olds) _ _)
 
 -- the goals of a vector inside a goal

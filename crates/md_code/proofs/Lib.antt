@@ -1,6 +1,3 @@
-pub mod Functors
-pub mod Arms
-pub mod KeyLemmas
 pub mod ExtentLemmas
 pub mod TableLemmas
 pub mod CodeLemmas

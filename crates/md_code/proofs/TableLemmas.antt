@@ -1,9 +1,13 @@
 -- The table of a goal: how long it is, that each next place is further on, and that its steps are those of the goals.
-use Rattle.std.proofs.Common.{◌≡◌, refl, ap, ◌∙◌, sym, subst, arith, ℕ, suc, ◌+◌, ◌≤◌, List, [], ◌∷◌, ◌++◌, length, Option, Some, None, length-append, Bool, true, false, cond, slice_get, zero}
+use Rattle.std.proofs.Common.{◌≡◌, refl, ap, ◌∙◌, sym, subst, arith, ℕ, suc, ◌+◌, ◌≤◌, List, [], ◌∷◌, ◌++◌, length, Option, Some, None, length-append}
 use Rattle.md_hlds.specs.HldsGoal.{HldsGoal, At, GoalExpr, SimpleGoal, CallGoal, HoCallGoal, ConjGoal, DisjGoal, IfGoal, NotGoal, SomeGoal, HldsGoals, nothing, also, goal_size, parts_size, goals_size, goals_within, goals_below, goals_among, Numbered, numbered_goal, numbered_from}
 use Rattle.md_hlds.specs.declared.goal.PredName.{PredName}
-use Rattle.md_hlds.specs.Hlds.{Hlds, Procedure, find_procedure, is_called, nth_procedure, numbered, procedure_called}
-use Rattle.md_code.specs.Layout.{number_of, callee_of, Planned, Does, Calls, Applies, Conjoins, Chooses, Tests, Negates, Quantifies, Cell, begins, places, planned, table, inner_table, conjunction_table, arm_table}
+use Rattle.md_hlds.specs.Hlds.{Hlds, Procedure, nth_procedure, procedure_called}
+use Rattle.md_names.specs.Named.{named_predicate, name_at}
+use Rattle.md_names.proofs.Standing.{procedure_there}
+use Rattle.md_names.proofs.Standing as standing
+use Rattle.md_switch.proofs.Tells.{Tells, tells-goal, length-within, shape_is}
+use Rattle.md_code.specs.Layout.{number_of, callee_of, predicate_in, Planned, Does, Calls, Applies, Conjoins, Chooses, Tests, Negates, Quantifies, Cell, begins, places, planned, table, inner_table, conjunction_table, arm_table}
 use Rattle.md_code.specs.IsCode.{LeadOn, IsSimple, IsCall, IsApplication, IsConjunction, IsDisjunction, IsTest, IsNegation, IsQuantified}
 
 -- ---- lengths
@@ -49,32 +53,6 @@ mutual
         length-table s n next p,
         length-arms s (n + goal_size p) next ps,
       )
-
-mutual
-  pub length-within : (p : HldsGoal) → length (goals_within p) ≡ goal_size p
-  length-within (At l t) = ap suc (length-below t)
-
-  length-below : (t : GoalExpr) → length (goals_below t) ≡ parts_size t
-  length-below (SimpleGoal g) = refl
-  length-below (CallGoal site q ys) = refl
-  length-below (HoCallGoal site p ys) = refl
-  length-below (ConjGoal ps) = length-among ps
-  length-below (DisjGoal ps) = length-among ps
-  length-below (IfGoal c t e) =
-      omega (
-        arith,
-        length-append (goals_within c) (goals_within t ++ goals_within e),
-        length-append (goals_within t) (goals_within e),
-        length-within c,
-        length-within t,
-        length-within e,
-      )
-  length-below (NotGoal c) = length-within c
-  length-below (SomeGoal vs c) = length-within c
-
-  length-among : (ps : HldsGoals) → length (goals_among ps) ≡ goals_size ps
-  length-among nothing = refl
-  length-among (also p ps) = omega (arith, length-append (goals_within p) (goals_among ps), length-within p, length-among ps)
 
 -- ---- places further on
 
@@ -189,34 +167,17 @@ ends from s n c none h = goal_leads from s n None c h ∙ ap (λ gs. numbered_go
 
 -- ---- procedures by their names
 
-number_from : (name : PredName) (n : ℕ) (ps : List Procedure) (k : ℕ) → number_of (find_procedure name n ps) ≡ Some k → n ≤ k
-number_from name n [] k e = absurd (cc)
-number_from name n (p ∷ ps) k e = here (is_called name p) (λ f. number_from name (suc n) ps k f) e
-  where
-    here : (b : Bool) → (number_of (find_procedure name (suc n) ps) ≡ Some k → suc n ≤ k)
-        → number_of (cond b (Some (n, p)) (find_procedure name (suc n) ps)) ≡ Some k → n ≤ k
-    here true later e = let same : n ≡ k = cc in omega (arith, same)
-    here false later e = let after : suc n ≤ k = later e in omega (arith, after)
+call_number : (q : Option (ℕ × Procedure)) → predicate_in (named_predicate q) ≡ number_of q
+call_number None = refl
+call_number (Some q) = refl
 
-found_there : (name : PredName) (n : ℕ) (ps : List Procedure) (m k : ℕ) → k ≡ n + m → number_of (find_procedure name n ps) ≡ Some k
-    → numbered k (slice_get ps m) ≡ find_procedure name n ps
-found_there name n [] m k at e = absurd (cc)
-found_there name n (p ∷ ps) zero k at e = here (is_called name p) e
-  where
-    here : (b : Bool) → number_of (cond b (Some (n, p)) (find_procedure name (suc n) ps)) ≡ Some k → Some (k, p) ≡ cond b (Some (n, p)) (find_procedure name (suc n) ps)
-    here true e = let same : k ≡ n = cc in ap (λ i. Some (i, p)) same
-    here false e = let after : suc n ≤ k = number_from name (suc n) ps k e in absurd (omega (arith, at, after))
-found_there name n (p ∷ ps) (suc m) k at e = here (is_called name p) (λ f. found_there name (suc n) ps m k (omega (arith, at)) f) e
-  where
-    here : (b : Bool) → (number_of (find_procedure name (suc n) ps) ≡ Some k → numbered k (slice_get ps m) ≡ find_procedure name (suc n) ps)
-        → number_of (cond b (Some (n, p)) (find_procedure name (suc n) ps)) ≡ Some k
-        → numbered k (slice_get ps m) ≡ cond b (Some (n, p)) (find_procedure name (suc n) ps)
-    here true later e = let same : k ≡ n = cc in absurd (omega (arith, at, same))
-    here false later e = later e
+same_number : (q : Option (ℕ × Procedure)) → number_of q ≡ standing.number_of q
+same_number None = refl
+same_number (Some q) = refl
 
 -- the procedure of a callee's number is the one that the name stands for
 callee_there : (s : Hlds) (name : PredName) (q : ℕ) → callee_of s name ≡ Some q → nth_procedure s q ≡ procedure_called s name
-callee_there s name q e = found_there name 0 s.procedures q q (omega arith) e
+callee_there s name q e = procedure_there s name q (sym (same_number (procedure_called s name)) ∙ e)
 
 -- ---- steps
 
@@ -266,54 +227,60 @@ test_is from s n next l c t e none h =
     }
 
 step_is : (from : Option ℕ → List Numbered) (s : Hlds) (n : ℕ) (next : Option ℕ) (l : ℕ) (t : GoalExpr) → from None ≡ []
-    → Linked from (suc n) (goals_below t) (inner_table s (suc n) next t) → IsStep s from n next (At l t) (planned s (suc n) next t)
-step_is from s n next l (SimpleGoal g) none h = record { line = l; simple = g; goal = refl; same = refl; names = refl }
-step_is from s n next l (CallGoal site q ys) none h = record { line = l; name = q; goal = refl; called = refl; reached = λ k e. callee_there s q k e }
-step_is from s n next l (HoCallGoal site p ys) none h = record { line = l; goal = refl }
-step_is from s n next l (ConjGoal ps) none h = record { line = l; parts = ps; goal = refl; leads = conjunction_leads from s (suc n) next ps h }
-step_is from s n next l (DisjGoal ps) none h = record { line = l; parts = ps; goal = refl; lead = arms_lead from s (suc n) next ps h; shape = refl }
-step_is from s n next l (IfGoal c t e) none h = test_is from s n next l c t e none h
-step_is from s n next l (NotGoal c) none h = record { line = l; condition = c; goal = refl; tries = ends from s (suc n) c none h }
-step_is from s n next l (SomeGoal vs c) none h = record { line = l; variables = vs; condition = c; goal = refl; tries = ends from s (suc n) c none h }
+    → Linked from (suc n) (goals_below t) (inner_table s (suc n) next t) → Tells s n (goals_within (At l t)) → IsStep s from n next (At l t) (planned s n next t)
+step_is from s n next l (SimpleGoal g) none h tells = record { line = l; simple = g; goal = refl; same = refl; names = tells.0 }
+step_is from s n next l (CallGoal site q ys) none h tells = 
+    let called : predicate_in (name_at s n) ≡ callee_of s q = ap predicate_in tells.0 ∙ call_number (procedure_called s q) in
+    record { line = l; name = q; goal = refl; called = called; reached = λ k e. callee_there s q k (sym called ∙ e) }
+step_is from s n next l (HoCallGoal site p ys) none h tells = record { line = l; goal = refl }
+step_is from s n next l (ConjGoal ps) none h tells = record { line = l; parts = ps; goal = refl; leads = conjunction_leads from s (suc n) next ps h }
+step_is from s n next l (DisjGoal ps) none h tells = record { line = l; parts = ps; goal = refl; lead = arms_lead from s (suc n) next ps h; shape = shape_is s (suc n) ps tells.2 }
+step_is from s n next l (IfGoal c t e) none h tells = test_is from s n next l c t e none h
+step_is from s n next l (NotGoal c) none h tells = record { line = l; condition = c; goal = refl; tries = ends from s (suc n) c none h }
+step_is from s n next l (SomeGoal vs c) none h tells = record { line = l; variables = vs; condition = c; goal = refl; tries = ends from s (suc n) c none h }
 
 mutual
   pub table_steps : (from : Option ℕ → List Numbered) (s : Hlds) (n : ℕ) (next : Option ℕ) (p : HldsGoal) → from None ≡ []
-      → Linked from n (goals_within p) (table s n next p) → AreSteps s from n (goals_within p) (table s n next p)
-  table_steps from s n next (At l t) none h = (step_is from s n next l t none h.1, inner_steps from s (suc n) next t none h.1)
+      → Linked from n (goals_within p) (table s n next p) → Tells s n (goals_within p) → AreSteps s from n (goals_within p) (table s n next p)
+  table_steps from s n next (At l t) none h tells = (step_is from s n next l t none h.1 tells, inner_steps from s (suc n) next t none h.1 tells.2)
 
   inner_steps : (from : Option ℕ → List Numbered) (s : Hlds) (n : ℕ) (next : Option ℕ) (t : GoalExpr) → from None ≡ []
-      → Linked from n (goals_below t) (inner_table s n next t) → AreSteps s from n (goals_below t) (inner_table s n next t)
-  inner_steps from s n next (SimpleGoal g) none h = tt
-  inner_steps from s n next (CallGoal site q ys) none h = tt
-  inner_steps from s n next (HoCallGoal site p ys) none h = tt
-  inner_steps from s n next (ConjGoal ps) none h = conjunction_steps from s n next ps none h
-  inner_steps from s n next (DisjGoal ps) none h = arms_steps from s n next ps none h
-  inner_steps from s n next (IfGoal c t e) none h =
+      → Linked from n (goals_below t) (inner_table s n next t) → Tells s n (goals_below t) → AreSteps s from n (goals_below t) (inner_table s n next t)
+  inner_steps from s n next (SimpleGoal g) none h tells = tt
+  inner_steps from s n next (CallGoal site q ys) none h tells = tt
+  inner_steps from s n next (HoCallGoal site p ys) none h tells = tt
+  inner_steps from s n next (ConjGoal ps) none h tells = conjunction_steps from s n next ps none h tells
+  inner_steps from s n next (DisjGoal ps) none h tells = arms_steps from s n next ps none h tells
+  inner_steps from s n next (IfGoal c t e) none h tells =
+      let one = tells-goal s n c (goals_within t ++ goals_within e) tells in
+      let two = tells-goal s (n + goal_size c) t (goals_within e) one.1 in
       let first = first-split from s n None c (goals_within t ++ goals_within e)
       (table s (n + goal_size c) next t ++ table s (n + goal_size c + goal_size t) next e) h in
       let second = first-split from s (n + goal_size c) next t (goals_within e) (table s (n + goal_size c + goal_size t) next e) first.1 in
       first-join s from n c (goals_within t ++ goals_within e) (table s n None c)
       (table s (n + goal_size c) next t ++ table s (n + goal_size c + goal_size t) next e)
-      (table_steps from s n None c none first.0)
+      (table_steps from s n None c none first.0 one.0)
       (first-join s from (n + goal_size c) t (goals_within e) (table s (n + goal_size c) next t) (table s (n + goal_size c + goal_size t) next e)
-      (table_steps from s (n + goal_size c) next t none second.0)
-      (table_steps from s (n + goal_size c + goal_size t) next e none second.1))
-  inner_steps from s n next (NotGoal c) none h = table_steps from s n None c none h
-  inner_steps from s n next (SomeGoal vs c) none h = table_steps from s n None c none h
+      (table_steps from s (n + goal_size c) next t none second.0 two.0)
+      (table_steps from s (n + goal_size c + goal_size t) next e none second.1 two.1))
+  inner_steps from s n next (NotGoal c) none h tells = table_steps from s n None c none h tells
+  inner_steps from s n next (SomeGoal vs c) none h tells = table_steps from s n None c none h tells
 
   conjunction_steps : (from : Option ℕ → List Numbered) (s : Hlds) (n : ℕ) (next : Option ℕ) (ps : HldsGoals) → from None ≡ []
-      → Linked from n (goals_among ps) (conjunction_table s n next ps) → AreSteps s from n (goals_among ps) (conjunction_table s n next ps)
-  conjunction_steps from s n next nothing none h = tt
-  conjunction_steps from s n next (also p ps) none h =
+      → Linked from n (goals_among ps) (conjunction_table s n next ps) → Tells s n (goals_among ps) → AreSteps s from n (goals_among ps) (conjunction_table s n next ps)
+  conjunction_steps from s n next nothing none h tells = tt
+  conjunction_steps from s n next (also p ps) none h tells =
+      let told = tells-goal s n p (goals_among ps) tells in
       let then' = begins (n + goal_size p) ps next in
       let parts = first-split from s n then' p (goals_among ps) (conjunction_table s (n + goal_size p) next ps) h in
       first-join s from n p (goals_among ps) (table s n then' p) (conjunction_table s (n + goal_size p) next ps)
-      (table_steps from s n then' p none parts.0) (conjunction_steps from s (n + goal_size p) next ps none parts.1)
+      (table_steps from s n then' p none parts.0 told.0) (conjunction_steps from s (n + goal_size p) next ps none parts.1 told.1)
 
   arms_steps : (from : Option ℕ → List Numbered) (s : Hlds) (n : ℕ) (next : Option ℕ) (ps : HldsGoals) → from None ≡ []
-      → Linked from n (goals_among ps) (arm_table s n next ps) → AreSteps s from n (goals_among ps) (arm_table s n next ps)
-  arms_steps from s n next nothing none h = tt
-  arms_steps from s n next (also p ps) none h =
+      → Linked from n (goals_among ps) (arm_table s n next ps) → Tells s n (goals_among ps) → AreSteps s from n (goals_among ps) (arm_table s n next ps)
+  arms_steps from s n next nothing none h tells = tt
+  arms_steps from s n next (also p ps) none h tells =
+      let told = tells-goal s n p (goals_among ps) tells in
       let parts = first-split from s n next p (goals_among ps) (arm_table s (n + goal_size p) next ps) h in
       first-join s from n p (goals_among ps) (table s n next p) (arm_table s (n + goal_size p) next ps)
-      (table_steps from s n next p none parts.0) (arms_steps from s (n + goal_size p) next ps none parts.1)
+      (table_steps from s n next p none parts.0 told.0) (arms_steps from s (n + goal_size p) next ps none parts.1 told.1)

@@ -5,9 +5,10 @@ use Rattle.md_hlds.specs.HldsGoal.{Simple, HldsGoal, At, GoalExpr, SimpleGoal, C
 use Rattle.md_hlds.specs.Hlds.{Hlds, Procedure, clause_goals, goal_at, body_number, procedure_called, nth_procedure}
 use Rattle.md_hlds.specs.Switch.{Key, switch_shape}
 use Rattle.md_hlds.specs.Trace.{call_weight}
-use Rattle.md_code.specs.declared.code.Named.{Named}
+use Rattle.md_names.specs.declared.named.Named.{Named}
+use Rattle.md_names.specs.Named.{simple_name}
 use Rattle.md_code.specs.declared.code.Code.{Code}
-use Rattle.md_code.specs.Layout.{Planned, Does, Calls, Applies, Conjoins, Chooses, Tests, Negates, Quantifies, Cell, cell, Begun, callee_of, named_in}
+use Rattle.md_code.specs.Layout.{Planned, Does, Calls, Applies, Conjoins, Chooses, Tests, Negates, Quantifies, Cell, cell, Begun, callee_of}
 use Rattle.md_code.specs.Told.{cells_of, routines_told}
 
 -- Where it goes on from a place, among goals and their entries, the first of which has the number n: the goal at the place,
@@ -34,7 +35,7 @@ pub record IsSimple (s : Hlds) (g : HldsGoal) (t : GoalExpr) (named : Named) : T
   pub simple : Simple
   pub goal : g ≡ At line (SimpleGoal simple)
   pub same : t ≡ SimpleGoal simple
-  pub names : named ≡ named_in s simple
+  pub names : named ≡ simple_name s simple
 
 pub record IsCall (s : Hlds) (g : HldsGoal) (site : ℕ) (callee : Option ℕ) (ys : List ℕ) : Type 0 where
   pub line : ℕ

@@ -1,25 +1,19 @@
 -- The code's table as plain data.
-use Rattle.std.specs.Prelude.{ℕ, List, [], ◌∷◌, Option, Some, None}
+use Rattle.std.specs.Prelude.{List, [], ◌∷◌}
 use Rattle.md_hlds.specs.HldsGoal.{expr_of}
-use Rattle.md_hlds.specs.Switch as spec
-use Rattle.md_code.specs.declared.code.Switch.{Switch}
 use Rattle.md_code.specs.declared.code.Step as code
 use Rattle.md_code.specs.declared.code.Step.TheVariants as step
 use Rattle.md_code.specs.declared.code.Entry.{Entry}
 use Rattle.md_code.specs.declared.code.Routine.{Routine}
-use Rattle.md_code.specs.Keys.{keys_told}
+use Rattle.md_switch.specs.Keys.{shape_told}
 use Rattle.md_code.specs.Layout.{Planned, Does, Calls, Applies, Conjoins, Chooses, Tests, Negates, Quantifies, Cell, cell, Begun}
-
-abbrev pub switch_told : Option Switch → Option (ℕ × List spec.Key)
-switch_told None = None
-switch_told (Some w) = Some (w.var, keys_told w.keys.keys)
 
 abbrev pub step_told : code.Step → Planned
 step_told (step.Simple g named) = Does (expr_of g.now) named
 step_told (step.Call site callee ys) = Calls site callee ys.now
 step_told (step.HoCall site p ys) = Applies site p ys.now
 step_told (step.Conj first) = Conjoins first
-step_told (step.Disj arms switch) = Chooses arms.items (switch_told switch)
+step_told (step.Disj arms shape) = Chooses arms.items (shape_told shape)
 step_told (step.If c t e) = Tests c t e
 step_told (step.Not c) = Negates c
 step_told (step.Some c) = Quantifies c

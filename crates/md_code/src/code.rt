@@ -1,9 +1,9 @@
 // The table of a program's goals.
 
-use crate::key::Key;
-use indexmap::IndexSet;
 use md_base::{ProcId, SiteId};
 use md_hlds::{Det, GoalKind, Variables};
+use md_names::Named;
+use md_switch::Shape;
 
 /// A program as a table: a goal's place is its number, and a routine's is its procedure's.
 #[derive(Drop)]
@@ -31,28 +31,13 @@ pub enum Step<'a> {
     HoCall(SiteId, u32, &'a Variables),
     /// Where it goes on: at its first part.
     Conj(Option<u32>),
-    /// The arms, and the switch that they are where its variable has a value.
-    Disj(Vec<u32>, Option<Switch<'a>>),
+    /// The arms, and their shape where it is that of a switch: they are one where its variable has a value.
+    Disj(Vec<u32>, Option<Shape<'a>>),
     /// Condition, then, else.
     If(u32, u32, u32),
     Not(u32),
     /// What a quantified goal is of.
     Some(u32),
-}
-
-/// What the name on the right side of a unification stands for.
-#[derive(Clone, Copy, Debug, PartialEq, Eq)]
-pub enum Named {
-    Functor,
-    Predicate(ProcId),
-    Nothing,
-}
-
-/// The variable that the arms of a disjunction test, and the key of each arm, in order. They are pairwise different.
-#[derive(Drop)]
-pub struct Switch<'a> {
-    pub var: u32,
-    pub keys: IndexSet<Key<'a>>,
 }
 
 /// A procedure: the variables of its head, how many variables its clause has, its determinism, what a call of it weighs,

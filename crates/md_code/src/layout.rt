@@ -7,50 +7,50 @@ ghost use Rattle.md_code.specs.Told.{cells_of};
 
 use crate::code::Entry;
 use crate::extent::{extent_of, sum};
-use crate::step::{begins, step_of};
+use crate::step::{begins, place, step_of};
 use md_base::NoMemory;
 use md_hlds::{Goal, GoalKind};
-use md_names::Names;
+use md_modes::Moded;
 
 /// Adds the entry of a goal after which comes `next`, and those of the goals within it.
 #[cycle(layout)]
 pub fn lay<'a>(
-    names: &Names,
+    moded: &Moded,
     entries: &mut Vec<Entry<'a>>,
     goal: &'a Goal,
     next: Option<u32>,
 ) -> Result<(), NoMemory>
     ensures { OnOk result (cells_of entries.new.items
-        ≡ cells_of entries.old.items ++ table (hlds_of names.now) (length entries.old.items) next (goal_of goal.now)) }
+        ≡ cells_of entries.old.items ++ table (hlds_of moded.now) (length entries.old.items) next (goal_of goal.now)) }
 {
     let alloc = *entries.allocator();
-    let inner = sum(entries.len(), 1)?;
-    let step = step_of(alloc, names, &goal.kind, inner, next)?;
+    let number = place(entries.len())?;
+    let step = step_of(alloc, moded, &goal.kind, number, next)?;
     entries.push(Entry { step, next })?;
-    lay_inner(names, entries, &goal.kind, next)
+    lay_inner(moded, entries, &goal.kind, next)
 }
 
 /// Adds the entries of the goals within a goal.
 #[cycle(layout)]
 fn lay_inner<'a>(
-    names: &Names,
+    moded: &Moded,
     entries: &mut Vec<Entry<'a>>,
     kind: &'a GoalKind,
     next: Option<u32>,
 ) -> Result<(), NoMemory>
     ensures { OnOk result (cells_of entries.new.items
-        ≡ cells_of entries.old.items ++ inner_table (hlds_of names.now) (length entries.old.items) next (expr_of kind.now)) }
+        ≡ cells_of entries.old.items ++ inner_table (hlds_of moded.now) (length entries.old.items) next (expr_of kind.now)) }
 {
     match kind {
-        GoalKind::Conj(goals) => lay_conjunction(names, entries, goals.as_slice(), next),
-        GoalKind::Disj(arms) => lay_arms(names, entries, arms.as_slice(), next),
+        GoalKind::Conj(goals) => lay_conjunction(moded, entries, goals.as_slice(), next),
+        GoalKind::Disj(arms) => lay_arms(moded, entries, arms.as_slice(), next),
         GoalKind::If(condition, then, otherwise) => {
-            lay(names, entries, condition, None)?;
-            lay(names, entries, then, next)?;
-            lay(names, entries, otherwise, next)
+            lay(moded, entries, condition, None)?;
+            lay(moded, entries, then, next)?;
+            lay(moded, entries, otherwise, next)
         }
-        GoalKind::Not(inner) => lay(names, entries, inner, None),
-        GoalKind::Some(_, inner) => lay(names, entries, inner, None),
+        GoalKind::Not(inner) => lay(moded, entries, inner, None),
+        GoalKind::Some(_, inner) => lay(moded, entries, inner, None),
         GoalKind::True
         | GoalKind::Fail
         | GoalKind::Unify(..)
@@ -68,18 +68,18 @@ fn lay_inner<'a>(
 /// Adds the entries of goals that lead to one another and then to `next`.
 #[cycle(layout)]
 fn lay_conjunction<'a>(
-    names: &Names,
+    moded: &Moded,
     entries: &mut Vec<Entry<'a>>,
     goals: &'a [Goal],
     next: Option<u32>,
 ) -> Result<(), NoMemory>
     ensures { OnOk result (cells_of entries.new.items
-        ≡ cells_of entries.old.items ++ conjunction_table (hlds_of names.now) (length entries.old.items) next (gathered (goals_of goals.now))) }
+        ≡ cells_of entries.old.items ++ conjunction_table (hlds_of moded.now) (length entries.old.items) next (gathered (goals_of goals.now))) }
 {
     for (number, goal) in goals.iter().enumerate() {
         let end = sum(entries.len(), extent_of(goal)?.goals)?;
         let then = begins(&goals[number + 1..], end, next)?;
-        lay(names, entries, goal, then)?;
+        lay(moded, entries, goal, then)?;
     }
     Ok(())
 }
@@ -87,16 +87,16 @@ fn lay_conjunction<'a>(
 /// Adds the entries of goals that each lead to `next`.
 #[cycle(layout)]
 fn lay_arms<'a>(
-    names: &Names,
+    moded: &Moded,
     entries: &mut Vec<Entry<'a>>,
     arms: &'a [Goal],
     next: Option<u32>,
 ) -> Result<(), NoMemory>
     ensures { OnOk result (cells_of entries.new.items
-        ≡ cells_of entries.old.items ++ arm_table (hlds_of names.now) (length entries.old.items) next (gathered (goals_of arms.now))) }
+        ≡ cells_of entries.old.items ++ arm_table (hlds_of moded.now) (length entries.old.items) next (gathered (goals_of arms.now))) }
 {
     for arm in arms {
-        lay(names, entries, arm, next)?;
+        lay(moded, entries, arm, next)?;
     }
     Ok(())
 }

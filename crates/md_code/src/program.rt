@@ -10,22 +10,22 @@ use crate::extent::{extent_of, sum};
 use crate::layout::lay;
 use crate::step::place;
 use md_base::NoMemory;
-use md_hlds::{Pred, Program};
-use md_names::Names;
+use md_hlds::Pred;
+use md_modes::Moded;
 use std::alloc::Global;
 
-/// The program as a table. Takes for each goal a time of the levels at which it is nested, and memory linear in the
+/// A program that the mode checks accept, as a table. Takes for each goal a time of the levels at which it is nested, and memory linear in the
 /// program. Places are numbers of 32 bits: a program with more goals than those is answered as one that memory has no room
 /// for. (A text of a megabyte has fewer.)
-pub fn prepare<'a>(alloc: Global, program: &'a Program) -> Result<Code<'a>, NoMemory>
-    ensures { IfOk result (λ code. IsCodeOf (hlds_of program.now) code) }
+pub fn prepare<'a>(alloc: Global, moded: &'a Moded) -> Result<Code<'a>, NoMemory>
+    ensures { IfOk result (λ code. IsCodeOf (hlds_of moded.now) code) }
 {
-    let names = Names::new(alloc, program)?;
+    let program = moded.program();
     let mut entries = Vec::new(alloc);
     let mut routines = Vec::new(alloc);
     for pred in program.preds.as_slice() {
         routines.push(routine_of(pred, entries.len())?)?;
-        lay(&names, &mut entries, &pred.body, None)?;
+        lay(moded, &mut entries, &pred.body, None)?;
     }
     Ok(Code { entries, routines })
 }

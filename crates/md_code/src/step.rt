@@ -2,46 +2,46 @@
 ghost use Rattle.std.specs.Prelude.{◌≡◌, ◌+◌, suc, length, IfOk};
 ghost use Rattle.md_hlds.specs.Hlds.{hlds_of};
 ghost use Rattle.md_hlds.specs.HldsGoal.{expr_of, goal_of, goals_of, gathered, goal_size};
-ghost use Rattle.md_code.specs.Layout.{planned, named_of, callee_of, begins, places};
+ghost use Rattle.md_code.specs.Layout.{planned, predicate_in, begins, places};
 ghost use Rattle.md_code.specs.Told.{step_told};
 
-use crate::code::{Named, Step};
+use crate::code::Step;
 use crate::extent::{extent_of, sum};
-use crate::key::is_functor;
-use crate::switch::switch_among;
 use md_base::{NoMemory, ProcId};
-use md_hlds::{Goal, GoalKind, PredName, Term};
-use md_names::Names;
+use md_hlds::{Goal, GoalKind};
+use md_modes::{Moded, Named};
+use md_switch::shape_of;
 use std::alloc::Global;
 
-/// The step of a goal whose parts begin at the place `inner`, and after which comes `next`.
+/// The step of the goal of this number, after which comes `next`. Its parts have the numbers from the following one on.
 pub fn step_of<'a>(
     alloc: Global,
-    names: &Names,
+    moded: &Moded,
     kind: &'a GoalKind,
-    inner: usize,
+    number: u32,
     next: Option<u32>,
 ) -> Result<Step<'a>, NoMemory>
-    ensures { IfOk result (λ step. step_told step ≡ planned (hlds_of names.now) inner next (expr_of kind.now)) }
+    ensures { IfOk result (λ step. step_told step ≡ planned (hlds_of moded.now) number next (expr_of kind.now)) }
 {
+    let inner = sum(number as usize, 1)?;
     match kind {
-        GoalKind::Unify(_, term) => Ok(Step::Simple(kind, named_of(names, term))),
         GoalKind::True
         | GoalKind::Fail
+        | GoalKind::Unify(..)
         | GoalKind::Arith(..)
         | GoalKind::Compare(..)
         | GoalKind::WriteInt(..)
         | GoalKind::WriteStr(..)
         | GoalKind::Nl(..)
-        | GoalKind::Error(_) => Ok(Step::Simple(kind, Named::Nothing)),
-        GoalKind::Call(site, name, arguments) => {
-            Ok(Step::Call(*site, callee_of(names, name), arguments))
+        | GoalKind::Error(_) => Ok(Step::Simple(kind, moded.named(number))),
+        GoalKind::Call(site, _, arguments) => {
+            Ok(Step::Call(*site, predicate_in(moded.named(number)), arguments))
         }
         GoalKind::HoCall(site, closure, arguments) => Ok(Step::HoCall(*site, *closure, arguments)),
         GoalKind::Conj(goals) => Ok(Step::Conj(begins(goals.as_slice(), inner, next)?)),
         GoalKind::Disj(arms) => {
-            let switch = switch_among(alloc, names, arms.as_slice())?;
-            Ok(Step::Disj(places_of(alloc, arms.as_slice(), inner)?, switch))
+            let shape = shape_of(alloc, moded, arms.as_slice(), place(inner)?)?;
+            Ok(Step::Disj(places_of(alloc, arms.as_slice(), inner)?, shape))
         }
         GoalKind::If(condition, then, _) => {
             let second = sum(inner, extent_of(condition)?.goals)?;
@@ -83,32 +83,13 @@ fn places_of(alloc: Global, goals: &[Goal], first: usize) -> Result<Vec<u32>, No
     Ok(found)
 }
 
-/// What the name in a term stands for.
-fn named_of(names: &Names, term: &Term) -> Named
-    ensures { result ≡ named_of (hlds_of names.now) term.now }
+/// The number of the predicate that a name stands for.
+fn predicate_in(named: Named) -> Option<ProcId>
+    ensures { result ≡ predicate_in named }
 {
-    match term {
-        Term::Var(_) => Named::Nothing,
-        Term::Int(_) => Named::Nothing,
-        Term::Str(_) => Named::Nothing,
-        Term::Name(name, arguments) => {
-            if is_functor(names, name, arguments.len()) {
-                return Named::Functor;
-            }
-            match callee_of(names, name) {
-                None => Named::Nothing,
-                Some(number) => Named::Predicate(number),
-            }
-        }
-    }
-}
-
-/// The number of the procedure of this name.
-fn callee_of(names: &Names, name: &PredName) -> Option<ProcId>
-    ensures { result ≡ callee_of (hlds_of names.now) name.now }
-{
-    match names.predicate(name) {
-        None => None,
-        Some((number, _)) => Some(number),
+    match named {
+        Named::Functor(_) => None,
+        Named::Predicate(number) => Some(number),
+        Named::Nothing => None,
     }
 }

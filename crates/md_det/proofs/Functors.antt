@@ -1,17 +1,15 @@
 -- The type of a functor, as the definitions of switches and those of look-ups have it.
-use Rattle.std.proofs.Common.{◌≡◌, refl, sym, ap, ◌∙◌, ℕ, zero, suc, ◌<◌, ◌≤◌, arith, Bool, true, false, cond, ◌&&◌, List, [], ◌∷◌, length, Option, Some, None, nat_eq, get_or, slice_get, Bor}
+use Rattle.std.proofs.Common.{◌≡◌, refl, sym, ap, ◌∙◌, ℕ, zero, suc, ◌<◌, ◌≤◌, arith, Bool, true, cond, List, [], ◌∷◌, length, Option, Some, None, nat_eq, get_or, slice_get, Bor}
 use Rattle.std.specs.Prelude.{is_some}
 use Rattle.std.specs.Slice.{IsGetResult}
 use Rattle.md_hlds.specs.declared.goal.PredName.{PredName}
 use Rattle.md_hlds.specs.declared.program.Functor.{Functor}
 use Rattle.md_hlds.specs.declared.program.TypeDef.{TypeDef}
-use Rattle.md_hlds.specs.declared.types.Det.{Det}
 use Rattle.md_hlds.specs.Hlds.{HldsFunctor, HldsTypeDef, Procedure, Hlds, hlds_functors_of, type_def_of, type_defs_of, is_functor, procedure_called, nth_procedure, numbered}
 use Rattle.md_names.specs.declared.named.Named.{Named}
 use Rattle.md_names.specs.declared.named.Named.TheVariants as name
 use Rattle.md_names.specs.Named.{construct_among, found_in, functor_found, named_call, named_term, is_functor_name}
 use Rattle.md_names.proofs.Standing.{family_found, declares_functor-among, functor_named, type_named, call_named, call_missing, call_no_functor}
-use Rattle.md_det.specs.declared.pair.Pair.{Pair}
 use Rattle.md_det.specs.Determinism.{call_pair, unsure}
 use Rattle.md_det.specs.Judge.{type_of_name, read_call}
 use Rattle.md_det.specs.Pairs.{pair_of}

@@ -15,8 +15,9 @@ use Rattle.md_hlds.specs.Trace.{allocated, written}
 use Rattle.md_steps.specs.State as machine
 use Rattle.md_steps.specs.Steps as steps
 use Rattle.md_steps.specs.Steps.{unfolds, goes_simply, chooses}
-use Rattle.md_code.specs.declared.code.Named.{Named}
-use Rattle.md_code.specs.Layout.{Cell, Does, Conjoins, Chooses, Tests, Negates, Quantifies, named_in}
+use Rattle.md_names.specs.declared.named.Named.{Named}
+use Rattle.md_code.specs.Layout.{Cell, Does, Conjoins, Chooses, Tests, Negates, Quantifies}
+use Rattle.md_names.specs.Named.{simple_name}
 use Rattle.md_code.specs.IsCode.{IsSimple, IsConjunction, IsDisjunction, IsTest, IsNegation, IsQuantified, LeadOn}
 use Rattle.md_value.specs.declared.value.Value.{Value}
 use Rattle.md_value.specs.Values.{env_of}
@@ -165,7 +166,7 @@ disjoins arms shape next f js left turn old new chosen s cells routines n g know
 
 -- what a simple goal did with slots is what the definition says, in any program
 abbrev pub DidSimply : GoalExpr → Named → (old new : List (Option Value)) → ℕ → Outcome → Type 0
-DidSimply t named old new limit outcome = (s : Hlds) (g : Simple) → t ≡ SimpleGoal g → named ≡ named_in s g → outcomes.Does limit new outcome (simple s (env_of old) g)
+DidSimply t named old new limit outcome = (s : Hlds) (g : Simple) → t ≡ SimpleGoal g → named ≡ simple_name s g → outcomes.Does limit new outcome (simple s (env_of old) g)
 
 -- the turn of a simple goal, by what the goal does
 simply_turns : (s : Hlds) (cells : List Cell) (n : ℕ) (g : HldsGoal) (t : GoalExpr) (named : Named) (next : Option ℕ) (F : trace.Frame) (js : List trace.Frame) (ws : List machine.Wait) (number : ℕ) (q : IsSimple s g t named) (o : simples.Outcome)
@@ -174,7 +175,7 @@ simply_turns s cells n g t named next F js ws number q o is =
     ap (λ (h : HldsGoal). unfolds s F n (ways s cells next) js ws number h) q.goal ∙ ap (λ (p : simples.Outcome). goes_simply F (ways s cells next) js ws number p) is
 
 did : (t : GoalExpr) (named : Named) (old new slots : List (Option Value)) (limit : ℕ) (made other : Outcome) (s : Hlds) (g : Simple) → DidSimply t named old new limit made → old ≡ slots → made ≡ other
-    → t ≡ SimpleGoal g → named ≡ named_in s g → outcomes.Does limit new other (simple s (env_of slots) g)
+    → t ≡ SimpleGoal g → named ≡ simple_name s g → outcomes.Does limit new other (simple s (env_of slots) g)
 did t named old new slots limit made other s g all same is same-goal same-name =
     subst (λ (xs : List (Option Value)). outcomes.Does limit new other (simple s (env_of xs) g)) same
     (subst (λ (o : Outcome). outcomes.Does limit new o (simple s (env_of old) g)) is (all s g same-goal same-name))

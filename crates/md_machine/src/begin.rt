@@ -1,7 +1,7 @@
 // Where a run begins.
 ghost use Rattle.std.specs.Prelude.{ℕ, ◌≡◌, false, List, [], Some, None, IfOk, OnOk, OnErr};
-ghost use Rattle.md_hlds.specs.Hlds.{Hlds, hlds_of};
-ghost use Rattle.md_hlds.specs.Run.{run, main_frame};
+ghost use Rattle.md_hlds.specs.Hlds.{Hlds, hlds_of, procedure_of, is_called};
+ghost use Rattle.md_hlds.specs.Run.{run, main_name, main_frame};
 ghost use Rattle.md_events.specs.History.{history};
 ghost use Rattle.md_events.specs.Table.{site_table};
 ghost use Rattle.md_code.specs.Layout.{Cell};
@@ -19,30 +19,30 @@ use crate::ran::{End, Ran};
 use crate::run::{affordable, run_on};
 use crate::step::Doing;
 use crate::wait::Waits;
-use md_base::{Name, NoMemory, ProcId};
+use md_base::{NoMemory, ProcId};
 use md_code::Routine;
-use md_hlds::{PredName, Program};
-use md_names::Names;
+use md_hlds::{Pred, Program};
 use md_trace::PortSink;
 use md_value::{Value, bind, blank};
 use std::alloc::Global;
 
 /// The number of the procedure `main`, if it is declared.
-pub fn find_main(alloc: Global, program: &Program) -> Result<Option<u32>, NoMemory>
-    ensures { IfOk result (λ found. IsMain (hlds_of program.now) found) }
+pub fn find_main(program: &Program) -> Option<u32>
+    ensures { IsMain (hlds_of program.now) result }
 {
-    let Some(name) = Name::from_bytes(alloc, b"main")? else {
-        unreachable!()
-    };
-    let names = Names::new(alloc, program)?;
-    let main = PredName {
-        qualifier: None,
-        name,
-    };
-    match names.predicate(&main) {
-        None => Ok(None),
-        Some((number, _)) => Ok(Some(number.number())),
+    for (number, pred) in program.preds.iter().enumerate() {
+        if is_called_main(pred) {
+            return Some(number as u32);
+        }
     }
+    None
+}
+
+/// Whether a predicate is named `main`, and is one of the file's own module.
+fn is_called_main(pred: &Pred) -> bool
+    ensures { result ≡ is_called main_name (procedure_of pred.now) }
+{
+    pred.qualifier.is_none() && b"main".as_slice() == pred.name.as_bytes()
 }
 
 /// The frame in which main's body begins: its first variable has the io state.

@@ -16,6 +16,7 @@ use md_base::NoMemory;
 use md_code::{Code, prepare};
 use md_det::Checked;
 use md_hlds::Program;
+use md_modes::Moded;
 use md_trace::PortSink;
 use md_value::Parts;
 use std::alloc::Global;
@@ -39,26 +40,26 @@ pub fn interpret<S: PortSink>(
     ensures front { OnErr result (StandsForFront (hlds_of checked.now) budget (S.stands_for sink.new (site_table (hlds_of checked.now)))) }
     ensures alike { S.alike sink.old sink.new }
 {
-    run_program(alloc, checked.program(), budget, sink)
+    run_program(alloc, checked.moded(), budget, sink)
 }
 
 /// The run of a program.
 fn run_program<S: PortSink>(
     alloc: Global,
-    program: &Program,
+    moded: &Moded,
     budget: u32,
     sink: &mut S,
 ) -> Result<Ran, NoMemory>
-    requires bounds { IsWithinBounds (hlds_of program.now) budget }
-    requires begins { S.stands_for sink.old (site_table (hlds_of program.now)) [] }
-    ensures run { IfOk result (λ ran. IsRunOf (hlds_of program.now) budget ran) }
-    ensures whole { OnOk result (S.stands_for sink.new (site_table (hlds_of program.now)) (history (run (hlds_of program.now) budget))) }
-    ensures front { OnErr result (StandsForFront (hlds_of program.now) budget (S.stands_for sink.new (site_table (hlds_of program.now)))) }
+    requires bounds { IsWithinBounds (hlds_of moded.now) budget }
+    requires begins { S.stands_for sink.old (site_table (hlds_of moded.now)) [] }
+    ensures run { IfOk result (λ ran. IsRunOf (hlds_of moded.now) budget ran) }
+    ensures whole { OnOk result (S.stands_for sink.new (site_table (hlds_of moded.now)) (history (run (hlds_of moded.now) budget))) }
+    ensures front { OnErr result (StandsForFront (hlds_of moded.now) budget (S.stands_for sink.new (site_table (hlds_of moded.now)))) }
     ensures alike { S.alike sink.old sink.new }
 {
-    let code = prepare(alloc, program)?;
+    let code = prepare(alloc, moded)?;
     let bump = Bump::new(alloc);
-    run_code(alloc, &bump, &code, program, budget, sink)
+    run_code(alloc, &bump, &code, moded.program(), budget, sink)
 }
 
 /// The run of a program with its table.
@@ -78,7 +79,7 @@ fn run_code<'a, 'p, S: PortSink>(
     ensures front { OnErr result (StandsForFront (hlds_of program.now) budget (S.stands_for sink.new (site_table (hlds_of program.now)))) }
     ensures alike { S.alike sink.old sink.new }
 {
-    let Some(number) = find_main(alloc, program)? else {
+    let Some(number) = find_main(program) else {
         return Ok(unfinished(alloc));
     };
     let nothing: &'a Parts<'a> = bump.try_alloc(Parts::Nothing)?;

@@ -6,7 +6,7 @@ ghost use Rattle.md_steps.specs.State as machine;
 ghost use Rattle.md_steps.specs.Steps.{tries, takes_arm};
 ghost use Rattle.md_code.specs.Layout.{Does, Conjoins, Chooses, Tests, Negates, Quantifies};
 ghost use Rattle.md_code.specs.IsCode.{LeadOn};
-ghost use Rattle.md_code.specs.Told.{switch_told};
+ghost use Rattle.md_switch.specs.Keys.{shape_told};
 ghost use Rattle.md_value.specs.Arms.{arm_at};
 ghost use Rattle.md_machine.specs.declared.wait.Wait.{Wait};
 ghost use Rattle.md_machine.specs.Frames.{Ways, frame_of, callers_of};
@@ -18,7 +18,7 @@ use crate::step::Doing;
 use crate::wait::{Choice, Wait, Waits};
 use bumpalo::Bump;
 use md_base::NoMemory;
-use md_code::{Named, Switch};
+use md_code::{Named, Shape};
 use md_hlds::GoalKind;
 use md_value::{Outcome, place_of_key, simple, value_at};
 use std::alloc::Global;
@@ -92,13 +92,13 @@ pub fn conjunction<'a, M: Copy + Drop>(
 /// A disjunction: a switch on a variable that has a value takes one arm, any other tries all of them.
 pub fn disjunction<'a, M: Copy + Drop>(
     arms: &'a [u32],
-    switch: &Option<Switch>,
+    switch: &Option<Shape>,
     next: Option<u32>,
     frame: Frame<'a, M>,
     callers: Option<Rc<Chain<'a, M>>>,
     waits: &mut Waits<'a, M>,
 ) -> Result<Turn<'a, M>, NoMemory>
-    ensures { IfOk result (λ turn. (left : ℕ) → 1 ≤ left → Unfolds (Chooses arms.now (switch_told switch.now)) next frame.entry callers.entry left turn (stack_of waits.old) (stack_of waits.new)) }
+    ensures { IfOk result (λ turn. (left : ℕ) → 1 ≤ left → Unfolds (Chooses arms.now (shape_told switch.now)) next frame.entry callers.entry left turn (stack_of waits.old) (stack_of waits.new)) }
 {
     let Some(switch) = switch else {
         return tries(arms, next, frame, callers, waits);

@@ -7,9 +7,9 @@ use Rattle.md_hlds.specs.HldsGoal.{Numbered}
 use Rattle.md_hlds.specs.Value.{Value, Number, Literal, Built, Closure}
 use Rattle.md_hlds.specs.Switch as spec
 use Rattle.md_hlds.specs.Switch.{IntKey, TextKey, FunctorKey, has_the_key, arm_for, same_key}
-use Rattle.md_code.specs.declared.key.Key as code
-use Rattle.md_code.specs.Keys.{key_of_code, keys_told}
-use Rattle.md_code.proofs.KeyLemmas.{same_in_code, same_told}
+use Rattle.md_switch.specs.declared.key.Key as code
+use Rattle.md_switch.specs.Keys.{key_of_code, keys_told}
+use Rattle.md_switch.proofs.KeyLemmas.{same_in_code, same_told}
 use Rattle.md_value.specs.Arms.{arm_at, key_in}
 
 first_found : (c : Bool) (n : ℕ) (p : Numbered) (ps : List Numbered) → arm_at (cond c (Some (suc n)) None) (p ∷ ps) ≡ arm_at (cond c (Some n) None) ps

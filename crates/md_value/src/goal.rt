@@ -5,7 +5,7 @@ ghost use Rattle.md_hlds.specs.HldsGoal.{expr_of, Simple, SimpleGoal};
 ghost use Rattle.md_hlds.specs.Hlds.{Hlds};
 ghost use Rattle.md_hlds.specs.Value.{value_at, Number};
 ghost use Rattle.md_hlds.specs.Simple.{result_of, holds, compute, compare, write, write_int, write_text, raise, answer, simple};
-ghost use Rattle.md_code.specs.Layout.{named_in};
+ghost use Rattle.md_names.specs.Named.{simple_name};
 ghost use Rattle.md_value.specs.Values.{option_value, env_of};
 ghost use Rattle.md_value.specs.Outcomes.{Does, DoesLightly};
 
@@ -14,7 +14,7 @@ use crate::unify::unify;
 use crate::value::Value;
 use bumpalo::Bump;
 use md_base::NoMemory;
-use md_code::Named;
+use md_names::Named;
 use md_hlds::{Cmp, GoalKind, Op};
 use std::alloc::Global;
 
@@ -47,7 +47,7 @@ pub fn simple<'a>(
     slots: &mut [Option<Value<'a>>],
     limit: u32,
 ) -> Result<Outcome<'a>, NoMemory>
-    ensures { IfOk result (λ outcome. (s : Hlds) (g : Simple) → expr_of kind.now ≡ SimpleGoal g → named ≡ named_in s g → Does limit slots.new outcome (simple s (env_of slots.old) g)) }
+    ensures { IfOk result (λ outcome. (s : Hlds) (g : Simple) → expr_of kind.now ≡ SimpleGoal g → named ≡ simple_name s g → Does limit slots.new outcome (simple s (env_of slots.old) g)) }
 {
     match kind {
         GoalKind::True => Ok(goes(0, 0)),

@@ -2,14 +2,14 @@
 ghost use Rattle.std.specs.Prelude.{◌≡◌, List, IfOk};
 ghost use Rattle.md_hlds.specs.HldsGoal.{Numbered};
 ghost use Rattle.md_hlds.specs.Switch.{arm_for};
-ghost use Rattle.md_code.specs.Keys.{key_told, keys_told};
+ghost use Rattle.md_switch.specs.Keys.{key_told, keys_told};
 ghost use Rattle.md_value.specs.Arms.{key_in, arm_at};
 ghost use Rattle.md_value.specs.Values.{value_of};
 
 use crate::value::{Value, count};
 use indexmap::IndexSet;
 use md_base::NoMemory;
-use md_code::Key;
+use md_switch::Key;
 
 /// The place among the keys of a switch of the one that this value has: that of the arm that it takes.
 pub fn place_of_key<'k>(value: &Value, keys: &IndexSet<Key<'k>>) -> Result<Option<usize>, NoMemory>

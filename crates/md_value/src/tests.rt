@@ -7,7 +7,7 @@ use crate::{
 use bumpalo::Bump;
 use indexmap::IndexSet;
 use md_base::{Name, ProcId};
-use md_code::{Key, Named};
+
 use md_hlds::{Cmp, GoalKind, Op, PredName, Term, Variables};
 use std::alloc::Global;
 use std::test::Fail;
@@ -187,9 +187,9 @@ fn thrice<'a>(
     bind(&mut slots, 1, Value::Number(6));
     bind(&mut slots, 2, empty);
     let mut found = Vec::new(alloc);
-    all(bump, goals, Named::Functor, &mut slots, 1, &mut found)?;
-    all(bump, goals, Named::Functor, &mut slots, 2, &mut found)?;
-    all(bump, goals, Named::Functor, &mut slots, 1, &mut found)?;
+    all(bump, goals, Named::Functor(0), &mut slots, 1, &mut found)?;
+    all(bump, goals, Named::Functor(0), &mut slots, 2, &mut found)?;
+    all(bump, goals, Named::Functor(0), &mut slots, 1, &mut found)?;
     Ok(found)
 }
 

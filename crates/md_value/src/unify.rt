@@ -3,7 +3,7 @@ ghost use Rattle.std.specs.Prelude.{ℕ, ◌≡◌, ◌≤◌, ◌&&◌, length,
 ghost use Rattle.md_hlds.specs.Hlds.{Hlds, Procedure};
 ghost use Rattle.md_hlds.specs.Value.{value_at, values_at, value_count, bound, Number, Literal};
 ghost use Rattle.md_hlds.specs.Simple.{goes, unify, unify_values, unify_constant, build, take_apart, same_functor, unify_functor, close, unify_predicate};
-ghost use Rattle.md_code.specs.Layout.{named_of};
+ghost use Rattle.md_names.specs.Named.{term_name};
 ghost use Rattle.md_value.specs.Values.{value_of, values_of, parts_of, env_of};
 ghost use Rattle.md_value.specs.Outcomes.{Does, DoesLightly};
 
@@ -14,7 +14,7 @@ use crate::slots::{bind, value_at, values_at};
 use crate::value::{Parts, Value, count};
 use bumpalo::Bump;
 use md_base::{NoMemory, ProcId};
-use md_code::Named;
+use md_names::Named;
 use md_hlds::Term;
 use std::alloc::Global;
 
@@ -28,14 +28,14 @@ pub fn unify<'a>(
     slots: &mut [Option<Value<'a>>],
     limit: u32,
 ) -> Result<Outcome<'a>, NoMemory>
-    ensures { IfOk result (λ o. (s : Hlds) → named ≡ named_of s term.now → Does limit slots.new o (unify s (env_of slots.old) x term.now)) }
+    ensures { IfOk result (λ o. (s : Hlds) → named ≡ term_name s term.now → Does limit slots.new o (unify s (env_of slots.old) x term.now)) }
 {
     match term {
         Term::Var(y) => unify_values(alloc, x, *y, slots, limit),
         Term::Int(n) => Ok(unify_number(x, *n, slots)),
         Term::Str(text) => Ok(unify_literal(x, text.as_bytes(), slots)),
         Term::Name(name, variables) => match named {
-            Named::Functor => {
+            Named::Functor(_) => {
                 let variables = variables.as_slice();
                 unify_functor(
                     alloc,

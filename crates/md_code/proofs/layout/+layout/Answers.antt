@@ -12,13 +12,13 @@ pub lay-returns : goal.lay-returns
 lay-returns t c =
     let olds = c.args.entries.now.items in
     subst (λ (cs : List Cell). OnOk c.lay_inner.result (cells_of c.lay_inner.new.entries.items ≡ cs))
-    (laid (hlds_of c.args.names.now) olds c.push.new.self.items (record { step = c.in_ok-step.step; next = c.args.next }) c.args.next c.args.goal.now c.in_ok-inner.inner
-    c.in_ok-push.ensures.items (omega (arith, c.in_ok-inner.ensures, c.len.ensures, c.args.entries.now.ok)) (ap (λ step. cell step c.args.next) c.in_ok-step.ensures))
+    (laid (hlds_of c.args.moded.now) olds c.push.new.self.items (record { step = c.in_ok-step.step; next = c.args.next }) c.args.next c.args.goal.now c.in_ok-number.number
+    c.in_ok-push.ensures.items (omega (arith, c.in_ok-number.ensures, c.len.ensures, c.args.entries.now.ok)) (ap (λ step. cell step c.args.next) c.in_ok-step.ensures))
     c.lay_inner.ensures
 
 pub lay_inner-returns-in-Conj : goal.lay_inner-returns-in-Conj
 lay_inner-returns-in-Conj t c =
-    let s = hlds_of c.args.names.now in
+    let s = hlds_of c.args.moded.now in
     let olds = c.args.entries.now.items in
     subst (λ (cs : List Cell). OnOk c.lay_conjunction.result (cells_of c.lay_conjunction.new.entries.items ≡ cs))
     (ap (λ cs. cells_of olds ++ cs)
@@ -28,7 +28,7 @@ lay_inner-returns-in-Conj t c =
 
 pub lay_inner-returns-in-Disj : goal.lay_inner-returns-in-Disj
 lay_inner-returns-in-Disj t c =
-    let s = hlds_of c.args.names.now in
+    let s = hlds_of c.args.moded.now in
     let olds = c.args.entries.now.items in
     subst (λ (cs : List Cell). OnOk c.lay_arms.result (cells_of c.lay_arms.new.entries.items ≡ cs))
     (ap (λ cs. cells_of olds ++ cs)
@@ -39,7 +39,7 @@ lay_inner-returns-in-Disj t c =
 pub lay_inner-returns-in_ok-lay-in-If-2 : goal.lay_inner-returns-in_ok-lay-in-If-2
 lay_inner-returns-in_ok-lay-in-If-2 t c =
     subst (λ (cs : List Cell). OnOk c.lay-in-If-2.result (cells_of c.lay-in-If-2.new.entries.items ≡ cs))
-    (inner-If (hlds_of c.args.names.now) c.args.entries.now.items c.lay.new.entries.items c.lay-in-If.new.entries.items c.args.next c.args.kind.now
+    (inner-If (hlds_of c.args.moded.now) c.args.entries.now.items c.lay.new.entries.items c.lay-in-If.new.entries.items c.args.next c.args.kind.now
     c.in-If.condition c.in-If.then c.in-If.otherwise c.deref.result.now c.deref-in-If.result.now c.deref-in-If-2.result.now
     c.in-If.is c.deref.ensures c.deref-in-If.ensures c.deref-in-If-2.ensures c.in_ok-lay-in-If.ensures c.in_ok-lay-in-If-2.ensures)
     c.lay-in-If-2.ensures
@@ -47,7 +47,7 @@ lay_inner-returns-in_ok-lay-in-If-2 t c =
 pub lay_arms-loop-arm-preserved : goal.lay_arms-loop-arm-preserved
 lay_arms-loop-arm-preserved t c =
     c.loop-arm.invariant
-    ∙ arms-next (hlds_of c.args.names.now) c.loop-arm.entries.items c.lay.new.entries.items c.args.next c.args.arms.now c.loop-arm.arm-index c.arm-item.result
+    ∙ arms-next (hlds_of c.args.moded.now) c.loop-arm.entries.items c.lay.new.entries.items c.args.next c.args.arms.now c.loop-arm.arm-index c.arm-item.result
     (omega arith) c.arm-item.is c.in_ok-lay.ensures
 
 pub lay_conjunction-loop-number-preserved : goal.lay_conjunction-loop-number-preserved
@@ -57,7 +57,7 @@ lay_conjunction-loop-number-preserved t c =
     let end' : c.in_ok-end.end ≡ length olds + goal_size (goal_of c.index-goals-number.result)
     = omega (arith, c.in_ok-end.ensures, c.len.ensures, c.loop-number.entries.ok, size) in
     c.loop-number.invariant
-    ∙ conjunction-next (hlds_of c.args.names.now) olds c.lay.new.entries.items c.args.next c.in_ok-then.then c.args.goals.now c.loop-number.number c.in_ok-end.end c.index-goals-number.result
+    ∙ conjunction-next (hlds_of c.args.moded.now) olds c.lay.new.entries.items c.args.next c.in_ok-then.then c.args.goals.now c.loop-number.number c.in_ok-end.end c.index-goals-number.result
     (omega arith) c.index-goals-number.is end'
     (c.in_ok-then.ensures ∙ ap (λ (gs : List Goal). begins c.in_ok-end.end (gathered (goals_of gs)) c.args.next) (what_is_left (c.loop-number.number + 1) c.args.goals.now))
     c.in_ok-lay.ensures

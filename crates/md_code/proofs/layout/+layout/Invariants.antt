@@ -7,10 +7,10 @@ use Rattle.md_code.proofs.layout.+layout.Given as goal
 
 abbrev pub invariant-lay_arms-loop-arm : goal.invariant-lay_arms-loop-arm
 invariant-lay_arms-loop-arm l =
-    cells_of l.fn.entries.items ++ arm_table (hlds_of l.names) (length l.fn.entries.items) l.fn.next (gathered (goals_of l.arms))
-    ≡ cells_of l.entries.items ++ arm_table (hlds_of l.names) (length l.entries.items) l.fn.next (gathered (goals_of (drop l.arm-index l.arms)))
+    cells_of l.fn.entries.items ++ arm_table (hlds_of l.moded) (length l.fn.entries.items) l.fn.next (gathered (goals_of l.arms))
+    ≡ cells_of l.entries.items ++ arm_table (hlds_of l.moded) (length l.entries.items) l.fn.next (gathered (goals_of (drop l.arm-index l.arms)))
 
 abbrev pub invariant-lay_conjunction-loop-number : goal.invariant-lay_conjunction-loop-number
 invariant-lay_conjunction-loop-number l =
-    cells_of l.fn.entries.items ++ conjunction_table (hlds_of l.names) (length l.fn.entries.items) l.fn.next (gathered (goals_of l.goals))
-    ≡ cells_of l.entries.items ++ conjunction_table (hlds_of l.names) (length l.entries.items) l.fn.next (gathered (goals_of (drop l.number l.goals)))
+    cells_of l.fn.entries.items ++ conjunction_table (hlds_of l.moded) (length l.fn.entries.items) l.fn.next (gathered (goals_of l.goals))
+    ≡ cells_of l.entries.items ++ conjunction_table (hlds_of l.moded) (length l.entries.items) l.fn.next (gathered (goals_of (drop l.number l.goals)))

@@ -1,4 +1,4 @@
-use Rattle.std.proofs.Common.{◌≡◌, ◌∙◌, sym, ap}
+use Rattle.std.proofs.Common.{◌∙◌, sym, ap}
 use Rattle.md_hlds.specs.declared.program.Program.{Program}
 use Rattle.md_hlds.specs.Hlds.{hlds_of, procedure_of, nth_procedure}
 use Rattle.md_det.specs.Determinism.{call_pair}

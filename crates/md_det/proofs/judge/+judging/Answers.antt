@@ -1,6 +1,5 @@
-use Rattle.std.proofs.Common.{◌≡◌, ◌∙◌, ◌+◌, suc, refl, sym, ap, arith, add-one, ◌||◌, length, drop}
-use Rattle.md_hlds.specs.declared.goal.Goal.{Goal}
-use Rattle.md_hlds.specs.HldsGoal.{gathered, goal_of, goals_of, expr_of}
+use Rattle.std.proofs.Common.{◌≡◌, ◌∙◌, ◌+◌, suc, refl, arith, add-one, ◌||◌, length, drop}
+use Rattle.md_hlds.specs.HldsGoal.{gathered, goals_of, expr_of}
 use Rattle.md_det.specs.Judge.{condition_fault, judge_expr}
 use Rattle.md_det.specs.Told.{reading_in, found_told, found_onto}
 use Rattle.md_det.proofs.Judging.{each_next, arms_next, own_set, conj_found, disj_found, choice_found}

@@ -1,4 +1,4 @@
-use Rattle.std.proofs.Common.{◌≡◌, ◌∙◌, sym, ap}
+use Rattle.std.proofs.Common.{◌∙◌, sym, ap}
 use Rattle.md_hlds.specs.Hlds.{hlds_functors_of}
 use Rattle.md_switch.specs.Keys.{keys_told}
 use Rattle.md_det.specs.Switches.{no_functor_missing, all_have_keys}

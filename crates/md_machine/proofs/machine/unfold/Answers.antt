@@ -1,5 +1,6 @@
 use Rattle.std.proofs.Common.{ap, ◌∙◌, sym}
-use Rattle.md_code.specs.Told.{step_told, switch_told}
+use Rattle.md_code.specs.Told.{step_told}
+use Rattle.md_switch.specs.Keys.{shape_told}
 use Rattle.md_code.specs.Layout.{Chooses}
 use Rattle.md_machine.specs.Waits.{stack_of}
 use Rattle.md_machine.proofs.UnfoldLemmas.{unfolds_ok, unfolds_here, unfolds_to}
@@ -14,7 +15,7 @@ returns-in-Conj g c = λ plain.
     (c.conjunction.ensures (stack_of c.args.waits.now) c.args.entry.now.next c.args.left c.requires)
 
 pub returns-in-Disj : goal.returns-in-Disj
-returns-in-Disj g c = unfolds_ok c.args.entry.now.step c.args.entry.now.next c.args.frame c.args.callers c.args.left (stack_of c.args.waits.now) (stack_of c.disjunction.new.waits) c.disjunction.result _ c.requires (ap step_told c.in-Disj.is ∙ ap (λ xs. Chooses xs (switch_told c.in-Disj.switch)) (sym c.as_slice.ensures.value)) c.disjunction.ensures
+returns-in-Disj g c = unfolds_ok c.args.entry.now.step c.args.entry.now.next c.args.frame c.args.callers c.args.left (stack_of c.args.waits.now) (stack_of c.disjunction.new.waits) c.disjunction.result _ c.requires (ap step_told c.in-Disj.is ∙ ap (λ xs. Chooses xs (shape_told c.in-Disj.switch)) (sym c.as_slice.ensures.value)) c.disjunction.ensures
 
 pub returns-in-If : goal.returns-in-If
 returns-in-If g c = unfolds_ok c.args.entry.now.step c.args.entry.now.next c.args.frame c.args.callers c.args.left (stack_of c.args.waits.now) (stack_of c.conditional.new.waits) c.conditional.result _ c.requires (ap step_told c.in-If.is) c.conditional.ensures

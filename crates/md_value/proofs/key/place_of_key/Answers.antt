@@ -1,5 +1,5 @@
 use Rattle.std.proofs.Common.{◌∙◌, sym, ap}
-use Rattle.md_code.specs.Keys.{key_told, keys_told}
+use Rattle.md_switch.specs.Keys.{key_told, keys_told}
 use Rattle.md_value.specs.Arms.{arm_at}
 use Rattle.md_value.specs.Values.{value_of}
 use Rattle.md_value.proofs.KeyLemmas.{placed, not_placed}
