@@ -3,3 +3,4 @@ mod Sums
 mod Frames
 mod OutcomeLemmas
 mod KeyLemmas
+pub mod NameLemmas

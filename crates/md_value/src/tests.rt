@@ -9,6 +9,8 @@ use indexmap::IndexSet;
 use md_base::{Name, ProcId};
 
 use md_hlds::{Cmp, GoalKind, Op, PredName, Term, Variables};
+use md_names::Named;
+use md_switch::Key;
 use std::alloc::Global;
 use std::test::Fail;
 
