@@ -229,7 +229,7 @@ test_is from s n next l c t e none h =
 step_is : (from : Option ℕ → List Numbered) (s : Hlds) (n : ℕ) (next : Option ℕ) (l : ℕ) (t : GoalExpr) → from None ≡ []
     → Linked from (suc n) (goals_below t) (inner_table s (suc n) next t) → Tells s n (goals_within (At l t)) → IsStep s from n next (At l t) (planned s n next t)
 step_is from s n next l (SimpleGoal g) none h tells = record { line = l; simple = g; goal = refl; same = refl; names = tells.0 }
-step_is from s n next l (CallGoal site q ys) none h tells = 
+step_is from s n next l (CallGoal site q ys) none h tells =
     let called : predicate_in (name_at s n) ≡ callee_of s q = ap predicate_in tells.0 ∙ call_number (procedure_called s q) in
     record { line = l; name = q; goal = refl; called = called; reached = λ k e. callee_there s q k (sym called ∙ e) }
 step_is from s n next l (HoCallGoal site p ys) none h tells = record { line = l; goal = refl }

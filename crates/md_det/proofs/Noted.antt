@@ -392,8 +392,7 @@ tells_by p ns know n [] rest (g ∷ gs) e h = absurd (cc)
 tells_by p ns know n (x ∷ xs) rest (g ∷ gs) e h =
     let here : told x ≡ told_of p g = cc in
     let later : map told xs ≡ map (told_of p) gs = cc in
-    let at = at_drop ns n x (xs ++ rest) e in
-    (
+    let at = at_drop ns n x (xs ++ rest) e in (
       sym (know.names n) ∙ (ap name_of_note at ∙ ap (λ (t : Named × ℕ). t.0) here),
       sym (know.sizes n) ∙ (ap size_of_note at ∙ ap (λ (t : Named × ℕ). t.1) here),
       tells_by p ns know (suc n) xs rest gs (drop_one ns n x (xs ++ rest) e) later,

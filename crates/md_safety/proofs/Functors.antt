@@ -5,7 +5,7 @@ use Rattle.md_hlds.specs.declared.goal.PredName.{PredName}
 use Rattle.md_hlds.specs.Hlds.{HldsFunctor, HldsTypeDef, Procedure, Hlds, find_procedure, procedure_called, is_called, is_functor, unqualified_functor}
 use Rattle.md_names.specs.Named.{construct_among, found_in, functor_found}
 use Rattle.md_inst.specs.Named.{Functor, functor_with, functor_of, if_unqualified, functor_called, without_number, predicate_called}
-use Rattle.md_det.proofs.Functors.{functor_there}
+use Rattle.md_names.proofs.Standing.{functor_there}
 
 -- ---- functors
 

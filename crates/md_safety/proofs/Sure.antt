@@ -29,7 +29,8 @@ use Rattle.md_det.specs.declared.pair.Bound.TheVariants.{One}
 use Rattle.md_det.specs.declared.pair.Pair.{Pair}
 use Rattle.md_det.specs.Switches.{family_with, is_alone, is_only_functor}
 use Rattle.md_det.specs.Determinism.{sure, unsure, is_at, is_none_bound, apart_pair, unification_pair, simple_pair}
-use Rattle.md_det.proofs.Functors.{family_there, family_found}
+use Rattle.md_names.proofs.Standing.{family_found}
+use Rattle.md_det.proofs.Functors.{family_there}
 use Rattle.md_safety.specs.Values.{HasType, HaveTypes, IsBuiltOf, Agrees, Fits}
 use Rattle.md_safety.specs.Turns.{AreDistinct, IsTidySimple}
 use Rattle.md_safety.specs.Known.{IsKeyed, IsChosen}

@@ -21,7 +21,8 @@ use Rattle.md_modes.specs.Branches.{After}
 use Rattle.md_modes.specs.Goals.{Scope, variables, parts_variables, goal, arms}
 use Rattle.md_modes.proofs.Counts.{times-append}
 use Rattle.md_det.specs.Switches.{family_with, key_of, all_have_keys, no_functor_missing, is_whole}
-use Rattle.md_det.proofs.Functors.{family_there, family_found}
+use Rattle.md_names.proofs.Standing.{family_found}
+use Rattle.md_det.proofs.Functors.{family_there}
 use Rattle.md_safety.specs.Values.{HasType, HaveTypes}
 use Rattle.md_safety.specs.Known.{IsChosen}
 use Rattle.md_safety.proofs.SameTypes.{same_sort_is, same_bytes_are}

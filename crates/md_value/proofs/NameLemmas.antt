@@ -49,14 +49,13 @@ pub predicate_unified : (s : Hlds) (e : Env) (x : ℕ) (t : Term) (q : PredName)
     → (r : ℕ × Procedure) × (r.0 ≡ p) × (unify_predicate e x vars (value_at e x) (Some r) ≡ unify s e x t)
 predicate_unified s e x t q ys m p vars is means named vars-is =
     let name = same_name s t q ys m (Predicate p) is means named in
-    let found = term_called s q (length ys) (Predicate p) name refl in
-    (
+    let found = term_called s q (length ys) (Predicate p) name refl in (
       found.0,
       found.1,
       ap (λ (v : List ℕ). unify_predicate e x v (value_at e x) (Some found.0)) vars-is
-      ∙ (sym (ap (λ o. unify_predicate e x ys (value_at e x) o) found.2)
-      ∙ (sym (ap (unify_name s e x q ys) (functor_named s q (length ys) ∙ ap is_functor_name name))
-      ∙ sym (ap (unify s e x) is))),
+          ∙ (sym (ap (λ o. unify_predicate e x ys (value_at e x) o) found.2)
+          ∙ (sym (ap (unify_name s e x q ys) (functor_named s q (length ys) ∙ ap is_functor_name name))
+          ∙ sym (ap (unify s e x) is))),
     )
 
 sticks : (e : Env) (x : ℕ) (ys : List ℕ) (v : Option Value) → unify_predicate e x ys v None ≡ Stop

@@ -14,8 +14,8 @@ use crate::unify::unify;
 use crate::value::Value;
 use bumpalo::Bump;
 use md_base::NoMemory;
-use md_names::Named;
 use md_hlds::{Cmp, GoalKind, Op};
+use md_names::Named;
 use std::alloc::Global;
 
 /// What a simple goal does.

@@ -7,7 +7,6 @@ use crate::{
 use bumpalo::Bump;
 use indexmap::IndexSet;
 use md_base::{Name, ProcId};
-
 use md_hlds::{Cmp, GoalKind, Op, PredName, Term, Variables};
 use md_names::Named;
 use md_switch::Key;

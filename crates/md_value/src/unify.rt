@@ -14,8 +14,8 @@ use crate::slots::{bind, value_at, values_at};
 use crate::value::{Parts, Value, count};
 use bumpalo::Bump;
 use md_base::{NoMemory, ProcId};
-use md_names::Named;
 use md_hlds::Term;
+use md_names::Named;
 use std::alloc::Global;
 
 /// X = a term, in which the name stands for `named`.

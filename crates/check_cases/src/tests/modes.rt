@@ -7,7 +7,9 @@ use std::test::Fail;
 
 /// The fault of a text that begins with `main` and goes on so: its clause begins on line 3.
 fn fault_of(alloc: Global, clauses: &str) -> Result<Option<ModeFault>, Fail> {
-    let text = format!(in alloc; ":- module t.\n:- pred main(io::di, io::uo) is det.\n{clauses}\n")?;
+    let text = format!(in alloc;
+        ":- module t.\n:- pred main(io::di, io::uo) is det.\n{clauses}\n"
+    )?;
     Ok(check_modes(alloc, program(alloc, text.as_str().as_bytes())?).err())
 }
 
@@ -50,7 +52,10 @@ fn faults_are_told_with_their_lines(rt: HostRuntime) -> Result<(), Fail> {
 #[test]
 fn a_program_without_main_is_refused(rt: HostRuntime) -> Result<(), Fail> {
     let program = program(rt.alloc(), b":- module t.\n")?;
-    assert_eq!(rt; check_modes(rt.alloc(), program).err(), Some(ModeFault::NoMain(1)));
+    assert_eq!(rt;
+        check_modes(rt.alloc(), program).err(),
+        Some(ModeFault::NoMain(1))
+    );
     Ok(())
 }
 
@@ -82,7 +87,11 @@ main(IO0, IO) :- ( true -> X = 1 ; fail ), io.write_int(X, IO0, IO).
 
 /// What is kept with a goal: what its name stands for, how many goals it has, and whether it binds what occurs outside it.
 fn kept(moded: &Moded, goal: u32) -> (Named, usize, bool) {
-    (moded.named(goal), moded.size(goal), moded.binds_outside(goal))
+    (
+        moded.named(goal),
+        moded.size(goal),
+        moded.binds_outside(goal),
+    )
 }
 
 /// The conjunction of main has the number 0, its if-then-else 5 and that one's condition 6, which binds Z alone.
