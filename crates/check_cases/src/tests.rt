@@ -4,6 +4,11 @@ mod det;
 mod insts;
 mod modes;
 mod names;
+mod ports;
+mod printed;
+mod printer;
+mod reader;
+mod values;
 
 use md_base::Name;
 use md_hlds::{PredName, Program};

@@ -13,8 +13,6 @@ mod number;
 mod rows;
 mod size;
 mod solving;
-#[cfg(test)]
-mod tests;
 mod text;
 
 pub use coverage::{Coverage, GoalCount, KindName};

@@ -26,6 +26,3 @@ pub use loading::{LoadFault, load};
 pub use modules::Modules;
 pub use procs::Procs;
 pub use writing::write_profile;
-
-#[cfg(test)]
-mod tests;

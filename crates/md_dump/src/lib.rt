@@ -20,6 +20,3 @@ pub use fault::DumpFault;
 pub use reading::undump;
 pub use summing::{ProcSum, SumFault, sum_procs};
 pub use writing::dump;
-
-#[cfg(test)]
-mod tests;

@@ -14,8 +14,6 @@ mod read;
 mod reading;
 mod search;
 mod size;
-#[cfg(test)]
-mod tests;
 mod write;
 
 pub use candidates::feedback;

@@ -9,8 +9,6 @@ mod message;
 mod reading;
 mod response;
 mod serving;
-#[cfg(test)]
-mod tests;
 
 pub use link::{Served, serve_link};
 pub use message::Refusal;

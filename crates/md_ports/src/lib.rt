@@ -6,8 +6,6 @@ mod modules;
 mod procs;
 mod sites;
 mod tables;
-#[cfg(test)]
-mod tests;
 
 pub use laws::{
     sites_keep_their_lines, tables_are_sound, tables_give_the_site_table,

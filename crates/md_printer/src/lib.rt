@@ -1,8 +1,6 @@
 //! A program as data to its printed text, which can be read again.
 #![tactic(auto)]
 
-#[cfg(test)]
-mod examples;
 mod goal;
 mod laws;
 mod layout;
@@ -11,8 +9,6 @@ mod names;
 mod predicate;
 mod printing;
 mod simple;
-#[cfg(test)]
-mod tests;
 mod types;
 
 pub use laws::{lines_are_not_printed, printed_texts_are_printed_again};

@@ -5,8 +5,6 @@
 mod answer;
 mod listing;
 mod lists;
-#[cfg(test)]
-mod page_tests;
 mod pages;
 mod pair;
 mod query;
@@ -14,8 +12,6 @@ mod ranking;
 mod read;
 mod row;
 mod rows;
-#[cfg(test)]
-mod tests;
 mod threads;
 
 pub use answer::{PageFault, page};

@@ -22,6 +22,3 @@ pub use laws::{
 };
 pub use reading::read;
 pub use refused::Refused;
-
-#[cfg(test)]
-mod tests;

@@ -6,8 +6,6 @@ mod line;
 mod lookup;
 mod number;
 mod place;
-#[cfg(test)]
-mod tests;
 mod title;
 mod whole;
 

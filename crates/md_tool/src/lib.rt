@@ -13,8 +13,6 @@ mod run;
 mod serve;
 mod stored;
 mod sums;
-#[cfg(test)]
-mod tests;
 mod texts;
 mod turns;
 mod write;

@@ -7,8 +7,6 @@ mod goal;
 mod key;
 mod pairs;
 mod slots;
-#[cfg(test)]
-mod tests;
 mod unify;
 mod value;
 

@@ -1,6 +1,6 @@
 // Feedbacks that are written, and texts that are read.
-use crate::{FeedFault, Feedback, Pair, Pairs, read_feedback, write_feedback};
 use md_base::{Name, ProcId, SiteId};
+use md_feedback::{FeedFault, Feedback, Pair, Pairs, read_feedback, write_feedback};
 use std::alloc::Global;
 use std::test::Fail;
 

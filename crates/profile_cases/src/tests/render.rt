@@ -1,9 +1,9 @@
 // Pages over a small loaded profile, worked out by hand.
-use crate::{add_proc_line, html, text};
 use md_base::{Counts, CsdId, Measure, Name, PdId, ProcId, SiteId};
 use md_cost::{Loaded, Sums, propagate};
 use md_dynamic::{LinkRow, Profile};
 use md_query::{Page, Row, Title, What};
+use md_render::{add_proc_line, html, text};
 use md_static::{Proc, Site, SiteKind, Statics};
 use std::alloc::Global;
 use std::test::Fail;

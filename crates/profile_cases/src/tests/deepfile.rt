@@ -1,7 +1,7 @@
 // Files of two small programs in both versions, files that are changed, and stores that fail.
 
-use crate::{DecodeFault, Decoder, Kind, LoadFault, decode, encode, load, write_profile};
 use md_base::{MemStore, WriteFault};
+use md_deepfile::{DecodeFault, Decoder, Kind, LoadFault, decode, encode, load, write_profile};
 use std::alloc::{AllocError, Global};
 use std::test::Fail;
 

@@ -2,10 +2,10 @@
 ghost use Rattle.std.specs.Prelude.{All, IfOk};
 ghost use Rattle.md_base.specs.Memory.{IsFreshFailingLink};
 
-use crate::{ServeFault, Served, Tally, reply, serve_connections, serve_link};
 use md_base::{Counts, Measure, MemLink, MemNet, Name, Net, PdId, ProcId, SiteId};
 use md_cost::{Loaded, propagate};
 use md_dynamic::{LinkRow, Profile};
+use md_http::{ServeFault, Served, Tally, reply, serve_connections, serve_link};
 use md_static::{Proc, Site, SiteKind, Statics};
 use std::alloc::Global;
 use std::test::Fail;

@@ -4,7 +4,7 @@ use Rattle.md_hlds.specs.Hlds.{hlds_of}
 use Rattle.md_modes.specs.Modes.{mode_fault}
 use Rattle.md_reader.specs.Grammar.{Spells}
 use Rattle.md_cover.specs.Coverage.{IsAccepted}
-use Rattle.md_cover.proofs.tests.accepted.Goals as goal
+use Rattle.profile_cases.proofs.tests.cover.accepted.Goals as goal
 
 pub returns : goal.returns
 returns c =

@@ -1,8 +1,8 @@
 // Programs that are read, and texts that are refused with their lines. A case is a text and why it is refused, if it is.
 ghost use Rattle.std.specs.Prelude.{◌<◌, length};
 
-use super::*;
 use md_base::{ProcId, SiteId};
+use md_reader::{Refused, read};
 use std::alloc::Global;
 use std::process::Abort;
 use std::test::Fail;

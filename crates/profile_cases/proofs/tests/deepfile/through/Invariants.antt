@@ -1,6 +1,6 @@
 use Rattle.std.proofs.Common.{ℕ, List, length}
 use Rattle.md_deepfile.specs.Decoding.{HasTaken}
-use Rattle.md_deepfile.proofs.tests.through.Given as goal
+use Rattle.profile_cases.proofs.tests.deepfile.through.Given as goal
 
 abbrev pub invariant-loop-rest : goal.invariant-loop-rest
 invariant-loop-rest l = (bytes : List ℕ) × HasTaken l.decoder bytes

@@ -1,6 +1,6 @@
 // Queries that are read, and words that are none.
-use crate::{Query, QueryFault, read_query};
 use md_base::Measure;
+use md_query::{Query, QueryFault, read_query};
 use std::alloc::Global;
 use std::test::Fail;
 

@@ -1,5 +1,6 @@
 // Texts that are read, printed and read again.
-use crate::{examples as of, print};
+use super::printed as of;
+use md_printer::print;
 use md_reader::read;
 use std::alloc::Global;
 use std::test::Fail;

@@ -1,15 +1,15 @@
 // Values, slots and goals built by hand.
 
-use crate::{
-    Outcome, Parts, Same, Value, bind, blank, count, give, give_back, pass, place_of_key, same,
-    simple, value_at, without,
-};
 use bumpalo::Bump;
 use indexmap::IndexSet;
 use md_base::{Name, ProcId};
 use md_hlds::{Cmp, GoalKind, Op, PredName, Term, Variables};
 use md_names::Named;
 use md_switch::Key;
+use md_value::{
+    Outcome, Parts, Same, Value, bind, blank, count, give, give_back, pass, place_of_key, same,
+    simple, value_at, without,
+};
 use std::alloc::Global;
 use std::test::Fail;
 

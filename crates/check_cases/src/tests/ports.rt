@@ -1,7 +1,7 @@
 // The tables of a program of two modules, with a higher-order call.
-use crate::statics;
 use md_base::{Name, ProcId, SiteId};
 use md_hlds::{Det, Goal, GoalKind, Mode, Pred, PredName, Program, Ty, Variables};
+use md_ports::statics;
 use md_static::{Site, SiteKind};
 use std::alloc::Global;
 use std::test::Fail;

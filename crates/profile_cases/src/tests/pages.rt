@@ -1,10 +1,10 @@
 // Pages of a profile that is built by hand: p calls q, which calls s and r; r calls q again, and s calls r in a context of
 // its own. Each link has as many exits as calls.
 
-use crate::{PageFault, Query, Row, Title, What, page};
 use md_base::{Counts, CsdId, Measure, Name, PdId, ProcId, SiteId, Text};
 use md_cost::{Loaded, Sums, propagate};
 use md_dynamic::{LinkRow, Profile};
+use md_query::{PageFault, Query, Row, Title, What, page};
 use md_static::{Proc, Site, SiteKind, Statics};
 use std::alloc::Global;
 use std::test::Fail;

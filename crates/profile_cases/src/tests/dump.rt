@@ -1,10 +1,10 @@
 // Texts of small programs' profiles, texts that are changed, and sums over several profiles.
 ghost use Rattle.std.specs.Prelude.{◌<◌, ◌^◌, length, IfOk};
 
-use crate::{DumpFault, ProcSum, SumFault, dump, sum_procs, undump};
 use md_base::ProcId;
 use md_cost::{Loaded, Sums, propagate};
 use md_deepfile::{decode, encode};
+use md_dump::{DumpFault, ProcSum, SumFault, dump, sum_procs, undump};
 use std::alloc::Global;
 use std::test::Fail;
 

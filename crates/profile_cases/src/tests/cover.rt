@@ -3,9 +3,9 @@ ghost use Rattle.std.specs.Prelude.{◌≤◌, length, IfOk};
 ghost use Rattle.md_hlds.specs.Hlds.{hlds_of};
 ghost use Rattle.md_cover.specs.Coverage.{IsAccepted};
 
-use crate::{CoverFault, cover, cover_text};
 use md_base::{Counts, Measure, Name, PdId, ProcId, SiteId};
 use md_cost::{Loaded, propagate};
+use md_cover::{CoverFault, cover, cover_text};
 use md_det::{Checked, check_det};
 use md_dynamic::{LinkRow, Profile};
 use md_modes::check_modes;

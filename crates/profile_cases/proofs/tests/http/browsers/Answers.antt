@@ -1,7 +1,7 @@
 use Rattle.std.proofs.Common.{List, All, refl, sym, subst}
 use Rattle.std.proofs.lemmas.List.Elements.{All-push}
 use Rattle.md_base.specs.Memory.{FailingLink, IsFreshFailingLink}
-use Rattle.md_http.proofs.tests.browsers.Goals as goal
+use Rattle.profile_cases.proofs.tests.http.browsers.Goals as goal
 
 pub loop-call-preserved : goal.loop-call-preserved
 loop-call-preserved c =

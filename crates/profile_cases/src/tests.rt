@@ -1,0 +1,9 @@
+// Small profiles, with values worked out by hand.
+mod cover;
+mod deepfile;
+mod dump;
+mod feedback;
+mod http;
+mod pages;
+mod queries;
+mod render;
