@@ -663,7 +663,7 @@ fn a_refusal_tells_its_line_and_its_words(rt: HostRuntime) -> Result<(), Fail> {
 
 /// One call a line.
 const SITES: &str =
-    ":- module t.\n:- pred p(int::in) is det.\np(F) :-\n( q ->\ncall(F)\n; not(\nr ) ).\n:- pred q is det.\nq :- some [X] ( X = X\n; s ).\n";
+    ":- module t.\n:- pred p(int::in) is det.\np(F) :-\n( q ->\ncall(F)\n; not(\nr ) ).\n:- pred q is det.\nq :- some [X] ( ( X = 1\n; s ) ).\n";
 
 /// The owner and the line of a call site.
 fn site(alloc: Global, number: u32) -> Result<Option<(ProcId, u32)>, Fail> {
