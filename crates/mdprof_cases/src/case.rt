@@ -49,10 +49,7 @@ impl Case {
 
     /// Takes one line more: a key, a space and its value.
     pub fn add(&mut self, alloc: Global, line: &str) -> Result<(), AllocError> {
-        let (key, value) = match line.split_once(' ') {
-            Some((key, value)) => (key, value),
-            None => (line, ""),
-        };
+        let (key, value) = halves(line);
         match key {
             "case" => self.name = String::from_str(alloc, value)?,
             "word" => {
@@ -61,6 +58,10 @@ impl Case {
             }
             "file" => {
                 let file = file_of(alloc, value)?;
+                self.files.push(file)?;
+            }
+            "copies" => {
+                let file = copies_of(alloc, value)?;
                 self.files.push(file)?;
             }
             "left" => {
@@ -89,14 +90,34 @@ impl Case {
 
 /// A name, a space and the bytes.
 fn file_of(alloc: Global, value: &str) -> Result<File, AllocError> {
-    let (name, bytes) = match value.split_once(' ') {
-        Some((name, bytes)) => (name, bytes),
-        None => (value, ""),
-    };
+    let (name, bytes) = halves(value);
     Ok(File {
         name: String::from_str(alloc, name)?,
         bytes: unescaped(alloc, bytes)?,
     })
+}
+
+/// A name, a space, a number, a space, and bytes that the file has so many times.
+fn copies_of(alloc: Global, value: &str) -> Result<File, AllocError> {
+    let (name, value) = halves(value);
+    let (count, bytes) = halves(value);
+    let bytes = unescaped(alloc, bytes)?;
+    let mut copies = Vec::new(alloc);
+    for _turn in 0..number_of(count) {
+        copies.extend_from_slice(bytes.as_slice())?;
+    }
+    Ok(File {
+        name: String::from_str(alloc, name)?,
+        bytes: copies,
+    })
+}
+
+/// What stands on the two sides of the first space.
+fn halves(value: &str) -> (&str, &str) {
+    match value.split_once(' ') {
+        Some(halves) => halves,
+        None => (value, ""),
+    }
 }
 
 /// The number that a text is, or 0.
