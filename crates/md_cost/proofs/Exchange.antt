@@ -65,11 +65,11 @@ counted true false x apart = omega arith
 counted false true x apart = omega arith
 counted false false x apart = omega arith
 
-module _ (rows : List LinkRow) (line : LinkRow → List ℕ) (keys : List (Option ℕ)) (values : List Sums) (n : ℕ)
+module _ (rows : List LinkRow) (line : LinkRow → List ℕ) (key : ℕ → Option ℕ) (values : List Sums) (n : ℕ)
     (values_are : (d : ℕ) (m : Measure) → d < n → sum_of (get_or values d zero_sums) m ≡ sum_where (λ r. list_any (λ e. eqb e d) (line r)) m rows)
-    (alone : (i : ℕ) (r : LinkRow) → slice_get rows i ≡ Some r → (q d e : ℕ) → same_option (Some q) (get_or keys d None) ≡ true → same_option (Some q) (get_or keys e None) ≡ true → list_any (λ x. eqb x d) (line r) ≡ true → list_any (λ x. eqb x e) (line r) ≡ true → d ≡ e) where
+    (alone : (i : ℕ) (r : LinkRow) → slice_get rows i ≡ Some r → (q d e : ℕ) → same_option (Some q) (key d) ≡ true → same_option (Some q) (key e) ≡ true → list_any (λ x. eqb x d) (line r) ≡ true → list_any (λ x. eqb x e) (line r) ≡ true → d ≡ e) where
   abbrev has : ℕ → ℕ → Bool
-  has q e = same_option (Some q) (get_or keys e None)
+  has q e = same_option (Some q) (key e)
 
   and_false : (b : Bool) → (b && false) ≡ false
   and_false true = refl
@@ -98,7 +98,7 @@ module _ (rows : List LinkRow) (line : LinkRow → List ℕ) (keys : List (Optio
       or_false true = refl
       or_false false = refl
 
-  pub upto : (i q : ℕ) (m : Measure) → i ≤ n → key_sum keys values i q m ≡ sum_where (λ r. list_any (λ e. ltb e i && same_option (Some q) (get_or keys e None)) (line r)) m rows
+  pub upto : (i q : ℕ) (m : Measure) → i ≤ n → key_sum key values i q m ≡ sum_where (λ r. list_any (λ e. ltb e i && same_option (Some q) (key e)) (line r)) m rows
   upto zero q m le = sym (sum_same (λ r. cond (list_any (λ e. ltb e 0 && has q e) (line r)) (count_of r.own m) 0) (λ _. 0) rows (λ i r at. rw (any_none (λ e. ltb e 0 && has q e) (line r) (λ e. rw (le-ltb e 0 (omega arith)) refl)) refl) ∙ nothing rows)
   upto (suc i) q m le = elim (cases_Bool (has q i)) [
     | inl some ↦ (

@@ -1,8 +1,7 @@
 -- The sums of a kind of rows are those of every view of the profile.
-use Rattle.std.proofs.Common.{◌≡◌, ℕ, ◌<◌, ◌^◌, cond, List, length, get_or, Option, Some, None, sym, ap, ◌∙◌, arith}
+use Rattle.std.proofs.Common.{◌≡◌, ℕ, ◌<◌, ◌^◌, List, length, get_or, Option, Some, None, sym, ap, ◌∙◌, arith}
 use Rattle.std.specs.List.{slice_get}
 use Rattle.md_base.specs.declared.measure.Measure.{Measure}
-use Rattle.md_base.specs.Counts.{count_of}
 use Rattle.md_trace.specs.Context.{same_option}
 use Rattle.md_dynamic.specs.declared.link.LinkRow.{LinkRow}
 use Rattle.md_dynamic.specs.Profile.{ProfileRows}
@@ -11,52 +10,31 @@ use Rattle.md_cost.specs.declared.sums.Sums.{Sums}
 use Rattle.md_cost.specs.SumOf.{sum_of, zero_sums}
 use Rattle.md_cost.specs.Totals.{context_own, sum_where, path_total}
 use Rattle.md_cost.specs.Climbing.{AreSmall, AreTotals, member_sum}
-use Rattle.md_cost.specs.Keys.{AreKeys}
+use Rattle.md_cost.specs.Keys.{AreOwnBy, AreTotalsBy}
 use Rattle.md_cost.specs.Tree.{IsTree}
 use Rattle.md_cost.specs.Paths.{EntriesRise, start_of}
 use Rattle.md_cost.specs.Sound.{AreSound}
-use Rattle.md_cost.specs.View.{Row, View, OfContext, OfClique, OfSite}
+use Rattle.md_cost.specs.View.{Row, View, OfContext, OfClique}
 use Rattle.md_cost.specs.FileView.{Gives, IsFileView, file_own, total_by}
 use Rattle.md_cost.proofs.ClimbSteps.{entries_rise, start_there}
 use Rattle.md_cost.proofs.MemberSteps.{members_climbed, members_room}
-use Rattle.md_cost.proofs.SumSteps.{sum_same}
 use Rattle.md_cost.proofs.TreeSteps.{rises}
 use Rattle.md_cost.proofs.ValidSteps.{valid_sound}
-use Rattle.md_cost.proofs.ViewSteps.{callee_there, total_same, view_own, view_total}
+use Rattle.md_cost.proofs.ViewSteps.{callee_there, view_own, view_total}
 
 module _ (f : ProfileRows) (valid : IsValid f) (cliques found : List ℕ) (tree : IsTree (length f.nodes) f.links cliques found) where
-  pub gives_own : (row : ℕ → Row) (key : ℕ → Option ℕ) (count : ℕ) → ((q : ℕ) (m : Measure) → file_own f (row q) m ≡ Some (sum_where (λ r. same_option (Some q) (key r.callee)) m f.links))
-      → (keys : List (Option ℕ)) (sums : List Sums) → AreKeys key (length f.nodes) keys → length sums ≡ count
-      → ((q : ℕ) (m : Measure) → q < count → sum_of (get_or sums q zero_sums) m ≡ sum_where (λ r. same_option (Some q) (get_or keys r.callee None)) m f.links)
-      → Gives f (λ v. v.own) row count sums
-  gives_own row key count row_is keys sums are each own = record {
-    each = each;
-    is = λ v q m is lt. view_own f (valid_sound f valid).links cliques found tree v is (row q) m ∙ row_is q m ∙ ap (λ (s : ℕ). Some s) (sym (own q m lt ∙ same_keys q m));
+  pub gives_own : (row : ℕ → Row) (key : LinkRow → Option ℕ) (count : ℕ) → ((q : ℕ) (m : Measure) → file_own f (row q) m ≡ Some (sum_where (λ r. same_option (Some q) (key r)) m f.links))
+      → (sums : List Sums) → AreOwnBy key f.links count sums → Gives f (λ v. v.own) row count sums
+  gives_own row key count row_is sums own = record {
+    each = own.each;
+    is = λ v q m is lt. view_own f (valid_sound f valid).links cliques found tree v is (row q) m ∙ row_is q m ∙ ap (λ (s : ℕ). Some s) (sym (own.is q m lt));
   }
-    where
-      same_keys : (q : ℕ) (m : Measure) → sum_where (λ r. same_option (Some q) (get_or keys r.callee None)) m f.links ≡ sum_where (λ r. same_option (Some q) (key r.callee)) m f.links
-      same_keys q m = sum_same
-          (λ (r : LinkRow). cond (same_option (Some q) (get_or keys r.callee None)) (count_of r.own m) 0)
-          (λ (r : LinkRow). cond (same_option (Some q) (key r.callee)) (count_of r.own m) 0)
-          f.links
-          (λ i r at. let there = callee_there f (valid_sound f valid).links cliques found tree i r at in let size = tree.cliques_are.each in
-          ap (λ (o : Option ℕ). cond (same_option (Some q) o) (count_of r.own m) 0) (are.is r.callee (omega arith)))
 
   pub gives_totals : (row : ℕ → Row) (key : ℕ → Option ℕ) (count : ℕ) → ((q : ℕ) (m : Measure) → total_by (path_total cliques found f.links) f cliques found (row q) m ≡ Some (path_total cliques found f.links (λ d. same_option (Some q) (key d)) m))
-      → (keys : List (Option ℕ)) (sums : List Sums) → AreKeys key (length f.nodes) keys → length sums ≡ count
-      → ((q : ℕ) (m : Measure) → q < count → sum_of (get_or sums q zero_sums) m ≡ path_total cliques found f.links (λ d. same_option (Some q) (get_or keys d None)) m)
-      → Gives f (λ v. v.total) row count sums
-  gives_totals row key count row_is keys sums are each totals = record {
-    each = each;
-    is = λ v q m is lt. view_total f (valid_sound f valid).links cliques found tree v is (row q) m ∙ row_is q m ∙ ap (λ (s : ℕ). Some s) (sym (totals q m lt
-        ∙ total_same f (valid_sound f valid).links cliques found tree (λ d. same_option (Some q) (get_or keys d None)) (λ d. same_option (Some q) (key d)) m
-        (λ d there. let size = tree.cliques_are.each in ap (λ (o : Option ℕ). same_option (Some q) o) (are.is d (omega arith)))));
-  }
-
-  pub gives_own_sites : (count : ℕ) (sums : List Sums) → length sums ≡ count → ((s : ℕ) (m : Measure) → s < count → sum_of (get_or sums s zero_sums) m ≡ sum_where (λ r. same_option (Some s) r.site) m f.links) → Gives f (λ v. v.own) OfSite count sums
-  gives_own_sites count sums each own = record {
-    each = each;
-    is = λ v s m is lt. view_own f (valid_sound f valid).links cliques found tree v is (OfSite s) m ∙ ap (λ (x : ℕ). Some x) (sym (own s m lt));
+      → (sums : List Sums) → AreTotalsBy cliques found f.links key count sums → Gives f (λ v. v.total) row count sums
+  gives_totals row key count row_is sums totals = record {
+    each = totals.each;
+    is = λ v q m is lt. view_total f (valid_sound f valid).links cliques found tree v is (row q) m ∙ row_is q m ∙ ap (λ (s : ℕ). Some s) (sym (totals.is q m lt));
   }
 
   pub own_of_context : (v : View) → IsFileView f v → (c : ℕ) (m : Measure) → v.own (OfContext c) m ≡ Some (context_own f.links c m)

@@ -10,7 +10,6 @@ pub mod Exchange
 pub mod EntrySteps
 pub mod GiveSteps
 pub mod IncomingSteps
-pub mod KeyLists
 pub mod KeySteps
 pub mod MarkSteps
 pub mod KeyTotals
@@ -19,4 +18,5 @@ pub mod ViewSteps
 pub mod ViewThere
 pub mod ThreadSteps
 pub mod WalkSteps
+pub mod OutermostSteps
 pub mod Worked

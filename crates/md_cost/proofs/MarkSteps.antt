@@ -4,7 +4,7 @@ use Rattle.std.specs.List.{list_any}
 use Rattle.std.proofs.lemmas.Bool.{cases_eq, cases_lt, cases_Bool, eq-eqb, ne_eqb, eqb-true, lt-ltb, false≢true}
 use Rattle.md_trace.specs.Context.{same_option}
 use Rattle.md_clique.specs.Cliques.{clique_count}
-use Rattle.md_cost.specs.Walking.{above, upward, mark_of, AreMarks}
+use Rattle.md_cost.specs.Walking.{above, upward, mark_of, marked, AreMarks}
 use Rattle.md_cost.proofs.Exchange.{any_member}
 use Rattle.md_cost.proofs.WalkSteps.{up_goes, up_ends, parent_there, parent_lower}
 
@@ -16,9 +16,9 @@ pub key_same : (q : ℕ) (o : Option ℕ) → o ≡ Some q → same_option (Some
 key_same q o e = rw e (eq-eqb q q refl)
 
 -- each has its mark, by those behind it
-abbrev pub AllMarked : ℕ → List (Option ℕ) → List (Option ℕ) → List ℕ → Type 0
-AllMarked n keys marks [] = Unit {0}
-AllMarked n keys marks (x ∷ xs) = (x < n) × (get_or marks x None ≡ mark_of (λ e. get_or keys e None) x xs) × AllMarked n keys marks xs
+abbrev pub AllMarked : ℕ → (ℕ → Option ℕ) → (ℕ → Option ℕ) → List ℕ → Type 0
+AllMarked n key mark [] = Unit {0}
+AllMarked n key mark (x ∷ xs) = (x < n) × (mark x ≡ mark_of key x xs) × AllMarked n key mark xs
 
 mark_some : (b : Bool) (q : ℕ) (o : Option ℕ) → same_option (Some q) (cond b None o) ≡ true → (b ≡ false) × (o ≡ Some q)
 mark_some true q o h = absurd (false≢true h)
@@ -28,32 +28,32 @@ mark_none : (b : Bool) (q : ℕ) (o : Option ℕ) → same_option (Some q) o ≡
 mark_none true q o h = refl
 mark_none false q o h = h
 
-module _ (n : ℕ) (keys marks : List (Option ℕ)) where
+module _ (n : ℕ) (key mark : ℕ → Option ℕ) where
   abbrev has_mark : ℕ → ℕ → Bool
-  has_mark q e = ltb e n && same_option (Some q) (get_or marks e None)
+  has_mark q e = ltb e n && same_option (Some q) (mark e)
 
   abbrev has_key : ℕ → ℕ → Bool
-  has_key q e = same_option (Some q) (get_or keys e None)
+  has_key q e = same_option (Some q) (key e)
 
-  pub marked_any : (q : ℕ) (xs : List ℕ) → AllMarked n keys marks xs → list_any (λ e. ltb e n && same_option (Some q) (get_or marks e None)) xs ≡ list_any (λ e. same_option (Some q) (get_or keys e None)) xs
+  pub marked_any : (q : ℕ) (xs : List ℕ) → AllMarked n key mark xs → list_any (λ e. ltb e n && same_option (Some q) (mark e)) xs ≡ list_any (λ e. same_option (Some q) (key e)) xs
   marked_any q [] all = refl
   marked_any q (x ∷ xs) all = elim (cases_Bool (has_key q x)) [
     | inl some ↦ (
         let rest = marked_any q xs all.2 in
-        let is : get_or keys x None ≡ Some q = same_key q (get_or keys x None) some in
-        let mark : get_or marks x None ≡ cond (list_any (has_key q) xs) None (Some q) = all.1 ∙ (rw is refl) in
-        rw (some, lt-ltb x n all.0, mark, rest) (one (list_any (has_key q) xs) q))
+        let is : key x ≡ Some q = same_key q (key x) some in
+        let its : mark x ≡ cond (list_any (has_key q) xs) None (Some q) = all.1 ∙ (rw is refl) in
+        rw (some, lt-ltb x n all.0, its, rest) (one (list_any (has_key q) xs) q))
     | inr none ↦ (
         let rest = marked_any q xs all.2 in
-        let mark : same_option (Some q) (get_or marks x None) ≡ false = rw all.1 (mark_none (list_any (λ e. same_option (get_or keys x None) (get_or keys e None)) xs) q (get_or keys x None) none) in
-        rw (none, lt-ltb x n all.0, mark) rest)
+        let its : same_option (Some q) (mark x) ≡ false = rw all.1 (mark_none (list_any (λ e. same_option (key x) (key e)) xs) q (key x) none) in
+        rw (none, lt-ltb x n all.0, its) rest)
   ]
     where
       one : (b : Bool) (k : ℕ) → ((true && same_option (Some k) (cond b None (Some k))) || b) ≡ true
       one true k = refl
       one false k = rw (eq-eqb k k refl) refl
 
-  member_there : (xs : List ℕ) (e : ℕ) → AllMarked n keys marks xs → list_any (λ x. eqb x e) xs ≡ true → e < n
+  member_there : (xs : List ℕ) (e : ℕ) → AllMarked n key mark xs → list_any (λ x. eqb x e) xs ≡ true → e < n
   member_there [] e all on = absurd (false≢true on)
   member_there (x ∷ xs) e all on = elim (cases_eq x e) [
     | inl same ↦ rw (← same) all.0
@@ -61,15 +61,15 @@ module _ (n : ℕ) (keys marks : List (Option ℕ)) where
   ]
 
   -- what has a mark has nothing with that key behind it
-  behind : (q x e : ℕ) (xs : List ℕ) → AllMarked n keys marks (x ∷ xs) → same_option (Some q) (get_or marks x None) ≡ true → same_option (Some q) (get_or marks e None) ≡ true → list_any (λ y. eqb y e) xs ≡ true → ⊥
+  behind : (q x e : ℕ) (xs : List ℕ) → AllMarked n key mark (x ∷ xs) → same_option (Some q) (mark x) ≡ true → same_option (Some q) (mark e) ≡ true → list_any (λ y. eqb y e) xs ≡ true → ⊥
   behind q x e xs all has also on =
-      let mark = mark_some (list_any (λ y. same_option (get_or keys x None) (get_or keys y None)) xs) q (get_or keys x None) (rw all.1 at has) in
-      let none : list_any (has_key q) xs ≡ false = ap (λ (o : Option ℕ). list_any (λ y. same_option o (get_or keys y None)) xs) (sym mark.1) ∙ mark.0 in
+      let its = mark_some (list_any (λ y. same_option (key x) (key y)) xs) q (key x) (rw all.1 at has) in
+      let none : list_any (has_key q) xs ≡ false = ap (λ (o : Option ℕ). list_any (λ y. same_option o (key y)) xs) (sym its.1) ∙ its.0 in
       let there = member_there xs e all.2 on in
       let found : list_any (has_mark q) xs ≡ true = any_member (has_mark q) xs e on (rw (lt-ltb e n there, also) refl) in
       false≢true (sym none ∙ sym (marked_any q xs all.2) ∙ found)
 
-  pub marked_alone : (q d e : ℕ) (xs : List ℕ) → AllMarked n keys marks xs → same_option (Some q) (get_or marks d None) ≡ true → same_option (Some q) (get_or marks e None) ≡ true
+  pub marked_alone : (q d e : ℕ) (xs : List ℕ) → AllMarked n key mark xs → same_option (Some q) (mark d) ≡ true → same_option (Some q) (mark e) ≡ true
       → list_any (λ x. eqb x d) xs ≡ true → list_any (λ x. eqb x e) xs ≡ true → d ≡ e
   marked_alone q d e [] all hd he od oe = absurd (false≢true od)
   marked_alone q d e (x ∷ xs) all hd he od oe = elim (cases_eq x d) [
@@ -85,14 +85,14 @@ module _ (n : ℕ) (keys marks : List (Option ℕ)) where
 
 -- so it is on the path of each context
 pub marked_up : (cliques : List ℕ) (starts : ℕ → ℕ) (rises : (k : ℕ) → 0 < k → k < clique_count cliques → get_or cliques (starts k) 0 < k) (starts_there : (k : ℕ) → 0 < k → k < clique_count cliques → starts k < length cliques)
-    (keys marks : List (Option ℕ)) → AreMarks cliques starts keys marks → (k d : ℕ) → get_or cliques d 0 < k → d < length cliques → AllMarked (length cliques) keys marks (upward cliques starts d)
-marked_up cliques starts rises starts_there keys marks are zero d low lt = absurd (omega arith)
-marked_up cliques starts rises starts_there keys marks are (suc k) d low lt =
+    (key : ℕ → Option ℕ) (flags : List Bool) → AreMarks cliques starts key flags → (k d : ℕ) → get_or cliques d 0 < k → d < length cliques → AllMarked (length cliques) key (marked key flags) (upward cliques starts d)
+marked_up cliques starts rises starts_there key flags are zero d low lt = absurd (omega arith)
+marked_up cliques starts rises starts_there key flags are (suc k) d low lt =
     rw (up_goes cliques starts rises starts_there d lt) (
       lt,
       are.told d lt,
       elim (cases_lt (above cliques starts d) (length cliques)) [
-        | inl inside ↦ (let less = parent_lower cliques starts rises starts_there d lt inside in marked_up cliques starts rises starts_there keys marks are k (above cliques starts d) (omega arith) inside)
+        | inl inside ↦ (let less = parent_lower cliques starts rises starts_there d lt inside in marked_up cliques starts rises starts_there key flags are k (above cliques starts d) (omega arith) inside)
         | inr outside ↦ (let le = parent_there cliques starts rises starts_there d lt in let top : above cliques starts d ≡ length cliques = omega arith in rw (top, up_ends cliques starts rises starts_there) tt)
       ],
     )

@@ -25,16 +25,17 @@ use Rattle.md_cost.proofs.Exchange.{upto}
 use Rattle.md_cost.proofs.ClimbSteps.{climbed}
 
 -- the cliques as keys
-abbrev named : List ℕ → List (Option ℕ)
-named [] = []
-named (k ∷ ks) = Some k ∷ named ks
+abbrev named : List ℕ → ℕ → Option ℕ
+named [] d = None
+named (k ∷ ks) zero = Some k
+named (k ∷ ks) (suc d) = named ks d
 
-named_at : (ks : List ℕ) (d : ℕ) → d < length ks → get_or (named ks) d None ≡ Some (get_or ks d 0)
+named_at : (ks : List ℕ) (d : ℕ) → d < length ks → named ks d ≡ Some (get_or ks d 0)
 named_at [] d lt = absurd (omega arith)
 named_at (k ∷ ks) zero lt = refl
 named_at (k ∷ ks) (suc d) lt = named_at ks d (omega arith)
 
-named_is : (ks : List ℕ) (d q : ℕ) → same_option (Some q) (get_or (named ks) d None) ≡ true → get_or ks d 0 ≡ q
+named_is : (ks : List ℕ) (d q : ℕ) → same_option (Some q) (named ks d) ≡ true → get_or ks d 0 ≡ q
 named_is [] d q h = absurd (false≢true h)
 named_is (k ∷ ks) zero q h = sym (eqb-true q k h)
 named_is (k ∷ ks) (suc d) q h = named_is ks d q h
@@ -144,7 +145,7 @@ module _ (cliques : List ℕ) (starts : ℕ → ℕ) (rises : (k : ℕ) → 0 < 
   ]
 
   module _ (rows : List LinkRow) (ends : (i : ℕ) (r : LinkRow) → slice_get rows i ≡ Some r → r.callee < length cliques) (q : ℕ) (values : List Sums) (values_are : (c : ℕ) (m : Measure) → c < length cliques → sum_of (get_or values c zero_sums) m ≡ climbed cliques starts rows q (λ d. eqb d c) m) (k : ℕ) (m : Measure) where
-    named_test : (e : ℕ) → e < length cliques → (ltb e (length cliques) && same_option (Some k) (get_or (named cliques) e None)) ≡ eqb (get_or cliques e 0) k
+    named_test : (e : ℕ) → e < length cliques → (ltb e (length cliques) && same_option (Some k) (named cliques e)) ≡ eqb (get_or cliques e 0) k
     named_test e lt = rw (lt-ltb e (length cliques) lt, named_at cliques e lt) (turned k (get_or cliques e 0))
 
     pub members_climbed : member_sum cliques values k m ≡ climbed cliques starts rows q (λ d. eqb (get_or cliques d 0) k) m
@@ -154,10 +155,10 @@ module _ (cliques : List ℕ) (starts : ℕ → ℕ) (rises : (k : ℕ) → 0 < 
         (λ i r at x d e hd he od oe. one_of_clique q (get_or cliques r.callee 0) r.callee d e (omega arith) (ends i r at) (named_is cliques d x hd ∙ sym (named_is cliques e x he)) od oe)
         (length cliques) k m (omega arith)
         ∙ sum_same
-        (λ r. cond (list_any (λ e. ltb e (length cliques) && same_option (Some k) (get_or (named cliques) e None)) (path_to cliques starts q (get_or cliques r.callee 0) r.callee)) (count_of r.own m) 0)
+        (λ r. cond (list_any (λ e. ltb e (length cliques) && same_option (Some k) (named cliques e)) (path_to cliques starts q (get_or cliques r.callee 0) r.callee)) (count_of r.own m) 0)
         (λ r. cond (list_any (λ d. eqb (get_or cliques d 0) k) (path_to cliques starts q (get_or cliques r.callee 0) r.callee)) (count_of r.own m) 0)
         rows
-        (λ i r at. ap (λ (b : Bool). cond b (count_of r.own m) 0) (path_same (λ e. ltb e (length cliques) && same_option (Some k) (get_or (named cliques) e None)) (λ d. eqb (get_or cliques d 0) k) named_test q (get_or cliques r.callee 0) r.callee (omega arith) (ends i r at)))
+        (λ i r at. ap (λ (b : Bool). cond b (count_of r.own m) 0) (path_same (λ e. ltb e (length cliques) && same_option (Some k) (named cliques e)) (λ d. eqb (get_or cliques d 0) k) named_test q (get_or cliques r.callee 0) r.callee (omega arith) (ends i r at)))
 
     pub members_room : length rows < 4294967296 → AreSmall rows → member_sum cliques values k m < 2 ^ 64
     members_room few small =

@@ -1,8 +1,8 @@
--- Items are threaded from the last one down, and what is above each is listed from the first on.
+-- Items are threaded from the last one down.
 use Rattle.std.proofs.Common.{◌≡◌, ◌≢◌, ℕ, suc, ◌+◌, ◌<◌, ◌≤◌, List, [], ◌∷◌, ◌++◌, length, get_or, set, replicate, Option, Some, None, refl, sym, ap, ◌∙◌, inl, inr, subst, arith}
 use Rattle.std.proofs.lemmas.Bool.{cases_eq}
 use Rattle.std.proofs.lemmas.List.{get_or-set_same, get_or-set_other, length-set, get_or-replicate, length-replicate, get_or_append_left, get_or_push, length_push}
-use Rattle.md_cost.specs.Walking.{IsFirst, AreThreaded, AreParents}
+use Rattle.md_cost.specs.Walking.{IsFirst, AreThreaded}
 
 -- the items from i on are threaded
 pub record Threaded (n : ℕ) (parent : ℕ → ℕ) (i : ℕ) (first next : List (Option ℕ)) : Type 0 where
@@ -61,17 +61,4 @@ module _ (n : ℕ) (parent : ℕ → ℕ) where
   }
 
   pub threaded_all : (first next : List (Option ℕ)) → Threaded n parent 0 first next → AreThreaded n parent first next
-  threaded_all first next is = record { each_first = is.each_first; each_next = is.each_next; firsts = is.firsts; nexts = λ d lt. is.nexts d (omega arith) lt }
-
--- what is above one item more
-pub parents_none : (parent : ℕ → ℕ) → AreParents 0 parent []
-parents_none parent = record { each = refl; is = λ d lt. absurd (omega arith) }
-
-pub parents_more : (parent : ℕ → ℕ) (i : ℕ) (parents : List ℕ) (p : ℕ) → AreParents i parent parents → p ≡ parent i → AreParents (i + 1) parent (parents ++ p ∷ [])
-parents_more parent i parents p are is = record {
-  each = (let size = are.each in let more = length_push parents p in omega arith);
-  is = λ d lt. (let size = are.each in elim (cases_eq d i) [
-    | inl same ↦ get_or_push parents p 0 d (omega arith) ∙ is ∙ ap parent (sym same)
-    | inr other ↦ get_or_append_left parents (p ∷ []) 0 d (omega arith) ∙ are.is d (omega arith)
-  ]);
-}
+  threaded_all first next is = record { each_first = is.each_first; firsts = is.firsts; nexts = record { each = is.each_next; is = λ d lt. is.nexts d (omega arith) lt } }

@@ -9,7 +9,7 @@ use Rattle.md_trace.specs.Context.{same_option}
 use Rattle.md_clique.specs.Cliques.{clique_count}
 use Rattle.md_clique.proofs.Naming.{lt_clique_count}
 use Rattle.md_cost.specs.Paths.{path_to}
-use Rattle.md_cost.specs.Walking.{above, upward, IsFirst, AreThreaded, mark_of, AreMarks, claimed, with_key, without_key, IsEntered, AllEntered, Stands, left_of, rank, work}
+use Rattle.md_cost.specs.Walking.{above, upward, IsFirst, AreNexts, AreThreaded, mark_of, marked, AreMarks, claimed, is_free, with_key, without_key, IsEntered, AllEntered, Stands, left_of, rank, work}
 use Rattle.md_cost.proofs.PathSteps.{path_stops, path_goes}
 
 some_is : {X : Type 0} (x y : X) → Some x ≡ Some y → x ≡ y
@@ -127,15 +127,12 @@ module _ (cliques : List ℕ) (starts : ℕ → ℕ) (rises : (k : ℕ) → 0 < 
     | inr past ↦ rw (le-ltb d n past) (omega arith)
   ]
 
-  module _ (keys : List (Option ℕ)) (count : ℕ) (below : (d q : ℕ) → d < length cliques → get_or keys d None ≡ Some q → q < count) where
-    abbrev key : ℕ → Option ℕ
-    key d = get_or keys d None
-
+  module _ (key : ℕ → Option ℕ) (count : ℕ) (below : (d q : ℕ) → d < length cliques → key d ≡ Some q → q < count) where
     -- the keys of an item and of those above it
     claim_held : (q c : ℕ) (active : List Bool) (ups : List ℕ) (o : Option ℕ) → length active ≡ count → q < count
         → ((p : ℕ) → o ≡ Some p → p < count)
-        → ((p : ℕ) → p < count → get_or active p false ≡ list_any (λ e. same_option (Some p) (get_or keys e None)) ups)
-        → get_or (with_key active (claimed active o)) q false ≡ (same_option (Some q) o || list_any (λ e. same_option (Some q) (get_or keys e None)) ups)
+        → ((p : ℕ) → p < count → get_or active p false ≡ list_any (λ e. same_option (Some p) (key e)) ups)
+        → get_or (with_key active (claimed active o)) q false ≡ (same_option (Some q) o || list_any (λ e. same_option (Some q) (key e)) ups)
     claim_held q c active ups None size lt under held = held q lt
     claim_held q c active ups (Some p) size lt under held = elim (cases_Bool (get_or active p false)) [
       | inl yes_p ↦ (
@@ -155,23 +152,31 @@ module _ (cliques : List ℕ) (starts : ℕ → ℕ) (rises : (k : ℕ) → 0 < 
 
     claim_is : (active : List Bool) (ups : List ℕ) (o : Option ℕ)
         → ((p : ℕ) → o ≡ Some p → p < count)
-        → ((p : ℕ) → p < count → get_or active p false ≡ list_any (λ e. same_option (Some p) (get_or keys e None)) ups)
-        → claimed active o ≡ cond (list_any (λ e. same_option o (get_or keys e None)) ups) None o
-    claim_is active ups None under held = elim (cases_Bool (list_any (λ e. same_option None (get_or keys e None)) ups)) [
+        → ((p : ℕ) → p < count → get_or active p false ≡ list_any (λ e. same_option (Some p) (key e)) ups)
+        → claimed active o ≡ cond (list_any (λ e. same_option o (key e)) ups) None o
+    claim_is active ups None under held = elim (cases_Bool (list_any (λ e. same_option None (key e)) ups)) [
       | inl h ↦ rw h refl
       | inr h ↦ rw h refl
     ]
     claim_is active ups (Some p) under held = ap (λ (b : Bool). cond b None (Some p)) (held p (under p refl))
 
+    -- what is free is claimed
+    free_is : (active : List Bool) (o : Option ℕ) → cond (is_free active o) o None ≡ claimed active o
+    free_is active None = refl
+    free_is active (Some p) = elim (cases_Bool (get_or active p false)) [
+      | inl taken ↦ rw taken refl
+      | inr free ↦ rw free refl
+    ]
+
     release_held : (q : ℕ) (active : List Bool) (ups : List ℕ) (o : Option ℕ) → length active ≡ count → q < count
         → ((p : ℕ) → o ≡ Some p → p < count)
-        → ((p : ℕ) → p < count → get_or active p false ≡ (same_option (Some p) o || list_any (λ e. same_option (Some p) (get_or keys e None)) ups))
-        → get_or (without_key active (cond (list_any (λ e. same_option o (get_or keys e None)) ups) None o)) q false ≡ list_any (λ e. same_option (Some q) (get_or keys e None)) ups
-    release_held q active ups None size lt under held = elim (cases_Bool (list_any (λ e. same_option None (get_or keys e None)) ups)) [
+        → ((p : ℕ) → p < count → get_or active p false ≡ (same_option (Some p) o || list_any (λ e. same_option (Some p) (key e)) ups))
+        → get_or (without_key active (cond (list_any (λ e. same_option o (key e)) ups) None o)) q false ≡ list_any (λ e. same_option (Some q) (key e)) ups
+    release_held q active ups None size lt under held = elim (cases_Bool (list_any (λ e. same_option None (key e)) ups)) [
       | inl h ↦ rw h (held q lt)
       | inr h ↦ rw h (held q lt)
     ]
-    release_held q active ups (Some p) size lt under held = elim (cases_Bool (list_any (λ e. same_option (Some p) (get_or keys e None)) ups)) [
+    release_held q active ups (Some p) size lt under held = elim (cases_Bool (list_any (λ e. same_option (Some p) (key e)) ups)) [
       | inl again ↦ rw again (elim (cases_eq q p) [
         | inl is ↦ (let old = held q lt in rw is (rw (is, eq-eqb p p refl) at old ∙ sym again))
         | inr ne ↦ (let old = held q lt in rw (ne_eqb q p ne) at old)
@@ -190,7 +195,7 @@ module _ (cliques : List ℕ) (starts : ℕ → ℕ) (rises : (k : ℕ) → 0 < 
     length-without active None = refl
     length-without active (Some q) = length-set active q false
 
-    module _ (next : List (Option ℕ)) (nexts : (d : ℕ) → d < length cliques → IsFirst (length cliques) parent (parent d) (suc d) (get_or next d None)) (first : List (Option ℕ)) (active : List Bool) (marks : List (Option ℕ)) (at : ℕ) (is : Stands cliques starts keys count first active marks at) where
+    module _ (next : List (Option ℕ)) (nexts : AreNexts (length cliques) parent next) (first : List (Option ℕ)) (active : List Bool) (flags : List Bool) (at : ℕ) (is : Stands cliques starts key count first active flags at) where
       module _ (c : ℕ) (child : get_or first at None ≡ Some c) where
         abbrev now : List (Option ℕ)
         now = set first at (get_or next c None)
@@ -202,7 +207,7 @@ module _ (cliques : List ℕ) (starts : ℕ → ℕ) (rises : (k : ℕ) → 0 < 
         c_below = (is.firsts at c is.at_there child).1
 
         next_is : IsFirst n parent at (suc c) (get_or next c None)
-        next_is = subst (λ (p : ℕ). IsFirst n parent p (suc c) (get_or next c None)) c_below (nexts c c_there)
+        next_is = subst (λ (p : ℕ). IsFirst n parent p (suc c) (get_or next c None)) c_below (nexts.is c c_there)
 
         here : get_or now at None ≡ get_or next c None
         here = let size = is.each_first in let le = is.at_there in get_or-set_same first at (get_or next c None) None (omega arith)
@@ -238,11 +243,11 @@ module _ (cliques : List ℕ) (starts : ℕ → ℕ) (rises : (k : ℕ) → 0 < 
         mark_is : claimed active (key c) ≡ mark_of key c (upward cliques starts at)
         mark_is = claim_is active (upward cliques starts at) (key c) (λ p e. below c p c_there e) is.held
 
-        pub entered : Stands cliques starts keys count (set first at (get_or next c None)) (with_key active (claimed active (get_or keys c None))) (set marks c (claimed active (get_or keys c None))) c
+        pub entered : Stands cliques starts key count (set first at (get_or next c None)) (with_key active (claimed active (key c))) (set flags c (is_free active (key c))) c
         entered = record {
           each_first = length-set first at (get_or next c None) ∙ is.each_first;
           each_active = length-with active (claimed active (key c)) ∙ is.each_active;
-          each_mark = length-set marks c (claimed active (key c)) ∙ is.each_mark;
+          each_flag = length-set flags c (is_free active (key c)) ∙ is.each_flag;
           at_there = (let lt = c_there in omega arith);
           firsts = λ p e le first_e. elim (cases_eq p at) as (λ _. (e < length cliques) × (above cliques starts e ≡ p)) [
             | inl same ↦ (let later = next_later at c e (get_or next c None) next_is (sym here ∙ (rw same at first_e)) in (later.1, later.2 ∙ sym same))
@@ -261,12 +266,12 @@ module _ (cliques : List ℕ) (starts : ℕ → ℕ) (rises : (k : ℕ) → 0 < 
           ];
           told = λ d lt entered_d. elim (cases_eq d c) [
             | inl it ↦ (
-                let size = is.each_mark in
+                let size = is.each_flag in
                 let there = c_there in
-                rw it (get_or-set_same marks c (claimed active (key c)) None (omega arith) ∙ mark_is ∙ ap (λ (p : ℕ). mark_of key c (upward cliques starts p)) (sym c_below)))
+                rw it (ap (λ (b : Bool). cond b (key c) None) (get_or-set_same flags c (is_free active (key c)) false (omega arith)) ∙ free_is active (key c) ∙ mark_is ∙ ap (λ (p : ℕ). mark_of key c (upward cliques starts p)) (sym c_below)))
             | inr other ↦ elim (or_before d lt entered_d) [
               | inl it ↦ absurd (other it)
-              | inr before ↦ get_or-set_other marks c d (claimed active (key c)) None other ∙ is.told d lt before
+              | inr before ↦ ap (λ (b : Bool). cond b (key d) None) (get_or-set_other flags c d (is_free active (key c)) false other) ∙ is.told d lt before
             ]
           ];
           held = λ q lt. rw up_c (claim_held q c active (upward cliques starts at) (key c) is.each_active lt (λ p e. below c p c_there e) is.held);
@@ -293,21 +298,21 @@ module _ (cliques : List ℕ) (starts : ℕ → ℕ) (rises : (k : ℕ) → 0 < 
         line : AllEntered parent first (at ∷ upward cliques starts (above cliques starts at))
         line = rw up_at at is.line
 
-        mark_at : get_or marks at None ≡ mark_of key at (upward cliques starts (above cliques starts at))
+        mark_at : marked key flags at ≡ mark_of key at (upward cliques starts (above cliques starts at))
         mark_at = is.told at there line.0
 
-        pub mark_below : IfSome (get_or marks at None) (λ q. q < count)
-        mark_below = rw mark_at (unmarked (list_any (λ e. same_option (key at) (get_or keys e None)) (upward cliques starts (above cliques starts at))) (key_below count (key at) (λ q e. below at q there e)))
+        pub mark_below : IfSome (marked key flags at) (λ q. q < count)
+        mark_below = rw mark_at (unmarked (list_any (λ e. same_option (key at) (key e)) (upward cliques starts (above cliques starts at))) (key_below count (key at) (λ q e. below at q there e)))
           where
             unmarked : (b : Bool) → IfSome (key at) (λ q. q < count) → IfSome (cond b None (key at)) (λ q. q < count)
             unmarked true h = tt
             unmarked false h = h
 
-        pub left : Stands cliques starts keys count first (without_key active (get_or marks at None)) marks (above cliques starts at)
+        pub left : Stands cliques starts key count first (without_key active (marked key flags at)) flags (above cliques starts at)
         left = record {
           each_first = is.each_first;
-          each_active = length-without active (get_or marks at None) ∙ is.each_active;
-          each_mark = is.each_mark;
+          each_active = length-without active (marked key flags at) ∙ is.each_active;
+          each_flag = is.each_flag;
           at_there = parent_there at there;
           firsts = is.firsts;
           line = line.1;
@@ -331,9 +336,9 @@ module _ (cliques : List ℕ) (starts : ℕ → ℕ) (rises : (k : ℕ) → 0 < 
             omega arith
 
       -- who has no parent left to enter was entered
-      pub finished : at ≡ length cliques → get_or first at None ≡ None → AreMarks cliques starts keys marks
+      pub finished : at ≡ length cliques → get_or first at None ≡ None → AreMarks cliques starts key flags
       finished top none = record {
-        each = is.each_mark;
+        each = is.each_flag;
         told = λ d lt. is.told d lt (all (suc (get_or cliques d 0)) d (omega arith) lt);
       }
         where
@@ -361,11 +366,11 @@ module _ (cliques : List ℕ) (starts : ℕ → ℕ) (rises : (k : ℕ) → 0 < 
 
     -- before the walk: nothing was entered
     pub begun : (first next : List (Option ℕ)) → AreThreaded (length cliques) (λ d. above cliques starts d) first next
-        → Stands cliques starts keys count first (replicate count false) (replicate (length cliques) None) (length cliques)
+        → Stands cliques starts key count first (replicate count false) (replicate (length cliques) false) (length cliques)
     begun first next threaded = record {
       each_first = threaded.each_first;
       each_active = length-replicate count false;
-      each_mark = length-replicate (length cliques) None;
+      each_flag = length-replicate (length cliques) false;
       at_there = omega arith;
       firsts = λ p c le e. first_is p c (get_or first p None) (threaded.firsts p le) e;
       line = rw up_ends tt;

@@ -5,7 +5,7 @@ pub mod View
 pub mod FileView
 pub mod Walking
 pub mod Keys
-pub mod Summed
+pub mod Outermost
 pub mod Incoming
 pub mod Costs
 pub mod Climbing

@@ -7,9 +7,9 @@ ghost use Rattle.md_cost.specs.Paths.{EntriesRise};
 ghost use Rattle.md_cost.specs.Tree.{IsTree};
 
 use crate::Sums;
-use crate::descent::descend;
 use crate::incoming::{Incoming, thread_incoming};
-use crate::kinds::{Kind, of_modules, of_procedures, of_sites};
+use crate::kinds::{Kinds, own_by_kind, totals_by_kind};
+use crate::outermost::find_outermost;
 use crate::own::own_sums;
 use crate::totals::climb;
 use crate::tree::Tree;
@@ -22,10 +22,9 @@ use std::alloc::Global;
 #[derive(Drop)]
 pub struct Costs {
     pub incoming: Incoming,
-    pub totals: Vec<Sums>,
-    pub procedures: Kind,
-    pub modules: Kind,
-    pub sites: Kind,
+    pub contexts: Vec<Sums>,
+    pub own: Kinds,
+    pub totals: Kinds,
 }
 
 /// Sums the counts of a valid profile, whose cliques are each entered by one link, in time and memory linear in
@@ -37,19 +36,16 @@ pub fn sum_costs(alloc: Global, profile: &Profile, tree: &Tree) -> Result<Costs,
     ensures { IfOk result (λ costs. AreCosts profile.now tree.now.cliques tree.now.entries.items costs) }
 {
     let nodes = profile.nodes().len() as u32;
-    let links = profile.links();
-    let incoming = thread_incoming(alloc, nodes, links)?;
-    let totals = context_totals(alloc, profile, tree, nodes)?;
-    let children = descend(alloc, tree, links, nodes)?;
-    let procedures = of_procedures(alloc, profile, tree, &children, &totals)?;
-    let modules = of_modules(alloc, profile, tree, &children, &totals)?;
-    let sites = of_sites(alloc, profile, tree, &children, &totals)?;
+    let incoming = thread_incoming(alloc, nodes, profile.links())?;
+    let contexts = context_totals(alloc, profile, tree, nodes)?;
+    let own = own_by_kind(alloc, profile)?;
+    let outermost = find_outermost(alloc, profile, tree)?;
+    let totals = totals_by_kind(alloc, profile, tree, &outermost, &contexts)?;
     Ok(Costs {
         incoming,
+        contexts,
+        own,
         totals,
-        procedures,
-        modules,
-        sites,
     })
 }
 

@@ -2,7 +2,7 @@
 ghost use Rattle.std.specs.Prelude.{◌≡◌, ◌<◌, ◌≤◌, IfOk, length};
 ghost use Rattle.md_clique.specs.Cliques.{clique_count};
 ghost use Rattle.md_cost.specs.Paths.{EntriesRise, start_of};
-ghost use Rattle.md_cost.specs.Walking.{AreParents, AreThreaded, above};
+ghost use Rattle.md_cost.specs.Walking.{AreThreaded, above};
 
 use crate::totals::start_of_entry;
 use crate::tree::Tree;
@@ -10,13 +10,12 @@ use md_base::NoMemory;
 use md_dynamic::LinkRow;
 use std::alloc::Global;
 
-/// The contexts right below each, threaded: the first one below each, and the next one after each; and what is right above
-/// each. Below the number past the last context are those of clique 0.
+/// The contexts right below each, threaded: the first one below each, and the next one after each. Below the number past
+/// the last context are those of clique 0.
 #[derive(Drop)]
 pub struct Children {
     pub first: Vec<Option<u32>>,
     pub next: Vec<Option<u32>>,
-    pub parents: Vec<u32>,
 }
 
 /// The contexts right below each of so many contexts.
@@ -29,47 +28,21 @@ pub fn descend(
     requires nodes { nodes ≡ length tree.now.cliques }
     requires entries { length tree.now.entries.items ≡ clique_count tree.now.cliques }
     requires rise { EntriesRise tree.now.cliques tree.now.entries.items links.now }
-    ensures threaded { IfOk result (λ found. AreThreaded nodes (above tree.now.cliques (start_of links.now tree.now.entries.items)) found.first.items found.next.items) }
-    ensures parents { IfOk result (λ found. AreParents nodes (above tree.now.cliques (start_of links.now tree.now.entries.items)) found.parents.items) }
+    ensures { IfOk result (λ found. AreThreaded nodes (above tree.now.cliques (start_of links.now tree.now.entries.items)) found.first.items found.next.items) }
 {
-    let parents = find_parents(alloc, tree, links, nodes)?;
     let mut first = vec![in alloc; None; nodes as usize + 1]?;
     let mut next = vec![in alloc; None; nodes as usize]?;
     for node in (0..nodes).rev() {
-        let parent = parents[node as usize];
+        let parent = above(tree, links, nodes, node);
         next[node as usize] = first[parent as usize];
         first[parent as usize] = Some(node);
     }
-    Ok(Children {
-        first,
-        next,
-        parents,
-    })
-}
-
-/// What is right above each of so many contexts.
-fn find_parents(
-    alloc: Global,
-    tree: &Tree,
-    links: &[LinkRow],
-    nodes: u32,
-) -> Result<Vec<u32>, NoMemory>
-    requires nodes { nodes ≡ length tree.now.cliques }
-    requires entries { length tree.now.entries.items ≡ clique_count tree.now.cliques }
-    requires rise { EntriesRise tree.now.cliques tree.now.entries.items links.now }
-    ensures { IfOk result (λ parents. AreParents nodes (above tree.now.cliques (start_of links.now tree.now.entries.items)) parents.items) }
-{
-    let mut parents = Vec::with_capacity(alloc, nodes as usize)?;
-    for node in 0..nodes {
-        let parent = above(tree, links, nodes, node);
-        parents.push(parent)?;
-    }
-    Ok(parents)
+    Ok(Children { first, next })
 }
 
 /// What is right above a context on its path: where the link that enters its clique starts. Above a context of clique 0
 /// is the number past the last context.
-fn above(tree: &Tree, links: &[LinkRow], nodes: u32, node: u32) -> u32
+pub fn above(tree: &Tree, links: &[LinkRow], nodes: u32, node: u32) -> u32
     requires nodes { nodes ≡ length tree.now.cliques }
     requires entries { length tree.now.entries.items ≡ clique_count tree.now.cliques }
     requires rise { EntriesRise tree.now.cliques tree.now.entries.items links.now }

@@ -1,107 +1,128 @@
 // Own counts and totals of procedures, modules and call sites.
-ghost use Rattle.std.specs.Prelude.{◌≡◌, ◌<◌, ℕ, IfOk, Some, None, length, slice_index_or};
-ghost use Rattle.md_base.specs.declared.measure.Measure.{Measure};
-ghost use Rattle.md_trace.specs.Context.{same_option};
-ghost use Rattle.md_cost.specs.FileView.{Gives};
-ghost use Rattle.md_cost.specs.SumOf.{sum_of, zero_sums};
-ghost use Rattle.md_cost.specs.Summed.{IsSummed};
-ghost use Rattle.md_cost.specs.Totals.{path_total, sum_where};
-ghost use Rattle.md_cost.specs.View.{OfModule, OfProcedure, OfSite};
+ghost use Rattle.std.specs.Prelude.{◌≡◌, ◌<◌, IfOk, length};
+ghost use Rattle.md_dynamic.specs.Valid.{IsValid};
+ghost use Rattle.md_cost.specs.Climbing.{AreSmall, AreTotals};
+ghost use Rattle.md_cost.specs.FileView.{module_at, procedure_at, site_above};
+ghost use Rattle.md_cost.specs.Keys.{AreOwnBy, AreTotalsBy, HasRoom, IsAdded};
+ghost use Rattle.md_cost.specs.Outermost.{AreOutermost};
+ghost use Rattle.md_cost.specs.Paths.{EntriesRise};
+ghost use Rattle.md_cost.specs.Tree.{IsTree};
 
 use crate::Sums;
-use crate::by_key::totals_by_key;
-use crate::descent::Children;
-use crate::grouping::{own_by_key, own_by_site};
-use crate::keys::{module_keys, procedure_keys, site_keys};
+use crate::keys::{Keys, keys_of, module_of, number_of, procedure_of};
+use crate::outermost::Outermost;
 use crate::tree::Tree;
 use md_base::NoMemory;
-use md_dynamic::Profile;
+use md_dynamic::{LinkRow, Profile};
+use md_static::Statics;
 use std::alloc::Global;
 
-/// The own counts and the totals of the rows of one kind, by number.
+/// Sums of procedures, modules and call sites, by number.
 #[derive(Drop)]
-pub struct Kind {
-    pub own: Vec<Sums>,
-    pub totals: Vec<Sums>,
+pub struct Kinds {
+    pub procedures: Vec<Sums>,
+    pub modules: Vec<Sums>,
+    pub sites: Vec<Sums>,
 }
 
-/// Those of the procedures.
-pub fn of_procedures(
+/// The own counts: of procedures and modules over the links to their contexts, and of call sites over the links at them.
+pub fn own_by_kind(alloc: Global, profile: &Profile) -> Result<Kinds, NoMemory>
+    requires valid { IsValid profile.now }
+    requires small { AreSmall profile.now.links }
+    ensures procedures { IfOk result (λ own. AreOwnBy (λ r. procedure_at profile.now r.callee) profile.now.links (length profile.now.statics.procs) own.procedures.items) }
+    ensures modules { IfOk result (λ own. AreOwnBy (λ r. module_at profile.now r.callee) profile.now.links (length profile.now.statics.modules) own.modules.items) }
+    ensures sites { IfOk result (λ own. AreOwnBy (λ r. r.site) profile.now.links (length profile.now.statics.sites) own.sites.items) }
+{
+    let mut own = Kinds::zero(alloc, profile.statics())?;
+    for link in profile.links() {
+        own.add(keys_of_link(profile, link), Sums::from_counts(link.own));
+    }
+    Ok(own)
+}
+
+/// The procedure of the context to which a link leads, the module of that, and the call site of the link.
+fn keys_of_link(profile: &Profile, link: &LinkRow) -> Keys
+    requires valid { IsValid profile.now }
+    requires there { link.now.callee < length profile.now.nodes }
+    ensures procedures { result.procedures ≡ procedure_at profile.now link.now.callee }
+    ensures modules { result.modules ≡ module_at profile.now link.now.callee }
+    ensures sites { result.sites ≡ link.now.site }
+{
+    let node = link.callee.number();
+    Keys {
+        procedures: procedure_of(profile, node),
+        modules: module_of(profile, node),
+        sites: number_of(link.site),
+    }
+}
+
+/// The totals: over the links whose path has a context of the procedure or module, or one whose clique is entered at the
+/// call site. What counts is the outermost such context on a path, so each link counts once.
+pub fn totals_by_kind(
     alloc: Global,
     profile: &Profile,
     tree: &Tree,
-    children: &Children,
+    outermost: &Outermost,
     totals: &[Sums],
-) -> Result<Kind, NoMemory>
-    requires { IsSummed profile.now tree.now.cliques tree.now.entries.items children.now.first.items children.now.next.items children.now.parents.items totals.now }
-    ensures own { IfOk result (λ kind. Gives profile.now (λ v. v.own) OfProcedure (length profile.now.statics.procs) kind.own.items) }
-    ensures totals { IfOk result (λ kind. Gives profile.now (λ v. v.total) OfProcedure (length profile.now.statics.procs) kind.totals.items) }
+) -> Result<Kinds, NoMemory>
+    requires valid { IsValid profile.now }
+    requires tree { IsTree (length profile.now.nodes) profile.now.links tree.now.cliques tree.now.entries.items }
+    requires rise { EntriesRise tree.now.cliques tree.now.entries.items profile.now.links }
+    requires small { AreSmall profile.now.links }
+    requires outermost { AreOutermost profile.now tree.now.cliques tree.now.entries.items outermost.now }
+    requires totals { AreTotals tree.now.cliques tree.now.entries.items profile.now.links totals.now }
+    ensures procedures { IfOk result (λ sums. AreTotalsBy tree.now.cliques tree.now.entries.items profile.now.links (procedure_at profile.now) (length profile.now.statics.procs) sums.procedures.items) }
+    ensures modules { IfOk result (λ sums. AreTotalsBy tree.now.cliques tree.now.entries.items profile.now.links (module_at profile.now) (length profile.now.statics.modules) sums.modules.items) }
+    ensures sites { IfOk result (λ sums. AreTotalsBy tree.now.cliques tree.now.entries.items profile.now.links (site_above profile.now tree.now.cliques tree.now.entries.items) (length profile.now.statics.sites) sums.sites.items) }
 {
-    let keys = procedure_keys(alloc, profile)?;
-    let count = profile.statics().procs().len();
-    let kind = of_keys(alloc, profile, tree, children, totals, &keys, count)?;
-    Ok(kind)
+    let mut sums = Kinds::zero(alloc, profile.statics())?;
+    for (place, total) in totals.iter().enumerate() {
+        let node = place as u32;
+        sums.add(outermost.marks(node, keys_of(profile, tree, node)), *total);
+    }
+    Ok(sums)
 }
 
-/// Those of the modules.
-pub fn of_modules(
-    alloc: Global,
-    profile: &Profile,
-    tree: &Tree,
-    children: &Children,
-    totals: &[Sums],
-) -> Result<Kind, NoMemory>
-    requires { IsSummed profile.now tree.now.cliques tree.now.entries.items children.now.first.items children.now.next.items children.now.parents.items totals.now }
-    ensures own { IfOk result (λ kind. Gives profile.now (λ v. v.own) OfModule (length profile.now.statics.modules) kind.own.items) }
-    ensures totals { IfOk result (λ kind. Gives profile.now (λ v. v.total) OfModule (length profile.now.statics.modules) kind.totals.items) }
-{
-    let keys = module_keys(alloc, profile)?;
-    let count = profile.statics().modules().len();
-    let kind = of_keys(alloc, profile, tree, children, totals, &keys, count)?;
-    Ok(kind)
+impl Kinds {
+    ghost use Rattle.std.specs.Prelude.{◌≡◌, IfOk, length, replicate};
+    ghost use Rattle.md_cost.specs.Keys.{HasRoom, IsAdded};
+    ghost use Rattle.md_cost.specs.SumOf.{zero_sums};
+
+    /// No counts yet.
+    fn zero(alloc: Global, statics: &Statics) -> Result<Kinds, NoMemory>
+        ensures procedures { IfOk result (λ sums. sums.procedures.items ≡ replicate (length statics.now.procs) zero_sums) }
+        ensures modules { IfOk result (λ sums. sums.modules.items ≡ replicate (length statics.now.modules) zero_sums) }
+        ensures sites { IfOk result (λ sums. sums.sites.items ≡ replicate (length statics.now.sites) zero_sums) }
+    {
+        Ok(Kinds {
+            procedures: vec![in alloc; Sums::ZERO; statics.procs().len()]?,
+            modules: vec![in alloc; Sums::ZERO; statics.modules().len()]?,
+            sites: vec![in alloc; Sums::ZERO; statics.sites().len()]?,
+        })
+    }
+
+    /// Adds to the sums of these keys.
+    fn add(&mut self, keys: Keys, more: Sums)
+        requires procedures { HasRoom self.old.procedures.items keys.procedures more }
+        requires modules { HasRoom self.old.modules.items keys.modules more }
+        requires sites { HasRoom self.old.sites.items keys.sites more }
+        ensures procedures { IsAdded self.old.procedures.items keys.procedures more self.new.procedures.items }
+        ensures modules { IsAdded self.old.modules.items keys.modules more self.new.modules.items }
+        ensures sites { IsAdded self.old.sites.items keys.sites more self.new.sites.items }
+    {
+        add_to(&mut self.procedures, keys.procedures, more);
+        add_to(&mut self.modules, keys.modules, more);
+        add_to(&mut self.sites, keys.sites, more);
+    }
 }
 
-/// Those of the call sites. Own counts go by the sites of links, and totals by those at which cliques are entered.
-pub fn of_sites(
-    alloc: Global,
-    profile: &Profile,
-    tree: &Tree,
-    children: &Children,
-    totals: &[Sums],
-) -> Result<Kind, NoMemory>
-    requires { IsSummed profile.now tree.now.cliques tree.now.entries.items children.now.first.items children.now.next.items children.now.parents.items totals.now }
-    ensures own { IfOk result (λ kind. Gives profile.now (λ v. v.own) OfSite (length profile.now.statics.sites) kind.own.items) }
-    ensures totals { IfOk result (λ kind. Gives profile.now (λ v. v.total) OfSite (length profile.now.statics.sites) kind.totals.items) }
+/// Adds to the sum of a key, where there is one.
+fn add_to(sums: &mut Vec<Sums>, key: Option<u32>, more: Sums)
+    requires { HasRoom sums.old.items key more }
+    ensures { IsAdded sums.old.items key more sums.new.items }
 {
-    let keys = site_keys(alloc, profile, tree)?;
-    let count = profile.statics().sites().len();
-    let links = profile.links();
-    let own = own_by_site(alloc, links, count)?;
-    let totals = totals_by_key(alloc, tree, links, children, &keys, count, totals)?;
-    Ok(Kind { own, totals })
-}
-
-/// Those by the keys of contexts, which are below `count`.
-fn of_keys(
-    alloc: Global,
-    profile: &Profile,
-    tree: &Tree,
-    children: &Children,
-    totals: &[Sums],
-    keys: &[Option<u32>],
-    count: usize,
-) -> Result<Kind, NoMemory>
-    requires summed { IsSummed profile.now tree.now.cliques tree.now.entries.items children.now.first.items children.now.next.items children.now.parents.items totals.now }
-    requires each { length keys.now ≡ length profile.now.nodes }
-    requires below { (d q : ℕ) → d < length profile.now.nodes → slice_index_or keys.now d None ≡ Some q → q < count }
-    ensures each_own { IfOk result (λ kind. length kind.own.items ≡ count) }
-    ensures own { IfOk result (λ kind. (q : ℕ) (m : Measure) → q < count → sum_of (slice_index_or kind.own.items q zero_sums) m ≡ sum_where (λ r. same_option (Some q) (slice_index_or keys.now r.callee None)) m profile.now.links) }
-    ensures each_total { IfOk result (λ kind. length kind.totals.items ≡ count) }
-    ensures totals { IfOk result (λ kind. (q : ℕ) (m : Measure) → q < count → sum_of (slice_index_or kind.totals.items q zero_sums) m
-        ≡ path_total tree.now.cliques tree.now.entries.items profile.now.links (λ d. same_option (Some q) (slice_index_or keys.now d None)) m) }
-{
-    let links = profile.links();
-    let own = own_by_key(alloc, links, keys, count)?;
-    let totals = totals_by_key(alloc, tree, links, children, keys, count, totals)?;
-    Ok(Kind { own, totals })
+    if let Some(key) = key {
+        let sum = sums[key as usize].plus(more);
+        sums[key as usize] = sum;
+    }
 }

@@ -2,10 +2,9 @@
 //! section 3).
 #![tactic(auto)]
 
-mod by_key;
+mod claims;
 mod costs;
 mod descent;
-mod grouping;
 mod incoming;
 mod keys;
 mod kinds;

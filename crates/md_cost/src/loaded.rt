@@ -141,7 +141,7 @@ impl Loaded {
         requires { node < length self.now.profile.nodes }
         ensures { (v : View) (m : Measure) → IsFileView self.now.profile v → v.total (OfContext node) m ≡ Some (sum_of result m) }
     {
-        self.costs.totals[node.number() as usize]
+        self.costs.contexts[node.number() as usize]
     }
 
     /// The total of a clique: over the links whose path up meets it. It is added up over the clique's contexts. Takes no
@@ -150,7 +150,7 @@ impl Loaded {
         requires { clique < clique_count self.now.cliques }
         ensures { (v : View) (m : Measure) → IsFileView self.now.profile v → v.total (OfClique clique) m ≡ Some (sum_of result m) }
     {
-        sum_of_members(&self.tree.cliques, &self.costs.totals, clique)
+        sum_of_members(&self.tree.cliques, &self.costs.contexts, clique)
     }
 
     /// The own counts of a procedure: over the links to its contexts. Takes no memory.
@@ -158,7 +158,7 @@ impl Loaded {
         requires { id < length self.now.profile.statics.procs }
         ensures { (v : View) (m : Measure) → IsFileView self.now.profile v → v.own (OfProcedure id) m ≡ Some (sum_of result m) }
     {
-        self.costs.procedures.own[id.number() as usize]
+        self.costs.own.procedures[id.number() as usize]
     }
 
     /// The total of a procedure: over the links whose path up has a context of it, each of which counts once. Takes no memory.
@@ -166,7 +166,7 @@ impl Loaded {
         requires { id < length self.now.profile.statics.procs }
         ensures { (v : View) (m : Measure) → IsFileView self.now.profile v → v.total (OfProcedure id) m ≡ Some (sum_of result m) }
     {
-        self.costs.procedures.totals[id.number() as usize]
+        self.costs.totals.procedures[id.number() as usize]
     }
 
     /// The own counts of a call site: over the links at it. Takes no memory.
@@ -174,7 +174,7 @@ impl Loaded {
         requires { id < length self.now.profile.statics.sites }
         ensures { (v : View) (m : Measure) → IsFileView self.now.profile v → v.own (OfSite id) m ≡ Some (sum_of result m) }
     {
-        self.costs.sites.own[id.number() as usize]
+        self.costs.own.sites[id.number() as usize]
     }
 
     /// The total of a call site: over the links whose path up comes in by a leaving link at it, each of which counts once. Takes no memory.
@@ -182,7 +182,7 @@ impl Loaded {
         requires { id < length self.now.profile.statics.sites }
         ensures { (v : View) (m : Measure) → IsFileView self.now.profile v → v.total (OfSite id) m ≡ Some (sum_of result m) }
     {
-        self.costs.sites.totals[id.number() as usize]
+        self.costs.totals.sites[id.number() as usize]
     }
 
     /// The own counts of a module: over the links to contexts of its procedures. Takes no memory.
@@ -190,7 +190,7 @@ impl Loaded {
         requires { id < length self.now.profile.statics.modules }
         ensures { (v : View) (m : Measure) → IsFileView self.now.profile v → v.own (OfModule id) m ≡ Some (sum_of result m) }
     {
-        self.costs.modules.own[id as usize]
+        self.costs.own.modules[id as usize]
     }
 
     /// The total of a module: over the links whose path up has a context of one of its procedures, each of which counts once. Takes no memory.
@@ -198,6 +198,6 @@ impl Loaded {
         requires { id < length self.now.profile.statics.modules }
         ensures { (v : View) (m : Measure) → IsFileView self.now.profile v → v.total (OfModule id) m ≡ Some (sum_of result m) }
     {
-        self.costs.modules.totals[id as usize]
+        self.costs.totals.modules[id as usize]
     }
 }

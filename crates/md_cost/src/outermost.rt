@@ -1,58 +1,111 @@
-// Which contexts are the outermost with their key: no context above them on their path has it.
-ghost use Rattle.std.specs.Prelude.{◌≡◌, ◌<◌, ◌^◌, ◌↔◌, ℕ, IfOk, IfSome, IsTrue, Some, None, length, slice_index_or, slice_set};
-ghost use Rattle.md_clique.specs.Cliques.{clique_count};
-ghost use Rattle.md_cost.specs.Paths.{EntriesRise, start_of};
-ghost use Rattle.md_cost.specs.Walking.{AreMarks, AreParents, AreThreaded, Stands, above, claimed, with_key, without_key, work};
+// Which contexts are the outermost with their keys: no context above them on their path has the same.
+ghost use Rattle.std.specs.Prelude.{◌≡◌, ◌<◌, ◌^◌, IfOk, length};
+ghost use Rattle.md_dynamic.specs.Valid.{IsValid};
+ghost use Rattle.md_cost.specs.Outermost.{AreOutermost};
+ghost use Rattle.md_cost.specs.Paths.{EntriesRise};
+ghost use Rattle.md_cost.specs.Tree.{IsTree};
 
-use crate::descent::Children;
+use crate::claims::Claims;
+use crate::descent::{Children, above, descend};
+use crate::keys::{Keys, keys_of};
 use crate::tree::Tree;
 use md_base::NoMemory;
-use md_dynamic::LinkRow;
+use md_dynamic::Profile;
 use std::alloc::Global;
 
-/// For each context its key, where it has one and no context above it on its path has the same; keys are below `count`.
-/// Each context is entered once and left once, on a walk down from those of clique 0.
-pub fn outermost(
-    alloc: Global,
-    tree: &Tree,
-    links: &[LinkRow],
-    children: &Children,
-    keys: &[Option<u32>],
-    count: usize,
-) -> Result<Vec<Option<u32>>, NoMemory>
-    requires few { length tree.now.cliques < 2 ^ 32 }
-    requires entries { length tree.now.entries.items ≡ clique_count tree.now.cliques }
-    requires rise { EntriesRise tree.now.cliques tree.now.entries.items links.now }
-    requires threaded { AreThreaded (length tree.now.cliques) (above tree.now.cliques (start_of links.now tree.now.entries.items)) children.now.first.items children.now.next.items }
-    requires parents { AreParents (length tree.now.cliques) (above tree.now.cliques (start_of links.now tree.now.entries.items)) children.now.parents.items }
-    requires each { length keys.now ≡ length tree.now.cliques }
-    requires below { (d q : ℕ) → d < length tree.now.cliques → slice_index_or keys.now d None ≡ Some q → q < count }
-    ensures { IfOk result (λ marks. AreMarks tree.now.cliques (start_of links.now tree.now.entries.items) keys.now marks.items) }
+/// For each kind of key and each context, whether it has a key of the kind and no context above it on its path has the
+/// same.
+#[derive(Drop)]
+pub struct Outermost {
+    pub procedures: Vec<bool>,
+    pub modules: Vec<bool>,
+    pub sites: Vec<bool>,
+}
+
+/// Finds the outermost contexts. Each context is entered once and left once, on a walk down from those of clique 0.
+pub fn find_outermost(alloc: Global, profile: &Profile, tree: &Tree) -> Result<Outermost, NoMemory>
+    requires valid { IsValid profile.now }
+    requires tree { IsTree (length profile.now.nodes) profile.now.links tree.now.cliques tree.now.entries.items }
+    requires rise { EntriesRise tree.now.cliques tree.now.entries.items profile.now.links }
+    ensures { IfOk result (λ found. AreOutermost profile.now tree.now.cliques tree.now.entries.items found) }
 {
-    let nodes = keys.len() as u32;
+    let size = profile.nodes().len();
+    let nodes = size as u32;
+    let statics = profile.statics();
+    let Children { first, next } = descend(alloc, tree, profile.links(), nodes)?;
     let mut walk = Walk {
         at: nodes,
-        first: Vec::from_slice(alloc, &children.first)?,
-        active: vec![in alloc; false; count]?,
-        marks: vec![in alloc; None; keys.len()]?,
+        first,
+        procedures: Claims::none(alloc, statics.procs().len(), size)?,
+        modules: Claims::none(alloc, statics.modules().len(), size)?,
+        sites: Claims::none(alloc, statics.sites().len(), size)?,
     };
     while !walk.is_over(nodes) {
-        walk.step(tree, links, children, keys);
+        walk.step(profile, tree, &next);
     }
-    Ok(walk.marks)
+    let Walk {
+        at: _,
+        first: _,
+        procedures,
+        modules,
+        sites,
+    } = walk;
+    Ok(Outermost {
+        procedures: procedures.outermost,
+        modules: modules.outermost,
+        sites: sites.outermost,
+    })
+}
+
+impl Outermost {
+    ghost use Rattle.std.specs.Prelude.{◌≡◌, ◌<◌, length};
+    ghost use Rattle.md_cost.specs.Walking.{marked_by};
+
+    /// The keys of which a context is the outermost.
+    pub fn marks(&self, node: u32, keys: Keys) -> Keys
+        requires procedures { node < length self.now.procedures.items }
+        requires modules { node < length self.now.modules.items }
+        requires sites { node < length self.now.sites.items }
+        ensures procedures { result.procedures ≡ marked_by self.now.procedures.items node keys.procedures }
+        ensures modules { result.modules ≡ marked_by self.now.modules.items node keys.modules }
+        ensures sites { result.sites ≡ marked_by self.now.sites.items node keys.sites }
+    {
+        let node = node as usize;
+        Keys {
+            procedures: if self.procedures[node] {
+                keys.procedures
+            } else {
+                None
+            },
+            modules: if self.modules[node] {
+                keys.modules
+            } else {
+                None
+            },
+            sites: if self.sites[node] { keys.sites } else { None },
+        }
+    }
 }
 
 /// Where a walk is, the number past the last context being above all; the first context below each that was not entered;
-/// the keys of the contexts where the walk is; and the marks of those that were entered.
+/// and what it knows of the keys of each kind.
 #[derive(Drop)]
-struct Walk {
-    at: u32,
-    first: Vec<Option<u32>>,
-    active: Vec<bool>,
-    marks: Vec<Option<u32>>,
+pub struct Walk {
+    pub at: u32,
+    pub first: Vec<Option<u32>>,
+    pub procedures: Claims,
+    pub modules: Claims,
+    pub sites: Claims,
 }
 
 impl Walk {
+    ghost use Rattle.std.specs.Prelude.{◌≡◌, ◌<◌, ◌↔◌, IsTrue, None, length, slice_index_or, slice_set};
+    ghost use Rattle.md_dynamic.specs.Valid.{IsValid};
+    ghost use Rattle.md_cost.specs.Outermost.{Enters, Leaves, IsWithin, WalkStands};
+    ghost use Rattle.md_cost.specs.Paths.{EntriesRise, start_of};
+    ghost use Rattle.md_cost.specs.Tree.{IsTree};
+    ghost use Rattle.md_cost.specs.Walking.{AreNexts, above, work};
+
     /// Whether it has come back with nothing left to enter.
     fn is_over(&self, nodes: u32) -> bool
         requires { self.now.at < length self.now.first.items }
@@ -62,74 +115,63 @@ impl Walk {
     }
 
     /// Enters the next context below, or leaves this one.
-    fn step(&mut self, tree: &Tree, links: &[LinkRow], children: &Children, keys: &[Option<u32>])
-        requires few { length tree.now.cliques < 2 ^ 32 }
-        requires entries { length tree.now.entries.items ≡ clique_count tree.now.cliques }
-        requires rise { EntriesRise tree.now.cliques tree.now.entries.items links.now }
-        requires threaded { AreThreaded (length tree.now.cliques) (above tree.now.cliques (start_of links.now tree.now.entries.items)) children.now.first.items children.now.next.items }
-        requires parents { AreParents (length tree.now.cliques) (above tree.now.cliques (start_of links.now tree.now.entries.items)) children.now.parents.items }
-        requires each { length keys.now ≡ length tree.now.cliques }
-        requires below { (d q : ℕ) → d < length tree.now.cliques → slice_index_or keys.now d None ≡ Some q → q < length self.old.active.items }
-        requires stands { Stands tree.now.cliques (start_of links.now tree.now.entries.items) keys.now (length self.old.active.items) self.old.first.items self.old.active.items self.old.marks.items self.old.at }
+    fn step(&mut self, profile: &Profile, tree: &Tree, next: &[Option<u32>])
+        requires valid { IsValid profile.now }
+        requires tree { IsTree (length profile.now.nodes) profile.now.links tree.now.cliques tree.now.entries.items }
+        requires rise { EntriesRise tree.now.cliques tree.now.entries.items profile.now.links }
+        requires nexts { AreNexts (length tree.now.cliques) (above tree.now.cliques (start_of profile.now.links tree.now.entries.items)) next.now }
+        requires stands { WalkStands profile.now tree.now.cliques tree.now.entries.items self.old }
         requires more { (self.old.at ≡ length tree.now.cliques) × (slice_index_or self.old.first.items self.old.at None ≡ None) → ⊥ }
-        ensures stands { Stands tree.now.cliques (start_of links.now tree.now.entries.items) keys.now (length self.old.active.items) self.new.first.items self.new.active.items self.new.marks.items self.new.at }
+        ensures stands { WalkStands profile.now tree.now.cliques tree.now.entries.items self.new }
         ensures less { work tree.now.cliques self.new.first.items self.new.at < work tree.now.cliques self.old.first.items self.old.at }
     {
         match self.first[self.at as usize] {
-            Some(child) => self.enter(child, children.next[child as usize], keys[child as usize]),
-            None => self.leave(children.parents[self.at as usize]),
+            Some(child) => {
+                let keys = keys_of(profile, tree, child);
+                self.enter(child, next[child as usize], keys);
+            }
+            None => {
+                let keys = keys_of(profile, tree, self.at);
+                let nodes = profile.nodes().len() as u32;
+                let up = above(tree, profile.links(), nodes, self.at);
+                self.leave(up, keys);
+            }
         }
     }
 
     /// Enters a context below, after which this one is the next.
-    fn enter(&mut self, child: u32, next: Option<u32>, key: Option<u32>)
+    fn enter(&mut self, child: u32, next: Option<u32>, keys: Keys)
         requires at { self.old.at < length self.old.first.items }
-        requires child { child < length self.old.marks.items }
-        requires key { IfSome key (λ q. q < length self.old.active.items) }
+        requires procedures { IsWithin child keys.procedures self.old.procedures }
+        requires modules { IsWithin child keys.modules self.old.modules }
+        requires sites { IsWithin child keys.sites self.old.sites }
         ensures at { self.new.at ≡ child }
         ensures first { self.new.first.items ≡ slice_set self.old.first.items self.old.at next }
-        ensures active { self.new.active.items ≡ with_key self.old.active.items (claimed self.old.active.items key) }
-        ensures marks { self.new.marks.items ≡ slice_set self.old.marks.items child (claimed self.old.active.items key) }
+        ensures procedures { Enters child keys.procedures self.old.procedures self.new.procedures }
+        ensures modules { Enters child keys.modules self.old.modules self.new.modules }
+        ensures sites { Enters child keys.sites self.old.sites self.new.sites }
     {
         self.first[self.at as usize] = next;
-        self.marks[child as usize] = claim(&mut self.active, key);
+        self.procedures.enter(child, keys.procedures);
+        self.modules.enter(child, keys.modules);
+        self.sites.enter(child, keys.sites);
         self.at = child;
     }
 
     /// Leaves a context for the one above it.
-    fn leave(&mut self, up: u32)
-        requires at { self.old.at < length self.old.marks.items }
-        requires mark { IfSome (slice_index_or self.old.marks.items self.old.at None) (λ q. q < length self.old.active.items) }
+    fn leave(&mut self, up: u32, keys: Keys)
+        requires procedures { IsWithin self.old.at keys.procedures self.old.procedures }
+        requires modules { IsWithin self.old.at keys.modules self.old.modules }
+        requires sites { IsWithin self.old.at keys.sites self.old.sites }
         ensures at { self.new.at ≡ up }
         ensures first { self.new.first.items ≡ self.old.first.items }
-        ensures active { self.new.active.items ≡ without_key self.old.active.items (slice_index_or self.old.marks.items self.old.at None) }
-        ensures marks { self.new.marks.items ≡ self.old.marks.items }
+        ensures procedures { Leaves self.old.at keys.procedures self.old.procedures self.new.procedures }
+        ensures modules { Leaves self.old.at keys.modules self.old.modules self.new.modules }
+        ensures sites { Leaves self.old.at keys.sites self.old.sites self.new.sites }
     {
-        release(&mut self.active, self.marks[self.at as usize]);
+        self.procedures.leave(self.at, keys.procedures);
+        self.modules.leave(self.at, keys.modules);
+        self.sites.leave(self.at, keys.sites);
         self.at = up;
-    }
-}
-
-/// The key as a mark, unless it is active already; it is from now on.
-fn claim(active: &mut [bool], key: Option<u32>) -> Option<u32>
-    requires { IfSome key (λ q. q < length active.old) }
-    ensures mark { result ≡ claimed active.old key }
-    ensures active { active.new ≡ with_key active.old (claimed active.old key) }
-{
-    let key = key?;
-    if active[key as usize] {
-        return None;
-    }
-    active[key as usize] = true;
-    Some(key)
-}
-
-/// The key of a mark is no longer active.
-fn release(active: &mut [bool], mark: Option<u32>)
-    requires { IfSome mark (λ q. q < length active.old) }
-    ensures { active.new ≡ without_key active.old mark }
-{
-    if let Some(key) = mark {
-        active[key as usize] = false;
     }
 }

@@ -9,5 +9,5 @@ returns c =
     let kept = c.self.invariant.costs.modules in
     let each = kept.each in
     let there : c.args.id < length c.self.inside.profile.statics.modules = rw (← c.self.view_is) at c.requires in
-    let read = get_or_read c.self.inside.costs.modules.totals.items c.args.id c.index.result.now (omega arith) c.index.ensures zero_sums in
+    let read = get_or_read c.self.inside.costs.totals.modules.items c.args.id c.index.result.now (omega arith) c.index.ensures zero_sums in
     λ v m is. kept.is v c.args.id m (rw (← c.self.view_is) at is) there ∙ ap (λ (s : Sums). Some (sum_of s m)) (sym (read))

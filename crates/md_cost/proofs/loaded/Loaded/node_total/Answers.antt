@@ -12,6 +12,6 @@ returns c =
     let size = c.self.invariant.tree.cliques_are.each in
     let number = c.number.ensures in
     let there : c.args.node < length c.self.inside.profile.nodes = rw (← c.self.view_is) at c.requires in
-    let read = get_or_read c.self.inside.costs.totals.items c.number.result c.index.result.now (omega arith) c.index.ensures zero_sums in
-    λ v m is. total_of_context c.self.inside.profile c.self.invariant.valid c.self.inside.tree.cliques c.self.inside.tree.entries.items c.self.invariant.tree c.self.inside.costs.totals.items totals v (rw (← c.self.view_is) at is) c.args.node m there
-    ∙ ap (λ (s : Sums). Some (sum_of s m)) (sym (read ∙ ap (λ (i : ℕ). get_or c.self.inside.costs.totals.items i zero_sums) number))
+    let read = get_or_read c.self.inside.costs.contexts.items c.number.result c.index.result.now (omega arith) c.index.ensures zero_sums in
+    λ v m is. total_of_context c.self.inside.profile c.self.invariant.valid c.self.inside.tree.cliques c.self.inside.tree.entries.items c.self.invariant.tree c.self.inside.costs.contexts.items totals v (rw (← c.self.view_is) at is) c.args.node m there
+    ∙ ap (λ (s : Sums). Some (sum_of s m)) (sym (read ∙ ap (λ (i : ℕ). get_or c.self.inside.costs.contexts.items i zero_sums) number))

@@ -10,5 +10,5 @@ returns c =
     let each = kept.each in
     let number = c.number.ensures in
     let there : c.args.id < length c.self.inside.profile.statics.sites = rw (← c.self.view_is) at c.requires in
-    let read = get_or_read c.self.inside.costs.sites.own.items c.number.result c.index.result.now (omega arith) c.index.ensures zero_sums in
-    λ v m is. kept.is v c.args.id m (rw (← c.self.view_is) at is) there ∙ ap (λ (s : Sums). Some (sum_of s m)) (sym (read ∙ ap (λ (i : ℕ). get_or c.self.inside.costs.sites.own.items i zero_sums) number))
+    let read = get_or_read c.self.inside.costs.own.sites.items c.number.result c.index.result.now (omega arith) c.index.ensures zero_sums in
+    λ v m is. kept.is v c.args.id m (rw (← c.self.view_is) at is) there ∙ ap (λ (s : Sums). Some (sum_of s m)) (sym (read ∙ ap (λ (i : ℕ). get_or c.self.inside.costs.own.sites.items i zero_sums) number))
