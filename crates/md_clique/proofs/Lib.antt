@@ -9,8 +9,8 @@ pub mod Looking
 pub mod Close
 pub mod Classes
 pub mod Naming
-pub mod Chains
-pub mod Laying
+pub mod Sizes
+pub mod Placing
 pub mod EntryPlaces
 pub mod Entered
 pub mod Worked

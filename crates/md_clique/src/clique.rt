@@ -9,7 +9,7 @@ pub struct Cliques {
     /// The members of all cliques, one clique after another.
     order: Vec<u32>,
     /// Where the members of each clique begin, and where the last one's end.
-    starts: Vec<usize>,
+    starts: Vec<u32>,
 }
 
 impl Model for Cliques {
@@ -34,7 +34,7 @@ impl Cliques {
         numbers: Vec<u32>,
         count: u32,
         order: Vec<u32>,
-        starts: Vec<usize>,
+        starts: Vec<u32>,
     ) -> Cliques
         requires count { count ≡ clique_count numbers.items }
         requires starts { length starts.items ≡ count + 1 }
@@ -70,6 +70,6 @@ impl Cliques {
         ensures { result.now ≡ members_of self.now clique }
     {
         let clique = clique as usize;
-        &self.order[self.starts[clique]..self.starts[clique + 1]]
+        &self.order[self.starts[clique] as usize..self.starts[clique + 1] as usize]
     }
 }
