@@ -1,5 +1,5 @@
 -- The sums of a kind of rows are those of every view of the profile.
-use Rattle.std.proofs.Common.{◌≡◌, ℕ, ◌<◌, ◌^◌, List, length, get_or, Option, Some, None, sym, ap, ◌∙◌, arith}
+use Rattle.std.proofs.Common.{◌≡◌, ℕ, ◌<◌, ◌^◌, List, length, get_or, Option, Some, sym, ap, ◌∙◌, arith}
 use Rattle.std.specs.List.{slice_get}
 use Rattle.md_base.specs.declared.measure.Measure.{Measure}
 use Rattle.md_trace.specs.Context.{same_option}

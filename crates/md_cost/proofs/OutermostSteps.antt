@@ -1,5 +1,5 @@
 -- A step of the walk down the tree of contexts, with the keys of each kind.
-use Rattle.std.proofs.Common.{◌≡◌, ◌<◌, ℕ, List, Bool, length, get_or, set, replicate, false, Option, Some, None, IfSome, refl, ◌∙◌, sym, arith}
+use Rattle.std.proofs.Common.{◌≡◌, ◌<◌, ℕ, List, length, get_or, set, replicate, false, Option, Some, None, arith}
 use Rattle.md_dynamic.specs.Profile.{ProfileRows}
 use Rattle.md_dynamic.specs.Valid.{IsValid}
 use Rattle.md_clique.specs.Cliques.{clique_count}
@@ -27,9 +27,6 @@ within cliques starts key count below first claims at is d there = record {
 }
 
 module _ (f : ProfileRows) (valid : IsValid f) (cliques entries : List ℕ) (rise : EntriesRise cliques entries f.links) where
-  abbrev starts : ℕ → ℕ
-  starts k = start_of f.links entries k
-
   rises : (k : ℕ) → 0 < k → k < clique_count cliques → get_or cliques (start_of f.links entries k) 0 < k
   rises = entries_rise cliques entries f.links rise
 

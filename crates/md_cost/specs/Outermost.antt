@@ -1,6 +1,6 @@
 -- A walk down the tree of contexts that asks three things of each at once: whether it is the outermost of its procedure,
 -- of its module, and of the call site at which its clique is entered.
-use Rattle.std.specs.Prelude.{ℕ, ◌≡◌, ◌<◌, List, Bool, Option, IfSome, length, slice_set}
+use Rattle.std.specs.Prelude.{ℕ, ◌≡◌, ◌<◌, List, Option, IfSome, length, slice_set}
 use Rattle.md_dynamic.specs.Profile.{ProfileRows}
 use Rattle.md_cost.specs.declared.claims.Claims.{Claims}
 use Rattle.md_cost.specs.declared.outermost.Outermost.{Outermost}

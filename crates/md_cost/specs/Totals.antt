@@ -1,6 +1,6 @@
 -- What a profile says of links and contexts: own counts over the links that lead there, and totals over the links whose
 -- path up meets them.
-use Rattle.std.specs.Prelude.{ℕ, ◌==◌, Bool, List, Option, Some, None, slice_get, if◌then◌else◌, slice_index, sum_by}
+use Rattle.std.specs.Prelude.{ℕ, ◌==◌, Bool, List, Option, Some, None, slice_get, if◌then◌else◌, sum_by}
 use Rattle.std.specs.List.{list_any}
 use Rattle.md_base.specs.declared.measure.Measure.{Measure}
 use Rattle.md_base.specs.Counts.{count_of}
