@@ -1,23 +1,9 @@
 -- Words, one after the other.
-use Rattle.std.proofs.lemmas.List.{append_assoc}
-use Rattle.std.proofs.Common.{◌≡◌, ◌≢◌, ◌==◌, ◌≤◌, ◌<◌, ◌&&◌, refl, sym, ap, ◌∙◌, ℕ, suc, Bool, true, false, List, [], ◌∷◌, ◌++◌, length, None, Bor, arith}
+use Rattle.std.proofs.Common.{◌≡◌, ◌≢◌, ◌==◌, ◌≤◌, ◌<◌, ◌&&◌, refl, sym, ap, ℕ, suc, Bool, true, false, List, [], ◌∷◌, length, None, Bor, arith}
 use Rattle.std.proofs.lemmas.Bool.Decides.{nat_tests}
-use Rattle.md_words.specs.Settings.{Setting}
-use Rattle.md_words.specs.Split.{Split, with_other}
 use Rattle.std.specs.Prelude.{nat_le}
 use Rattle.md_words.specs.Form.{only, two, without_slash, are_few}
-use Rattle.md_words.specs.Told.{texts, before}
-
-texts-append : (ws : List (Bor (List ℕ))) (w : Bor (List ℕ)) → texts (ws ++ w ∷ []) ≡ texts ws ++ w.now ∷ []
-texts-append [] w = refl
-texts-append (v ∷ ws) w = ap (λ (ts : List (List ℕ)). v.now ∷ ts) (texts-append ws w)
-
--- a word that is no option goes to the others
-pub other_taken : (o : List Setting) (ws vs : List (Bor (List ℕ))) (w : Bor (List ℕ)) (s : Split) → vs ≡ ws ++ w ∷ []
-    → before o (texts vs) s ≡ before o (texts ws) (with_other w.now s)
-other_taken o ws vs w s is =
-    ap (λ (ts : List (List ℕ)). before o ts s) (ap texts is ∙ texts-append ws w)
-    ∙ ap (λ (ts : List (List ℕ)). record { options = o ++ s.options; others = ts }) (append_assoc (texts ws) (w.now ∷ []) s.others)
+use Rattle.md_words.specs.Told.{texts}
 
 pub as_many_texts : (ws : List (Bor (List ℕ))) → length (texts ws) ≡ length ws
 as_many_texts [] = refl

@@ -139,3 +139,33 @@ profiles-in-the-order-of-the-words = refl
 no-profiles-are-not-added-up : form (codes "sum" ∷ []) ≡ None
 unfolding on_words
 no-profiles-are-not-added-up = refl
+
+-- ---- where a word may be taken for an option or for no option
+
+an-option-behind-an-option-is-no-value : form (codes "run" ∷ codes "a.m" ∷ codes "--steps" ∷ codes "--" ∷ codes "5" ∷ []) ≡ None
+unfolding on_words
+an-option-behind-an-option-is-no-value = refl
+
+what-stands-behind-the-first-equals-is-the-value : form (codes "run" ∷ codes "a.m" ∷ codes "--profile=a=b" ∷ []) ≡ Some (Run (codes "a.m") 1000000 (codes "a=b"))
+unfolding on_words
+what-stands-behind-the-first-equals-is-the-value = refl
+
+a-dash-alone-is-a-value : form (codes "run" ∷ codes "a.m" ∷ codes "--profile" ∷ codes "-" ∷ []) ≡ Some (Run (codes "a.m") 1000000 (codes "-"))
+unfolding on_words
+a-dash-alone-is-a-value = refl
+
+a-flag-has-no-value : form (codes "check" ∷ codes "a.m" ∷ codes "--print=" ∷ []) ≡ None
+unfolding on_words
+a-flag-has-no-value = refl
+
+one-dash-begins-no-option : form (codes "run" ∷ codes "a.m" ∷ codes "-steps" ∷ codes "5" ∷ []) ≡ None
+unfolding on_words
+one-dash-begins-no-option = refl
+
+an-empty-word-is-a-file : form (codes "dump" ∷ [] ∷ []) ≡ Some (Dump [])
+unfolding on_words
+an-empty-word-is-a-file = refl
+
+no-command-is-help : form (codes "help" ∷ codes "run" ∷ []) ≡ None
+unfolding on_words
+no-command-is-help = refl

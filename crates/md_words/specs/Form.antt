@@ -1,13 +1,14 @@
 -- Which words are a command, and with which values.
-use Rattle.std.specs.Prelude.{ℕ, ◌≤◌, Bool, true, false, ◌==◌, ◌&&◌, nat_le, List, [], ◌∷◌, length, Option, Some, None, codes, cond, map, String, string_bytes}
+use Rattle.std.specs.Prelude.{ℕ, ◌≤◌, Bool, ◌==◌, ◌&&◌, nat_le, List, [], ◌∷◌, length, Option, Some, None, codes, cond, map, String, string_bytes, unwrap_or}
 use Rattle.std.specs.List.{before_first, after_first}
 use Rattle.std.specs.Str.{bytes_eq}
 use Rattle.std.specs.declared.alloc.Global.{Global}
 use Rattle.md_query.specs.Asked.{Asked, query_of}
-use Rattle.md_query.specs.Pair.{number_within}
-use Rattle.md_words.specs.declared.split.Place.TheVariants.{Front}
-use Rattle.md_words.specs.Settings.{Setting, Print, Summary, Steps, Port, Requests, Least, Profile}
-use Rattle.md_words.specs.Split.{Split, split}
+use Rattle.md_query.specs.Pair.{number_from, number_within}
+use Rattle.md_words.specs.declared.tool.Tool.{Tool}
+use Rattle.md_words.specs.declared.tool.Tool.TheVariants as tool
+use Rattle.md_words.specs.Parts.{Part, Front, are_right, is_given, others, parts_from, value_of}
+use Rattle.md_words.specs.Tools.{tool_named, usage_of}
 
 -- the words of the code as bytes
 abbrev pub words_of : List (String Global) → List (List ℕ)
@@ -39,59 +40,54 @@ pub data Form : Type 0 where
   -- `sum NAME { NAME }`
   Sum : (names : List (List ℕ)) → Form
 
--- ---- options: each comes at most once, and in any order; None where there are others
+-- ---- the command and the parts of the words after it
+
+abbrev pub right_parts : Tool → List Part → Option (Tool × List Part)
+right_parts tool parts = cond (are_right (usage_of tool) parts) (Some (tool, parts)) None
+
+abbrev pub parts_by : Option Tool → List (List ℕ) → Option (Tool × List Part)
+parts_by None words = None
+parts_by (Some tool) words = right_parts tool (parts_from (usage_of tool) Front words)
+
+-- the command that the first word names, and the parts of the other words, where the options are right
+abbrev pub parts_of : List (List ℕ) → Option (Tool × List Part)
+parts_of [] = None
+parts_of (command ∷ words) = parts_by (tool_named command) words
+
+-- ---- values of options
+
+-- a number within bounds, or the usual one where the option doesn't come
+abbrev pub number_or : (least most usual : ℕ) → Option (List ℕ) → Option ℕ
+number_or least most usual None = Some usual
+number_or least most usual (Some text) = number_within least most text
 
 abbrev pub usual_steps : ℕ
 usual_steps = 1000000
 
+-- the steps that a run is given
+abbrev pub steps_of : List Part → Option ℕ
+steps_of parts = number_or 1 16777216 usual_steps (value_of (codes "steps") parts)
+
 abbrev pub usual_profile : List ℕ
 usual_profile = codes "mdprof.data"
 
-abbrev pub print_of : List Setting → Option Bool
-print_of [] = Some false
-print_of (Print ∷ []) = Some true
-print_of options = None
-
-abbrev pub summary_of : List Setting → Option Bool
-summary_of [] = Some false
-summary_of (Summary ∷ []) = Some true
-summary_of options = None
-
-abbrev pub steps_of : List Setting → Option ℕ
-steps_of [] = Some usual_steps
-steps_of (Steps n ∷ []) = Some n
-steps_of options = None
-
--- steps, and the name of the profile
-abbrev pub running_of : List Setting → Option (ℕ × List ℕ)
-running_of [] = Some (usual_steps, usual_profile)
-running_of (Steps n ∷ []) = Some (n, usual_profile)
-running_of (Profile name ∷ []) = Some (usual_steps, name)
-running_of (Steps n ∷ Profile name ∷ []) = Some (n, name)
-running_of (Profile name ∷ Steps n ∷ []) = Some (n, name)
-running_of options = None
+-- where a run's profile goes
+abbrev pub profile_of : List Part → List ℕ
+profile_of parts = unwrap_or (value_of (codes "profile") parts) usual_profile
 
 abbrev pub usual_least : ℕ
 usual_least = 100
 
--- steps, and the least number of calls below a costly one
-abbrev pub weighing_of : List Setting → Option (ℕ × ℕ)
-weighing_of [] = Some (usual_steps, usual_least)
-weighing_of (Steps n ∷ []) = Some (n, usual_least)
-weighing_of (Least k ∷ []) = Some (usual_steps, k)
-weighing_of (Steps n ∷ Least k ∷ []) = Some (n, k)
-weighing_of (Least k ∷ Steps n ∷ []) = Some (n, k)
-weighing_of options = None
+-- the least number of calls below a costly one
+abbrev pub least_of : List Part → Option ℕ
+least_of parts = number_or 1 4294967295 usual_least (value_of (codes "least") parts)
 
 -- port and connections, neither of which is left out
-abbrev pub serving_of : List Setting → Option (ℕ × ℕ)
-serving_of (Port p ∷ Requests n ∷ []) = Some (p, n)
-serving_of (Requests n ∷ Port p ∷ []) = Some (p, n)
-serving_of options = None
+abbrev pub port_of : List Part → Option ℕ
+port_of parts = number_from 1 65535 (value_of (codes "port") parts)
 
-abbrev pub are_none : List Setting → Bool
-are_none [] = true
-are_none options = false
+abbrev pub requests_of : List Part → Option ℕ
+requests_of parts = number_from 1 1000000 (value_of (codes "requests") parts)
 
 -- ---- queries
 
@@ -119,22 +115,22 @@ abbrev pub two : List (List ℕ) → Option (List ℕ × List ℕ)
 two (a ∷ b ∷ []) = Some (a, b)
 two words = None
 
--- ---- commands, by their options and the other words
+-- ---- commands, by the values of their options and the other words
 
-abbrev pub check_of : Option Bool → (file : Option (List ℕ)) → Option Form
-check_of (Some print) (Some file) = Some (Check file print)
-check_of print file = None
+abbrev pub check_of : (print : Bool) (file : Option (List ℕ)) → Option Form
+check_of print None = None
+check_of print (Some file) = Some (Check file print)
 
 -- the profile isn't written over the program
-abbrev pub run_of : Option (ℕ × List ℕ) → (file : Option (List ℕ)) → Option Form
-run_of (Some (steps, profile)) (Some file) = cond (bytes_eq profile file) None (Some (Run file steps profile))
-run_of running file = None
+abbrev pub run_of : (steps : Option ℕ) (profile : List ℕ) (file : Option (List ℕ)) → Option Form
+run_of (Some steps) profile (Some file) = cond (bytes_eq profile file) None (Some (Run file steps profile))
+run_of steps profile file = None
 
 abbrev pub report_with : List ℕ → ℕ → Option Asked → Option Form
 report_with file steps None = None
 report_with file steps (Some query) = Some (Report file query steps)
 
-abbrev pub report_of : Option ℕ → (words : Option (List ℕ × List ℕ)) → Option Form
+abbrev pub report_of : (steps : Option ℕ) (words : Option (List ℕ × List ℕ)) → Option Form
 report_of (Some steps) (Some (file, query)) = report_with file steps (query_in query)
 report_of steps words = None
 
@@ -142,45 +138,45 @@ abbrev pub page_with : List ℕ → Option Asked → Option Form
 page_with name None = None
 page_with name (Some query) = Some (Page name query)
 
-abbrev pub page_of : Bool → (words : Option (List ℕ × List ℕ)) → Option Form
-page_of true (Some (name, query)) = page_with name (query_in query)
-page_of bare words = None
+abbrev pub page_of : (words : Option (List ℕ × List ℕ)) → Option Form
+page_of None = None
+page_of (Some (name, query)) = page_with name (query_in query)
 
-abbrev pub serve_of : Option (ℕ × ℕ) → (name : Option (List ℕ)) → Option Form
-serve_of (Some (port, requests)) (Some name) = Some (Serve name port requests)
-serve_of serving name = None
+abbrev pub serve_of : (port requests : Option ℕ) (name : Option (List ℕ)) → Option Form
+serve_of (Some port) (Some requests) (Some name) = Some (Serve name port requests)
+serve_of port requests name = None
 
 abbrev pub gen_with : Bool → Option ℕ → Option Form
 gen_with summary None = None
 gen_with summary (Some n) = Some (Gen n summary)
 
-abbrev pub gen_of : Option Bool → (word : Option (List ℕ)) → Option Form
-gen_of (Some summary) (Some word) = gen_with summary (number_within 1 20 word)
-gen_of summary word = None
+abbrev pub gen_of : (summary : Bool) (word : Option (List ℕ)) → Option Form
+gen_of summary None = None
+gen_of summary (Some word) = gen_with summary (number_within 1 20 word)
 
 -- a file isn't written over itself
-abbrev pub migrate_of : Bool → (words : Option (List ℕ × List ℕ)) → Option Form
-migrate_of true (Some (name, new)) = cond (bytes_eq name new) None (Some (Migrate name new))
-migrate_of bare words = None
+abbrev pub migrate_of : (words : Option (List ℕ × List ℕ)) → Option Form
+migrate_of None = None
+migrate_of (Some (name, new)) = cond (bytes_eq name new) None (Some (Migrate name new))
 
 -- a program isn't written over
-abbrev pub feedback_of : Option (ℕ × ℕ) → (words : Option (List ℕ × List ℕ)) → Option Form
-feedback_of (Some (steps, least)) (Some (file, new)) = cond (bytes_eq file new) None (Some (Feedback file new steps least))
-feedback_of weighing words = None
+abbrev pub feedback_of : (steps least : Option ℕ) (words : Option (List ℕ × List ℕ)) → Option Form
+feedback_of (Some steps) (Some least) (Some (file, new)) = cond (bytes_eq file new) None (Some (Feedback file new steps least))
+feedback_of steps least words = None
 
-abbrev pub dump_of : Bool → (name : Option (List ℕ)) → Option Form
-dump_of true (Some name) = Some (Dump name)
-dump_of bare name = None
+abbrev pub dump_of : (name : Option (List ℕ)) → Option Form
+dump_of None = None
+dump_of (Some name) = Some (Dump name)
 
-abbrev pub undump_of : Bool → (words : Option (List ℕ × List ℕ)) → Option Form
-undump_of true (Some (text, new)) = cond (bytes_eq text new) None (Some (Undump text new))
-undump_of bare words = None
+abbrev pub undump_of : (words : Option (List ℕ × List ℕ)) → Option Form
+undump_of None = None
+undump_of (Some (text, new)) = cond (bytes_eq text new) None (Some (Undump text new))
 
 abbrev pub cover_with : List ℕ → ℕ → (procedure : Option ℕ) → Option Form
 cover_with file steps None = None
 cover_with file steps (Some q) = Some (Cover file q steps)
 
-abbrev pub cover_of : Option ℕ → (words : Option (List ℕ × List ℕ)) → Option Form
+abbrev pub cover_of : (steps : Option ℕ) (words : Option (List ℕ × List ℕ)) → Option Form
 cover_of (Some steps) (Some (file, word)) = cover_with file steps (number_within 0 4294967295 word)
 cover_of steps words = None
 
@@ -188,34 +184,31 @@ cover_of steps words = None
 abbrev pub are_few : List (List ℕ) → Bool
 are_few names = nat_le 1 (length names) && nat_le (length names) 16
 
-abbrev pub sum_of : Bool → (names : List (List ℕ)) → Option Form
-sum_of true names = cond (are_few names) (Some (Sum names)) None
-sum_of bare names = None
+abbrev pub sum_of : (names : List (List ℕ)) → Option Form
+sum_of names = cond (are_few names) (Some (Sum names)) None
 
--- what a command that looks further into a profile and the words after it ask for
-abbrev pub later_form_of : List ℕ → Split → Option Form
-later_form_of command s =
-    cond (bytes_eq command (codes "feedback")) (feedback_of (weighing_of s.options) (two s.others))
-    (cond (bytes_eq command (codes "dump")) (dump_of (are_none s.options) (only s.others))
-    (cond (bytes_eq command (codes "undump")) (undump_of (are_none s.options) (two s.others))
-    (cond (bytes_eq command (codes "cover")) (cover_of (steps_of s.options) (two s.others))
-    (cond (bytes_eq command (codes "sum")) (sum_of (are_none s.options) s.others) None))))
+-- what a command and the parts of the words after it ask for
+abbrev pub form_by : Tool → List Part → Option Form
+form_by tool.Check parts = check_of (is_given (codes "print") parts) (only (others parts))
+form_by tool.Run parts = run_of (steps_of parts) (profile_of parts) (only (others parts))
+form_by tool.Report parts = report_of (steps_of parts) (two (others parts))
+form_by tool.Page parts = page_of (two (others parts))
+form_by tool.Serve parts = serve_of (port_of parts) (requests_of parts) (only (others parts))
+form_by tool.Gen parts = gen_of (is_given (codes "summary") parts) (only (others parts))
+form_by tool.Migrate parts = migrate_of (two (others parts))
+form_by tool.Feedback parts = feedback_of (steps_of parts) (least_of parts) (two (others parts))
+form_by tool.Dump parts = dump_of (only (others parts))
+form_by tool.Undump parts = undump_of (two (others parts))
+form_by tool.Cover parts = cover_of (steps_of parts) (two (others parts))
+form_by tool.Sum parts = sum_of (others parts)
 
--- what a command and the words after it ask for
-abbrev pub form_of : List ℕ → Split → Option Form
-form_of command s =
-    cond (bytes_eq command (codes "check")) (check_of (print_of s.options) (only s.others))
-    (cond (bytes_eq command (codes "run")) (run_of (running_of s.options) (only s.others))
-    (cond (bytes_eq command (codes "report")) (report_of (steps_of s.options) (two s.others))
-    (cond (bytes_eq command (codes "page")) (page_of (are_none s.options) (two s.others))
-    (cond (bytes_eq command (codes "serve")) (serve_of (serving_of s.options) (only s.others))
-    (cond (bytes_eq command (codes "gen")) (gen_of (summary_of s.options) (only s.others))
-    (cond (bytes_eq command (codes "migrate")) (migrate_of (are_none s.options) (two s.others)) (later_form_of command s)))))))
+abbrev pub form_at : Option (Tool × List Part) → Option Form
+form_at None = None
+form_at (Some (tool, parts)) = form_by tool parts
 
 -- what the words ask for, where they are a command
 unfoldable pub form : List (List ℕ) → Option Form
-form [] = None
-form (command ∷ words) = form_of command (split Front words)
+form words = form_at (parts_of words)
 
 -- ---- what holds of every command
 

@@ -1,4 +1,6 @@
-pub mod Settings
-pub mod Split
+pub mod Parts
+pub mod Tools
 pub mod Form
 pub mod Told
+pub mod Lines
+pub mod Reading

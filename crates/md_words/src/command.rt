@@ -1,12 +1,19 @@
 // Which words are a command.
-ghost use Rattle.std.specs.Prelude.{◌≡◌, ◌==◌, IfOk, IfSome};
+ghost use Rattle.std.specs.Prelude.{◌≡◌, ◌≤◌, ◌==◌, IfOk, IfSome, List, Some, codes, true};
 ghost use Rattle.std.specs.List.{before_first, after_first};
+ghost use Rattle.clap.specs.Matches.{found_of};
+ghost use Rattle.clap.specs.Walk.{rows_of};
+ghost use Rattle.md_query.specs.Pair.{number_from};
 ghost use Rattle.md_query.specs.Told.{asked_told};
-ghost use Rattle.md_words.specs.Form.{words_of, HasBounds, form, form_of, later_form_of, feedback_of, dump_of, undump_of, cover_of, cover_with, sum_of, are_few, weighing_of, check_of, run_of, report_of, page_of, serve_of, gen_of, migrate_of, print_of, summary_of, steps_of, running_of, serving_of, are_none, without_slash, query_in, query_at, only, two};
-ghost use Rattle.md_words.specs.Told.{told, settings_told, split_told, command_told, texts, text_told, pair_told, running_told};
+ghost use Rattle.md_words.specs.Parts.{Part, Usage, takes_value};
+ghost use Rattle.md_words.specs.Tools.{usage_of};
+ghost use Rattle.md_words.specs.Form.{words_of, HasBounds, form, form_at, form_by, number_or, steps_of, profile_of, least_of, port_of, requests_of, feedback_of, dump_of, undump_of, cover_of, sum_of, are_few, check_of, run_of, report_of, page_of, serve_of, gen_of, migrate_of, query_in, query_at, without_slash, only, two};
+ghost use Rattle.md_words.specs.Told.{told, command_told, texts, text_told, pair_told, words_told};
+ghost use Rattle.md_words.specs.Reading.{IsReading, Tells};
 
-use crate::option::Setting;
-use crate::split::{Words, words_after};
+use crate::reading::{is_given, matches_of, others, value_of};
+use crate::tool::{Tool, tool_named};
+use clap::ArgMatches;
 use md_base::NoMemory;
 use md_query::{Query, QueryFault, number_within, read_query};
 use std::alloc::Global;
@@ -22,6 +29,18 @@ const MOST_GENERATED: u32 = 20;
 
 /// The most profiles that are added up.
 const MOST_PROFILES: usize = 16;
+
+/// The most steps that a run may be given.
+const MOST_STEPS: u32 = 16_777_216;
+
+/// The greatest number of a port.
+const LAST_PORT: u32 = 65_535;
+
+/// The most connections that are served.
+const MOST_REQUESTS: u32 = 1_000_000;
+
+/// The greatest number of calls below a costly one that may be asked for.
+const GREATEST_LEAST: u32 = 4_294_967_295;
 
 /// How many calls are below a costly one where the words don't say it.
 const USUAL_LEAST: u32 = 100;
@@ -102,77 +121,67 @@ pub fn command_of<'a>(alloc: Global, words: &'a [String]) -> Result<Option<Comma
     ensures form { IfOk result (λ found. command_told found ≡ form (words_of words.now)) }
     ensures bounds { IfOk result (λ found. IfSome found (λ command. HasBounds (told command))) }
 {
-    let [command, rest @ ..] = words else {
-        return Ok(None);
-    };
-    let words = words_after(alloc, rest)?;
-    command_by(alloc, command.as_str(), &words)
-}
-
-/// The command of this name, by the words after it.
-fn command_by<'a>(
-    alloc: Global,
-    command: &str,
-    words: &Words<'a>,
-) -> Result<Option<Command<'a>>, NoMemory>
-    ensures { IfOk result (λ found. command_told found ≡ form_of command.now (split_told words.now)) }
-{
-    if command == "check" {
-        Ok(check_command(printing(&words.options), only(&words.others)))
-    } else if command == "run" {
-        Ok(run_command(running(&words.options), only(&words.others)))
-    } else if command == "report" {
-        report_command(alloc, steps(&words.options), two(&words.others))
-    } else if command == "page" {
-        page_command(alloc, bare(&words.options), two(&words.others))
-    } else if command == "serve" {
-        Ok(serve_command(serving(&words.options), only(&words.others)))
-    } else if command == "gen" {
-        Ok(gen_command(summing(&words.options), only(&words.others)))
-    } else if command == "migrate" {
-        Ok(migrate_command(bare(&words.options), two(&words.others)))
-    } else {
-        later_command_by(alloc, command, words)
+    match matches_of(alloc, words)? {
+        Some(matches) => command_in(alloc, &matches),
+        None => Ok(None),
     }
 }
 
-/// The same of the commands that look further into a profile.
-fn later_command_by<'a>(
-    alloc: Global,
-    command: &str,
-    words: &Words<'a>,
-) -> Result<Option<Command<'a>>, NoMemory>
-    ensures { IfOk result (λ found. command_told found ≡ later_form_of command.now (split_told words.now)) }
+/// The command that matches enter, by its name.
+fn command_in<'a>(alloc: Global, matches: &ArgMatches<'a>) -> Result<Option<Command<'a>>, NoMemory>
+    ensures { (tool : Tool) (parts : List Part) → IsReading (Some (tool, parts)) (Some matches.now) → IfOk result (λ found. command_told found ≡ form_by tool parts) }
 {
-    if command == "feedback" {
-        Ok(feedback_command(weighing(&words.options), two(&words.others)))
-    } else if command == "dump" {
-        Ok(dump_command(bare(&words.options), only(&words.others)))
-    } else if command == "undump" {
-        Ok(undump_command(bare(&words.options), two(&words.others)))
-    } else if command == "cover" {
-        Ok(cover_command(steps(&words.options), two(&words.others)))
-    } else if command == "sum" {
-        sum_command(alloc, bare(&words.options), &words.others)
-    } else {
-        Ok(None)
+    let Some((name, values)) = matches.subcommand() else {
+        return Ok(None);
+    };
+    match tool_named(name) {
+        Some(tool) => command_by(alloc, tool, values),
+        None => Ok(None),
+    }
+}
+
+/// A command, by the values of its options and its other words.
+fn command_by<'a>(
+    alloc: Global,
+    tool: Tool,
+    values: &ArgMatches<'a>,
+) -> Result<Option<Command<'a>>, NoMemory>
+    ensures { (parts : List Part) → Tells (usage_of tool) parts (rows_of (found_of values.now)) → IfOk result (λ found. command_told found ≡ form_by tool parts) }
+{
+    let words = others(values);
+    match tool {
+        Tool::Check => Ok(check_command(is_given(values, "print"), only(words))),
+        Tool::Run => Ok(run_command(steps(values), profile(values), only(words))),
+        Tool::Report => report_command(alloc, steps(values), two(words)),
+        Tool::Page => page_command(alloc, two(words)),
+        Tool::Serve => Ok(serve_command(port(values), requests(values), only(words))),
+        Tool::Gen => Ok(gen_command(is_given(values, "summary"), only(words))),
+        Tool::Migrate => Ok(migrate_command(two(words))),
+        Tool::Feedback => Ok(feedback_command(steps(values), least(values), two(words))),
+        Tool::Dump => Ok(dump_command(only(words))),
+        Tool::Undump => Ok(undump_command(two(words))),
+        Tool::Cover => Ok(cover_command(steps(values), two(words))),
+        Tool::Sum => sum_command(alloc, words),
     }
 }
 
 /// `check FILE [--print]`.
-fn check_command<'a>(print: Option<bool>, file: Option<&'a str>) -> Option<Command<'a>>
+fn check_command<'a>(print: bool, file: Option<&'a str>) -> Option<Command<'a>>
     ensures { command_told result ≡ check_of print (text_told file.entry) }
 {
-    let print = print?;
     let file = file?;
     Some(Command::Check { file, print })
 }
 
 /// `run FILE [--steps N] [--profile NAME]`, where the profile isn't written over the program.
-fn run_command<'a>(running: Option<(u32, &'a str)>, file: Option<&'a str>) -> Option<Command<'a>>
-    ensures { command_told result ≡ run_of (running_told running.entry) (text_told file.entry) }
+fn run_command<'a>(
+    steps: Option<u32>,
+    profile: &'a str,
+    file: Option<&'a str>,
+) -> Option<Command<'a>>
+    ensures { command_told result ≡ run_of steps profile.entry.now (text_told file.entry) }
 {
-    let (steps, profile) = running?;
+    let steps = steps?;
     let file = file?;
     if profile == file {
         return None;
@@ -207,14 +216,10 @@ fn report_command<'a>(
 /// `page NAME QUERY`.
 fn page_command<'a>(
     alloc: Global,
-    bare: bool,
     words: Option<(&'a str, &'a str)>,
 ) -> Result<Option<Command<'a>>, NoMemory>
-    ensures { IfOk result (λ found. command_told found ≡ page_of bare (pair_told words.entry)) }
+    ensures { IfOk result (λ found. command_told found ≡ page_of (pair_told words.entry)) }
 {
-    if !bare {
-        return Ok(None);
-    }
     let Some((name, query)) = words else {
         return Ok(None);
     };
@@ -225,10 +230,15 @@ fn page_command<'a>(
 }
 
 /// `serve NAME --port P --requests N`.
-fn serve_command<'a>(serving: Option<(u16, u32)>, name: Option<&'a str>) -> Option<Command<'a>>
-    ensures { command_told result ≡ serve_of serving (text_told name.entry) }
+fn serve_command<'a>(
+    port: Option<u16>,
+    requests: Option<u32>,
+    name: Option<&'a str>,
+) -> Option<Command<'a>>
+    ensures { command_told result ≡ serve_of port requests (text_told name.entry) }
 {
-    let (port, requests) = serving?;
+    let port = port?;
+    let requests = requests?;
     let name = name?;
     Some(Command::Serve {
         name,
@@ -238,22 +248,18 @@ fn serve_command<'a>(serving: Option<(u16, u32)>, name: Option<&'a str>) -> Opti
 }
 
 /// `gen N [--summary]`.
-fn gen_command<'a>(summary: Option<bool>, word: Option<&str>) -> Option<Command<'a>>
+fn gen_command<'a>(summary: bool, word: Option<&str>) -> Option<Command<'a>>
     ensures { command_told result ≡ gen_of summary (text_told word.entry) }
 {
-    let summary = summary?;
     let word = word?;
     let n = number_within(1, MOST_GENERATED, word.as_bytes())?;
     Some(Command::Gen { n, summary })
 }
 
 /// `migrate NAME NEW`, where a file isn't written over itself.
-fn migrate_command<'a>(bare: bool, words: Option<(&'a str, &'a str)>) -> Option<Command<'a>>
-    ensures { command_told result ≡ migrate_of bare (pair_told words.entry) }
+fn migrate_command<'a>(words: Option<(&'a str, &'a str)>) -> Option<Command<'a>>
+    ensures { command_told result ≡ migrate_of (pair_told words.entry) }
 {
-    if !bare {
-        return None;
-    }
     let (name, new) = words?;
     if name == new {
         return None;
@@ -263,12 +269,14 @@ fn migrate_command<'a>(bare: bool, words: Option<(&'a str, &'a str)>) -> Option<
 
 /// `feedback FILE NEW [--steps N] [--least K]`, where the program isn't written over.
 fn feedback_command<'a>(
-    weighing: Option<(u32, u32)>,
+    steps: Option<u32>,
+    least: Option<u32>,
     words: Option<(&'a str, &'a str)>,
 ) -> Option<Command<'a>>
-    ensures { command_told result ≡ feedback_of weighing (pair_told words.entry) }
+    ensures { command_told result ≡ feedback_of steps least (pair_told words.entry) }
 {
-    let (steps, least) = weighing?;
+    let steps = steps?;
+    let least = least?;
     let (file, new) = words?;
     if file == new {
         return None;
@@ -282,23 +290,17 @@ fn feedback_command<'a>(
 }
 
 /// `dump NAME`.
-fn dump_command<'a>(bare: bool, name: Option<&'a str>) -> Option<Command<'a>>
-    ensures { command_told result ≡ dump_of bare (text_told name.entry) }
+fn dump_command<'a>(name: Option<&'a str>) -> Option<Command<'a>>
+    ensures { command_told result ≡ dump_of (text_told name.entry) }
 {
-    if !bare {
-        return None;
-    }
     let name = name?;
     Some(Command::Dump { name })
 }
 
 /// `undump TEXT NEW`, where a file isn't written over itself.
-fn undump_command<'a>(bare: bool, words: Option<(&'a str, &'a str)>) -> Option<Command<'a>>
-    ensures { command_told result ≡ undump_of bare (pair_told words.entry) }
+fn undump_command<'a>(words: Option<(&'a str, &'a str)>) -> Option<Command<'a>>
+    ensures { command_told result ≡ undump_of (pair_told words.entry) }
 {
-    if !bare {
-        return None;
-    }
     let (text, new) = words?;
     if text == new {
         return None;
@@ -316,15 +318,17 @@ fn cover_command<'a>(steps: Option<u32>, words: Option<(&'a str, &'a str)>) -> O
     Some(Command::Cover { file, proc, steps })
 }
 
-/// `sum NAME { NAME }`, of 1 to 16 profiles.
+/// `sum NAME { NAME }`, of 1 to 16 profiles. There may be any number of words in clap's view, so they are counted here.
 fn sum_command<'a>(
     alloc: Global,
-    bare: bool,
-    names: &[&'a str],
+    names: Option<&[&'a str]>,
 ) -> Result<Option<Command<'a>>, NoMemory>
-    ensures { IfOk result (λ found. command_told found ≡ sum_of bare (texts names.now)) }
+    ensures { IfOk result (λ found. command_told found ≡ sum_of (words_told names.entry)) }
 {
-    if !bare || !are_few(names) {
+    let Some(names) = names else {
+        return Ok(None);
+    };
+    if !are_few(names) {
         return Ok(None);
     }
     let names = copies(alloc, names)?;
@@ -350,9 +354,10 @@ fn copies<'a>(alloc: Global, words: &[&'a str]) -> Result<Vec<&'a str>, NoMemory
 }
 
 /// The one word, where there is one.
-fn only<'a>(words: &[&'a str]) -> Option<&'a str>
-    ensures { text_told result ≡ only (texts words.now) }
+fn only<'a>(words: Option<&[&'a str]>) -> Option<&'a str>
+    ensures { text_told result ≡ only (words_told words.entry) }
 {
+    let words = words?;
     if words.len() == 1 {
         Some(words[0])
     } else {
@@ -361,9 +366,10 @@ fn only<'a>(words: &[&'a str]) -> Option<&'a str>
 }
 
 /// The two words, where there are two.
-fn two<'a>(words: &[&'a str]) -> Option<(&'a str, &'a str)>
-    ensures { pair_told result ≡ two (texts words.now) }
+fn two<'a>(words: Option<&[&'a str]>) -> Option<(&'a str, &'a str)>
+    ensures { pair_told result ≡ two (words_told words.entry) }
 {
+    let words = words?;
     if words.len() == 2 {
         Some((words[0], words[1]))
     } else {
@@ -411,81 +417,59 @@ fn around_mark(address: &str) -> (&str, &str)
     }
 }
 
-/// Whether the options are `--print`, which comes at most once, or none; `None` where there are others.
-fn printing(options: &[Setting]) -> Option<bool>
-    ensures { result ≡ print_of (settings_told options.now) }
+/// The steps that a run is given.
+fn steps(values: &ArgMatches<'_>) -> Option<u32>
+    ensures { (usage : Usage) (parts : List Part) → Tells usage parts (rows_of (found_of values.now)) → takes_value usage (codes "steps") ≡ true → result ≡ steps_of parts }
 {
-    match options {
-        [] => Some(false),
-        [Setting::Print] => Some(true),
-        _ => None,
+    number_or(1, MOST_STEPS, USUAL_STEPS, value_of(values, "steps"))
+}
+
+/// Where a run's profile goes.
+fn profile<'a>(values: &ArgMatches<'a>) -> &'a str
+    ensures { (usage : Usage) (parts : List Part) → Tells usage parts (rows_of (found_of values.now)) → takes_value usage (codes "profile") ≡ true → result.now ≡ profile_of parts }
+{
+    match value_of(values, "profile") {
+        Some(name) => name,
+        None => USUAL_PROFILE,
     }
 }
 
-/// Whether the options are `--summary`, which comes at most once, or none; `None` where there are others.
-fn summing(options: &[Setting]) -> Option<bool>
-    ensures { result ≡ summary_of (settings_told options.now) }
+/// The least number of calls below a costly one.
+fn least(values: &ArgMatches<'_>) -> Option<u32>
+    ensures { (usage : Usage) (parts : List Part) → Tells usage parts (rows_of (found_of values.now)) → takes_value usage (codes "least") ≡ true → result ≡ least_of parts }
 {
-    match options {
-        [] => Some(false),
-        [Setting::Summary] => Some(true),
-        _ => None,
+    number_or(1, GREATEST_LEAST, USUAL_LEAST, value_of(values, "least"))
+}
+
+/// The port that is listened at.
+fn port(values: &ArgMatches<'_>) -> Option<u16>
+    ensures { (usage : Usage) (parts : List Part) → Tells usage parts (rows_of (found_of values.now)) → takes_value usage (codes "port") ≡ true → result ≡ port_of parts }
+{
+    let number = number_in(1, LAST_PORT, value_of(values, "port"))?;
+    Some(number as u16)
+}
+
+/// How many connections are served.
+fn requests(values: &ArgMatches<'_>) -> Option<u32>
+    ensures { (usage : Usage) (parts : List Part) → Tells usage parts (rows_of (found_of values.now)) → takes_value usage (codes "requests") ≡ true → result ≡ requests_of parts }
+{
+    number_in(1, MOST_REQUESTS, value_of(values, "requests"))
+}
+
+/// The number that a value is, within its bounds, or the usual one where there is no value.
+fn number_or(least: u32, most: u32, usual: u32, value: Option<&str>) -> Option<u32>
+    ensures { result ≡ number_or least most usual (text_told value.entry) }
+{
+    match value {
+        Some(text) => number_within(least, most, text.as_bytes()),
+        None => Some(usual),
     }
 }
 
-/// Whether there are no options.
-fn bare(options: &[Setting]) -> bool
-    ensures { result ≡ are_none (settings_told options.now) }
+/// The number that a value is, within its bounds.
+fn number_in(least: u32, most: u32, value: Option<&str>) -> Option<u32>
+    ensures number { result ≡ number_from least most (text_told value.entry) }
+    ensures most { IfSome result (λ n. n ≤ most) }
 {
-    options.is_empty()
-}
-
-/// The steps of a run, by the options: `--steps`, which comes at most once, or none; `None` where there are others.
-fn steps(options: &[Setting]) -> Option<u32>
-    ensures { result ≡ steps_of (settings_told options.now) }
-{
-    match options {
-        [] => Some(USUAL_STEPS),
-        [Setting::Steps(steps)] => Some(*steps),
-        _ => None,
-    }
-}
-
-/// The steps of a run and the name of its profile, by the options; `None` where there are others.
-fn running<'a>(options: &[Setting<'a>]) -> Option<(u32, &'a str)>
-    ensures { running_told result ≡ running_of (settings_told options.now) }
-{
-    match options {
-        [] => Some((USUAL_STEPS, USUAL_PROFILE)),
-        [Setting::Steps(steps)] => Some((*steps, USUAL_PROFILE)),
-        [Setting::Profile(name)] => Some((USUAL_STEPS, *name)),
-        [Setting::Steps(steps), Setting::Profile(name)] => Some((*steps, *name)),
-        [Setting::Profile(name), Setting::Steps(steps)] => Some((*steps, *name)),
-        _ => None,
-    }
-}
-
-/// The steps of a run and the least number of calls below a costly one, by the options; `None` where there are others.
-fn weighing(options: &[Setting]) -> Option<(u32, u32)>
-    ensures { result ≡ weighing_of (settings_told options.now) }
-{
-    match options {
-        [] => Some((USUAL_STEPS, USUAL_LEAST)),
-        [Setting::Steps(steps)] => Some((*steps, USUAL_LEAST)),
-        [Setting::Least(least)] => Some((USUAL_STEPS, *least)),
-        [Setting::Steps(steps), Setting::Least(least)] => Some((*steps, *least)),
-        [Setting::Least(least), Setting::Steps(steps)] => Some((*steps, *least)),
-        _ => None,
-    }
-}
-
-/// The port and the number of connections, neither of which is left out; `None` where there are others.
-fn serving(options: &[Setting]) -> Option<(u16, u32)>
-    ensures { result ≡ serving_of (settings_told options.now) }
-{
-    match options {
-        [Setting::Port(port), Setting::Requests(requests)] => Some((*port, *requests)),
-        [Setting::Requests(requests), Setting::Port(port)] => Some((*port, *requests)),
-        _ => None,
-    }
+    number_within(least, most, value?.as_bytes())
 }

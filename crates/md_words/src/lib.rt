@@ -2,9 +2,10 @@
 #![tactic(auto)]
 
 mod command;
-mod option;
-mod split;
+mod reading;
 #[cfg(test)]
 mod tests;
+mod tool;
+mod usage;
 
 pub use command::{Command, command_of};

@@ -1,8 +1,14 @@
-use Rattle.md_words.proofs.Bounds.{bounds_by}
-use Rattle.std.specs.Prelude.{drop, take, length, ◌-◌}
-use Rattle.md_words.specs.Form.{words_of}
-use Rattle.md_words.specs.Told.{split_told}
+use Rattle.std.proofs.Common.{subst}
+use Rattle.std.specs.Prelude.{Option}
+use Rattle.clap.specs.declared.parser.matches.ArgMatches.{ArgMatches}
+use Rattle.md_words.specs.Form.{parts_of, words_of}
+use Rattle.md_words.specs.Reading.{IsReading}
+use Rattle.md_words.proofs.Bounds.{bounds_by, form_read}
 use Rattle.md_words.proofs.command.command_of.Goals as goal
 
-pub returns-clause-bounds : goal.returns-clause-bounds
-returns-clause-bounds c = bounds_by c.as_str.result.now (words_of (take (length c.args.words.now - 1) (drop 1 c.args.words.now))) (split_told c.in_ok-words.words) c.command_by.result c.in_ok-words.ensures c.command_by.ensures
+pub returns-in-Some-clause-bounds : goal.returns-in-Some-clause-bounds
+returns-in-Some-clause-bounds c =
+    let words = words_of c.args.words.now in
+    bounds_by words c.command_in.result
+    (form_read words c.in-Some.matches c.command_in.result
+    (subst (λ (o : Option ArgMatches). IsReading (parts_of words) o) c.in-Some.is c.in_ok-matches.ensures) c.command_in.ensures)

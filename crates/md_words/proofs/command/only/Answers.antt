@@ -1,6 +1,13 @@
-use Rattle.std.proofs.Common.{sym, arith}
+use Rattle.std.proofs.Common.{rules, arith, ◌≡◌, ◌∙◌, Some, List, ap, sym}
+use Rattle.std.specs.Prelude.{Option}
+use Rattle.std.specs.Borrow.{Bor}
+use Rattle.md_words.specs.Parts.{Text}
+use Rattle.md_words.specs.Form.{only}
+use Rattle.md_words.specs.Told.{words_told}
 use Rattle.md_words.proofs.WordLemmas.{not_only}
 use Rattle.md_words.proofs.command.only.Goals as goal
 
 pub returns-else-words-eq1 : goal.returns-else-words-eq1
-returns-else-words-eq1 c = sym (not_only c.args.words.now (λ one. absurd (omega (arith, one, c.if-words-eq1.false))))
+returns-else-words-eq1 c =
+    let is : c.args.words ≡ Some c.in_ok-words.words = search rules in
+    sym (ap (λ (o : Option (Bor (List (Bor Text)))). only (words_told o)) is ∙ not_only c.in_ok-words.words.now (λ more. absurd (omega (arith, more, c.if-words-eq1.false))))

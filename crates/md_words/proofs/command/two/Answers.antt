@@ -1,6 +1,13 @@
-use Rattle.std.proofs.Common.{sym, arith}
+use Rattle.std.proofs.Common.{rules, arith, ◌≡◌, ◌∙◌, Some, List, ap, sym}
+use Rattle.std.specs.Prelude.{Option}
+use Rattle.std.specs.Borrow.{Bor}
+use Rattle.md_words.specs.Parts.{Text}
+use Rattle.md_words.specs.Form.{two}
+use Rattle.md_words.specs.Told.{words_told}
 use Rattle.md_words.proofs.WordLemmas.{not_two}
 use Rattle.md_words.proofs.command.two.Goals as goal
 
 pub returns-else-words-eq2 : goal.returns-else-words-eq2
-returns-else-words-eq2 c = sym (not_two c.args.words.now (λ one. absurd (omega (arith, one, c.if-words-eq2.false))))
+returns-else-words-eq2 c =
+    let is : c.args.words ≡ Some c.in_ok-words.words = search rules in
+    sym (ap (λ (o : Option (Bor (List (Bor Text)))). two (words_told o)) is ∙ not_two c.in_ok-words.words.now (λ more. absurd (omega (arith, more, c.if-words-eq2.false))))

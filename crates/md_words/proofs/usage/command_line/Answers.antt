@@ -1,0 +1,16 @@
+use Rattle.std.proofs.Common.{◌∙◌, ◌||◌, ap, ap₂, drop, ◌+◌}
+use Rattle.clap.specs.Words.{App, app_of, with_subcommand}
+use Rattle.md_words.specs.Tools.{tools}
+use Rattle.md_words.specs.Lines.{with_tools}
+use Rattle.md_words.proofs.LineLemmas.{tools_more}
+use Rattle.md_words.proofs.usage.command_line.Goals as goal
+
+pub loop-tool-preserved : goal.loop-tool-preserved
+loop-tool-preserved c =
+    let sub = c.in_ok-subcommand_of.ensures in
+    let added = c.in_ok-line.ensures in
+    record {
+      shape = ap (λ (a : App). with_tools a (drop (c.loop-tool.tool-index + 1) tools)) (added.shape sub.globals ∙ ap (λ (a : App). with_subcommand (app_of c.loop-tool.line) a.top) sub.shape)
+          ∙ tools_more (app_of c.loop-tool.line) c.loop-tool.tool-index _ c.loop-tool-test.true c.loop-tool.invariant.shape;
+      globals = added.globals ∙ ap₂ (λ a b. a || b) c.loop-tool.invariant.globals sub.globals;
+    }
