@@ -15,6 +15,3 @@ pub use clique::Cliques;
 pub use entries::{EnterFault, entering};
 pub use graph::cliques;
 pub use laws::{cliques_are_determined, each_clique_has_one_entry, stations_lead_up_to_the_root};
-
-#[cfg(test)]
-mod tests;

@@ -21,6 +21,3 @@ pub use laws::no_clique_of_a_run_is_entered_twice;
 pub use loaded::Loaded;
 pub use propagating::{CostFault, propagate};
 pub use sums::Sums;
-
-#[cfg(test)]
-mod tests;

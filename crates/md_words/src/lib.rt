@@ -3,8 +3,6 @@
 
 mod command;
 mod reading;
-#[cfg(test)]
-mod tests;
 mod tool;
 mod usage;
 

@@ -1,4 +1,6 @@
 // Small profiles, with values worked out by hand.
+mod cliques;
+mod costs;
 mod cover;
 mod deepfile;
 mod dump;
@@ -7,3 +9,4 @@ mod http;
 mod pages;
 mod queries;
 mod render;
+mod words;

@@ -1,5 +1,6 @@
-use crate::{Command, command_of};
+// Words that are commands, and words that are none.
 use md_query::Query;
+use md_words::{Command, command_of};
 use std::alloc::Global;
 use std::test::Fail;
 

@@ -1,6 +1,7 @@
+// Cliques of small graphs, of every graph of four nodes, and of graphs of a million nodes.
 ghost use Rattle.std.specs.Prelude.{◌<◌, ◌≡◌, All, IfOk, length};
 
-use crate::{Cliques, EnterFault, cliques, entering};
+use md_clique::{Cliques, EnterFault, cliques, entering};
 use std::alloc::{AllocError, Global};
 use std::test::Fail;
 

@@ -1,7 +1,7 @@
 // Loaded profiles, built by hand. Each link has as many exits as calls.
 
-use crate::{CostFault, Loaded, propagate};
 use md_base::{Counts, CsdId, Measure, Name, PdId, ProcId, SiteId};
+use md_cost::{CostFault, Loaded, propagate};
 use md_dynamic::{LinkRow, Profile};
 use md_static::{Proc, Site, SiteKind, Statics};
 use std::alloc::Global;
