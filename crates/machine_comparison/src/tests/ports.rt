@@ -31,9 +31,12 @@ fn told(item: &Item) -> Option<(u8, u64)> {
 }
 
 /// The ports and allocations of a program that is read, and not checked.
-fn ports(alloc: Global, text: &str) -> Result<Vec<(u8, u64)>, Fail> {
+fn ports(alloc: Global, text: &[u8]) -> Result<Vec<(u8, u64)>, Fail> {
+    if text.len() > 1_048_576 {
+        return Err(Fail::from("a short text"));
+    }
     let bump = Bump::new(alloc);
-    let program = read(alloc, text.as_bytes())?;
+    let program = read(alloc, text)?;
     let mut ports = Vec::new(alloc);
     for item in run(&bump, &program, 100)? {
         if let Some(port) = told(item) {
@@ -62,7 +65,7 @@ fn a_body_comes_back_is_cut_or_throws(rt: HostRuntime) -> Result<(), Fail> {
         (CUT, [(b'e', 1), (b'e', 0)].as_slice()),
         (THROWN, [(b'x', 1), (b'x', 0)].as_slice()),
     ] {
-        let ports = ports(rt.alloc(), text)?;
+        let ports = ports(rt.alloc(), text.as_bytes())?;
         assert_eq!(rt; ports.starts_with(first.as_slice()), true);
         assert_eq!(rt; ports.ends_with(others), true);
         assert_eq!(rt; ports.len(), first.len() + others.len());
