@@ -34,6 +34,3 @@ pub use std_sink::StdSink;
 pub use std_store::StdStore;
 pub use steps::Steps;
 pub use tcp::{TcpLink, TcpNet};
-
-#[cfg(test)]
-mod tests;

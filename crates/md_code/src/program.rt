@@ -14,9 +14,9 @@ use md_hlds::Pred;
 use md_modes::Moded;
 use std::alloc::Global;
 
-/// A program that the mode checks accept, as a table. Takes for each goal a time of the levels at which it is nested, and memory linear in the
-/// program. Places are numbers of 32 bits: a program with more goals than those is answered as one that memory has no room
-/// for. (A text of a megabyte has fewer.)
+/// A program that the mode checks accept, as a table. Takes for each goal a time of the levels at which it is nested, and
+/// memory linear in the program. Places are numbers of 32 bits: a program with more goals than those is answered as one
+/// that memory has no room for. (A text of a megabyte has fewer.)
 pub fn prepare<'a>(alloc: Global, moded: &'a Moded) -> Result<Code<'a>, NoMemory>
     ensures { IfOk result (λ code. IsCodeOf (hlds_of moded.now) code) }
 {

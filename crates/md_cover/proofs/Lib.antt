@@ -11,3 +11,4 @@ pub mod Telling
 pub mod CoverageLaws
 pub mod PlainCounts
 pub mod RunCounts
+mod Worked

@@ -233,6 +233,3 @@ fn all_but_first(reached: &[bool]) -> bool
         [_, rest @ ..] => rest.iter().all(|is_reached| *is_reached),
     }
 }
-
-#[cfg(test)]
-mod tests;

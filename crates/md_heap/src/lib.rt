@@ -5,8 +5,6 @@
 mod heap;
 mod row;
 mod same;
-#[cfg(test)]
-mod tests;
 mod value;
 
 pub use heap::Heap;

@@ -6,8 +6,6 @@ mod goal;
 mod laws;
 mod program;
 mod sites;
-#[cfg(test)]
-mod tests;
 mod types;
 mod variables;
 

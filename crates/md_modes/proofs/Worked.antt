@@ -15,7 +15,10 @@ use Rattle.md_hlds.specs.HldsGoal.{HldsGoal, At, SimpleGoal, CallGoal, HoCallGoa
 use Rattle.md_hlds.specs.Hlds.{Hlds, Procedure, HldsTypeDef, HldsFunctor, HldsType, number, text, world, named, closure, gathered_types}
 use Rattle.md_inst.specs.declared.fault.ModeFault.{ModeFault}
 use Rattle.md_inst.specs.declared.fault.ModeFault.TheVariants.{UnknownName, Arity, TypeClash, Unbound, BoundTwice, BranchBinds, IoUsed, ClosureTest, NoMain}
+use Rattle.md_names.specs.declared.named.Named.{Named}
+use Rattle.md_names.specs.declared.named.Named.TheVariants.{Functor, Predicate, Nothing}
 use Rattle.md_modes.specs.Modes.{mode_fault}
+use Rattle.md_modes.specs.Classes.{named_at, size_at, outside_at}
 use Rattle.md_modes.specs.Notes.{Role, constructs, closes, takes_apart, assigns, tests, applies, Note, program_notes}
 
 -- ---- words for writing programs; each goal is on the line that stands first
@@ -322,6 +325,33 @@ taken_apart_notes :
     ∷ [])
 unfolding program_notes
 taken_apart_notes = refl
+
+-- main(IO0, IO) :- A = 1, E = nil, L = cons(A, E), P = add(A), ( first(L, Z) -> call(P, A, Y) ; Y = A ),
+--     io.write_int(Y, IO0, IO).   first(L, X) :- L = cons(X, T).
+abbrev pub first_or_own : Hlds
+first_or_own = program (list_type ∷ []) (main 8 (conj 3 (is_int 3 2 1 ∷ made 3 3 (codes "nil") [] ∷ made 3 4 (codes "cons") (2 ∷ 3 ∷ [])
+    ∷ made 3 5 (codes "add") (2 ∷ []) ∷ choose 3 (call 3 (codes "first") (4 ∷ 6 ∷ [])) (apply 3 5 (2 ∷ 7 ∷ [])) (same 3 7 2)
+    ∷ write_int 3 7 0 1 ∷ []))
+    ∷ predicate 4 (codes "first") ((list, In) ∷ (number, Out) ∷ []) Semidet 3 (made 5 0 (codes "cons") (1 ∷ 2 ∷ [])) ∷ adder ∷ [])
+
+-- what the name in a goal stands for, how many goals it has, and whether it binds a variable that occurs outside it
+abbrev pub kept_at : Hlds → ℕ → (Named × ℕ) × Bool
+unfolding program_notes
+kept_at s n = ((named_at (program_notes s) n, size_at s n), outside_at (program_notes s) n)
+
+abbrev pub kept : Named → ℕ → Bool → (Named × ℕ) × Bool
+kept m n outside = ((m, n), outside)
+
+-- the condition binds Z, which occurs in it alone; what a number that is no goal's has
+first_or_own_kept :
+    map (kept_at first_or_own) (places 0 13)
+    ≡ (kept Nothing 10 true
+    ∷ kept Nothing 1 true ∷ kept (Functor 0) 1 true ∷ kept (Functor 0) 1 true ∷ kept (Predicate 2) 1 true
+    ∷ kept Nothing 4 true ∷ kept (Predicate 1) 1 false ∷ kept Nothing 1 true ∷ kept Nothing 1 true
+    ∷ kept Nothing 1 true ∷ kept (Functor 0) 1 true ∷ kept Nothing 1 true ∷ kept Nothing 0 false
+    ∷ [])
+unfolding program_notes kept_at
+first_or_own_kept = refl
 
 -- ---- faults
 

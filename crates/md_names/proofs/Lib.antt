@@ -2,3 +2,4 @@ mod Lookups
 mod Steps
 pub mod Placed
 pub mod Standing
+mod Worked

@@ -5,8 +5,6 @@
 mod history;
 mod profile;
 mod recorded;
-#[cfg(test)]
-mod tests;
 
 pub use history::is_port_history;
 pub use profile::{counter_of_events, profile_of_events};

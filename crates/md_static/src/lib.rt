@@ -5,8 +5,6 @@
 mod entry;
 mod sound;
 mod tables;
-#[cfg(test)]
-mod tests;
 
 pub use entry::{Proc, Site, SiteKind};
 pub use sound::is_sound;

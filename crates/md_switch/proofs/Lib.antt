@@ -1,3 +1,4 @@
 mod Arms
 pub mod KeyLemmas
 pub mod Tells
+mod Worked

@@ -9,8 +9,6 @@ mod literal;
 mod scan;
 mod sign;
 mod string;
-#[cfg(test)]
-mod tests;
 mod token;
 mod word;
 

@@ -15,6 +15,9 @@ use Rattle.md_tool.specs.declared.fault.Refusal.TheVariants.{Text, Modes, Determ
 use Rattle.md_tool.specs.Ends.{end_of, Finished, Threw, RanOut}
 use Rattle.md_tool.specs.Fault.{fault_line}
 use Rattle.md_tool.specs.Generated.{gen_text}
+use Rattle.md_static.specs.Tables.{Static}
+use Rattle.md_cost.specs.declared.sums.Sums.{Sums}
+use Rattle.md_tool.specs.Summed.{sum_text}
 
 -- ---- how a run ends
 
@@ -73,3 +76,22 @@ the-first-of-two-calls-the-second-twice :
     gen_text 2 ≡ codes ":- module gen.\n:- pred main(io::di, io::uo) is det.\nmain(IO0, IO) :- p1, IO = IO0.\n:- pred p1 is det.\np1 :- p2, p2.\n:- pred p2 is det.\np2 :- true.\n"
 unfolding on_numbers
 the-first-of-two-calls-the-second-twice = refl
+
+-- ---- sums
+
+abbrev pub statics : Static
+statics = record {
+  modules = codes "t" ∷ codes "a" ∷ [];
+  procs = record { «module» = 0; name = codes "main"; arity = 2 } ∷ record { «module» = 1; name = codes "f"; arity = 0 } ∷ [];
+  sites = [];
+}
+
+abbrev pub sums : ℕ → Sums
+sums n = record { calls = n; exits = n; fails = 0; redos = 0; allocs = 3; words = 4; excps = 0 }
+
+-- the title has the number of files, which may be larger than that of procedures
+sums-have-a-line-for-each-procedure :
+    sum_text statics 16 (record { id = 0; own = sums 2; total = sums 7 } ∷ record { id = 1; own = sums 5; total = sums 5 } ∷ [])
+    ≡ codes "mdprof sum 16\nproc 0 t.main/2 own 2 2 0 0 3 4 total 7 7 0 0 3 4\nproc 1 a.f/0 own 5 5 0 0 3 4 total 5 5 0 0 3 4\n"
+unfolding on_numbers
+sums-have-a-line-for-each-procedure = refl

@@ -7,8 +7,6 @@ mod counter;
 mod event;
 mod port_sink;
 mod silent;
-#[cfg(test)]
-mod tests;
 
 pub use balance::{activations_end, contexts_balance, links_balance};
 pub use counter::Counter;
