@@ -1,5 +1,5 @@
 // A case: what the program is given, and what has to come of it.
-use crate::escape::unescaped;
+use cases::unescaped;
 use std::alloc::{AllocError, Global};
 
 /// A file by its name.

@@ -3,7 +3,6 @@
 #![tactic(auto)]
 
 mod case;
-mod escape;
 mod outcome;
 
 use case::Case;
