@@ -1,6 +1,6 @@
 use Rattle.std.proofs.Common.{◌≡◌, ◌++◌, drop}
 use Rattle.md_reader.proofs.Words.{words}
-use Rattle.md_reader.proofs.scope.Scope.into_names.Given as goal
+use Rattle.md_reader.proofs.scope.Scope.to_names.Given as goal
 
 -- the names so far and the rest are all
 abbrev pub invariant-loop-name : goal.invariant-loop-name
