@@ -54,7 +54,8 @@ fn walk(alloc: Global, sites: &[Site]) -> Result<Vec<Event>, NoMemory> {
     events.push(beginning())?;
     for _ in 0..MOST {
         if let Some((site, callee)) = next_call(sites, top) {
-            events.push(call(called, top.act, site, callee))?;
+            let caller = top.act;
+            events.push(call(called, caller, site, callee))?;
             top.next = site.wrapping_add(1);
             chain.push(top)?;
             top = Running {
@@ -65,7 +66,8 @@ fn walk(alloc: Global, sites: &[Site]) -> Result<Vec<Event>, NoMemory> {
             called = called.wrapping_add(1);
             continue;
         }
-        events.push(Event::Exit { act: top.act })?;
+        let act = top.act;
+        events.push(Event::Exit { act })?;
         match chain.pop() {
             Some(parent) => top = parent,
             None => break,
