@@ -143,11 +143,7 @@ fn read<L: Link>(
     }
 }
 
-fn write_piece<L: Link>(
-    link: &mut L,
-    piece: &[u8],
-    found: &mut String,
-) -> Result<(), AllocError> {
+fn write_piece<L: Link>(link: &mut L, piece: &[u8], found: &mut String) -> Result<(), AllocError> {
     match link.write(piece) {
         Ok(count) => writeln!(found, "added {count}"),
         Err(failed) => writeln!(found, "{failed}"),

@@ -19,12 +19,7 @@ pub fn show_validity(alloc: Global, case: &Case, found: &mut String) -> Result<(
 fn profile_of_parts(alloc: Global, case: &Case) -> Result<Profile, NoMemory> {
     let statics = tables(alloc, case)?;
     let contexts = contexts(alloc, case)?;
-    Ok(Profile::from_parts(
-        statics,
-        contexts,
-        links(alloc, case)?,
-        true,
-    ))
+    Ok(Profile::from_parts(statics, contexts, links(alloc, case)?, true))
 }
 
 /// The procedure of each context.

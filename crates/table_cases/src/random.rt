@@ -116,11 +116,7 @@ fn come_back(rows: &[Row], now: Now) -> Option<Event> {
 }
 
 /// Who runs after this event.
-fn after(
-    rows: &mut Vec<Row>,
-    current: Option<u32>,
-    event: Event,
-) -> Result<Option<u32>, NoMemory> {
+fn after(rows: &mut Vec<Row>, current: Option<u32>, event: Event) -> Result<Option<u32>, NoMemory> {
     match event {
         Event::Call {
             act,

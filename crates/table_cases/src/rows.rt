@@ -5,7 +5,11 @@ use md_dynamic::LinkRow;
 
 /// Adds calls, exits, fails, redos, allocations, words and exceptions, and the end of the line.
 pub fn show_counts(counts: &Counts, found: &mut String) -> Result<(), NoMemory> {
-    write!(found, ": {} {} {}", counts.calls, counts.exits, counts.fails)?;
+    write!(
+        found,
+        ": {} {} {}",
+        counts.calls, counts.exits, counts.fails
+    )?;
     write!(found, " {} {}", counts.redos, counts.allocs)?;
     writeln!(found, " {} {}", counts.words, counts.excps)?;
     Ok(())

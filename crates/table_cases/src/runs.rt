@@ -42,11 +42,7 @@ pub fn show_profile(alloc: Global, case: &Case, found: &mut String) -> Result<()
 }
 
 /// The profile of these events of a finished run, where the tables are sound and the events a port history over them.
-pub fn profile(
-    alloc: Global,
-    case: &Case,
-    events: &[Event],
-) -> Result<Option<Profile>, NoMemory> {
+pub fn profile(alloc: Global, case: &Case, events: &[Event]) -> Result<Option<Profile>, NoMemory> {
     match sound_tables(alloc, case)? {
         Some(statics) => profile_over(alloc, statics, events),
         None => Ok(None),
