@@ -8,19 +8,29 @@ use md_inst::functor_called;
 use md_names::Names;
 use std::alloc::Global;
 
-/// Adds how many variables a list has that got these one after the other, and the list.
+/// Adds the list of variables that got these one after the other, and the list that is made of its places.
 pub fn variables(alloc: Global, case: &Case, found: &mut String) -> Result<(), Fault> {
+    let variables = variables_of(alloc, case)?;
+    tell(&variables, found)?;
+    let again = Variables::from_vec(variables.into_vec());
+    tell(&again, found)
+}
+
+/// The list of variables that got the places of a case one after the other.
+fn variables_of(alloc: Global, case: &Case) -> Result<Variables, Fault> {
     let places = places_of(alloc, case.text("places"))?;
     let mut variables = Variables::new(alloc);
     for place in places.as_slice() {
         variables.push(*place)?;
     }
+    Ok(variables)
+}
+
+/// Adds how many variables a list has, and their places.
+fn tell(variables: &Variables, found: &mut String) -> Result<(), Fault> {
     let count = variables.len();
-    let slice = variables.as_slice();
-    writeln!(found, "{count}: {slice:?}")?;
-    let places = variables.into_vec();
-    let places = places.as_slice();
-    Ok(writeln!(found, "{places:?}")?)
+    let places = variables.as_slice();
+    Ok(writeln!(found, "{count}: {places:?}")?)
 }
 
 /// Adds the name of each predicate by its number, and the owner and the line of each call site, each up to the first

@@ -1,14 +1,14 @@
 // What is found of a case, by the words of its line `show`.
 use crate::fault::Fault;
-use crate::text::{program_of, program_with_body};
+use crate::text::{checked_of, moded_of, program_of, program_with_body};
 use crate::{
     bindings, code, det, goals, kinds, modes, names, pairs, passing, printed, spelling, tables,
     values,
 };
 use cases::Case;
 use md_base::NoMemory;
-use md_det::{DetFault, check_det};
-use md_modes::{ModeFault, check_modes};
+use md_det::DetFault;
+use md_modes::ModeFault;
 use md_reader::Refused;
 use std::alloc::{AllocError, Global};
 
@@ -35,19 +35,18 @@ fn show(alloc: Global, case: &Case, found: &mut String) -> Result<(), Fault> {
         "comparison" => values::comparison(alloc, case, found),
         "arm" => values::arm(alloc, case, found),
         "passing" => passing::passing(alloc, case, found),
-        "modes" | "code" | "determinisms" => show_moded(alloc, case, found),
+        "body" => show_body(alloc, case, found),
+        "modes" | "code" => show_moded(alloc, case, found),
+        "determinisms" => show_checked(alloc, case, found),
         _ => show_program(alloc, case, found),
     }
 }
 
 /// Adds what is found of the program of a case's text.
 fn show_program(alloc: Global, case: &Case, found: &mut String) -> Result<(), Fault> {
-    let program = match case.text("show") {
-        "body" => program_with_body(alloc, case)?,
-        _ => program_of(alloc, case)?,
-    };
+    let program = program_of(alloc, case)?;
     match case.text("show") {
-        "read" | "body" => Ok(writeln!(found, "read")?),
+        "read" => Ok(writeln!(found, "read")?),
         "printed" => printed::printed(alloc, &program, found),
         "numbers" => names::numbers(&program, found),
         "names" => names::names(alloc, case, &program, found),
@@ -59,14 +58,25 @@ fn show_program(alloc: Global, case: &Case, found: &mut String) -> Result<(), Fa
     }
 }
 
+/// Adds what is found of a clause's body.
+fn show_body(alloc: Global, case: &Case, found: &mut String) -> Result<(), Fault> {
+    let _program = program_with_body(alloc, case)?;
+    Ok(writeln!(found, "read")?)
+}
+
 /// Adds what is found of a program that the mode checks accept.
 fn show_moded(alloc: Global, case: &Case, found: &mut String) -> Result<(), Fault> {
-    let moded = check_modes(alloc, program_of(alloc, case)?)?;
+    let moded = moded_of(alloc, case)?;
     match case.text("show") {
         "modes" => modes::modes(&moded, found),
-        "code" => code::code(alloc, &moded, found),
-        _ => det::determinisms(&check_det(alloc, moded)?, found),
+        _ => code::code(alloc, &moded, found),
     }
+}
+
+/// Adds what is found of a program that the determinism checks accept.
+fn show_checked(alloc: Global, case: &Case, found: &mut String) -> Result<(), Fault> {
+    let checked = checked_of(alloc, case)?;
+    det::determinisms(&checked, found)
 }
 
 /// Adds what is said where memory is refused, at each of the checks.

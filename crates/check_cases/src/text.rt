@@ -1,8 +1,10 @@
-// The text of a case, and the program that it is read as.
+// The text of a case, the program that it is read as, and what the checks accept.
 use crate::fault::Fault;
 use cases::Case;
 use md_base::NoMemory;
+use md_det::{Checked, check_det};
 use md_hlds::{Goal, GoalKind, Program};
+use md_modes::{Moded, check_modes};
 use md_reader::read;
 use std::alloc::{AllocError, Global};
 
@@ -68,6 +70,18 @@ pub fn program(alloc: Global, text: &[u8]) -> Result<Program, Fault> {
         return Err(Fault::NoMemory(NoMemory));
     }
     Ok(read(alloc, text)?)
+}
+
+/// The program of a case's text, where the mode checks accept it.
+pub fn moded_of(alloc: Global, case: &Case) -> Result<Moded, Fault> {
+    let program = program_of(alloc, case)?;
+    Ok(check_modes(alloc, program)?)
+}
+
+/// The program of a case's text, where the determinism checks accept it, too.
+pub fn checked_of(alloc: Global, case: &Case) -> Result<Checked, Fault> {
+    let moded = moded_of(alloc, case)?;
+    Ok(check_det(alloc, moded)?)
 }
 
 /// The goals of a body: the parts of a conjunction, or the one goal that it is.
