@@ -45,11 +45,7 @@ fn free<'a>(alloc: Global, count: usize) -> Result<Vec<Inst<'a>>, Fault> {
 }
 
 /// Adds an answer, and whether each variable is bound after it, by its place as a number of 32 bits and as any number.
-fn tell(
-    answer: Result<(), ModeFault>,
-    insts: &[Inst],
-    found: &mut String,
-) -> Result<(), Fault> {
+fn tell(answer: Result<(), ModeFault>, insts: &[Inst], found: &mut String) -> Result<(), Fault> {
     write!(found, "{answer:?}, bound")?;
     for place in 0..count_of(insts.len())? {
         let at = inst_at(insts, place).is_bound();

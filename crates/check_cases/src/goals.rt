@@ -40,7 +40,15 @@ fn clause<'a>(
     for field in case.fields() {
         if field.key.as_str() == "limit" {
             let limit = place_of(field.text.as_str())?;
-            run(alloc, bump, names, goals_of(&pred.body), limit, &mut slots, found)?;
+            run(
+                alloc,
+                bump,
+                names,
+                goals_of(&pred.body),
+                limit,
+                &mut slots,
+                found,
+            )?;
         }
     }
     tell_all(&slots, found)

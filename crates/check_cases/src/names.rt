@@ -70,12 +70,7 @@ pub fn names(
 }
 
 /// Adds what is found for a name, where the line has one.
-fn look_up(
-    alloc: Global,
-    names: &Names,
-    field: &Field,
-    found: &mut String,
-) -> Result<(), Fault> {
+fn look_up(alloc: Global, names: &Names, field: &Field, found: &mut String) -> Result<(), Fault> {
     let text = field.text.as_str();
     match field.key.as_str() {
         "predicate" => predicate(alloc, names, text, found),
