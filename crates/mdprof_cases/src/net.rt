@@ -8,11 +8,7 @@ use md_base::{MemLink, MemNet};
 use std::alloc::{AllocError, Global};
 
 /// A net over which these connections come.
-pub fn net_of(
-    alloc: Global,
-    connections: &Connections,
-    most: usize,
-) -> Result<MemNet, AllocError> {
+pub fn net_of(alloc: Global, connections: &Connections, most: usize) -> Result<MemNet, AllocError> {
     let coming = links_of(alloc, &connections.requests, most.max(1))?;
     let fails = failing(alloc, connections.net_fails)?;
     Ok(MemNet::new(coming, fails))

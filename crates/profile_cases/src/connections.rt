@@ -1,5 +1,5 @@
 // Responses, and connections in memory that are served.
-use crate::lines::{add_line, failing, most};
+use crate::lines::{add_debug, add_line, add_shown, failing, most};
 use cases::Case;
 use md_base::MemLink;
 use md_cost::Loaded;
@@ -35,14 +35,14 @@ fn add_response(
     }
     match reply(alloc, loaded, head) {
         Ok(response) => add_quoted(alloc, &response, out),
-        Err(fault) => add_line(out, format!(in alloc; "{fault}")?.as_str()),
+        Err(fault) => add_shown(alloc, &fault, out),
     }
 }
 
 /// Adds a text as it is written in a program.
 fn add_quoted(alloc: Global, text: &[u8], out: &mut String) -> Result<(), AllocError> {
     match str::from_utf8(text) {
-        Ok(text) => add_line(out, format!(in alloc; "{text:?}")?.as_str()),
+        Ok(text) => add_debug(alloc, &text, out),
         Err(_) => add_line(out, "not UTF-8"),
     }
 }

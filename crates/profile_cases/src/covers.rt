@@ -3,7 +3,7 @@ ghost use Rattle.std.specs.Prelude.{◌≤◌, length, IfSome};
 ghost use Rattle.md_hlds.specs.Hlds.{hlds_of};
 ghost use Rattle.md_cover.specs.Coverage.{IsAccepted};
 
-use crate::lines::{add_line, add_text, small_number};
+use crate::lines::{add_line, add_shown, add_text, small_number};
 use cases::Case;
 use md_base::ProcId;
 use md_cost::Loaded;
@@ -30,7 +30,7 @@ pub fn cover_goals(
     let id = ProcId::new(small_number(case.text("procedure")));
     match covered(alloc, &checked, loaded, id) {
         Ok(text) => add_text(out, &text),
-        Err(fault) => add_line(out, format!(in alloc; "{fault}")?.as_str()),
+        Err(fault) => add_shown(alloc, &fault, out),
     }
 }
 

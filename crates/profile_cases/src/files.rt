@@ -1,7 +1,7 @@
 // Profile files, texts of profiles, and texts of feedback.
 ghost use Rattle.std.specs.Prelude.{◌<◌, length};
 
-use crate::lines::{add_line, add_text, failing, most};
+use crate::lines::{add_debug, add_line, add_shown, add_text, failing, most};
 use cases::Case;
 use md_base::MemStore;
 use md_deepfile::{DecodeFault, Kind, decode, encode, load};
@@ -19,7 +19,10 @@ pub fn cuts(alloc: Global, case: &Case, out: &mut String) -> Result<(), AllocErr
         }
     }
     let size = file.len();
-    add_line(out, format!(in alloc; "{count} of {size} cuts are short at their ends")?.as_str())
+    add_line(
+        out,
+        format!(in alloc; "{count} of {size} cuts are short at their ends")?.as_str(),
+    )
 }
 
 /// Whether a file is short at its end.
@@ -37,7 +40,7 @@ pub fn load_file(alloc: Global, case: &Case, out: &mut String) -> Result<(), All
     let mut store = store_of(alloc, case)?;
     match load(alloc, &mut store, "p", case.number("limit")) {
         Ok(_) => add_line(out, "loaded"),
-        Err(fault) => add_line(out, format!(in alloc; "{fault:?}")?.as_str()),
+        Err(fault) => add_debug(alloc, &fault, out),
     }
 }
 
@@ -59,7 +62,7 @@ pub fn text_again(alloc: Global, case: &Case, out: &mut String) -> Result<(), Al
     }
     match file_of(alloc, text) {
         Ok(file) => add_profile(alloc, &file, out),
-        Err(fault) => add_line(out, format!(in alloc; "{fault}")?.as_str()),
+        Err(fault) => add_shown(alloc, &fault, out),
     }
 }
 
@@ -76,7 +79,7 @@ fn file_of(alloc: Global, text: &[u8]) -> Result<Vec<u8>, DumpFault>
 fn add_profile(alloc: Global, file: &[u8], out: &mut String) -> Result<(), AllocError> {
     match text_of(alloc, file) {
         Ok(text) => add_text(out, &text),
-        Err(fault) => add_line(out, format!(in alloc; "{fault}")?.as_str()),
+        Err(fault) => add_shown(alloc, &fault, out),
     }
 }
 
@@ -105,17 +108,17 @@ fn add_feedback(alloc: Global, text: &[u8], out: &mut String) -> Result<(), Allo
     }
     match read_feedback(alloc, text) {
         Ok(feedback) => add_pairs(alloc, &feedback, out),
-        Err(fault) => add_line(out, format!(in alloc; "{fault}")?.as_str()),
+        Err(fault) => add_shown(alloc, &fault, out),
     }
 }
 
 /// Adds the pairs of a feedback, and its text.
 fn add_pairs(alloc: Global, feedback: &Feedback, out: &mut String) -> Result<(), AllocError> {
     for pair in feedback.pairs.as_slice() {
-        add_line(out, format!(in alloc; "{pair:?}")?.as_str())?;
+        add_debug(alloc, pair, out)?;
     }
     match write_feedback(alloc, feedback) {
         Ok(text) => add_text(out, &text),
-        Err(fault) => add_line(out, format!(in alloc; "{fault}")?.as_str()),
+        Err(fault) => add_shown(alloc, &fault, out),
     }
 }

@@ -78,8 +78,9 @@ pub fn shape(alloc: Global, case: &Case, out: &mut String) -> Result<(), AllocEr
     let sum = digest(0, &found, nodes);
     let members = members_of_first(&found);
     let count = found.count();
-    let line =
-        format!(in alloc; "cliques {count}, members of the first {members}, last {last}, digest {sum}")?;
+    let line = format!(in alloc;
+        "cliques {count}, members of the first {members}, last {last}, digest {sum}"
+    )?;
     add_line(out, line.as_str())
 }
 

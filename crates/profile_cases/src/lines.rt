@@ -3,6 +3,7 @@ ghost use Rattle.std.specs.Prelude.{◌≤◌};
 
 use cases::Case;
 use std::alloc::{AllocError, Global};
+use std::fmt::{Debug, Display};
 use std::str;
 
 /// Adds a line.
@@ -10,6 +11,18 @@ pub fn add_line(out: &mut String, line: &str) -> Result<(), AllocError> {
     out.push_str(line)?;
     out.push('\n')?;
     Ok(())
+}
+
+/// Adds a line that shows something.
+pub fn add_shown<T: Display>(alloc: Global, thing: &T, out: &mut String) -> Result<(), AllocError> {
+    let line = format!(in alloc; "{thing}")?;
+    add_line(out, line.as_str())
+}
+
+/// Adds a line that shows something as it is written in a program.
+pub fn add_debug<T: Debug>(alloc: Global, thing: &T, out: &mut String) -> Result<(), AllocError> {
+    let line = format!(in alloc; "{thing:?}")?;
+    add_line(out, line.as_str())
 }
 
 /// Adds a text of whole lines.

@@ -1,5 +1,5 @@
 // Pages as text and as HTML.
-use crate::lines::{add_line, add_text};
+use crate::lines::{add_line, add_shown, add_text};
 use crate::rows::rows_of;
 use crate::words::path_and_pairs;
 use cases::Case;
@@ -33,7 +33,7 @@ fn add_page(
 ) -> Result<(), AllocError> {
     match page(alloc, loaded, query) {
         Ok(page) => add_rows(alloc, case, loaded, page.title(), out),
-        Err(fault) => add_line(out, format!(in alloc; "{fault}")?.as_str()),
+        Err(fault) => add_shown(alloc, &fault, out),
     }
 }
 

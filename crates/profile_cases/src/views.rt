@@ -3,7 +3,7 @@ use crate::connections::{link, response};
 use crate::covers::cover_goals;
 use crate::files::{cuts, feedback_again, load_file, text_again};
 use crate::graphs::{graph, shape, small_graphs};
-use crate::lines::add_line;
+use crate::lines::{add_line, add_shown};
 use crate::pages::page_of;
 use crate::words::{commands, queries};
 use cases::Case;
@@ -38,11 +38,11 @@ fn show(alloc: Global, case: &Case, out: &mut String) -> Result<(), AllocError> 
 fn show_profile(alloc: Global, case: &Case, out: &mut String) -> Result<(), AllocError> {
     let profile = match decode(alloc, case.bytes("file")) {
         Ok(profile) => profile,
-        Err(fault) => return add_line(out, format!(in alloc; "{fault}")?.as_str()),
+        Err(fault) => return add_shown(alloc, &fault, out),
     };
     match propagate(alloc, profile) {
         Ok(loaded) => show_loaded(alloc, case, &loaded, out),
-        Err(fault) => add_line(out, format!(in alloc; "{fault}")?.as_str()),
+        Err(fault) => add_shown(alloc, &fault, out),
     }
 }
 

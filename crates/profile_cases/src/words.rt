@@ -1,5 +1,5 @@
 // What words ask for: commands and queries.
-use crate::lines::add_line;
+use crate::lines::{add_debug, add_line, add_shown};
 use cases::Case;
 use md_query::{QueryFault, read_query};
 use md_words::command_of;
@@ -29,9 +29,9 @@ fn given(alloc: Global, line: &str) -> Result<Vec<String>, AllocError> {
 
 fn add_command(alloc: Global, words: &[String], out: &mut String) -> Result<(), AllocError> {
     match command_of(alloc, words) {
-        Ok(Some(command)) => add_line(out, format!(in alloc; "{command:?}")?.as_str()),
+        Ok(Some(command)) => add_debug(alloc, &command, out),
         Ok(None) => add_line(out, "none"),
-        Err(fault) => add_line(out, format!(in alloc; "{fault}")?.as_str()),
+        Err(fault) => add_shown(alloc, &fault, out),
     }
 }
 
@@ -50,7 +50,7 @@ pub fn queries(alloc: Global, case: &Case, out: &mut String) -> Result<(), Alloc
 fn add_query(alloc: Global, text: &str, out: &mut String) -> Result<(), AllocError> {
     let (path, pairs) = path_and_pairs(text);
     match read_query(alloc, path.as_bytes(), pairs.as_bytes()) {
-        Ok(query) => add_line(out, format!(in alloc; "{query:?}")?.as_str()),
+        Ok(query) => add_debug(alloc, &query, out),
         Err(QueryFault::BadQuery) => add_line(out, "none"),
         Err(QueryFault::NoMemory) => add_line(out, "want of memory"),
     }
