@@ -10,29 +10,39 @@ use std::alloc::Global;
 pub fn events(alloc: Global, case: &Case) -> Result<Vec<Event>, NoMemory> {
     let mut events = Vec::new(alloc);
     for field in case.fields() {
-        if let Some(event) = event_of(field.key.as_str(), field.text.as_str()) {
+        let (act, next, site, callee) = words_of(field.text.as_str());
+        if let Some(event) = event_of(field.key.as_str(), act, next, site, callee) {
             events.push(event)?;
         }
     }
     Ok(events)
 }
 
-/// The event that a line tells, if it tells one.
-fn event_of(key: &str, text: &str) -> Option<Event> {
+/// The words of a line: an activation, its caller or a number of words, a site and a procedure.
+fn words_of(text: &str) -> (u32, Option<u32>, Option<SiteId>, ProcId) {
     let mut words = text.split(' ');
     let act = number_or_zero(words.next());
     let next = number(words.next());
+    let site = number(words.next()).map(|site| SiteId::new(site));
+    let callee = ProcId::new(number_or_zero(words.next()));
+    (act, next, site, callee)
+}
+
+/// The event that a line of this key tells, if it tells one.
+fn event_of(
+    key: &str,
+    act: u32,
+    next: Option<u32>,
+    site: Option<SiteId>,
+    callee: ProcId,
+) -> Option<Event> {
     match key {
-        "call" => {
-            let site = number(words.next()).map(|site| SiteId::new(site));
-            let callee = ProcId::new(number_or_zero(words.next()));
-            Some(Event::Call {
-                act,
-                parent: next,
-                site,
-                callee,
-            })
-        }
+        "call" => Some(Event::Call {
+            act,
+            parent: next,
+            site,
+            callee,
+        }),
         "exit" => Some(Event::Exit { act }),
         "redo" => Some(Event::Redo { act }),
         "fail" => Some(Event::Fail { act }),

@@ -38,21 +38,23 @@ fn links(alloc: Global, case: &Case) -> Result<Vec<LinkRow>, NoMemory> {
     let mut links = Vec::new(alloc);
     for field in case.fields() {
         if field.key.as_str() == "link" {
-            links.push(link_of(field.text.as_str()))?;
+            let (caller, site, callee) = ends_of(field.text.as_str());
+            links.push(LinkRow {
+                caller,
+                site,
+                callee,
+                own: Counts::default(),
+            })?;
         }
     }
     Ok(links)
 }
 
-fn link_of(text: &str) -> LinkRow {
+/// The caller, the site and the end of a link.
+fn ends_of(text: &str) -> (Option<PdId>, Option<SiteId>, PdId) {
     let mut words = text.split(' ');
     let caller = number(words.next()).map(|caller| PdId::new(caller));
     let site = number(words.next()).map(|site| SiteId::new(site));
     let callee = PdId::new(number_or_zero(words.next()));
-    LinkRow {
-        caller,
-        site,
-        callee,
-        own: Counts::default(),
-    }
+    (caller, site, callee)
 }

@@ -128,13 +128,15 @@ fn sites(alloc: Global, case: &Case) -> Result<Vec<Site>, NoMemory> {
     let mut sites = Vec::new(alloc);
     for field in case.fields() {
         if field.key.as_str() == "site" {
-            sites.push(site_of(field.text.as_str()))?;
+            let (owner, line, kind) = site_of(field.text.as_str());
+            sites.push(Site { owner, line, kind })?;
         }
     }
     Ok(sites)
 }
 
-fn site_of(text: &str) -> Site {
+/// The owner, the line and the kind of a call site.
+fn site_of(text: &str) -> (ProcId, u32, SiteKind) {
     let mut words = text.split(' ');
     let owner = ProcId::new(number_or_zero(words.next()));
     let line = number_or_zero(words.next());
@@ -142,5 +144,5 @@ fn site_of(text: &str) -> Site {
         Some(callee) => SiteKind::Plain(ProcId::new(callee)),
         None => SiteKind::HigherOrder,
     };
-    Site { owner, line, kind }
+    (owner, line, kind)
 }

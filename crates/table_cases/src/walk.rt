@@ -41,39 +41,64 @@ struct Running {
     next: u32,
 }
 
+impl Running {
+    /// An activation that has not called yet.
+    fn new(act: u32, procedure: ProcId) -> Running {
+        Running {
+            act,
+            procedure,
+            next: 0,
+        }
+    }
+
+    /// The same after it has called at this site.
+    fn after(self, site: u32) -> Running {
+        Running {
+            act: self.act,
+            procedure: self.procedure,
+            next: site.wrapping_add(1),
+        }
+    }
+}
+
 /// The events of the run over these sites.
 fn walk(alloc: Global, sites: &[Site]) -> Result<Vec<Event>, NoMemory> {
     let mut events = Vec::new(alloc);
     let mut chain = Vec::new(alloc);
-    let mut called = 1u32;
-    let mut top = Running {
-        act: 0,
-        procedure: ProcId::new(0),
-        next: 0,
-    };
     events.push(beginning())?;
+    chain.push(Running::new(0, ProcId::new(0)))?;
+    let mut called = 1u32;
     for _ in 0..MOST {
-        if let Some((site, callee)) = next_call(sites, top) {
-            let caller = top.act;
-            events.push(call(called, caller, site, callee))?;
-            top.next = site.wrapping_add(1);
-            chain.push(top)?;
-            top = Running {
-                act: called,
-                procedure: callee,
-                next: 0,
-            };
-            called = called.wrapping_add(1);
-            continue;
-        }
-        let act = top.act;
-        events.push(Event::Exit { act })?;
         match chain.pop() {
-            Some(parent) => top = parent,
             None => break,
+            Some(top) => called = step(sites, top, called, &mut chain, &mut events)?,
         }
     }
     Ok(events)
+}
+
+/// Adds the next call or the exit of the activation that runs, which is taken off the chain. Gives the number of the next
+/// activation that will be called.
+fn step(
+    sites: &[Site],
+    top: Running,
+    called: u32,
+    chain: &mut Vec<Running>,
+    events: &mut Vec<Event>,
+) -> Result<u32, NoMemory> {
+    let act = top.act;
+    match next_call(sites, top) {
+        None => {
+            events.push(Event::Exit { act })?;
+            Ok(called)
+        }
+        Some((site, callee)) => {
+            events.push(call(called, act, site, callee))?;
+            chain.push(top.after(site))?;
+            chain.push(Running::new(called, callee))?;
+            Ok(called.wrapping_add(1))
+        }
+    }
 }
 
 /// The next plain site of the procedure that runs, and the procedure that it calls.
