@@ -36,7 +36,7 @@ fn show(alloc: Global, case: &Case, found: &mut String) -> Result<(), Fault> {
         "arm" => values::arm(alloc, case, found),
         "passing" => passing::passing(alloc, case, found),
         "body" => show_body(alloc, case, found),
-        "modes" | "code" => show_moded(alloc, case, found),
+        "modes" | "code" | "tables" => show_moded(alloc, case, found),
         "determinisms" => show_checked(alloc, case, found),
         _ => show_program(alloc, case, found),
     }
@@ -53,7 +53,6 @@ fn show_program(alloc: Global, case: &Case, found: &mut String) -> Result<(), Fa
         "kinds" => kinds::kinds(alloc, &program, found),
         "bindings" => bindings::bindings(alloc, &program, found),
         "goals" => goals::goals(alloc, case, &program, found),
-        "tables" => tables::tables(alloc, &program, found),
         _ => Err(Fault::Unknown),
     }
 }
@@ -69,7 +68,8 @@ fn show_moded(alloc: Global, case: &Case, found: &mut String) -> Result<(), Faul
     let moded = moded_of(alloc, case)?;
     match case.text("show") {
         "modes" => modes::modes(&moded, found),
-        _ => code::code(alloc, &moded, found),
+        "code" => code::code(alloc, &moded, found),
+        _ => tables::tables(alloc, &moded, found),
     }
 }
 

@@ -1,13 +1,13 @@
 // The tables of a program: modules, procedures and call sites.
 use crate::fault::Fault;
 use crate::words::readable;
-use md_hlds::Program;
+use md_modes::Moded;
 use md_ports::statics;
 use std::alloc::Global;
 
 /// Adds the rows of a program's tables.
-pub fn tables(alloc: Global, program: &Program, found: &mut String) -> Result<(), Fault> {
-    let tables = statics(alloc, program)?;
+pub fn tables(alloc: Global, moded: &Moded, found: &mut String) -> Result<(), Fault> {
+    let tables = statics(alloc, moded)?;
     for module in tables.modules() {
         let module = readable(module.as_bytes());
         writeln!(found, "module {module}")?;
