@@ -9,7 +9,7 @@ use Rattle.md_names.specs.declared.named.Named.TheVariants as name
 use Rattle.md_names.specs.Named.{named_call, goal_name, name_of, name_at}
 use Rattle.md_names.proofs.Standing.{call_named, call_missing, call_no_functor}
 use Rattle.md_feedback.specs.Candidates.{parts_of}
-use Rattle.md_feedback.specs.Search.{is_det_name, is_det_procedure}
+use Rattle.md_feedback.specs.Search.{is_det_name, is_det_procedure, calls_det}
 use Rattle.md_feedback.proofs.Members.{get_split, some_is}
 use Rattle.md_feedback.proofs.Within.{length-within}
 
@@ -106,5 +106,5 @@ det_by s q (name.Functor k) e = absurd (call_no_functor s q k e)
 det_by s q (name.Predicate k) e = ap is_det_procedure (call_named s q k e)
 det_by s q name.Nothing e = ap is_det_procedure (sym (call_missing s q e))
 
-pub det_named : (s : Hlds) (n : ℕ) (q : PredName) → name_at s n ≡ named_call s q → is_det_name s (name_at s n) ≡ is_det_procedure (procedure_called s q)
+pub det_named : (s : Hlds) (n : ℕ) (q : PredName) → name_at s n ≡ named_call s q → calls_det s n ≡ is_det_procedure (procedure_called s q)
 det_named s n q is = ap (is_det_name s) is ∙ det_by s q (named_call s q) refl

@@ -4,12 +4,11 @@ use Rattle.std.proofs.lemmas.List.Elements.{All-nil, All-cons, All-head, All-tai
 use Rattle.md_hlds.specs.declared.goal.PredName.{PredName}
 use Rattle.md_hlds.specs.HldsGoal.{HldsGoal, At, GoalExpr, SimpleGoal, CallGoal, HoCallGoal, ConjGoal, DisjGoal, IfGoal, NotGoal, SomeGoal, HldsGoals, nothing, also, goal_size, goals_within, goals_below, goals_among, Numbered, numbered_goal, numbered_from}
 use Rattle.md_hlds.specs.Hlds.{Hlds, Procedure}
-use Rattle.md_names.specs.Named.{name_at}
 use Rattle.md_trace.specs.PortHistory.{CallSite}
 use Rattle.md_events.specs.Table.{AreNumberedFrom, goal_sites, expr_sites, goals_sites, clause_sites}
 use Rattle.md_feedback.specs.declared.pairs.Pair.{Pair}
 use Rattle.md_feedback.specs.Text.{IsBefore, Rise}
-use Rattle.md_feedback.specs.Search.{Reading, reading, costly_call, is_det_name, call_at, binds_in, mentions, pair_of, pair_with, partners, led_by, goal_pairs, expr_pairs, each_pairs, arm_pairs, clause_pairs}
+use Rattle.md_feedback.specs.Search.{Reading, reading, costly_call, calls_det, call_at, binds_in, mentions, pair_of, pair_with, partners, led_by, goal_pairs, expr_pairs, each_pairs, arm_pairs, clause_pairs}
 use Rattle.md_feedback.proofs.Members.{get_split, some_is}
 use Rattle.md_feedback.proofs.Rising.{one_rises, rise_append}
 
@@ -99,7 +98,7 @@ none_costly s o k p b e = absurd (cc)
 pub costly_site : (s : Hlds) (c : Reading) (o k n : ℕ) (p : HldsGoal) (b : ℕ × ℕ) → AreNumberedFrom k (goal_sites s o p) → costly_call c n p ≡ Some b → IsAtSite s o k p b
 costly_site s c o k n (At l (SimpleGoal g)) b num e = none_costly s o k (At l (SimpleGoal g)) b e
 costly_site s c o k n (At l (CallGoal site q ys)) b num e = record {
-  site = called_at site _ b (chosen (is_det_name c.program (name_at c.program n)) _ b e) ∙ num.0;
+  site = called_at site _ b (chosen (calls_det c.program n) _ b e) ∙ num.0;
   one = refl;
 }
 costly_site s c o k n (At l (HoCallGoal site f ys)) b num e = none_costly s o k (At l (HoCallGoal site f ys)) b e

@@ -23,7 +23,7 @@ use Rattle.md_feedback.specs.declared.pairs.Pair.{Pair}
 use Rattle.md_feedback.specs.declared.pairs.Feedback.{Feedback}
 use Rattle.md_feedback.specs.Text.{IsLeast, IsValidPair, AreValidPairs, IsValid}
 use Rattle.md_feedback.specs.Candidates.{IsCostly, StandsIn, parts_of, IsCandidate, AreCandidates}
-use Rattle.md_feedback.specs.Search.{HasSitesOf, Reading, reading, IsHeavy, TellsHeavy, AreHeavy, is_det, is_det_procedure, is_det_name, call_at, costly_call, pair_of, program_pairs}
+use Rattle.md_feedback.specs.Search.{HasSitesOf, Reading, reading, IsHeavy, TellsHeavy, AreHeavy, is_det, is_det_procedure, calls_det, call_at, costly_call, pair_of, program_pairs}
 use Rattle.md_feedback.proofs.Members.{Member, to_contains, some_is}
 use Rattle.md_feedback.proofs.Depending.{Led, IsLed, led_sound, led_complete}
 use Rattle.md_feedback.proofs.Within.{InClause, clauses_sound, clauses_complete, length-within, before_next, goal_there, GoalOf, goal_in_clause}
@@ -64,9 +64,9 @@ told_inside heavy site total e (inl lt) = lt
 told_inside heavy site total e (inr le) = let past : get_or heavy site None ≡ None = get_or-eq_default heavy None le in absurd (cc)
 
 call_costs : (s : Hlds) (heavy : List (Option ℕ)) (v : View) (least count n l site : ℕ) (q : PredName) (ys : List ℕ) (b : ℕ × ℕ) → AreHeavy v least count heavy → name_at s n ≡ named_call s q
-    → (if is_det_name s (name_at s n) then call_at site (get_or heavy site None) else None) ≡ Some b → IsCostly s v least (At l (CallGoal site q ys)) b.0 b.1
+    → (if calls_det s n then call_at site (get_or heavy site None) else None) ≡ Some b → IsCostly s v least (At l (CallGoal site q ys)) b.0 b.1
 call_costs s heavy v least count n l site q ys b are named e =
-    let both = chosen_true (is_det_name s (name_at s n)) (call_at site (get_or heavy site None)) b e in
+    let both = chosen_true (calls_det s n) (call_at site (get_or heavy site None)) b e in
     let found = det_found (procedure_called s q) (sym (det_named s n q named) ∙ both.0) in
     let told = call_of site (get_or heavy site None) b both.1 in
     let inside : site < length heavy = told_inside heavy site told.0 told.1 (cases_lt site (length heavy)) in
@@ -113,7 +113,7 @@ is_costly s heavy o v least count n p site total are named lt k =
     let told : get_or heavy site None ≡ Some total = heavy_is v least site total (get_or heavy site None) (are.tells site lt) h in
     let called : name_at s n ≡ named_call s k.callee = named ∙ ap (goal_name s) k.is in
     ap (costly_call (reading s heavy o) n) k.is
-    ∙ choose_true (is_det_name s (name_at s n)) (call_at site (get_or heavy site None)) (site, total) (det_named s n k.callee called ∙ found_det (procedure_called s k.callee) k.called k.is_called k.is_det)
+    ∙ choose_true (calls_det s n) (call_at site (get_or heavy site None)) (site, total) (det_named s n k.callee called ∙ found_det (procedure_called s k.callee) k.called k.is_called k.is_det)
     (ap (call_at site) told)
 
 -- ---- the pairs are candidates
@@ -238,7 +238,7 @@ small_total heavy site total small e =
 costly_small : (s : Hlds) (heavy : List (Option ℕ)) (o n : ℕ) (p : HldsGoal) (b : ℕ × ℕ) → All (λ t. IfSome t (λ n. n < 2 ^ 64)) heavy → costly_call (reading s heavy o) n p ≡ Some b → b.1 < 2 ^ 64
 costly_small s heavy o n (At l (SimpleGoal g)) b small e = absurd (cc)
 costly_small s heavy o n (At l (CallGoal site q ys)) b small e =
-    let both = chosen_true (is_det_name s (name_at s n)) (call_at site (get_or heavy site None)) b e in
+    let both = chosen_true (calls_det s n) (call_at site (get_or heavy site None)) b e in
     let told = call_of site (get_or heavy site None) b both.1 in
     subst (λ (x : ℕ × ℕ). x.1 < 2 ^ 64) told.2 (small_total heavy site told.0 small told.1)
 costly_small s heavy o n (At l (HoCallGoal site f ys)) b small e = absurd (cc)

@@ -74,13 +74,17 @@ is_det_name s (name.Functor k) = false
 is_det_name s (name.Predicate q) = is_det_procedure (nth_procedure s q)
 is_det_name s name.Nothing = false
 
+-- the goal of this number names such a procedure
+abbrev pub calls_det : Hlds → ℕ → Bool
+calls_det s n = is_det_name s (name_at s n)
+
 -- a site with its total calls
 abbrev pub call_at : ℕ → Option ℕ → Option (ℕ × ℕ)
 call_at site None = None
 call_at site (Some total) = Some (site, total)
 
 abbrev pub costly_expr : Reading → ℕ → GoalExpr → Option (ℕ × ℕ)
-costly_expr c n (CallGoal site q ys) = if is_det_name c.program (name_at c.program n) then call_at site (slice_index_or c.heavy site None) else None
+costly_expr c n (CallGoal site q ys) = if calls_det c.program n then call_at site (slice_index_or c.heavy site None) else None
 costly_expr c n t = None
 
 -- the site and the total calls of a goal of this number that is a costly call

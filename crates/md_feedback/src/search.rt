@@ -2,8 +2,7 @@
 ghost use Rattle.std.specs.Prelude.{◌≡◌, ◌+◌, ◌++◌, None, IfOk, OnOk, slice_index_or};
 ghost use Rattle.md_hlds.specs.Hlds.{hlds_of};
 ghost use Rattle.md_hlds.specs.HldsGoal.{goal_of, goals_of, gathered, goal_size, goals_size, numbered_from};
-ghost use Rattle.md_names.specs.Named.{name_at};
-ghost use Rattle.md_feedback.specs.Search.{reading_in, costly_call, call_at, pair_with, is_det, is_det_name, binds_in, led_by, partners, TakesIn, goal_pairs, each_pairs, arm_pairs, program_pairs};
+ghost use Rattle.md_feedback.specs.Search.{reading_in, costly_call, call_at, pair_with, is_det, calls_det, binds_in, led_by, partners, TakesIn, goal_pairs, each_pairs, arm_pairs, program_pairs};
 
 use crate::marks::{mark, mentions};
 use crate::pairs::{Pair, Pairs};
@@ -214,7 +213,7 @@ fn costly_call(search: &Search, goal: &Goal, number: u32) -> Option<(SiteId, u64
 
 /// Whether the name in the goal of this number stands for a procedure that is declared `det`.
 fn calls_det(moded: &Moded, number: u32) -> bool
-    ensures { result ≡ is_det_name (hlds_of moded.now) (name_at (hlds_of moded.now) number) }
+    ensures { result ≡ calls_det (hlds_of moded.now) number }
 {
     match moded.named(number) {
         Named::Functor(_) | Named::Nothing => false,
