@@ -3,6 +3,7 @@ ghost use Rattle.std.specs.Prelude.{◌≡◌, option_map};
 ghost use Rattle.md_hlds.specs.HldsGoal.{expr_of};
 ghost use Rattle.md_reader.specs.Input.{input_of, Reads};
 ghost use Rattle.md_reader.specs.Rules as spec;
+ghost use Rattle.md_reader.specs.Views.{builtin_expr};
 
 use crate::input::Input;
 use crate::names::pred_name;
@@ -36,7 +37,7 @@ pub(crate) fn call(input: &mut Input<'_>) -> Result<GoalKind, Refusal>
     let name = pred_name(input)?;
     let variables = arguments(input, None)?;
     match builtin(&name, variables.as_slice()) {
-        Some(goal) => Ok(goal),
+        Some(builtin) => Ok(builtin.goal()),
         None => {
             let site = input.site()?;
             Ok(GoalKind::Call(SiteId::new(site), name, variables))
@@ -80,18 +81,40 @@ fn comparison(kind: Kind) -> Option<Cmp>
     }
 }
 
+/// A builtin goal that is written as a call, with its variables.
+#[derive(Clone, Copy)]
+enum BuiltinGoal {
+    Error(u32),
+    Nl(u32, u32),
+    WriteInt(u32, u32, u32),
+    WriteStr(u32, u32, u32),
+}
+
+impl BuiltinGoal {
+    fn goal(self) -> GoalKind
+        ensures { expr_of result ≡ builtin_expr self }
+    {
+        match self {
+            BuiltinGoal::Error(x) => GoalKind::Error(x),
+            BuiltinGoal::Nl(before, after) => GoalKind::Nl(before, after),
+            BuiltinGoal::WriteInt(x, before, after) => GoalKind::WriteInt(x, before, after),
+            BuiltinGoal::WriteStr(x, before, after) => GoalKind::WriteStr(x, before, after),
+        }
+    }
+}
+
 /// The builtin goal that a call of this name with these variables is, if it is one.
-fn builtin(name: &PredName, variables: &[u32]) -> Option<GoalKind>
-    ensures { option_map expr_of result ≡ spec.builtin name.now variables.now }
+fn builtin(name: &PredName, variables: &[u32]) -> Option<BuiltinGoal>
+    ensures { option_map builtin_expr result ≡ spec.builtin name.now variables.now }
 {
     match variables {
-        [x] if is_builtin("require", "error", name) => Some(GoalKind::Error(*x)),
-        [before, after] if is_builtin("io", "nl", name) => Some(GoalKind::Nl(*before, *after)),
+        [x] if is_builtin("require", "error", name) => Some(BuiltinGoal::Error(*x)),
+        [before, after] if is_builtin("io", "nl", name) => Some(BuiltinGoal::Nl(*before, *after)),
         [x, before, after] if is_builtin("io", "write_int", name) => {
-            Some(GoalKind::WriteInt(*x, *before, *after))
+            Some(BuiltinGoal::WriteInt(*x, *before, *after))
         }
         [x, before, after] if is_builtin("io", "write_string", name) => {
-            Some(GoalKind::WriteStr(*x, *before, *after))
+            Some(BuiltinGoal::WriteStr(*x, *before, *after))
         }
         _ => None,
     }

@@ -207,7 +207,7 @@ impl<'a> Input<'a> {
         ensures { Reads (λ names. names.items) (spec.end_clause (input_of self.old)) result (input_of self.new) }
     {
         let scope = mem::replace(&mut self.scope, Scope::new(self.alloc));
-        Ok(scope.into_names(self.alloc)?)
+        Ok(scope.to_names(self.alloc)?)
     }
 
     /// The number of the next call site.

@@ -43,8 +43,8 @@ impl Scope {
     }
 
     /// The names as a vector.
-    pub fn into_names(self, alloc: Global) -> Result<Vec<Name>, NoMemory>
-        ensures { IfOk result (λ names. names.items ≡ self) }
+    pub fn to_names(&self, alloc: Global) -> Result<Vec<Name>, NoMemory>
+        ensures { IfOk result (λ names. names.items ≡ self.now) }
     {
         let mut names = Vec::new(alloc);
         for name in self.names.as_slice() {

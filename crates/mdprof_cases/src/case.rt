@@ -1,4 +1,5 @@
 // A case: what the program is given, and what has to come of it.
+use crate::connections::Connections;
 use cases::unescaped;
 use std::alloc::{AllocError, Global};
 
@@ -27,6 +28,7 @@ pub struct Case {
     pub err: Vec<u8>,
     /// The files that have to be there in the end.
     pub left: Vec<File>,
+    pub connections: Connections,
 }
 
 impl Case {
@@ -44,6 +46,7 @@ impl Case {
             out: Vec::new(alloc),
             err: Vec::new(alloc),
             left: Vec::new(alloc),
+            connections: Connections::new(alloc),
         }
     }
 
@@ -70,7 +73,10 @@ impl Case {
             }
             "out" => self.out = unescaped(alloc, value)?,
             "err" => self.err = unescaped(alloc, value)?,
-            _ => self.set(key, number_of(value)),
+            _ => {
+                self.set(key, number_of(value));
+                self.connections.add(alloc, key, value)?;
+            }
         }
         Ok(())
     }
@@ -113,7 +119,7 @@ fn copies_of(alloc: Global, value: &str) -> Result<File, AllocError> {
 }
 
 /// What stands on the two sides of the first space.
-fn halves(value: &str) -> (&str, &str) {
+pub fn halves(value: &str) -> (&str, &str) {
     match value.split_once(' ') {
         Some(halves) => halves,
         None => (value, ""),
@@ -121,7 +127,7 @@ fn halves(value: &str) -> (&str, &str) {
 }
 
 /// The number that a text is, or 0.
-fn number_of(text: &str) -> u64 {
+pub fn number_of(text: &str) -> u64 {
     match text.parse() {
         Ok(number) => number,
         Err(_) => 0,

@@ -3,6 +3,8 @@
 #![tactic(auto)]
 
 mod case;
+mod connections;
+mod net;
 mod outcome;
 
 use case::Case;

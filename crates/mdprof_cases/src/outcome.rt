@@ -1,6 +1,7 @@
 // What comes of a case.
 use crate::case::{Case, File};
-use md_base::{MemSink, MemStore, SureNet};
+use crate::net::{are_written, net_of};
+use md_base::{MemSink, MemStore};
 use md_tool::{Status, top};
 use std::alloc::{AllocError, Global};
 
@@ -9,7 +10,7 @@ pub fn of(alloc: Global, case: &Case) -> Result<String, AllocError> {
     let mut store = store_of(alloc, case)?;
     let mut out = sink_of(alloc, case.most, case.out_fails)?;
     let mut err = sink_of(alloc, case.most, case.err_fails)?;
-    let mut net = SureNet::new(Vec::new(alloc));
+    let mut net = net_of(alloc, &case.connections, case.most)?;
     let Status(status) = top(alloc, &case.words, &mut store, &mut out, &mut err, &mut net);
     let name = case.name.as_str();
     let what = if status as u64 != case.status {
@@ -20,6 +21,8 @@ pub fn of(alloc: Global, case: &Case) -> Result<String, AllocError> {
         "something else on the error stream"
     } else if !are_left(&store, &case.left) {
         "other files"
+    } else if !are_written(net.served(), &case.connections.responses) {
+        "other responses"
     } else {
         return format!(in alloc; "ok {name}");
     };
@@ -45,7 +48,7 @@ fn sink_of(alloc: Global, most: usize, fails: u64) -> Result<MemSink, AllocError
 }
 
 /// The one call that fails, or none.
-fn failing(alloc: Global, call: u64) -> Result<Vec<u64>, AllocError> {
+pub fn failing(alloc: Global, call: u64) -> Result<Vec<u64>, AllocError> {
     let mut fails = Vec::new(alloc);
     if call > 0 {
         fails.push(call)?;

@@ -1,0 +1,42 @@
+//! Worked examples of how texts of programs are cut into tokens, read, printed, checked and laid out, and of what their
+//! goals do, as data. The standard input has the cases. The line `show` of a case names what is found of its text, and each
+//! case gets a line that says whether this is what the case wants.
+#![tactic(auto)]
+
+mod bindings;
+mod code;
+mod det;
+mod fault;
+mod goals;
+mod kinds;
+mod modes;
+mod names;
+mod pairs;
+mod passing;
+mod printed;
+mod show;
+mod spelling;
+mod tables;
+mod text;
+mod values;
+mod words;
+
+use cases::Case;
+use std::io;
+
+fn main(rt: HostRuntime) -> io::Result<()> {
+    let alloc = rt.alloc();
+    let mut case = Case::new(alloc);
+    for line in rt.lines(alloc) {
+        let line = line?;
+        if line.as_str() == "end" {
+            let said = show::verdict(alloc, &case)?;
+            let said = said.as_str();
+            println!(rt; "{said}")?;
+            case = Case::new(alloc);
+        } else {
+            case.add(alloc, line.as_str())?;
+        }
+    }
+    Ok(())
+}

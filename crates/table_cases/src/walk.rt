@@ -1,0 +1,111 @@
+// A long run, in which each activation calls once at each plain site of its procedure, in order, and exits.
+use crate::runs::{profile, show_none};
+use crate::tables::tables;
+use cases::Case;
+use md_base::{NoMemory, ProcId, SiteId};
+use md_dynamic::Profile;
+use md_static::{Site, SiteKind};
+use md_trace::Event;
+use std::alloc::Global;
+
+/// No more steps than this are made.
+const MOST: u32 = 4_000_000;
+
+/// How many events the run over the case's tables has, and how many contexts and links its profile has.
+pub fn show_sizes(alloc: Global, case: &Case, found: &mut String) -> Result<(), NoMemory> {
+    let events = walk_of(alloc, case)?;
+    writeln!(found, "events {}", events.len())?;
+    match profile(alloc, case, &events)? {
+        Some(profile) => show_rows(&profile, found),
+        None => show_none(found),
+    }
+}
+
+fn show_rows(profile: &Profile, found: &mut String) -> Result<(), NoMemory> {
+    writeln!(found, "contexts {}", profile.nodes().len())?;
+    writeln!(found, "links {}", profile.links().len())?;
+    Ok(())
+}
+
+/// The events of the run over the case's tables.
+fn walk_of(alloc: Global, case: &Case) -> Result<Vec<Event>, NoMemory> {
+    let statics = tables(alloc, case)?;
+    walk(alloc, statics.sites())
+}
+
+/// An activation that runs: its number, its procedure, and the site where it looks next for one of its own.
+#[derive(Clone, Copy)]
+struct Running {
+    act: u32,
+    procedure: ProcId,
+    next: u32,
+}
+
+/// The events of the run over these sites.
+fn walk(alloc: Global, sites: &[Site]) -> Result<Vec<Event>, NoMemory> {
+    let mut events = Vec::new(alloc);
+    let mut chain = Vec::new(alloc);
+    let mut called = 1u32;
+    let mut top = Running {
+        act: 0,
+        procedure: ProcId::new(0),
+        next: 0,
+    };
+    events.push(beginning())?;
+    for _ in 0..MOST {
+        if let Some((site, callee)) = next_call(sites, top) {
+            let caller = top.act;
+            events.push(call(called, caller, site, callee))?;
+            top.next = site.wrapping_add(1);
+            chain.push(top)?;
+            top = Running {
+                act: called,
+                procedure: callee,
+                next: 0,
+            };
+            called = called.wrapping_add(1);
+            continue;
+        }
+        let act = top.act;
+        events.push(Event::Exit { act })?;
+        match chain.pop() {
+            Some(parent) => top = parent,
+            None => break,
+        }
+    }
+    Ok(events)
+}
+
+/// The next plain site of the procedure that runs, and the procedure that it calls.
+fn next_call(sites: &[Site], running: Running) -> Option<(u32, ProcId)> {
+    for place in running.next..u32::MAX {
+        let site = sites.get(place as usize)?;
+        match site.kind {
+            SiteKind::Plain(callee) if site.owner == running.procedure => {
+                return Some((place, callee));
+            }
+            _ => {}
+        }
+    }
+    None
+}
+
+/// The call of the main procedure.
+pub fn beginning() -> Event {
+    Event::Call {
+        act: 0,
+        parent: None,
+        site: None,
+        callee: ProcId::new(0),
+    }
+}
+
+/// A call by an activation at a site.
+pub fn call(act: u32, parent: u32, site: u32, callee: ProcId) -> Event {
+    Event::Call {
+        act,
+        parent: Some(parent),
+        site: Some(SiteId::new(site)),
+        callee,
+    }
+}
