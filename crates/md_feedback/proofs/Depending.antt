@@ -147,7 +147,7 @@ pub record Partner (c : Reading) (a : ℕ × ℕ) (parts : List Numbered) (i k :
   pub from_k : k ≤ j
   pub at_j : slice_get parts j ≡ Some h
   pub b : ℕ × ℕ
-  pub costs : costly_call c h.goal ≡ Some b
+  pub costs : costly_call c h.number h.goal ≡ Some b
   pub is : pair ≡ pair_of c.owner a b
   pub apart : Depends c.program parts i j → ⊥
 
@@ -175,7 +175,7 @@ partner_later c a parts i k pair p = record { j = p.j; h = p.h; from_k = omega (
 partner_at : (c : Reading) (a : ℕ × ℕ) (parts : List Numbered) (i k : ℕ) (bound : List ℕ) (pre : List Numbered) (g : Numbered) (suf : List Numbered) (pair : Pair) → parts ≡ pre ++ g ∷ suf → length pre ≡ k → i < k
     → Tainted c.program parts i k bound → ((then' : List ℕ) → Tainted c.program parts i (suc k) then' → Member pair (partners c a then' suf) → Partner c a parts i (suc k) pair)
     → (found : Bool) → mentions bound g.goal ≡ found
-    → Member pair (if found then partners c a (bound ++ binds_in c g.number) suf else pair_with c.owner a (costly_call c g.goal) ++ partners c a bound suf) → Partner c a parts i k pair
+    → Member pair (if found then partners c a (bound ++ binds_in c g.number) suf else pair_with c.owner a (costly_call c g.number g.goal) ++ partners c a bound suf) → Partner c a parts i k pair
 partner_at c a parts i k bound pre g suf pair whole n lt taint again true e m =
     let at_k : slice_get parts k ≡ Some g = seam pre g suf parts k whole n in
     partner_later c a parts i k pair
@@ -183,8 +183,8 @@ partner_at c a parts i k bound pre g suf pair whole n lt taint again true e m =
 partner_at c a parts i k bound pre g suf pair whole n lt taint again false e m =
     let at_k : slice_get parts k ≡ Some g = seam pre g suf parts k whole n in
     let apart : Depends c.program parts i k → ⊥ = λ d. let t : mentions bound g.goal ≡ true = depends_mention c.program parts i k bound g taint at_k d in absurd (cc (t, e)) in
-    elim (member_split pair (pair_with c.owner a (costly_call c g.goal)) (partners c a bound suf) m) [
-      | inl here ↦ (let p = here_pair c.owner a (costly_call c g.goal) pair here in record { j = k; h = g; from_k = omega arith; at_j = at_k; b = p.0; costs = p.1; is = p.2; apart = apart })
+    elim (member_split pair (pair_with c.owner a (costly_call c g.number g.goal)) (partners c a bound suf) m) [
+      | inl here ↦ (let p = here_pair c.owner a (costly_call c g.number g.goal) pair here in record { j = k; h = g; from_k = omega arith; at_j = at_k; b = p.0; costs = p.1; is = p.2; apart = apart })
       | inr rest ↦ partner_later c a parts i k pair (again bound (taint_same c.program parts i k bound taint lt apart) rest)
     ]
 
@@ -199,7 +199,7 @@ partners_sound c a parts i k bound pre (g ∷ suf) pair whole n lt taint m =
 member_here : (c : Reading) (a : ℕ × ℕ) (parts : List Numbered) (i k : ℕ) (bound : List ℕ) (pre : List Numbered) (g : Numbered) (suf : List Numbered) (pair : Pair) → parts ≡ pre ++ g ∷ suf → length pre ≡ k → i < k
     → Tainted c.program parts i k bound → ((then' : List ℕ) → Tainted c.program parts i (suc k) then' → Partner c a parts i (suc k) pair → Member pair (partners c a then' suf))
     → (p : Partner c a parts i k pair) → (found : Bool) → mentions bound g.goal ≡ found → (k < p.j) ⊎ (p.j ≤ k)
-    → Member pair (if found then partners c a (bound ++ binds_in c g.number) suf else pair_with c.owner a (costly_call c g.goal) ++ partners c a bound suf)
+    → Member pair (if found then partners c a (bound ++ binds_in c g.number) suf else pair_with c.owner a (costly_call c g.number g.goal) ++ partners c a bound suf)
 member_here c a parts i k bound pre g suf pair whole n lt taint again p true e (inl above) =
     let at_k : slice_get parts k ≡ Some g = seam pre g suf parts k whole n in
     again (bound ++ binds_in c g.number) (taint_more c.program parts i k bound g taint at_k (mention_depends c.program parts i k bound g taint at_k e))
@@ -211,16 +211,16 @@ member_here c a parts i k bound pre g suf pair whole n lt taint again p true e (
 member_here c a parts i k bound pre g suf pair whole n lt taint again p false e (inl above) =
     let at_k : slice_get parts k ≡ Some g = seam pre g suf parts k whole n in
     let apart : Depends c.program parts i k → ⊥ = λ d. let t : mentions bound g.goal ≡ true = depends_mention c.program parts i k bound g taint at_k d in absurd (cc (t, e)) in
-    member_right pair (pair_with c.owner a (costly_call c g.goal)) (partners c a bound suf)
+    member_right pair (pair_with c.owner a (costly_call c g.number g.goal)) (partners c a bound suf)
     (again bound (taint_same c.program parts i k bound taint lt apart)
     (record { j = p.j; h = p.h; from_k = omega (arith, above); at_j = p.at_j; b = p.b; costs = p.costs; is = p.is; apart = p.apart }))
 member_here c a parts i k bound pre g suf pair whole n lt taint again p false e (inr here) =
     let at_k : slice_get parts k ≡ Some g = seam pre g suf parts k whole n in
     let same : k ≡ p.j = omega (arith, here, p.from_k) in
     let goal : g ≡ p.h = some_is g p.h (sym at_k ∙ (ap (slice_get parts) same ∙ p.at_j)) in
-    member_left pair (pair_with c.owner a (costly_call c g.goal)) (partners c a bound suf)
-    (subst (λ (q : Pair). Member q (pair_with c.owner a (costly_call c g.goal))) (sym p.is)
-    (pair_here c.owner a p.b (costly_call c g.goal) (ap (λ (q : Numbered). costly_call c q.goal) goal ∙ p.costs)))
+    member_left pair (pair_with c.owner a (costly_call c g.number g.goal)) (partners c a bound suf)
+    (subst (λ (q : Pair). Member q (pair_with c.owner a (costly_call c g.number g.goal))) (sym p.is)
+    (pair_here c.owner a p.b (costly_call c g.number g.goal) (ap (λ (q : Numbered). costly_call c q.number q.goal) goal ∙ p.costs)))
 
 pub partners_complete : (c : Reading) (a : ℕ × ℕ) (parts : List Numbered) (i k : ℕ) (bound : List ℕ) (pre suf : List Numbered) (pair : Pair) → parts ≡ pre ++ suf → length pre ≡ k → i < k
     → Tainted c.program parts i k bound → Partner c a parts i k pair → Member pair (partners c a bound suf)
@@ -236,7 +236,7 @@ partners_complete c a parts i k bound pre (g ∷ suf) pair whole n lt taint p =
 -- pairs whose first call is one of these parts
 abbrev pub Led : Reading → List Numbered → Pair → Type 0
 Led c [] pair = ⊥
-Led c (g ∷ gs) pair = Member pair (led_by c (costly_call c g.goal) (binds_in c g.number) gs) ⊎ Led c gs pair
+Led c (g ∷ gs) pair = Member pair (led_by c (costly_call c g.number g.goal) (binds_in c g.number) gs) ⊎ Led c gs pair
 
 -- two costly calls among these parts, the second behind the first and not depending on it
 pub record IsLed (c : Reading) (parts : List Numbered) (from : ℕ) (pair : Pair) : Type 0 where
@@ -250,8 +250,8 @@ pub record IsLed (c : Reading) (parts : List Numbered) (from : ℕ) (pair : Pair
   pub at_j : slice_get parts j ≡ Some h
   pub a : ℕ × ℕ
   pub b : ℕ × ℕ
-  pub first_costs : costly_call c g.goal ≡ Some a
-  pub second_costs : costly_call c h.goal ≡ Some b
+  pub first_costs : costly_call c g.number g.goal ≡ Some a
+  pub second_costs : costly_call c h.number h.goal ≡ Some b
   pub is : pair ≡ pair_of c.owner a b
   pub apart : Depends c.program parts i j → ⊥
 
@@ -267,7 +267,7 @@ pub led_sound : (c : Reading) (parts pre suf : List Numbered) (k : ℕ) (pair : 
 led_sound c parts pre [] k pair whole n m = absurd m
 led_sound c parts pre (g ∷ suf) k pair whole n (inl m) =
     let at_k : slice_get parts k ≡ Some g = seam pre g suf parts k whole n in
-    let first : (a : ℕ × ℕ) × (costly_call c g.goal ≡ Some a) × Member pair (partners c a (binds_in c g.number) suf) = led_at c (costly_call c g.goal) (binds_in c g.number) suf pair m in
+    let first : (a : ℕ × ℕ) × (costly_call c g.number g.goal ≡ Some a) × Member pair (partners c a (binds_in c g.number) suf) = led_at c (costly_call c g.number g.goal) (binds_in c g.number) suf pair m in
     let p : Partner c first.0 parts k (suc k) pair
     = partners_sound c first.0 parts k (suc k) (binds_in c g.number) (pre ++ g ∷ []) suf pair (shift pre g suf parts whole) (longer pre g k n) (omega arith) (taint_first c.program parts k g at_k) first.2 in
     record { i = k; j = p.j; g = g; h = p.h; from_i = omega arith; order = omega (arith, p.from_k); at_i = at_k; at_j = p.at_j; a = first.0; b = p.b; first_costs = first.1; second_costs = p.costs; is = p.is; apart = p.apart }
@@ -276,14 +276,14 @@ led_sound c parts pre (g ∷ suf) k pair whole n (inr m) =
     record { i = r.i; j = r.j; g = r.g; h = r.h; from_i = omega (arith, r.from_i); order = r.order; at_i = r.at_i; at_j = r.at_j; a = r.a; b = r.b; first_costs = r.first_costs; second_costs = r.second_costs; is = r.is; apart = r.apart }
 
 led_here : (c : Reading) (parts pre : List Numbered) (g : Numbered) (suf : List Numbered) (k : ℕ) (pair : Pair) → parts ≡ pre ++ g ∷ suf → length pre ≡ k → (IsLed c parts (suc k) pair → Led c suf pair)
-    → (r : IsLed c parts k pair) → (k < r.i) ⊎ (r.i ≤ k) → Member pair (led_by c (costly_call c g.goal) (binds_in c g.number) suf) ⊎ Led c suf pair
+    → (r : IsLed c parts k pair) → (k < r.i) ⊎ (r.i ≤ k) → Member pair (led_by c (costly_call c g.number g.goal) (binds_in c g.number) suf) ⊎ Led c suf pair
 led_here c parts pre g suf k pair whole n again r (inl above) =
     inr (again (record { i = r.i; j = r.j; g = r.g; h = r.h; from_i = omega (arith, above); order = r.order; at_i = r.at_i; at_j = r.at_j; a = r.a; b = r.b; first_costs = r.first_costs; second_costs = r.second_costs; is = r.is; apart = r.apart }))
 led_here c parts pre g suf k pair whole n again r (inr here) =
     let at_k : slice_get parts k ≡ Some g = seam pre g suf parts k whole n in
     let same : r.i ≡ k = omega (arith, here, r.from_i) in
     let goal : g ≡ r.g = some_is g r.g (sym at_k ∙ (ap (slice_get parts) (sym same) ∙ r.at_i)) in
-    inl (at_led c (costly_call c g.goal) r.a (binds_in c g.number) suf pair (ap (λ (q : Numbered). costly_call c q.goal) goal ∙ r.first_costs)
+    inl (at_led c (costly_call c g.number g.goal) r.a (binds_in c g.number) suf pair (ap (λ (q : Numbered). costly_call c q.number q.goal) goal ∙ r.first_costs)
     (partners_complete c r.a parts k (suc k) (binds_in c g.number) (pre ++ g ∷ []) suf pair (shift pre g suf parts whole) (longer pre g k n) (omega arith) (taint_first c.program parts k g at_k)
     (record { j = r.j; h = r.h; from_k = omega (arith, r.order, same); at_j = r.at_j; b = r.b; costs = r.second_costs; is = r.is; apart = λ d. r.apart (subst (λ (m : ℕ). Depends c.program parts m r.j) (sym same) d) })))
 

@@ -6,6 +6,7 @@ pub mod Parts
 pub mod Members
 pub mod Depending
 pub mod Within
+pub mod Inside
 pub mod Order
 pub mod Whole
 mod Worked

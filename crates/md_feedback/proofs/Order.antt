@@ -3,12 +3,12 @@ use Rattle.std.proofs.Common.{◌≡◌, inl, inr, refl, ap, ◌∙◌, sym, sub
 use Rattle.std.proofs.lemmas.List.Elements.{All-nil, All-cons, All-head, All-tail, All-append, All-weaker}
 use Rattle.md_hlds.specs.declared.goal.PredName.{PredName}
 use Rattle.md_hlds.specs.HldsGoal.{HldsGoal, At, GoalExpr, SimpleGoal, CallGoal, HoCallGoal, ConjGoal, DisjGoal, IfGoal, NotGoal, SomeGoal, HldsGoals, nothing, also, goal_size, goals_within, goals_below, goals_among, Numbered, numbered_goal, numbered_from}
-use Rattle.md_hlds.specs.Hlds.{Hlds, Procedure, procedure_called}
+use Rattle.md_hlds.specs.Hlds.{Hlds, Procedure}
 use Rattle.md_trace.specs.PortHistory.{CallSite}
 use Rattle.md_events.specs.Table.{AreNumberedFrom, goal_sites, expr_sites, goals_sites, clause_sites}
 use Rattle.md_feedback.specs.declared.pairs.Pair.{Pair}
 use Rattle.md_feedback.specs.Text.{IsBefore, Rise}
-use Rattle.md_feedback.specs.Search.{Reading, reading, costly_call, is_det_procedure, call_at, binds_in, mentions, pair_of, pair_with, partners, led_by, goal_pairs, expr_pairs, each_pairs, arm_pairs, clause_pairs}
+use Rattle.md_feedback.specs.Search.{Reading, reading, costly_call, calls_det, call_at, binds_in, mentions, pair_of, pair_with, partners, led_by, goal_pairs, expr_pairs, each_pairs, arm_pairs, clause_pairs}
 use Rattle.md_feedback.proofs.Members.{get_split, some_is}
 use Rattle.md_feedback.proofs.Rising.{one_rises, rise_append}
 
@@ -95,23 +95,23 @@ chosen false o b e = absurd (cc)
 none_costly : (s : Hlds) (o k : ℕ) (p : HldsGoal) (b : ℕ × ℕ) → None ≡ Some b → IsAtSite s o k p b
 none_costly s o k p b e = absurd (cc)
 
-pub costly_site : (s : Hlds) (c : Reading) (o k : ℕ) (p : HldsGoal) (b : ℕ × ℕ) → AreNumberedFrom k (goal_sites s o p) → costly_call c p ≡ Some b → IsAtSite s o k p b
-costly_site s c o k (At l (SimpleGoal g)) b num e = none_costly s o k (At l (SimpleGoal g)) b e
-costly_site s c o k (At l (CallGoal site q ys)) b num e = record {
-  site = called_at site _ b (chosen (is_det_procedure (procedure_called c.program q)) _ b e) ∙ num.0;
+pub costly_site : (s : Hlds) (c : Reading) (o k n : ℕ) (p : HldsGoal) (b : ℕ × ℕ) → AreNumberedFrom k (goal_sites s o p) → costly_call c n p ≡ Some b → IsAtSite s o k p b
+costly_site s c o k n (At l (SimpleGoal g)) b num e = none_costly s o k (At l (SimpleGoal g)) b e
+costly_site s c o k n (At l (CallGoal site q ys)) b num e = record {
+  site = called_at site _ b (chosen (calls_det c.program n) _ b e) ∙ num.0;
   one = refl;
 }
-costly_site s c o k (At l (HoCallGoal site f ys)) b num e = none_costly s o k (At l (HoCallGoal site f ys)) b e
-costly_site s c o k (At l (ConjGoal ps)) b num e = none_costly s o k (At l (ConjGoal ps)) b e
-costly_site s c o k (At l (DisjGoal ps)) b num e = none_costly s o k (At l (DisjGoal ps)) b e
-costly_site s c o k (At l (IfGoal p t f)) b num e = none_costly s o k (At l (IfGoal p t f)) b e
-costly_site s c o k (At l (NotGoal p)) b num e = none_costly s o k (At l (NotGoal p)) b e
-costly_site s c o k (At l (SomeGoal vs p)) b num e = none_costly s o k (At l (SomeGoal vs p)) b e
+costly_site s c o k n (At l (HoCallGoal site f ys)) b num e = none_costly s o k (At l (HoCallGoal site f ys)) b e
+costly_site s c o k n (At l (ConjGoal ps)) b num e = none_costly s o k (At l (ConjGoal ps)) b e
+costly_site s c o k n (At l (DisjGoal ps)) b num e = none_costly s o k (At l (DisjGoal ps)) b e
+costly_site s c o k n (At l (IfGoal p t f)) b num e = none_costly s o k (At l (IfGoal p t f)) b e
+costly_site s c o k n (At l (NotGoal p)) b num e = none_costly s o k (At l (NotGoal p)) b e
+costly_site s c o k n (At l (SomeGoal vs p)) b num e = none_costly s o k (At l (SomeGoal vs p)) b e
 
-pair_led : (s : Hlds) (c : Reading) (a : ℕ × ℕ) (o k : ℕ) (p : HldsGoal) → AreNumberedFrom k (goal_sites s o p) → (d : Option (ℕ × ℕ)) → costly_call c p ≡ d → AreLed a.0 k (k + length (goal_sites s o p)) (pair_with c.owner a d)
-pair_led s c a o k p num None e = record { rise = tt; within = All-nil (IsLedBy a.0 k (k + length (goal_sites s o p))) }
-pair_led s c a o k p num (Some b) e =
-    let there : IsAtSite s o k p b = costly_site s c o k p b num e in
+pair_led : (s : Hlds) (c : Reading) (a : ℕ × ℕ) (o k n : ℕ) (p : HldsGoal) → AreNumberedFrom k (goal_sites s o p) → (d : Option (ℕ × ℕ)) → costly_call c n p ≡ d → AreLed a.0 k (k + length (goal_sites s o p)) (pair_with c.owner a d)
+pair_led s c a o k n p num None e = record { rise = tt; within = All-nil (IsLedBy a.0 k (k + length (goal_sites s o p))) }
+pair_led s c a o k n p num (Some b) e =
+    let there : IsAtSite s o k p b = costly_site s c o k n p b num e in
     record {
       rise = one_rises (pair_of c.owner a b);
       within = All-cons (IsLedBy a.0 k (k + length (goal_sites s o p))) (pair_of c.owner a b) []
@@ -120,11 +120,11 @@ pair_led s c a o k p num (Some b) e =
 
 partner_order : (s : Hlds) (c : Reading) (a : ℕ × ℕ) (bound : List ℕ) (o k l m n : ℕ) (p : HldsGoal) (gs : List Numbered) → l ≡ k + length (goal_sites s o p) → l ≤ m → AreNumberedFrom k (goal_sites s o p)
     → ((then' : List ℕ) → AreLed a.0 l m (partners c a then' gs)) → (found : Bool)
-    → AreLed a.0 k m (if found then partners c a (bound ++ binds_in c n) gs else pair_with c.owner a (costly_call c p) ++ partners c a bound gs)
+    → AreLed a.0 k m (if found then partners c a (bound ++ binds_in c n) gs else pair_with c.owner a (costly_call c n p) ++ partners c a bound gs)
 partner_order s c a bound o k l m n p gs there high num again true = led_wider a.0 k l m m (partners c a (bound ++ binds_in c n) gs) (omega (arith, there)) (omega arith) (again (bound ++ binds_in c n))
 partner_order s c a bound o k l m n p gs there high num again false =
-    led_append a.0 k l m (pair_with c.owner a (costly_call c p)) (partners c a bound gs) (omega (arith, there)) high
-    (subst (λ (i : ℕ). AreLed a.0 k i (pair_with c.owner a (costly_call c p))) (sym there) (pair_led s c a o k p num (costly_call c p) refl)) (again bound)
+    led_append a.0 k l m (pair_with c.owner a (costly_call c n p)) (partners c a bound gs) (omega (arith, there)) high
+    (subst (λ (i : ℕ). AreLed a.0 k i (pair_with c.owner a (costly_call c n p))) (sym there) (pair_led s c a o k n p num (costly_call c n p) refl)) (again bound)
 
 pub partners_order : (s : Hlds) (c : Reading) (a : ℕ × ℕ) (bound : List ℕ) (o k m n : ℕ) (ps : HldsGoals) → m ≡ k + length (goals_sites s o ps) → AreNumberedFrom k (goals_sites s o ps)
     → AreLed a.0 k m (partners c a bound (numbered_from n ps))
@@ -155,7 +155,7 @@ led_first c (Some a) bound gs rest k l m low o leads =
 
 -- of a part: it is a call without goals within it, or it leads no pairs
 part_order : (c : Reading) (n k l m : ℕ) (p : HldsGoal) (bound : List ℕ) (gs : List Numbered) (rest : List Pair) → k ≤ l → l ≤ m → Ordered k l (goal_pairs c n p) → Ordered l m rest
-    → Ordered k m (led_by c (costly_call c p) bound gs ++ rest) → Ordered k m (goal_pairs c n p ++ (led_by c (costly_call c p) bound gs ++ rest))
+    → Ordered k m (led_by c (costly_call c n p) bound gs ++ rest) → Ordered k m (goal_pairs c n p ++ (led_by c (costly_call c n p) bound gs ++ rest))
 part_order c n k l m (At line (SimpleGoal g)) bound gs rest low high inner after whole = whole
 part_order c n k l m (At line (CallGoal site q ys)) bound gs rest low high inner after whole = whole
 part_order c n k l m (At line (HoCallGoal site f ys)) bound gs rest low high inner after whole = whole
@@ -198,8 +198,8 @@ mutual
       let others : AreNumberedFrom l (goals_sites s o ps) = numbered-right k l (goal_sites s o p) (goals_sites s o ps) refl num in
       let after : Ordered l m (each_pairs c (n + goal_size p) ps) = each_order s c o l m (n + goal_size p) ps end' others in
       part_order c n k l m p (binds_in c n) (numbered_from (n + goal_size p) ps) (each_pairs c (n + goal_size p) ps) (omega arith) (omega (arith, end')) (goal_order s c o k l n p refl own) after
-      (led_first c (costly_call c p) (binds_in c n) (numbered_from (n + goal_size p) ps) (each_pairs c (n + goal_size p) ps) k l m (omega arith) after
-      (λ a e. let at : IsAtSite s o k p a = costly_site s c o k p a own e in
+      (led_first c (costly_call c n p) (binds_in c n) (numbered_from (n + goal_size p) ps) (each_pairs c (n + goal_size p) ps) k l m (omega arith) after
+      (λ a e. let at : IsAtSite s o k p a = costly_site s c o k n p a own e in
       (at.site, omega (arith, at.one), partners_order s c a (binds_in c n) o l m (n + goal_size p) ps end' others)))
 
   arms_order : (s : Hlds) (c : Reading) (o k m n : ℕ) (ps : HldsGoals) → m ≡ k + length (goals_sites s o ps) → AreNumberedFrom k (goals_sites s o ps) → Ordered k m (arm_pairs c n ps)

@@ -104,18 +104,18 @@ takes_dependent c a n p marks after pairs found is holds more bound are =
     let there : mentions bound p ≡ true = sym (some_alike (mark_at marks) (is_among bound) are (variables p)) ∙ (sym is ∙ holds) in (
       bound ++ binds_in c n,
       marked_besides marks after bound (binds_in c n) are more,
-      λ gs. ap (λ ps. pairs ++ ps) (if_true (mentions bound p) (partners c a (bound ++ binds_in c n) gs) (pair_with c.owner a (costly_call c p) ++ partners c a bound gs) there),
+      λ gs. ap (λ ps. pairs ++ ps) (if_true (mentions bound p) (partners c a (bound ++ binds_in c n) gs) (pair_with c.owner a (costly_call c n p) ++ partners c a bound gs) there),
     )
 
 -- and one that doesn't
 pub takes_apart : (c : Reading) (a : ℕ × ℕ) (n : ℕ) (p : HldsGoal) (marks : List Bool) (pairs more : List Pair) (found : Bool) → found ≡ some_of (mark_at marks) (variables p) → found ≡ false
-    → more ≡ pairs ++ pair_with c.owner a (costly_call c p) → TakesIn c a n p marks marks pairs more
+    → more ≡ pairs ++ pair_with c.owner a (costly_call c n p) → TakesIn c a n p marks marks pairs more
 takes_apart c a n p marks pairs more found is no' added bound are =
     let there : mentions bound p ≡ false = sym (some_alike (mark_at marks) (is_among bound) are (variables p)) ∙ (sym is ∙ no') in (
       bound,
       are,
-      λ gs. ap (λ ps. pairs ++ ps) (if_false (mentions bound p) (partners c a (bound ++ binds_in c n) gs) (pair_with c.owner a (costly_call c p) ++ partners c a bound gs) there)
-          ∙ (sym (append_assoc pairs (pair_with c.owner a (costly_call c p)) (partners c a bound gs)) ∙ ap (λ ps. ps ++ partners c a bound gs) (sym added)),
+      λ gs. ap (λ ps. pairs ++ ps) (if_false (mentions bound p) (partners c a (bound ++ binds_in c n) gs) (pair_with c.owner a (costly_call c n p) ++ partners c a bound gs) there)
+          ∙ (sym (append_assoc pairs (pair_with c.owner a (costly_call c n p)) (partners c a bound gs)) ∙ ap (λ ps. ps ++ partners c a bound gs) (sym added)),
     )
 
 pub ok_so : {A E : Type 0} (r : Result A E) (P Q : Type 0) → OnOk r P → (P → Q) → OnOk r Q

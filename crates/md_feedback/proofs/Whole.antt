@@ -10,7 +10,8 @@ use Rattle.md_hlds.specs.declared.types.Det.{Det}
 use Rattle.md_hlds.specs.declared.types.Det.TheVariants as det
 use Rattle.md_hlds.specs.HldsGoal.{HldsGoal, At, SimpleGoal, CallGoal, HoCallGoal, ConjGoal, DisjGoal, IfGoal, NotGoal, SomeGoal, goal_size, goals_within, Numbered, numbered_from}
 use Rattle.md_hlds.specs.declared.program.Pred.{Pred}
-use Rattle.md_hlds.specs.Hlds.{Hlds, Procedure, procedures_of, procedure_called, goals_before, clause_goals}
+use Rattle.md_hlds.specs.Hlds.{Hlds, Procedure, procedures_of, procedure_called, goals_before, clause_goals, goal_at}
+use Rattle.md_names.specs.Named.{named_call, goal_name, name_at}
 use Rattle.md_static.specs.Names.{is_name}
 use Rattle.md_static.specs.Tables.{Static}
 use Rattle.md_static.specs.Tables as static
@@ -22,10 +23,11 @@ use Rattle.md_feedback.specs.declared.pairs.Pair.{Pair}
 use Rattle.md_feedback.specs.declared.pairs.Feedback.{Feedback}
 use Rattle.md_feedback.specs.Text.{IsLeast, IsValidPair, AreValidPairs, IsValid}
 use Rattle.md_feedback.specs.Candidates.{IsCostly, StandsIn, parts_of, IsCandidate, AreCandidates}
-use Rattle.md_feedback.specs.Search.{HasSitesOf, Reading, reading, IsHeavy, TellsHeavy, AreHeavy, is_det, is_det_procedure, call_at, costly_call, pair_of, program_pairs}
+use Rattle.md_feedback.specs.Search.{HasSitesOf, Reading, reading, IsHeavy, TellsHeavy, AreHeavy, is_det, is_det_procedure, calls_det, call_at, costly_call, pair_of, program_pairs}
 use Rattle.md_feedback.proofs.Members.{Member, to_contains, some_is}
 use Rattle.md_feedback.proofs.Depending.{Led, IsLed, led_sound, led_complete}
 use Rattle.md_feedback.proofs.Within.{InClause, clauses_sound, clauses_complete, length-within, before_next, goal_there, GoalOf, goal_in_clause}
+use Rattle.md_feedback.proofs.Inside.{part_named, det_named}
 use Rattle.md_feedback.proofs.Order.{IsWithin, Ordered, clauses_order, Below, numbered_below, goal_below, part_below, clause_below, call_below}
 
 -- ---- costly calls
@@ -61,11 +63,11 @@ told_inside : (heavy : List (Option ℕ)) (site total : ℕ) → get_or heavy si
 told_inside heavy site total e (inl lt) = lt
 told_inside heavy site total e (inr le) = let past : get_or heavy site None ≡ None = get_or-eq_default heavy None le in absurd (cc)
 
-call_costs : (s : Hlds) (heavy : List (Option ℕ)) (v : View) (least count l site : ℕ) (q : PredName) (ys : List ℕ) (b : ℕ × ℕ) → AreHeavy v least count heavy
-    → (if is_det_procedure (procedure_called s q) then call_at site (get_or heavy site None) else None) ≡ Some b → IsCostly s v least (At l (CallGoal site q ys)) b.0 b.1
-call_costs s heavy v least count l site q ys b are e =
-    let both = chosen_true (is_det_procedure (procedure_called s q)) (call_at site (get_or heavy site None)) b e in
-    let found = det_found (procedure_called s q) both.0 in
+call_costs : (s : Hlds) (heavy : List (Option ℕ)) (v : View) (least count n l site : ℕ) (q : PredName) (ys : List ℕ) (b : ℕ × ℕ) → AreHeavy v least count heavy → name_at s n ≡ named_call s q
+    → (if calls_det s n then call_at site (get_or heavy site None) else None) ≡ Some b → IsCostly s v least (At l (CallGoal site q ys)) b.0 b.1
+call_costs s heavy v least count n l site q ys b are named e =
+    let both = chosen_true (calls_det s n) (call_at site (get_or heavy site None)) b e in
+    let found = det_found (procedure_called s q) (sym (det_named s n q named) ∙ both.0) in
     let told = call_of site (get_or heavy site None) b both.1 in
     let inside : site < length heavy = told_inside heavy site told.0 told.1 (cases_lt site (length heavy)) in
     let h : IsHeavy v least site told.0 = subst (λ (t : Option ℕ). TellsHeavy v least site t) told.1 (are.tells site (omega (arith, inside, are.each))) in
@@ -88,28 +90,31 @@ call_costs s heavy v least count l site q ys b are e =
 never : (s : Hlds) (v : View) (least : ℕ) (p : HldsGoal) (b : ℕ × ℕ) → None ≡ Some b → IsCostly s v least p b.0 b.1
 never s v least p b e = absurd (cc)
 
-pub costly_is : (s : Hlds) (heavy : List (Option ℕ)) (o : ℕ) (v : View) (least count : ℕ) (p : HldsGoal) (b : ℕ × ℕ) → AreHeavy v least count heavy → costly_call (reading s heavy o) p ≡ Some b
+pub costly_is : (s : Hlds) (heavy : List (Option ℕ)) (o : ℕ) (v : View) (least count n : ℕ) (p : HldsGoal) (b : ℕ × ℕ) → AreHeavy v least count heavy → name_at s n ≡ goal_name s p
+    → costly_call (reading s heavy o) n p ≡ Some b
     → IsCostly s v least p b.0 b.1
-costly_is s heavy o v least count (At l (SimpleGoal g)) b are e = never s v least (At l (SimpleGoal g)) b e
-costly_is s heavy o v least count (At l (CallGoal site q ys)) b are e = call_costs s heavy v least count l site q ys b are e
-costly_is s heavy o v least count (At l (HoCallGoal site f ys)) b are e = never s v least (At l (HoCallGoal site f ys)) b e
-costly_is s heavy o v least count (At l (ConjGoal ps)) b are e = never s v least (At l (ConjGoal ps)) b e
-costly_is s heavy o v least count (At l (DisjGoal ps)) b are e = never s v least (At l (DisjGoal ps)) b e
-costly_is s heavy o v least count (At l (IfGoal p t f)) b are e = never s v least (At l (IfGoal p t f)) b e
-costly_is s heavy o v least count (At l (NotGoal p)) b are e = never s v least (At l (NotGoal p)) b e
-costly_is s heavy o v least count (At l (SomeGoal vs p)) b are e = never s v least (At l (SomeGoal vs p)) b e
+costly_is s heavy o v least count n (At l (SimpleGoal g)) b are named e = never s v least (At l (SimpleGoal g)) b e
+costly_is s heavy o v least count n (At l (CallGoal site q ys)) b are named e = call_costs s heavy v least count n l site q ys b are named e
+costly_is s heavy o v least count n (At l (HoCallGoal site f ys)) b are named e = never s v least (At l (HoCallGoal site f ys)) b e
+costly_is s heavy o v least count n (At l (ConjGoal ps)) b are named e = never s v least (At l (ConjGoal ps)) b e
+costly_is s heavy o v least count n (At l (DisjGoal ps)) b are named e = never s v least (At l (DisjGoal ps)) b e
+costly_is s heavy o v least count n (At l (IfGoal p t f)) b are named e = never s v least (At l (IfGoal p t f)) b e
+costly_is s heavy o v least count n (At l (NotGoal p)) b are named e = never s v least (At l (NotGoal p)) b e
+costly_is s heavy o v least count n (At l (SomeGoal vs p)) b are named e = never s v least (At l (SomeGoal vs p)) b e
 
 heavy_is : (v : View) (least site total : ℕ) (t : Option ℕ) → TellsHeavy v least site t → IsHeavy v least site total → t ≡ Some total
 heavy_is v least site total None tells h = absurd (tells total h)
 heavy_is v least site total (Some n) tells h = ap Some (some_is n total (sym tells.is_total ∙ h.is_total))
 
-pub is_costly : (s : Hlds) (heavy : List (Option ℕ)) (o : ℕ) (v : View) (least count : ℕ) (p : HldsGoal) (site total : ℕ) → AreHeavy v least count heavy → site < count → IsCostly s v least p site total
-    → costly_call (reading s heavy o) p ≡ Some (site, total)
-is_costly s heavy o v least count p site total are lt k =
+pub is_costly : (s : Hlds) (heavy : List (Option ℕ)) (o : ℕ) (v : View) (least count n : ℕ) (p : HldsGoal) (site total : ℕ) → AreHeavy v least count heavy → name_at s n ≡ goal_name s p → site < count → IsCostly s v least p site total
+    → costly_call (reading s heavy o) n p ≡ Some (site, total)
+is_costly s heavy o v least count n p site total are named lt k =
     let h : IsHeavy v least site total = record { own = k.own; is_own = k.is_own; is_total = k.is_total; some = k.some; many = k.many } in
     let told : get_or heavy site None ≡ Some total = heavy_is v least site total (get_or heavy site None) (are.tells site lt) h in
-    ap (costly_call (reading s heavy o)) k.is
-    ∙ choose_true (is_det_procedure (procedure_called s k.callee)) (call_at site (get_or heavy site None)) (site, total) (found_det (procedure_called s k.callee) k.called k.is_called k.is_det) (ap (call_at site) told)
+    let called : name_at s n ≡ named_call s k.callee = named ∙ ap (goal_name s) k.is in
+    ap (costly_call (reading s heavy o) n) k.is
+    ∙ choose_true (calls_det s n) (call_at site (get_or heavy site None)) (site, total) (det_named s n k.callee called ∙ found_det (procedure_called s k.callee) k.called k.is_called k.is_det)
+    (ap (call_at site) told)
 
 -- ---- the pairs are candidates
 
@@ -137,11 +142,13 @@ candidate_of s heavy v least count pair are found =
     let inside : f.m < goal_size r.p.body = omega (arith, slice_get_within (goals_within r.p.body) f.m (At f.line (ConjGoal f.parts)) f.at, length-within r.p.body) in
     let proc : pair.proc ≡ r.q = ap (λ (x : Pair). x.proc) led.is ∙ zero_plus r.q in
     let stands : StandsIn s r.q number = (omega arith, omega (arith, inside, before_next s.procedures r.q r.p r.at)) in
+    let conjunction : goal_at s number ≡ Some (At f.line (ConjGoal f.parts))
+    = subst (λ (n : ℕ). slice_get (clause_goals s.procedures) n ≡ Some (At f.line (ConjGoal f.parts))) there (goal_there s.procedures r.q f.m r.p (At f.line (ConjGoal f.parts)) r.at f.at) in
     record {
       number = number;
       line = f.line;
       parts = f.parts;
-      conjunction = subst (λ (n : ℕ). slice_get (clause_goals s.procedures) n ≡ Some (At f.line (ConjGoal f.parts))) there (goal_there s.procedures r.q f.m r.p (At f.line (ConjGoal f.parts)) r.at f.at);
+      conjunction = conjunction;
       clause = subst (λ (q : ℕ). StandsIn s q number) (sym proc) stands;
       i = led.i;
       j = led.j;
@@ -150,8 +157,10 @@ candidate_of s heavy v least count pair are found =
       h = led.h;
       is_first = led.at_i;
       is_second = led.at_j;
-      first_costs = subst (λ (x : Pair). IsCostly s v least led.g.goal x.first x.a) (sym led.is) (costly_is s heavy (0 + r.q) v least count led.g.goal led.a are led.first_costs);
-      second_costs = subst (λ (x : Pair). IsCostly s v least led.h.goal x.second x.b) (sym led.is) (costly_is s heavy (0 + r.q) v least count led.h.goal led.b are led.second_costs);
+      first_costs = subst (λ (x : Pair). IsCostly s v least led.g.goal x.first x.a) (sym led.is)
+          (costly_is s heavy (0 + r.q) v least count led.g.number led.g.goal led.a are (part_named s number f.line f.parts led.i led.g conjunction led.at_i) led.first_costs);
+      second_costs = subst (λ (x : Pair). IsCostly s v least led.h.goal x.second x.b) (sym led.is)
+          (costly_is s heavy (0 + r.q) v least count led.h.number led.h.goal led.b are (part_named s number f.line f.parts led.j led.h conjunction led.at_j) led.second_costs);
       apart = led.apart;
     }
 
@@ -185,8 +194,8 @@ member_of s heavy v least count pair has each are k =
       at_j = k.is_second;
       a = (pair.first, pair.a);
       b = (pair.second, pair.b);
-      first_costs = is_costly s heavy o v least count k.g.goal pair.first pair.a are first k.first_costs;
-      second_costs = is_costly s heavy o v least count k.h.goal pair.second pair.b are second k.second_costs;
+      first_costs = is_costly s heavy o v least count k.g.number k.g.goal pair.first pair.a are (part_named s k.number k.line k.parts k.i k.g k.conjunction k.is_first) first k.first_costs;
+      second_costs = is_costly s heavy o v least count k.h.number k.h.goal pair.second pair.b are (part_named s k.number k.line k.parts k.j k.h k.conjunction k.is_second) second k.second_costs;
       is = pair_with_proc pair o (sym (zero_plus pair.proc));
       apart = k.apart;
     } in
@@ -226,18 +235,18 @@ small_total : (heavy : List (Option ℕ)) (site total : ℕ) → All (λ t. IfSo
 small_total heavy site total small e =
     subst (λ (t : Option ℕ). IfSome t (λ n. n < 2 ^ 64)) e (small site None (told_inside heavy site total e (cases_lt site (length heavy))))
 
-costly_small : (s : Hlds) (heavy : List (Option ℕ)) (o : ℕ) (p : HldsGoal) (b : ℕ × ℕ) → All (λ t. IfSome t (λ n. n < 2 ^ 64)) heavy → costly_call (reading s heavy o) p ≡ Some b → b.1 < 2 ^ 64
-costly_small s heavy o (At l (SimpleGoal g)) b small e = absurd (cc)
-costly_small s heavy o (At l (CallGoal site q ys)) b small e =
-    let both = chosen_true (is_det_procedure (procedure_called s q)) (call_at site (get_or heavy site None)) b e in
+costly_small : (s : Hlds) (heavy : List (Option ℕ)) (o n : ℕ) (p : HldsGoal) (b : ℕ × ℕ) → All (λ t. IfSome t (λ n. n < 2 ^ 64)) heavy → costly_call (reading s heavy o) n p ≡ Some b → b.1 < 2 ^ 64
+costly_small s heavy o n (At l (SimpleGoal g)) b small e = absurd (cc)
+costly_small s heavy o n (At l (CallGoal site q ys)) b small e =
+    let both = chosen_true (calls_det s n) (call_at site (get_or heavy site None)) b e in
     let told = call_of site (get_or heavy site None) b both.1 in
     subst (λ (x : ℕ × ℕ). x.1 < 2 ^ 64) told.2 (small_total heavy site told.0 small told.1)
-costly_small s heavy o (At l (HoCallGoal site f ys)) b small e = absurd (cc)
-costly_small s heavy o (At l (ConjGoal ps)) b small e = absurd (cc)
-costly_small s heavy o (At l (DisjGoal ps)) b small e = absurd (cc)
-costly_small s heavy o (At l (IfGoal p t f)) b small e = absurd (cc)
-costly_small s heavy o (At l (NotGoal p)) b small e = absurd (cc)
-costly_small s heavy o (At l (SomeGoal vs p)) b small e = absurd (cc)
+costly_small s heavy o n (At l (HoCallGoal site f ys)) b small e = absurd (cc)
+costly_small s heavy o n (At l (ConjGoal ps)) b small e = absurd (cc)
+costly_small s heavy o n (At l (DisjGoal ps)) b small e = absurd (cc)
+costly_small s heavy o n (At l (IfGoal p t f)) b small e = absurd (cc)
+costly_small s heavy o n (At l (NotGoal p)) b small e = absurd (cc)
+costly_small s heavy o n (At l (SomeGoal vs p)) b small e = absurd (cc)
 
 valid_pair : (s : Hlds) (heavy : List (Option ℕ)) (count : ℕ) (pair : Pair) → length s.procedures < 2 ^ 32 → count < 2 ^ 32 → All (λ t. IfSome t (λ n. n < 2 ^ 64)) heavy → IsFound s heavy pair → IsWithin 0 count pair
     → IsValidPair pair
@@ -250,8 +259,8 @@ valid_pair s heavy count pair procs sites small found w =
       proc = omega (arith, proc, there, procs);
       first = omega (arith, w.order, w.high, sites);
       second = omega (arith, w.high, sites);
-      a = subst (λ (x : Pair). x.a < 2 ^ 64) (sym led.is) (costly_small s heavy (0 + r.q) led.g.goal led.a small led.first_costs);
-      b = subst (λ (x : Pair). x.b < 2 ^ 64) (sym led.is) (costly_small s heavy (0 + r.q) led.h.goal led.b small led.second_costs);
+      a = subst (λ (x : Pair). x.a < 2 ^ 64) (sym led.is) (costly_small s heavy (0 + r.q) led.g.number led.g.goal led.a small led.first_costs);
+      b = subst (λ (x : Pair). x.b < 2 ^ 64) (sym led.is) (costly_small s heavy (0 + r.q) led.h.number led.h.goal led.b small led.second_costs);
       order = w.order;
     }
 

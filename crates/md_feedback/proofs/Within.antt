@@ -96,9 +96,9 @@ mutual
   each_sound : (c : Reading) (n : ℕ) (ps : HldsGoals) (pair : Pair) → Member pair (each_pairs c n ps) → Led c (numbered_from n ps) pair ⊎ FoundIn c n (goals_among ps) pair
   each_sound c n nothing pair m = absurd m
   each_sound c n (also p ps) pair m =
-      elim (member_split pair (goal_pairs c n p) (led_by c (costly_call c p) (binds_in c n) (numbered_from (n + goal_size p) ps) ++ each_pairs c (n + goal_size p) ps) m) [
+      elim (member_split pair (goal_pairs c n p) (led_by c (costly_call c n p) (binds_in c n) (numbered_from (n + goal_size p) ps) ++ each_pairs c (n + goal_size p) ps) m) [
         | inl a ↦ inr (found_left c n (goals_within p) (goals_among ps) pair (goal_sound c n p pair a))
-        | inr b ↦ elim (member_split pair (led_by c (costly_call c p) (binds_in c n) (numbered_from (n + goal_size p) ps)) (each_pairs c (n + goal_size p) ps) b) [
+        | inr b ↦ elim (member_split pair (led_by c (costly_call c n p) (binds_in c n) (numbered_from (n + goal_size p) ps)) (each_pairs c (n + goal_size p) ps) b) [
           | inl led ↦ inl (inl led)
           | inr rest ↦ elim (each_sound c (n + goal_size p) ps pair rest) [
             | inl led ↦ inl (inr led)
@@ -121,11 +121,11 @@ nothing_found c n pair f = let is : slice_get {X = HldsGoal} [] f.m ≡ Some (At
 led_each : (c : Reading) (n : ℕ) (ps : HldsGoals) (pair : Pair) → Led c (numbered_from n ps) pair → Member pair (each_pairs c n ps)
 led_each c n nothing pair led = absurd led
 led_each c n (also p ps) pair (inl m) =
-    member_right pair (goal_pairs c n p) (led_by c (costly_call c p) (binds_in c n) (numbered_from (n + goal_size p) ps) ++ each_pairs c (n + goal_size p) ps)
-    (member_left pair (led_by c (costly_call c p) (binds_in c n) (numbered_from (n + goal_size p) ps)) (each_pairs c (n + goal_size p) ps) m)
+    member_right pair (goal_pairs c n p) (led_by c (costly_call c n p) (binds_in c n) (numbered_from (n + goal_size p) ps) ++ each_pairs c (n + goal_size p) ps)
+    (member_left pair (led_by c (costly_call c n p) (binds_in c n) (numbered_from (n + goal_size p) ps)) (each_pairs c (n + goal_size p) ps) m)
 led_each c n (also p ps) pair (inr led) =
-    member_right pair (goal_pairs c n p) (led_by c (costly_call c p) (binds_in c n) (numbered_from (n + goal_size p) ps) ++ each_pairs c (n + goal_size p) ps)
-    (member_right pair (led_by c (costly_call c p) (binds_in c n) (numbered_from (n + goal_size p) ps)) (each_pairs c (n + goal_size p) ps) (led_each c (n + goal_size p) ps pair led))
+    member_right pair (goal_pairs c n p) (led_by c (costly_call c n p) (binds_in c n) (numbered_from (n + goal_size p) ps) ++ each_pairs c (n + goal_size p) ps)
+    (member_right pair (led_by c (costly_call c n p) (binds_in c n) (numbered_from (n + goal_size p) ps)) (each_pairs c (n + goal_size p) ps) (led_each c (n + goal_size p) ps pair led))
 
 conj_is : (l k : ℕ) (t : GoalExpr) (ps : HldsGoals) → At l t ≡ At k (ConjGoal ps) → t ≡ ConjGoal ps
 conj_is l k t ps e = cc
@@ -165,9 +165,9 @@ mutual
   each_complete c n nothing pair f = nothing_found c n pair f
   each_complete c n (also p ps) pair f =
       elim (found_split c n (n + goal_size p) (goals_within p) (goals_among ps) pair (omega (arith, length-within p)) f) [
-        | inl a ↦ member_left pair (goal_pairs c n p) (led_by c (costly_call c p) (binds_in c n) (numbered_from (n + goal_size p) ps) ++ each_pairs c (n + goal_size p) ps) (goal_complete c n p pair a)
-        | inr b ↦ member_right pair (goal_pairs c n p) (led_by c (costly_call c p) (binds_in c n) (numbered_from (n + goal_size p) ps) ++ each_pairs c (n + goal_size p) ps)
-            (member_right pair (led_by c (costly_call c p) (binds_in c n) (numbered_from (n + goal_size p) ps)) (each_pairs c (n + goal_size p) ps) (each_complete c (n + goal_size p) ps pair b))
+        | inl a ↦ member_left pair (goal_pairs c n p) (led_by c (costly_call c n p) (binds_in c n) (numbered_from (n + goal_size p) ps) ++ each_pairs c (n + goal_size p) ps) (goal_complete c n p pair a)
+        | inr b ↦ member_right pair (goal_pairs c n p) (led_by c (costly_call c n p) (binds_in c n) (numbered_from (n + goal_size p) ps) ++ each_pairs c (n + goal_size p) ps)
+            (member_right pair (led_by c (costly_call c n p) (binds_in c n) (numbered_from (n + goal_size p) ps)) (each_pairs c (n + goal_size p) ps) (each_complete c (n + goal_size p) ps pair b))
       ]
 
   arms_complete : (c : Reading) (n : ℕ) (ps : HldsGoals) (pair : Pair) → FoundIn c n (goals_among ps) pair → Member pair (arm_pairs c n ps)

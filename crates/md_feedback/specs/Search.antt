@@ -5,7 +5,10 @@ use Rattle.md_base.specs.declared.measure.Measure.TheVariants.{Calls}
 use Rattle.md_hlds.specs.declared.types.Det.{Det}
 use Rattle.md_hlds.specs.declared.types.Det.TheVariants as det
 use Rattle.md_hlds.specs.HldsGoal.{HldsGoal, At, GoalExpr, SimpleGoal, CallGoal, HoCallGoal, ConjGoal, DisjGoal, IfGoal, NotGoal, SomeGoal, HldsGoals, nothing, also, goal_size, Numbered, numbered_goal, numbered_from}
-use Rattle.md_hlds.specs.Hlds.{Hlds, hlds_of, Procedure, procedure_called}
+use Rattle.md_hlds.specs.Hlds.{Hlds, hlds_of, Procedure, nth_procedure}
+use Rattle.md_names.specs.declared.named.Named.{Named}
+use Rattle.md_names.specs.declared.named.Named.TheVariants as name
+use Rattle.md_names.specs.Named.{name_at}
 use Rattle.md_events.specs.Table.{HasSites, program_sites}
 use Rattle.md_static.specs.Tables.{Static}
 use Rattle.md_modes.specs.Branches.{some_of}
@@ -65,18 +68,28 @@ abbrev pub is_det_procedure : Option (ℕ × Procedure) → Bool
 is_det_procedure None = false
 is_det_procedure (Some found) = is_det found.1.det
 
+-- a name stands for a procedure that is declared `det`
+abbrev pub is_det_name : Hlds → Named → Bool
+is_det_name s (name.Functor k) = false
+is_det_name s (name.Predicate q) = is_det_procedure (nth_procedure s q)
+is_det_name s name.Nothing = false
+
+-- the goal of this number names such a procedure
+abbrev pub calls_det : Hlds → ℕ → Bool
+calls_det s n = is_det_name s (name_at s n)
+
 -- a site with its total calls
 abbrev pub call_at : ℕ → Option ℕ → Option (ℕ × ℕ)
 call_at site None = None
 call_at site (Some total) = Some (site, total)
 
-abbrev pub costly_expr : Reading → GoalExpr → Option (ℕ × ℕ)
-costly_expr c (CallGoal site q ys) = if is_det_procedure (procedure_called c.program q) then call_at site (slice_index_or c.heavy site None) else None
-costly_expr c t = None
+abbrev pub costly_expr : Reading → ℕ → GoalExpr → Option (ℕ × ℕ)
+costly_expr c n (CallGoal site q ys) = if calls_det c.program n then call_at site (slice_index_or c.heavy site None) else None
+costly_expr c n t = None
 
--- the site and the total calls of a costly call
-abbrev pub costly_call : Reading → HldsGoal → Option (ℕ × ℕ)
-costly_call c (At l t) = costly_expr c t
+-- the site and the total calls of a goal of this number that is a costly call
+abbrev pub costly_call : Reading → ℕ → HldsGoal → Option (ℕ × ℕ)
+costly_call c n (At l t) = costly_expr c n t
 
 -- ---- variables
 
@@ -116,7 +129,7 @@ abbrev pub partners : Reading → (a : ℕ × ℕ) (bound : List ℕ) → List N
 partners c a bound [] = []
 partners c a bound (g ∷ gs) =
     if mentions bound g.goal then partners c a (bound ++ binds_in c g.number) gs
-    else pair_with c.owner a (costly_call c g.goal) ++ partners c a bound gs
+    else pair_with c.owner a (costly_call c g.number g.goal) ++ partners c a bound gs
 
 -- One more part behind a call: what was marked, and the pairs so far, become such as go on with the parts behind it.
 abbrev pub TakesIn : Reading → (a : ℕ × ℕ) (n : ℕ) → HldsGoal → (marks after : List Bool) (pairs more : List Pair) → Type 0
@@ -147,7 +160,7 @@ abbrev mutual
   pub each_pairs : Reading → ℕ → HldsGoals → List Pair
   each_pairs c n nothing = []
   each_pairs c n (also p ps) =
-      goal_pairs c n p ++ (led_by c (costly_call c p) (binds_in c n) (numbered_from (n + goal_size p) ps) ++ each_pairs c (n + goal_size p) ps)
+      goal_pairs c n p ++ (led_by c (costly_call c n p) (binds_in c n) (numbered_from (n + goal_size p) ps) ++ each_pairs c (n + goal_size p) ps)
 
   pub arm_pairs : Reading → ℕ → HldsGoals → List Pair
   arm_pairs c n nothing = []

@@ -14,7 +14,6 @@ use crate::search::candidates;
 use md_base::NoMemory;
 use md_cost::Loaded;
 use md_det::Checked;
-use md_names::Names;
 use std::alloc::Global;
 
 /// The pairs of costly calls of a program that stand in one conjunction, the second not depending on the first, by the
@@ -38,11 +37,9 @@ pub fn feedback(
     ensures pairs { IfOk result (λ f. (v : View) → IsFileView loaded.now.profile v → AreCandidates (hlds_of checked.now) v least f.pairs) }
     ensures valid { IfOk result (λ f. IsTrue (is_name f.module) → IsValid f) }
 {
-    let program = checked.program();
-    let names = Names::new(alloc, program)?;
     let heavy = heavy_sites(alloc, loaded, least)?;
-    let pairs = candidates(alloc, checked.moded(), &names, &heavy)?;
-    let module = program.module.copy(alloc)?;
+    let pairs = candidates(alloc, checked.moded(), &heavy)?;
+    let module = checked.program().module.copy(alloc)?;
     Ok(Feedback {
         module,
         least,

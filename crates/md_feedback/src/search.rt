@@ -1,27 +1,24 @@
 // The search for candidates, goal by goal in text order.
 ghost use Rattle.std.specs.Prelude.{◌≡◌, ◌+◌, ◌++◌, None, IfOk, OnOk, slice_index_or};
-ghost use Rattle.md_hlds.specs.Hlds.{hlds_of, procedure_called};
+ghost use Rattle.md_hlds.specs.Hlds.{hlds_of};
 ghost use Rattle.md_hlds.specs.HldsGoal.{goal_of, goals_of, gathered, goal_size, goals_size, numbered_from};
-ghost use Rattle.md_feedback.specs.Search.{reading_in, costly_call, call_at, pair_with, is_det, is_det_procedure, binds_in, led_by, partners, TakesIn, goal_pairs, each_pairs, arm_pairs, program_pairs};
+ghost use Rattle.md_feedback.specs.Search.{reading_in, costly_call, call_at, pair_with, is_det, calls_det, binds_in, led_by, partners, TakesIn, goal_pairs, each_pairs, arm_pairs, program_pairs};
 
 use crate::marks::{mark, mentions};
 use crate::pairs::{Pair, Pairs};
 use crate::reading::Search;
 use crate::size::{size_of, sum};
 use md_base::{NoMemory, ProcId, SiteId};
-use md_hlds::{Det, Goal, GoalKind, PredName};
-use md_modes::Moded;
-use md_names::Names;
+use md_hlds::{Det, Goal, GoalKind};
+use md_modes::{Moded, Named};
 use std::alloc::Global;
 
 /// The candidates among the calls of a program, in rising order, where these are the total calls of the sites that have many.
 pub(crate) fn candidates(
     alloc: Global,
     moded: &Moded,
-    names: &Names<'_>,
     heavy: &[Option<u64>],
 ) -> Result<Pairs, NoMemory>
-    requires { names.now ≡ moded.now }
     ensures { IfOk result (λ pairs. pairs ≡ program_pairs (hlds_of moded.now) heavy.now) }
 {
     let mut pairs = Pairs::new(alloc);
@@ -30,7 +27,6 @@ pub(crate) fn candidates(
         let search = Search {
             alloc,
             moded,
-            names,
             heavy,
             owner: ProcId::new(owner as u32),
         };
@@ -113,10 +109,10 @@ fn add_led_by(
     next: u32,
     pairs: &mut Pairs,
 ) -> Result<(), NoMemory>
-    ensures { OnOk result (pairs.new ≡ pairs.old ++ led_by (reading_in search.now) (costly_call (reading_in search.now) (goal_of goal.now))
+    ensures { OnOk result (pairs.new ≡ pairs.old ++ led_by (reading_in search.now) (costly_call (reading_in search.now) number (goal_of goal.now))
         (binds_in (reading_in search.now) number) (numbered_from next (gathered (goals_of behind.now)))) }
 {
-    match costly_call(search, goal) {
+    match costly_call(search, goal, number) {
         None => Ok(()),
         Some(first) => add_partners(search, first, number, behind, next, pairs),
     }
@@ -158,20 +154,21 @@ fn add_partner(
     if mentions(bound, &goal.kind) {
         mark(bound, search.moded.binds(number))
     } else {
-        add_pair(search, first, goal, pairs)
+        add_pair(search, first, goal, number, pairs)
     }
 }
 
-/// Adds a call with another goal, where that is a costly call.
+/// Adds a call with another goal, whose number is `number`, where that is a costly call.
 fn add_pair(
     search: &Search,
     first: (SiteId, u64),
     goal: &Goal,
+    number: u32,
     pairs: &mut Pairs,
 ) -> Result<(), NoMemory>
-    ensures { OnOk result (pairs.new ≡ pairs.old ++ pair_with search.now.owner (first.0, first.1) (costly_call (reading_in search.now) (goal_of goal.now))) }
+    ensures { OnOk result (pairs.new ≡ pairs.old ++ pair_with search.now.owner (first.0, first.1) (costly_call (reading_in search.now) number (goal_of goal.now))) }
 {
-    let Some((second, b)) = costly_call(search, goal) else {
+    let Some((second, b)) = costly_call(search, goal, number) else {
         return Ok(());
     };
     let (first, a) = first;
@@ -184,13 +181,13 @@ fn add_pair(
     })
 }
 
-/// The site and the total calls of a goal that is a costly call.
-fn costly_call(search: &Search, goal: &Goal) -> Option<(SiteId, u64)>
-    ensures { result ≡ costly_call (reading_in search.now) (goal_of goal.now) }
+/// The site and the total calls of a goal of this number that is a costly call.
+fn costly_call(search: &Search, goal: &Goal, number: u32) -> Option<(SiteId, u64)>
+    ensures { result ≡ costly_call (reading_in search.now) number (goal_of goal.now) }
 {
     match &goal.kind {
-        GoalKind::Call(site, name, _) => {
-            if calls_det(search.names, name) {
+        GoalKind::Call(site, ..) => {
+            if calls_det(search.moded, number) {
                 heavy_call(search.heavy, *site)
             } else {
                 None
@@ -214,13 +211,16 @@ fn costly_call(search: &Search, goal: &Goal) -> Option<(SiteId, u64)>
     }
 }
 
-/// Whether a name is that of a procedure that is declared `det`.
-fn calls_det(names: &Names<'_>, name: &PredName) -> bool
-    ensures { result ≡ is_det_procedure (procedure_called (hlds_of names.now) name.now) }
+/// Whether the name in the goal of this number stands for a procedure that is declared `det`.
+fn calls_det(moded: &Moded, number: u32) -> bool
+    ensures { result ≡ calls_det (hlds_of moded.now) number }
 {
-    match names.predicate(name) {
-        None => false,
-        Some((_, pred)) => is_det(pred.det),
+    match moded.named(number) {
+        Named::Functor(_) | Named::Nothing => false,
+        Named::Predicate(callee) => match moded.program().pred(callee) {
+            None => false,
+            Some(pred) => is_det(pred.det),
+        },
     }
 }
 

@@ -2,6 +2,7 @@ mod Bytes
 mod Names
 mod Once
 mod Lists
+mod Read
 mod SiteTables
 mod Numbers
 mod Sound

@@ -1,3 +1,4 @@
 pub mod Modules
 pub mod Ports
+pub mod Reading
 pub mod Orderly

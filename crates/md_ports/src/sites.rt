@@ -1,64 +1,93 @@
 // The call sites of a program.
-ghost use Rattle.std.specs.Prelude.{◌≡◌, [], ◌∷◌, ◌++◌, IfOk, OnOk};
-ghost use Rattle.md_hlds.specs.HldsGoal.{goal_of, goals_of, gathered};
-ghost use Rattle.md_hlds.specs.Hlds.{hlds_of, procedure_called};
-ghost use Rattle.md_ports.specs.Ports.{kind_found, site_at, goal_sites, all_sites, sites_from};
+ghost use Rattle.std.specs.Prelude.{◌≡◌, ◌+◌, [], ◌∷◌, ◌++◌, IfOk, OnOk};
+ghost use Rattle.md_hlds.specs.HldsGoal.{goal_of, goals_of, gathered, goal_size, goals_size};
+ghost use Rattle.md_hlds.specs.Hlds.{hlds_of};
+ghost use Rattle.md_ports.specs.Ports.{site_at, sites_from};
+ghost use Rattle.md_ports.specs.Reading.{kind_at, read_goal, read_goals};
 
 use md_base::{NoMemory, ProcId};
-use md_hlds::{Goal, GoalKind, PredName};
-use md_names::Names;
+use md_hlds::{Goal, GoalKind};
+use md_modes::{Moded, Named};
 use md_static::{Site, SiteKind};
 use std::alloc::Global;
 
-/// The call sites of the program that has these names, in text order.
-pub(crate) fn sites_of(alloc: Global, names: &Names<'_>) -> Result<Vec<Site>, NoMemory>
-    ensures { IfOk result (λ sites. sites.items ≡ sites_from (hlds_of names.now) 0 (hlds_of names.now).procedures) }
+/// The call sites of a program, in text order.
+pub(crate) fn sites_of(alloc: Global, moded: &Moded) -> Result<Vec<Site>, NoMemory>
+    ensures { IfOk result (λ sites. sites.items ≡ sites_from (hlds_of moded.now) 0 (hlds_of moded.now).procedures) }
 {
     let mut sites = Vec::new(alloc);
-    for (number, pred) in names.program().preds.iter().enumerate() {
-        add_sites(names, ProcId::new(number as u32), &pred.body, &mut sites)?;
+    let mut number = 0;
+    for (place, pred) in moded.program().preds.iter().enumerate() {
+        let owner = ProcId::new(place as u32);
+        number = add_sites(moded, owner, &pred.body, number, &mut sites)?;
     }
     Ok(sites)
 }
 
-/// Adds the call sites of a goal of this procedure.
+/// Adds the call sites of a goal of this number and of the goals within it, which stand in the clause of this procedure, and
+/// gives the number that comes after theirs.
 #[cycle(sites)]
 fn add_sites(
-    names: &Names<'_>,
+    moded: &Moded,
     owner: ProcId,
     goal: &Goal,
+    number: u32,
     sites: &mut Vec<Site>,
-) -> Result<(), NoMemory>
-    ensures { OnOk result (sites.new.items ≡ sites.old.items ++ goal_sites (hlds_of names.now) owner (goal_of goal.now)) }
+) -> Result<u32, NoMemory>
+    ensures next { IfOk result (λ next. next ≡ number + goal_size (goal_of goal.now)) }
+    ensures sites { OnOk result (sites.new.items ≡ sites.old.items ++ read_goal (hlds_of moded.now) owner number (goal_of goal.now)) }
 {
+    let inner = number_after(number)?;
     match &goal.kind {
-        GoalKind::Call(_, name, _) => { add_site(sites, owner, goal.line, kind_of(names, name)) }
-        GoalKind::HoCall(..) => add_site(sites, owner, goal.line, SiteKind::HigherOrder),
-        GoalKind::Conj(goals) => add_all(names, owner, goals.as_slice(), sites),
-        GoalKind::Disj(goals) => add_all(names, owner, goals.as_slice(), sites),
-        GoalKind::If(condition, then, otherwise) => {
-            add_sites(names, owner, condition, sites)?;
-            add_sites(names, owner, then, sites)?;
-            add_sites(names, owner, otherwise, sites)
+        GoalKind::Call(..) | GoalKind::HoCall(..) => {
+            add_site(sites, owner, goal.line, kind_of(moded, number))?;
+            Ok(inner)
         }
-        GoalKind::Not(inner) | GoalKind::Some(_, inner) => add_sites(names, owner, inner, sites),
-        _ => Ok(()),
+        GoalKind::Conj(goals) => add_all(moded, owner, goals.as_slice(), inner, sites),
+        GoalKind::Disj(arms) => add_all(moded, owner, arms.as_slice(), inner, sites),
+        GoalKind::If(condition, then, otherwise) => {
+            let second = add_sites(moded, owner, condition, inner, sites)?;
+            let third = add_sites(moded, owner, then, second, sites)?;
+            add_sites(moded, owner, otherwise, third, sites)
+        }
+        GoalKind::Not(part) => add_sites(moded, owner, part, inner, sites),
+        GoalKind::Some(_, part) => add_sites(moded, owner, part, inner, sites),
+        GoalKind::True
+        | GoalKind::Fail
+        | GoalKind::Unify(..)
+        | GoalKind::Arith(..)
+        | GoalKind::Compare(..)
+        | GoalKind::WriteInt(..)
+        | GoalKind::WriteStr(..)
+        | GoalKind::Nl(..)
+        | GoalKind::Error(_) => Ok(inner),
     }
 }
 
+/// The same of goals one after the other, the first of which has this number.
 #[cycle(sites)]
 fn add_all(
-    names: &Names<'_>,
+    moded: &Moded,
     owner: ProcId,
     goals: &[Goal],
+    first: u32,
     sites: &mut Vec<Site>,
-) -> Result<(), NoMemory>
-    ensures { OnOk result (sites.new.items ≡ sites.old.items ++ all_sites (hlds_of names.now) owner (gathered (goals_of goals.now))) }
+) -> Result<u32, NoMemory>
+    ensures next { IfOk result (λ next. next ≡ first + goals_size (gathered (goals_of goals.now))) }
+    ensures sites { OnOk result (sites.new.items ≡ sites.old.items ++ read_goals (hlds_of moded.now) owner first (gathered (goals_of goals.now))) }
 {
+    let mut number = first;
     for goal in goals {
-        add_sites(names, owner, goal, sites)?;
+        number = add_sites(moded, owner, goal, number, sites)?;
     }
-    Ok(())
+    Ok(number)
+}
+
+/// The number after this one. Goals have numbers of 32 bits: more than those are answered as ones that memory has no room for.
+fn number_after(number: u32) -> Result<u32, NoMemory>
+    ensures { IfOk result (λ after. after ≡ number + 1) }
+{
+    number.checked_add(1).ok_or(NoMemory)
 }
 
 fn add_site(sites: &mut Vec<Site>, owner: ProcId, line: u32, kind: SiteKind) -> Result<(), NoMemory>
@@ -68,12 +97,12 @@ fn add_site(sites: &mut Vec<Site>, owner: ProcId, line: u32, kind: SiteKind) -> 
     Ok(())
 }
 
-/// What a call of this name calls.
-fn kind_of(names: &Names<'_>, name: &PredName) -> SiteKind
-    ensures { result ≡ kind_found (procedure_called (hlds_of names.now) name.now) }
+/// What the call of this number calls: the procedure that its name stands for, or a closure, where it has none.
+fn kind_of(moded: &Moded, number: u32) -> SiteKind
+    ensures { result ≡ kind_at (hlds_of moded.now) number }
 {
-    match names.predicate(name) {
-        Some((callee, _)) => SiteKind::Plain(callee),
-        None => SiteKind::HigherOrder,
+    match moded.named(number) {
+        Named::Predicate(callee) => SiteKind::Plain(callee),
+        Named::Functor(_) | Named::Nothing => SiteKind::HigherOrder,
     }
 }

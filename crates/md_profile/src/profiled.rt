@@ -27,7 +27,7 @@ pub fn profile_run(alloc: Global, checked: &Checked, budget: u32) -> Result<Prof
 {
     runs_are_histories();
     tables_give_the_site_table();
-    let tables = statics(alloc, checked.program())?;
+    let tables = statics(alloc, checked.moded())?;
     let mut recorder = Recorder::new(alloc, tables, checked.main())?;
     let ran = interpret(alloc, checked, budget, &mut recorder)?;
     let profile = recorder.into_profile(finishes(ran.end));

@@ -1,10 +1,11 @@
 use Rattle.std.proofs.Common.{◌≡◌, ◌++◌, drop}
 use Rattle.md_hlds.specs.Hlds.{hlds_of, procedures_of}
 use Rattle.md_ports.specs.Ports.{sites_from}
+use Rattle.md_ports.specs.Reading.{read_clauses}
 use Rattle.md_ports.proofs.sites.sites_of.Given as goal
 
 -- the sites so far, with those of the other clauses, are all
-abbrev pub invariant-loop-number : goal.invariant-loop-number
-invariant-loop-number l =
-    l.sites.items ++ sites_from (hlds_of l.names) l.number (procedures_of (drop l.number l.names.preds.items))
-    ≡ sites_from (hlds_of l.names) 0 (procedures_of l.names.preds.items)
+abbrev pub invariant-loop-place : goal.invariant-loop-place
+invariant-loop-place l =
+    sites_from (hlds_of l.moded) 0 (procedures_of l.moded.preds.items)
+    ≡ l.sites.items ++ read_clauses (hlds_of l.moded) l.place l.number (procedures_of (drop l.place l.moded.preds.items))

@@ -13,13 +13,13 @@ use Rattle.md_profile.proofs.profiled.profile_run.Goals as goal
 
 pub new-requires-clause-main_there : goal.new-requires-clause-main_there
 new-requires-clause-main_there c =
-    subst (λ (t : Static). c.main.result < length t.procs) (sym (c.in_ok-tables.ensures ∙ ap (λ (p : Program). statics_of (hlds_of p)) c.program.ensures.program))
+    subst (λ (t : Static). c.main.result < length t.procs) (sym (c.in_ok-tables.ensures ∙ ap (λ (p : Program). statics_of (hlds_of p)) c.moded.ensures))
     (main_there (hlds_of c.args.checked.now) c.main.result c.main.ensures)
 
 pub interpret-requires-clause-begins : goal.interpret-requires-clause-begins
 interpret-requires-clause-begins c =
     subst (λ (t : SiteTable). Stands c.in_ok-recorder.recorder t [])
-    (recorder_begins (hlds_of c.args.checked.now) c.in_ok-tables.tables c.main.result (c.in_ok-tables.ensures ∙ ap (λ (p : Program). statics_of (hlds_of p)) c.program.ensures.program)
+    (recorder_begins (hlds_of c.args.checked.now) c.in_ok-tables.tables c.main.result (c.in_ok-tables.ensures ∙ ap (λ (p : Program). statics_of (hlds_of p)) c.moded.ensures)
     c.main.ensures c.requires.main c.tables_give_the_site_table.ensures)
     c.in_ok-recorder.ensures.stands
 
@@ -27,7 +27,7 @@ pub returns : goal.returns
 returns c = record {
   is_run = c.in_ok-ran.ensures.run;
   is_profile = profile_of_run (hlds_of c.args.checked.now) c.args.budget c.interpret.new.sink.rows.statics c.finishes.result c.in_ok-ran.ran c.into_profile-profile.result
-      (c.in_ok-ran.ensures.alike ∙ (c.in_ok-recorder.ensures.statics ∙ (c.in_ok-tables.ensures ∙ ap (λ (p : Program). statics_of (hlds_of p)) c.program.ensures.program)))
+      (c.in_ok-ran.ensures.alike ∙ (c.in_ok-recorder.ensures.statics ∙ (c.in_ok-tables.ensures ∙ ap (λ (p : Program). statics_of (hlds_of p)) c.moded.ensures)))
       c.finishes.ensures c.in_ok-ran.ensures.run
       (c.into_profile-profile.ensures.exact (events.site_table (hlds_of c.args.checked.now)) (history (run (hlds_of c.args.checked.now) c.args.budget)) c.in_ok-ran.ensures.whole);
   valid = c.into_profile-profile.ensures.valid (events.site_table (hlds_of c.args.checked.now)) (history (run (hlds_of c.args.checked.now) c.args.budget)) c.in_ok-ran.ensures.whole;
