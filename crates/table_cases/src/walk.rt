@@ -41,32 +41,23 @@ struct Running {
     next: u32,
 }
 
-impl Running {
-    /// An activation that has not called yet.
-    fn new(act: u32, procedure: ProcId) -> Running {
-        Running {
-            act,
-            procedure,
-            next: 0,
-        }
-    }
-
-    /// The same after it has called at this site.
-    fn after(self, site: u32) -> Running {
-        Running {
-            act: self.act,
-            procedure: self.procedure,
-            next: site.wrapping_add(1),
-        }
-    }
-}
-
 /// The events of the run over these sites.
 fn walk(alloc: Global, sites: &[Site]) -> Result<Vec<Event>, NoMemory> {
     let mut events = Vec::new(alloc);
     let mut chain = Vec::new(alloc);
-    events.push(beginning())?;
-    chain.push(Running::new(0, ProcId::new(0)))?;
+    let procedure = ProcId::new(0);
+    let nowhere: Option<SiteId> = None;
+    events.push(Event::Call {
+        act: 0,
+        parent: None,
+        site: nowhere,
+        callee: procedure,
+    })?;
+    chain.push(Running {
+        act: 0,
+        procedure,
+        next: 0,
+    })?;
     let mut called = 1u32;
     for _ in 0..MOST {
         match chain.pop() {
@@ -87,15 +78,31 @@ fn step(
     events: &mut Vec<Event>,
 ) -> Result<u32, NoMemory> {
     let act = top.act;
+    let procedure = top.procedure;
     match next_call(sites, top) {
         None => {
             events.push(Event::Exit { act })?;
             Ok(called)
         }
-        Some((site, callee)) => {
-            events.push(call(called, act, site, callee))?;
-            chain.push(top.after(site))?;
-            chain.push(Running::new(called, callee))?;
+        Some((place, callee)) => {
+            let site = Some(SiteId::new(place));
+            events.push(Event::Call {
+                act: called,
+                parent: Some(act),
+                site,
+                callee,
+            })?;
+            let next = place.wrapping_add(1);
+            chain.push(Running {
+                act,
+                procedure,
+                next,
+            })?;
+            chain.push(Running {
+                act: called,
+                procedure: callee,
+                next: 0,
+            })?;
             Ok(called.wrapping_add(1))
         }
     }
