@@ -1,5 +1,5 @@
 -- Ends, faults and a generated program, worked out by hand.
-use Rattle.std.proofs.Common.{◌≡◌, [], ◌∷◌, codes, refl}
+use Rattle.std.proofs.Common.{◌≡◌, ℕ, [], ◌∷◌, codes, refl}
 use Rattle.std.specs.Prelude.{⊤}
 use Rattle.std.specs.Fmt.{digits}
 use Rattle.md_deepfile.specs.declared.damage.Kind.TheVariants as kind
