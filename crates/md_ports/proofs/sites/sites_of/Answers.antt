@@ -1,4 +1,4 @@
-use Rattle.std.proofs.Common.{◌∙◌, ◌++◌, ap, sym, List}
+use Rattle.std.proofs.Common.{◌≡◌, ◌∙◌, ◌++◌, ap, sym, List}
 use Rattle.md_hlds.specs.Hlds.{hlds_of}
 use Rattle.md_static.specs.declared.entry.Site.{Site}
 use Rattle.md_ports.specs.Reading.{read_clauses}
