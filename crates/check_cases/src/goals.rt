@@ -30,7 +30,7 @@ pub fn goals(
 fn clause<'a>(
     alloc: Global,
     bump: &'a Bump,
-    names: &Names<'a>,
+    names: &Names<'_>,
     case: &'a Case,
     pred: &'a Pred,
     found: &mut String,
@@ -58,7 +58,7 @@ fn clause<'a>(
 fn run<'a>(
     alloc: Global,
     bump: &'a Bump,
-    names: &Names<'a>,
+    names: &Names<'_>,
     goals: &'a [Goal],
     limit: u32,
     slots: &mut [Option<Value<'a>>],
