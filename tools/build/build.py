@@ -61,8 +61,10 @@ def places():
 
 
 def copy_sources(to, crates):
-    for name in ("crates.txt", "HANDLES"):
-        shutil.copy(f"{ROOT}/{name}", f"{to}/{name}")
+    """Copies the sources of these crates, and the lines of crates.txt that are theirs."""
+    shutil.copy(f"{ROOT}/HANDLES", f"{to}/HANDLES")
+    with open(f"{ROOT}/crates.txt", encoding="utf-8") as lines, open(f"{to}/crates.txt", "w", encoding="utf-8") as out:
+        out.writelines(line for line in lines if line.partition(":")[0].strip() in crates)
     for name in crates:
         for part in SOURCES:
             if os.path.isdir(f"{ROOT}/crates/{name}/{part}"):
