@@ -56,15 +56,15 @@ statics = record {
   sites = [];
 }
 
-abbrev pub counts : (calls words : ℕ) → Counts
-counts calls words = record { calls = calls; exits = 1; fails = 0; redos = 0; allocs = 0; words = words; excps = 0 }
+abbrev pub counts : (calls excps : ℕ) → Counts
+counts calls excps = record { calls = calls; exits = 1; fails = 0; redos = 0; allocs = 0; words = 0; excps = excps }
 
 -- a profile with two links
-abbrev pub profile : Bool → (calls words : ℕ) → ProfileRows
-profile finished calls words = record {
+abbrev pub profile : Bool → (calls excps : ℕ) → ProfileRows
+profile finished calls excps = record {
   statics = statics;
   nodes = 0 ∷ 1 ∷ [];
-  links = record { site = None; caller = None; callee = 0; own = counts 1 0 } ∷ record { site = Some 0; caller = Some 0; callee = 1; own = counts calls words } ∷ [];
+  links = record { site = None; caller = None; callee = 0; own = counts 1 0 } ∷ record { site = Some 0; caller = Some 0; callee = 1; own = counts calls excps } ∷ [];
   finished = finished;
 }
 
