@@ -1,6 +1,6 @@
 // Goals. They nest, and within each other at most so many are open.
-ghost use Rattle.std.specs.Prelude.{◌≡◌, ◌<◌, [], ◌∷◌, IfOk, IfErr, OnOk};
-ghost use Rattle.md_hlds.specs.HldsGoal.{goal_of, goals_of, At, IfGoal};
+ghost use Rattle.std.specs.Prelude.{◌≡◌, ◌<◌, OnOk};
+ghost use Rattle.md_hlds.specs.HldsGoal.{goal_of, goals_of};
 ghost use Rattle.md_reader.specs.Input.{input_of, Reads};
 ghost use Rattle.md_reader.specs.Rules as spec;
 
@@ -10,7 +10,6 @@ use crate::refused::Refusal;
 use crate::variables::quantified;
 use md_hlds::{Goal, GoalKind};
 use md_token::Kind;
-use std::alloc::Global;
 
 /// Takes a conjunction within which so many goals may be open.
 #[cycle(goals)]
@@ -147,41 +146,26 @@ fn choice(input: &mut Input<'_>, room: u32, line: u32, condition: Goal) -> Resul
     requires { 0 < room }
     ensures { Reads goal_of (spec.choice (spec.within room) line (goal_of condition) (input_of input.old)) result (input_of input.new) }
 {
+    let condition = Box::new(input.alloc, condition)?;
     let (then_part, else_part) = branches(input, room)?;
     input.expect(Kind::Close)?;
-    if_goal(input.alloc, line, condition, then_part, else_part)
-}
-
-#[tactic(auto, unfolding(crate::specs::Rules::branches))]
-#[cycle(goals)]
-fn branches(input: &mut Input<'_>, room: u32) -> Result<(Goal, Goal), Refusal>
-    requires { 0 < room }
-    ensures { Reads (λ b. (goal_of b.0, goal_of b.1)) (spec.branches (spec.within room) (input_of input.old)) result (input_of input.new) }
-{
-    input.expect(Kind::Then)?;
-    let then_part = inner(input, room)?;
-    input.expect(Kind::Semicolon)?;
-    let else_part = inner(input, room)?;
-    Ok((then_part, else_part))
-}
-
-fn if_goal(
-    alloc: Global,
-    line: u32,
-    condition: Goal,
-    then_part: Goal,
-    else_part: Goal,
-) -> Result<Goal, Refusal>
-    ensures ok { IfOk result (λ goal. goal_of goal ≡ At line (IfGoal (goal_of condition) (goal_of then_part) (goal_of else_part))) }
-    ensures err { IfErr result (λ e. e ≡ Refusal.NoMemory) }
-{
-    let condition = Box::new(alloc, condition)?;
-    let then_part = Box::new(alloc, then_part)?;
-    let else_part = Box::new(alloc, else_part)?;
     Ok(Goal {
         line,
         kind: GoalKind::If(condition, then_part, else_part),
     })
+}
+
+#[tactic(auto, unfolding(crate::specs::Rules::branches))]
+#[cycle(goals)]
+fn branches(input: &mut Input<'_>, room: u32) -> Result<(Box<Goal>, Box<Goal>), Refusal>
+    requires { 0 < room }
+    ensures { Reads (λ b. (goal_of b.0.value, goal_of b.1.value)) (spec.branches (spec.within room) (input_of input.old)) result (input_of input.new) }
+{
+    input.expect(Kind::Then)?;
+    let then_part = part(input, room)?;
+    input.expect(Kind::Semicolon)?;
+    let else_part = part(input, room)?;
+    Ok((then_part, else_part))
 }
 
 /// Takes a negation.
@@ -192,9 +176,8 @@ fn negation(input: &mut Input<'_>, room: u32) -> Result<Goal, Refusal>
 {
     let line = input.expect(Kind::Not)?;
     open_goal(input, room)?;
-    let goal = inner(input, room)?;
+    let goal = part(input, room)?;
     input.expect(Kind::Close)?;
-    let goal = Box::new(input.alloc, goal)?;
     Ok(Goal {
         line,
         kind: GoalKind::Not(goal),
@@ -211,9 +194,8 @@ fn quantification(input: &mut Input<'_>, room: u32) -> Result<Goal, Refusal>
     input.expect(Kind::OpenList)?;
     let variables = quantified(input)?;
     open_goal(input, room)?;
-    let goal = inner(input, room)?;
+    let goal = part(input, room)?;
     input.expect(Kind::Close)?;
-    let goal = Box::new(input.alloc, goal)?;
     Ok(Goal {
         line,
         kind: GoalKind::Some(variables, goal),
@@ -227,6 +209,16 @@ fn inner(input: &mut Input<'_>, room: u32) -> Result<Goal, Refusal>
     ensures { Reads goal_of (spec.within room (input_of input.old)) result (input_of input.new) }
 {
     conjunction(input, room - 1)
+}
+
+/// The same, as a part of that goal.
+#[cycle(goals)]
+fn part(input: &mut Input<'_>, room: u32) -> Result<Box<Goal>, Refusal>
+    requires { 0 < room }
+    ensures { Reads (λ goal. goal_of goal.value) (spec.within room (input_of input.old)) result (input_of input.new) }
+{
+    let goal = inner(input, room)?;
+    Ok(Box::new(input.alloc, goal)?)
 }
 
 /// Takes a `(` that opens a goal, and gives its line.

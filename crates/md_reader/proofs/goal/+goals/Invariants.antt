@@ -35,8 +35,11 @@ decreases-branches l = 8 * l.room - 2
 abbrev pub decreases-arms : goal.decreases-arms
 decreases-arms l = 8 * l.room - 2
 
+abbrev pub decreases-part : goal.decreases-part
+decreases-part l = 8 * l.room - 3
+
 abbrev pub decreases-inner : goal.decreases-inner
-decreases-inner l = 8 * l.room - 3
+decreases-inner l = 8 * l.room - 4
 
 -- what is left to be read gives what the whole gives
 abbrev pub invariant-units-loop-turn : goal.invariant-units-loop-turn
