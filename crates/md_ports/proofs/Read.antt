@@ -75,3 +75,9 @@ clauses_are s owner n (p ∷ ps) h =
 -- those of a program
 pub program_is : (s : Hlds) → read_clauses s 0 0 s.procedures ≡ sites_from s 0 s.procedures
 program_is s = clauses_are s 0 0 s.procedures (tells-from s 0 (clause_goals s.procedures) [] (sym (append-nil (clause_goals s.procedures))))
+
+-- with no site yet, and all clauses to come
+pub start : (s : Hlds) (ps : List Procedure) (xs : List Site) → s.procedures ≡ ps → xs ≡ [] → sites_from s 0 ps ≡ xs ++ read_clauses s 0 0 ps
+start s ps xs same none =
+    subst (λ (ys : List Site). sites_from s 0 ps ≡ ys ++ read_clauses s 0 0 ps) (sym none)
+    (subst (λ (qs : List Procedure). sites_from s 0 qs ≡ read_clauses s 0 0 qs) same (sym (program_is s)))
