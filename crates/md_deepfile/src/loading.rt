@@ -77,12 +77,29 @@ pub fn load<S: Store>(
     ensures later { S.read_faults store.old ≤ S.read_faults store.new }
     ensures writes { S.write_faults store.new ≡ S.write_faults store.old }
 {
-    let mut buf = buffer(alloc, PIECE)?;
     let mut decoder = Decoder::new(alloc)?;
-    match read_on(store, name, max, &mut buf, &mut decoder) {
-        Ok(()) => finished(decoder),
-        Err(fault) => Err(fault),
-    }
+    read_through(alloc, store, name, max, &mut decoder)?;
+    finished(decoder)
+}
+
+/// Reads the named file to its end, and feeds the decoder.
+fn read_through<S: Store>(
+    alloc: Global,
+    store: &mut S,
+    name: &str,
+    max: u64,
+    decoder: &mut Decoder,
+) -> Result<(), LoadFault>
+    requires begun { HasTaken decoder.old [] }
+    ensures whole { OnOk result (FileTaken (S.held store.old) name.now max decoder.new) }
+    ensures fault { IfErr result (λ fault. IsLoadFault (S.held store.old) name.now max fault) }
+    ensures read { IsErrOf result LoadFault.Read → Rose (S.read_faults store.old) (S.read_faults store.new) }
+    ensures kept { S.held store.new ≡ S.held store.old }
+    ensures later { S.read_faults store.old ≤ S.read_faults store.new }
+    ensures writes { S.write_faults store.new ≡ S.write_faults store.old }
+{
+    let mut buf = buffer(alloc, PIECE)?;
+    read_on(store, name, max, &mut buf, decoder)
 }
 
 /// Room for this many bytes.

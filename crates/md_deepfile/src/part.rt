@@ -1,5 +1,5 @@
 /// The field of which the next byte is a part, with the numbers of its thing that came before it.
-#[derive(Clone, Copy, Debug, PartialEq, Eq)]
+#[derive(Clone, Copy)]
 pub(crate) enum Part {
     /// A byte of the magic, by its place, or the version, which stands behind it at 7.
     Magic(u8),
@@ -15,7 +15,7 @@ pub(crate) enum Part {
 }
 
 /// What has a name.
-#[derive(Clone, Copy, Debug, PartialEq, Eq)]
+#[derive(Clone, Copy)]
 pub(crate) enum Named {
     Module,
     /// A procedure of this module.
@@ -23,7 +23,7 @@ pub(crate) enum Named {
 }
 
 /// A number of the file.
-#[derive(Clone, Copy, Debug, PartialEq, Eq)]
+#[derive(Clone, Copy)]
 pub(crate) enum Field {
     ModuleCount,
     ProcCount,
@@ -51,7 +51,7 @@ pub(crate) enum Field {
 }
 
 /// A version of the file.
-#[derive(Clone, Copy, Debug, PartialEq, Eq)]
+#[derive(Clone, Copy)]
 pub(crate) enum Version {
     First,
     Second,
