@@ -69,20 +69,24 @@ fn with_options<'a>(
         Tool::Check => with_flag(alloc, command, "print"),
         Tool::Gen => with_flag(alloc, command, "summary"),
         Tool::Report | Tool::Cover => with_value(alloc, command, "steps"),
-        Tool::Run => {
-            let command = with_value(alloc, command, "steps")?;
-            with_value(alloc, command, "profile")
-        }
-        Tool::Feedback => {
-            let command = with_value(alloc, command, "steps")?;
-            with_value(alloc, command, "least")
-        }
-        Tool::Serve => {
-            let command = with_value(alloc, command, "port")?;
-            with_value(alloc, command, "requests")
-        }
+        Tool::Run => with_values(alloc, command, "steps", "profile"),
+        Tool::Feedback => with_values(alloc, command, "steps", "least"),
+        Tool::Serve => with_values(alloc, command, "port", "requests"),
         Tool::Page | Tool::Migrate | Tool::Dump | Tool::Undump | Tool::Sum => Ok(command),
     }
+}
+
+/// A command with two options more that take a value.
+fn with_values<'a>(
+    alloc: Global,
+    command: Command<'a>,
+    first: &'a str,
+    second: &'a str,
+) -> Result<Command<'a>, AllocError>
+    ensures { (app : App) → IsApp app command.entry → IfOk result (IsApp (with_rule (with_rule app (valued_arg first.entry.now)) (valued_arg second.entry.now))) }
+{
+    let command = with_value(alloc, command, first)?;
+    with_value(alloc, command, second)
 }
 
 /// A command with an option more that takes a value.
