@@ -3,6 +3,7 @@ ghost use Rattle.std.specs.Prelude.{ℕ, ◌≡◌, ◌≤◌, ◌<◌, ◌^◌,
 ghost use Rattle.md_hlds.specs.Hlds.{hlds_of};
 ghost use Rattle.md_events.specs.Laws.{IsWithinBounds};
 
+use super::checked;
 use super::order::Order;
 use bumpalo::Bump;
 use md_base::{Counts, Measure, ProcId};
@@ -25,7 +26,7 @@ pub struct Came {
 }
 
 /// The run of a program, for a sink that keeps nothing.
-pub fn silent(alloc: Global, checked: &Checked, budget: u32) -> Result<Ran, Fail>
+fn silent(alloc: Global, checked: &Checked, budget: u32) -> Result<Ran, Fail>
     requires { (b : ℕ) → b < 2 ^ 32 → IsWithinBounds (hlds_of checked.now) b }
 {
     programs_have_tables();
@@ -33,8 +34,20 @@ pub fn silent(alloc: Global, checked: &Checked, budget: u32) -> Result<Ran, Fail
     Ok(ran)
 }
 
+/// The run of the program of a text, for a sink that keeps nothing.
+pub fn silent_run(alloc: Global, text: &str, budget: u32) -> Result<Ran, Fail> {
+    let checked = checked(alloc, text.as_bytes())?;
+    silent(alloc, &checked, budget)
+}
+
+/// The run of the program of a text, and its counts over all procedures.
+pub fn counted_run(alloc: Global, text: &str, budget: u32) -> Result<(Ran, Counts), Fail> {
+    let checked = checked(alloc, text.as_bytes())?;
+    counted(alloc, &checked, budget)
+}
+
 /// The run of a program, and its counts over all procedures.
-pub fn counted(alloc: Global, checked: &Checked, budget: u32) -> Result<(Ran, Counts), Fail>
+fn counted(alloc: Global, checked: &Checked, budget: u32) -> Result<(Ran, Counts), Fail>
     requires { (b : ℕ) → b < 2 ^ 32 → IsWithinBounds (hlds_of checked.now) b }
 {
     let procs = procedures(checked);

@@ -1,7 +1,7 @@
 // Long runs and deep ones.
-use super::came::{counted, silent};
-use super::checked;
+use super::came::{counted_run, silent_run};
 use md_machine::End;
+use std::process::Abort;
 use std::test::Fail;
 
 /// The most steps that a run may be given.
@@ -23,45 +23,41 @@ const CHOICES: &str =
 const BITS: &str =
     ":- module t.\n:- pred main(io::di, io::uo) is det.\nmain(IO0, IO) :- ( bits -> S = \"y\" ; S = \"n\" ), io.write_string(S, IO0, IO).\n:- pred bits is failure.\nbits :- bit(A), bit(B), bit(C), bit(D), bit(E), bit(F), bit(G), bit(H), bit(I), bit(J), bit(K), bit(L), bit(M), bit(N), bit(O), bit(P), bit(Q), bit(R), fail.\n:- pred bit(int::out) is multi.\nbit(X) :- ( X = 0 ; X = 1 ).\n";
 
+/// The run of a program within this budget wrote this and ended so.
+fn comes_to(
+    rt: &(impl Abort + AllocGlobal),
+    text: &str,
+    budget: u32,
+    output: &str,
+    end: End,
+) -> Result<(), Fail> {
+    let ran = silent_run(rt.alloc(), text, budget)?;
+    assert_eq!(rt; ran.end, end);
+    assert_eq!(rt; ran.output.as_slice(), output.as_bytes());
+    Ok(())
+}
+
 #[test]
 fn a_million_calls_nest(rt: HostRuntime) -> Result<(), Fail> {
-    let alloc = rt.alloc();
-    let checked = checked(alloc, MILLION.as_bytes())?;
-    let ran = silent(alloc, &checked, 13_000_019)?;
-    assert_eq!(rt; ran.end, End::Finished);
-    let ran = silent(alloc, &checked, 13_000_018)?;
-    assert_eq!(rt; ran.end, End::OutOfSteps);
-    Ok(())
+    comes_to(&rt, MILLION, 13_000_019, "", End::Finished)?;
+    comes_to(&rt, MILLION, 13_000_018, "", End::OutOfSteps)
 }
 
 #[test]
 fn a_million_choices_are_open(rt: HostRuntime) -> Result<(), Fail> {
-    let alloc = rt.alloc();
-    let checked = checked(alloc, CHOICES.as_bytes())?;
-    let ran = silent(alloc, &checked, 13_000_028)?;
-    assert_eq!(rt; ran.end, End::Finished);
-    assert_eq!(rt; ran.output.as_slice(), b"y".as_slice());
-    let ran = silent(alloc, &checked, 13_000_027)?;
-    assert_eq!(rt; ran.end, End::OutOfSteps);
-    Ok(())
+    comes_to(&rt, CHOICES, 13_000_028, "y", End::Finished)?;
+    comes_to(&rt, CHOICES, 13_000_027, "y", End::OutOfSteps)
 }
 
 #[test]
 fn a_run_has_all_the_steps_that_there_are(rt: HostRuntime) -> Result<(), Fail> {
-    let alloc = rt.alloc();
-    let checked = checked(alloc, TEN_MILLIONS.as_bytes())?;
-    let ran = silent(alloc, &checked, MOST)?;
-    assert_eq!(rt; ran.end, End::OutOfSteps);
-    assert!(rt; ran.output.is_empty());
-    Ok(())
+    comes_to(&rt, TEN_MILLIONS, MOST, "", End::OutOfSteps)
 }
 
 #[test]
 fn all_choices_are_tried(rt: HostRuntime) -> Result<(), Fail> {
     // The call of a bit at each of 2^0 + .. + 2^17 places exits twice, and then fails.
-    let alloc = rt.alloc();
-    let checked = checked(alloc, BITS.as_bytes())?;
-    let (ran, counts) = counted(alloc, &checked, MOST)?;
+    let (ran, counts) = counted_run(rt.alloc(), BITS, MOST)?;
     assert_eq!(rt; ran.end, End::Finished);
     assert_eq!(rt; ran.output.as_slice(), b"n".as_slice());
     assert_eq!(rt; (counts.calls, counts.exits), (262_145, 524_287));

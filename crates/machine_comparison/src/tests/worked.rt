@@ -1,13 +1,19 @@
 // Programs with what they write, how they end and what they weigh, worked out by hand from the language's description.
-use super::came::{counted, silent};
-use super::checked;
+use super::came::{counted_run, silent_run};
 use super::programs::{COUNT, ERR, HELLO, NONE, SOME};
-use md_machine::End;
+use md_machine::{End, Ran};
+use std::process::Abort;
 use std::test::Fail;
+
+/// The run wrote this, ended so, and threw that.
+fn came_to(rt: &impl Abort, ran: &Ran, output: &str, end: End, error: &str) {
+    assert_eq!(rt; ran.output.as_slice(), output.as_bytes());
+    assert_eq!(rt; ran.end, end);
+    assert_eq!(rt; ran.error.as_slice(), error.as_bytes());
+}
 
 #[test]
 fn programs_write_and_end_as_they_say(rt: HostRuntime) -> Result<(), Fail> {
-    let alloc = rt.alloc();
     for (text, budget, output, end, error) in [
         (HELLO, 15, "hello\n", End::Finished, ""),
         (HELLO, 14, "hello", End::OutOfSteps, ""),
@@ -19,22 +25,17 @@ fn programs_write_and_end_as_they_say(rt: HostRuntime) -> Result<(), Fail> {
         (ERR, 49, "", End::Thrown, "bad"),
         (ERR, 48, "", End::OutOfSteps, ""),
     ] {
-        let checked = checked(alloc, text.as_bytes())?;
-        let ran = silent(alloc, &checked, budget)?;
-        assert_eq!(rt; ran.output.as_slice(), output.as_bytes(), "{text}");
-        assert_eq!(rt; ran.end, end, "{text}");
-        assert_eq!(rt; ran.error.as_slice(), error.as_bytes(), "{text}");
+        let ran = silent_run(rt.alloc(), text, budget)?;
+        came_to(&rt, &ran, output, end, error);
     }
     Ok(())
 }
 
 #[test]
 fn a_run_hands_over_its_ports(rt: HostRuntime) -> Result<(), Fail> {
-    let alloc = rt.alloc();
     // main calls count four times, below one another.
-    let checked = checked(alloc, COUNT.as_bytes())?;
-    let (ran, counts) = counted(alloc, &checked, 58)?;
-    assert_eq!(rt; ran.end, End::Finished);
+    let (ran, counts) = counted_run(rt.alloc(), COUNT, 58)?;
+    came_to(&rt, &ran, "", End::Finished, "");
     assert_eq!(rt; (counts.calls, counts.exits), (5, 5));
     assert_eq!(rt; (counts.fails, counts.redos), (0, 0));
     assert_eq!(rt; (counts.excps, counts.allocs), (0, 0));
