@@ -5,6 +5,9 @@ use md_base::{MemSink, MemStore};
 use md_tool::{Status, top};
 use std::alloc::{AllocError, Global};
 
+/// Where a run keeps its profile where no other name is given.
+const PROFILE: &str = "mdprof.data";
+
 /// `ok` and the case's name, or its name and what came otherwise than it says.
 pub fn of(alloc: Global, case: &Case) -> Result<String, AllocError> {
     let mut store = store_of(alloc, case)?;
@@ -19,7 +22,7 @@ pub fn of(alloc: Global, case: &Case) -> Result<String, AllocError> {
         "another output"
     } else if err.bytes() != case.err.as_slice() {
         "something else on the error stream"
-    } else if !are_left(&store, &case.left) {
+    } else if !are_left(&store, case) {
         "other files"
     } else if !are_written(net.served(), &case.connections.responses) {
         "other responses"
@@ -56,12 +59,29 @@ pub fn failing(alloc: Global, call: u64) -> Result<Vec<u64>, AllocError> {
     Ok(fails)
 }
 
-/// Whether the store holds these files.
-fn are_left(store: &MemStore, left: &[File]) -> bool {
-    left.iter().all(|file| is_left(store, file))
+/// Whether the store holds the files that have to be there, and of others just those that it was given, as they were, and a
+/// run's profile under its usual name.
+fn are_left(store: &MemStore, case: &Case) -> bool {
+    case.left.iter().all(|file| is_left(store, file))
+        && store
+            .files()
+            .iter()
+            .all(|(name, bytes)| may_be_left(case, name, bytes))
 }
 
 fn is_left(store: &MemStore, file: &File) -> bool {
-    store.files().iter().any(|(name, bytes)| name.as_str() == file.name.as_str()
-        && bytes.as_slice() == file.bytes.as_slice())
+    store
+        .files()
+        .iter()
+        .any(|(name, bytes)| is_same(file, name, bytes))
+}
+
+fn may_be_left(case: &Case, name: &str, bytes: &[u8]) -> bool {
+    name == PROFILE
+        || case.left.iter().any(|file| is_same(file, name, bytes))
+        || case.files.iter().any(|file| is_same(file, name, bytes))
+}
+
+fn is_same(file: &File, name: &str, bytes: &[u8]) -> bool {
+    file.name.as_str() == name && file.bytes.as_slice() == bytes
 }
