@@ -1,19 +1,30 @@
 // The table of a program's goals.
 use crate::fault::Fault;
-use md_code::{Routine, Step, prepare};
+use md_code::{Entry, Routine, Step, prepare};
 use md_modes::Moded;
 use std::alloc::Global;
 
 /// Adds each goal of a program's table, with the goal after it, and each routine.
 pub fn code(alloc: Global, moded: &Moded, found: &mut String) -> Result<(), Fault> {
     let code = prepare(alloc, moded)?;
-    for (number, entry) in code.entries.iter().enumerate() {
+    entries(&code.entries, found)?;
+    routines(&code.routines, found)
+}
+
+/// Adds each goal of a table, with the goal after it.
+fn entries(entries: &[Entry], found: &mut String) -> Result<(), Fault> {
+    for (number, entry) in entries.iter().enumerate() {
         write!(found, "{number}: ")?;
         step(&entry.step, found)?;
         let next = entry.next;
         writeln!(found, ", then {next:?}")?;
     }
-    for (number, routine) in code.routines.iter().enumerate() {
+    Ok(())
+}
+
+/// Adds each of these routines.
+fn routines(routines: &[Routine], found: &mut String) -> Result<(), Fault> {
+    for (number, routine) in routines.iter().enumerate() {
         write!(found, "routine {number}: ")?;
         tell(routine, found)?;
     }

@@ -13,10 +13,16 @@ const OUTSIDE: Spot = Spot {
 /// Adds what is found of the type of each argument of a program's predicates.
 pub fn kinds(alloc: Global, program: &Program, found: &mut String) -> Result<(), Fault> {
     for pred in program.preds.as_slice() {
-        for (place, (kind, _)) in pred.args.iter().enumerate() {
-            write!(found, "{place}: ")?;
-            argument(alloc, pred.args.as_slice(), Kind::new(kind), found)?;
-        }
+        arguments(alloc, pred.args.as_slice(), found)?;
+    }
+    Ok(())
+}
+
+/// Adds what is found of the type of each of these arguments.
+fn arguments(alloc: Global, args: &[(Ty, Mode)], found: &mut String) -> Result<(), Fault> {
+    for (place, (kind, _)) in args.iter().enumerate() {
+        write!(found, "{place}: ")?;
+        argument(alloc, args, Kind::new(kind), found)?;
     }
     Ok(())
 }

@@ -36,6 +36,12 @@ fn tell(variables: &Variables, found: &mut String) -> Result<(), Fault> {
 /// Adds the name of each predicate by its number, and the owner and the line of each call site, each up to the first
 /// number that has none.
 pub fn numbers(program: &Program, found: &mut String) -> Result<(), Fault> {
+    predicates(program, found)?;
+    sites(program, found)
+}
+
+/// Adds the name of each predicate by its number.
+fn predicates(program: &Program, found: &mut String) -> Result<(), Fault> {
     for number in 0..=count_of(program.preds.len())? {
         let name = match program.pred(ProcId::new(number)) {
             Some(pred) => readable(pred.name.as_bytes()),
@@ -43,6 +49,11 @@ pub fn numbers(program: &Program, found: &mut String) -> Result<(), Fault> {
         };
         writeln!(found, "predicate {number}: {name}")?;
     }
+    Ok(())
+}
+
+/// Adds the owner and the line of each call site by its number.
+fn sites(program: &Program, found: &mut String) -> Result<(), Fault> {
     for number in 0..u32::MAX {
         let site = program.site(SiteId::new(number));
         writeln!(found, "site {number}: {site:?}")?;

@@ -21,11 +21,17 @@ pub fn graph(alloc: Global, case: &Case, out: &mut String) -> Result<(), AllocEr
 /// Adds a line for each clique, with its members.
 fn add_members(alloc: Global, found: &Cliques, out: &mut String) -> Result<(), AllocError> {
     for clique in 0..found.count() {
-        let mut line = format!(in alloc; "clique {clique}:")?;
-        for node in found.members(clique) {
-            line.push_str(format!(in alloc; " {node}")?.as_str())?;
-        }
-        add_line(out, line.as_str())?;
+        out.push_str(format!(in alloc; "clique {clique}:")?.as_str())?;
+        add_nodes(alloc, found.members(clique), out)?;
+        add_line(out, "")?;
+    }
+    Ok(())
+}
+
+/// Adds these nodes, a space before each.
+fn add_nodes(alloc: Global, nodes: &[u32], out: &mut String) -> Result<(), AllocError> {
+    for node in nodes {
+        out.push_str(format!(in alloc; " {node}")?.as_str())?;
     }
     Ok(())
 }
@@ -44,10 +50,16 @@ pub fn small_graphs(alloc: Global, out: &mut String) -> Result<(), AllocError> {
         graphs[count] = graphs[count].wrapping_add(1);
         sum = digest(sum, &found, 4);
     }
+    add_counts(alloc, &graphs, out)?;
+    add_line(out, format!(in alloc; "digest {sum}")?.as_str())
+}
+
+/// Adds how many graphs have so many cliques, for each number of cliques from 1.
+fn add_counts(alloc: Global, graphs: &[u32], out: &mut String) -> Result<(), AllocError> {
     for (cliques, count) in graphs.iter().enumerate().skip(1) {
         add_line(out, format!(in alloc; "{count} have {cliques}")?.as_str())?;
     }
-    add_line(out, format!(in alloc; "digest {sum}")?.as_str())
+    Ok(())
 }
 
 /// A number that goes on from another by the clique of each node.

@@ -111,6 +111,15 @@ fn next_context(all: &[Activation]) -> u32 {
 
 /// The links of the activations, by first use, with their counts.
 pub fn links(alloc: Global, all: &[Activation], events: &[Event]) -> Result<Vec<Link>, NoMemory> {
+    let mut found = links_uncounted(alloc, all)?;
+    for event in events {
+        count(&mut found, all, *event);
+    }
+    Ok(found)
+}
+
+/// The same, with no counts.
+fn links_uncounted(alloc: Global, all: &[Activation]) -> Result<Vec<Link>, NoMemory> {
     let mut found = Vec::new(alloc);
     for new in all {
         if place_of(&found, new).is_none() {
@@ -119,9 +128,6 @@ pub fn links(alloc: Global, all: &[Activation], events: &[Event]) -> Result<Vec<
                 own: Counts::default(),
             })?;
         }
-    }
-    for event in events {
-        count(&mut found, all, *event);
     }
     Ok(found)
 }
