@@ -1,5 +1,5 @@
 // Goals. The depth of the calls is that of the goals within goals.
-ghost use Rattle.std.specs.Prelude.{◌≡◌, ◌++◌, OnOk, codes, true, false, ◌∷◌};
+ghost use Rattle.std.specs.Prelude.{◌≡◌, ◌++◌, OnOk, codes, true, false, [], ◌∷◌};
 ghost use Rattle.md_hlds.specs.HldsGoal.{gathered, goal_of, goals_of};
 ghost use Rattle.md_printer.specs.Layout.{in_parentheses, laid};
 ghost use Rattle.md_printer.specs.Printed as spec;
@@ -125,9 +125,7 @@ fn negation(text: &mut Vec<u8>, names: &[Name], negated: &Goal) -> Result<(), No
     ensures { OnOk result (text.new.items ≡ text.old.items ++ laid (codes "not" ∷ in_parentheses (spec.goal_tokens names.now false (goal_of negated.now)))) }
 {
     sign(text, "not")?;
-    sign(text, "(")?;
-    goal(text, names, false, negated)?;
-    sign(text, ")")
+    enclosed(text, names, negated)
 }
 
 #[cycle(goals)]
@@ -140,11 +138,28 @@ fn quantification(
 ) -> Result<(), NoMemory>
     ensures { OnOk result (text.new.items ≡ text.old.items ++ laid (spec.quantified_tokens (spec.variables names.now places.now) (spec.goal_tokens names.now false (goal_of quantified.now)))) }
 {
+    quantifier(text, names, places)?;
+    enclosed(text, names, quantified)
+}
+
+/// Adds a goal in parentheses.
+#[cycle(goals)]
+#[tactic(auto, unfolding(crate::specs::Layout::laid))]
+fn enclosed(text: &mut Vec<u8>, names: &[Name], printed: &Goal) -> Result<(), NoMemory>
+    ensures { OnOk result (text.new.items ≡ text.old.items ++ laid (in_parentheses (spec.goal_tokens names.now false (goal_of printed.now)))) }
+{
+    sign(text, "(")?;
+    goal(text, names, false, printed)?;
+    sign(text, ")")
+}
+
+/// Adds what stands before a quantified goal.
+#[tactic(auto, unfolding(crate::specs::Layout::laid))]
+fn quantifier(text: &mut Vec<u8>, names: &[Name], places: &Variables) -> Result<(), NoMemory>
+    ensures { OnOk result (text.new.items ≡ text.old.items ++ laid (codes "some" ∷ codes "[" ∷ (spec.variables names.now places.now ++ codes "]" ∷ []))) }
+{
     sign(text, "some")?;
     sign(text, "[")?;
     variables(text, names, places.as_slice())?;
-    sign(text, "]")?;
-    sign(text, "(")?;
-    goal(text, names, false, quantified)?;
-    sign(text, ")")
+    sign(text, "]")
 }
