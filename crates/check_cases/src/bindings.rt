@@ -10,8 +10,18 @@ use std::alloc::Global;
 /// Adds what the goals of a program's clauses come to, clause by clause.
 pub fn bindings(alloc: Global, program: &Program, found: &mut String) -> Result<(), Fault> {
     let names = Names::new(alloc, program)?;
-    for pred in program.preds.as_slice() {
-        clause(alloc, &names, pred, found)?;
+    clauses(alloc, &names, program.preds.as_slice(), found)
+}
+
+/// The same of the clauses of these predicates.
+fn clauses<'a>(
+    alloc: Global,
+    names: &Names<'a>,
+    preds: &'a [Pred],
+    found: &mut String,
+) -> Result<(), Fault> {
+    for pred in preds {
+        clause(alloc, names, pred, found)?;
     }
     Ok(())
 }

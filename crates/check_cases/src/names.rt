@@ -74,8 +74,18 @@ pub fn names(
     let names = Names::new(alloc, program)?;
     let count = names.program().preds.len();
     writeln!(found, "predicates: {count}")?;
-    for field in case.fields() {
-        look_up(alloc, &names, field, found)?;
+    look_up_all(alloc, &names, case.fields(), found)
+}
+
+/// Adds what is found for the names of these lines.
+fn look_up_all(
+    alloc: Global,
+    names: &Names,
+    fields: &[Field],
+    found: &mut String,
+) -> Result<(), Fault> {
+    for field in fields {
+        look_up(alloc, names, field, found)?;
     }
     Ok(())
 }

@@ -8,6 +8,7 @@ use crate::{
 use cases::Case;
 use md_base::NoMemory;
 use md_det::DetFault;
+use md_hlds::Program;
 use md_modes::ModeFault;
 use md_reader::Refused;
 use std::alloc::{AllocError, Global};
@@ -45,14 +46,24 @@ fn show(alloc: Global, case: &Case, found: &mut String) -> Result<(), Fault> {
 /// Adds what is found of the program of a case's text.
 fn show_program(alloc: Global, case: &Case, found: &mut String) -> Result<(), Fault> {
     let program = program_of(alloc, case)?;
+    show_read(alloc, case, &program, found)
+}
+
+/// Adds what is found of a program.
+fn show_read(
+    alloc: Global,
+    case: &Case,
+    program: &Program,
+    found: &mut String,
+) -> Result<(), Fault> {
     match case.text("show") {
         "read" => Ok(writeln!(found, "read")?),
-        "printed" => printed::printed(alloc, &program, found),
-        "numbers" => names::numbers(&program, found),
-        "names" => names::names(alloc, case, &program, found),
-        "kinds" => kinds::kinds(alloc, &program, found),
-        "bindings" => bindings::bindings(alloc, &program, found),
-        "goals" => goals::goals(alloc, case, &program, found),
+        "printed" => printed::printed(alloc, program, found),
+        "numbers" => names::numbers(program, found),
+        "names" => names::names(alloc, case, program, found),
+        "kinds" => kinds::kinds(alloc, program, found),
+        "bindings" => bindings::bindings(alloc, program, found),
+        "goals" => goals::goals(alloc, case, program, found),
         _ => Err(Fault::Unknown),
     }
 }

@@ -21,9 +21,14 @@ pub fn comparison(alloc: Global, case: &Case, found: &mut String) -> Result<(), 
 pub fn arm(alloc: Global, case: &Case, found: &mut String) -> Result<(), Fault> {
     let keys = keys_of(alloc, case)?;
     let bump = Bump::new(alloc);
+    places(&bump, case, &keys, found)
+}
+
+/// Adds the place that each value of the case has among these keys.
+fn places(bump: &Bump, case: &Case, keys: &IndexSet<Key>, found: &mut String) -> Result<(), Fault> {
     for field in case.fields() {
         if field.key.as_str() == "value" {
-            let place = place_of_key(&value_of(&bump, field.text.as_str())?, &keys)?;
+            let place = place_of_key(&value_of(bump, field.text.as_str())?, keys)?;
             writeln!(found, "{place:?}")?;
         }
     }
