@@ -93,13 +93,14 @@ pub then_fault : (c : Scope) (l : ℕ) (p t e : HldsGoal) (s : InstMap) (a : Aft
     → goal c t a.known ≡ Err x → expr c l (IfGoal p t e) s ≡ Err x
 then_fault c l p t e s a x f h = choose_inside c l p t e s ∙ rw (f, h) refl
 
-pub else_fault : (c : Scope) (l : ℕ) (p t e : HldsGoal) (s : InstMap) (a b : After) (x : ModeFault) → inside (within c) l (three_variables p t e) p s ≡ Ok a
-    → goal c t a.known ≡ Ok b → goal c e s ≡ Err x → expr c l (IfGoal p t e) s ≡ Err x
-else_fault c l p t e s a b x f h i = choose_inside c l p t e s ∙ rw (f, h, i) refl
+-- the end of an if-then-else, and a fault of its second arm, by what is known before that arm
+pub choose_last : (c : Scope) (l : ℕ) (p t e : HldsGoal) (s n : InstMap) (a b d : After) → inside (within c) l (three_variables p t e) p s ≡ Ok a
+    → goal c t a.known ≡ Ok b → n ≡ s → goal c e n ≡ Ok d → expr c l (IfGoal p t e) s ≡ joined l (outside c.all (three_variables p t e)) n (b ∷ d ∷ [])
+choose_last c l p t e s n a b d f h back i = choose_inside c l p t e s ∙ rw (f, h, ← back, i) refl
 
-pub choose_joined : (c : Scope) (l : ℕ) (p t e : HldsGoal) (s : InstMap) (a b d : After) → inside (within c) l (three_variables p t e) p s ≡ Ok a
-    → goal c t a.known ≡ Ok b → goal c e s ≡ Ok d → expr c l (IfGoal p t e) s ≡ joined l (outside c.all (three_variables p t e)) s (b ∷ d ∷ [])
-choose_joined c l p t e s a b d f h i = choose_inside c l p t e s ∙ rw (f, h, i) refl
+pub choose_fault : (c : Scope) (l : ℕ) (p t e : HldsGoal) (s n : InstMap) (a b : After) (x : ModeFault) → inside (within c) l (three_variables p t e) p s ≡ Ok a
+    → goal c t a.known ≡ Ok b → n ≡ s → goal c e n ≡ Err x → expr c l (IfGoal p t e) s ≡ Err x
+choose_fault c l p t e s n a b x f h back i = choose_inside c l p t e s ∙ rw (f, h, ← back, i) refl
 
 -- ---- a goal that is negated or quantified
 

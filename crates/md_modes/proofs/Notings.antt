@@ -1,5 +1,5 @@
 -- Notes of goals, one after the other.
-use Rattle.std.proofs.Common.{◌≡◌, refl, sym, ap, ◌∙◌, subst, arith, append-nil, append_assoc, length-append, add-one, ℕ, zero, suc, ◌+◌, ◌<◌, List, [], ◌∷◌, ◌++◌, length, drop, get_or, slice_set, Vec, Box, Bool, Some, Result, Ok, Err, IfOk, Bor}
+use Rattle.std.proofs.Common.{◌≡◌, refl, slice_get, sym, ap, ◌∙◌, subst, arith, append-nil, append_assoc, length-append, add-one, ℕ, zero, suc, ◌+◌, ◌<◌, List, [], ◌∷◌, ◌++◌, length, drop, get_or, slice_set, Vec, Box, Bool, Some, Result, Ok, Err, IfOk, Bor}
 use Rattle.std.specs.declared.alloc.Global.{Global}
 use Rattle.md_hlds.specs.declared.goal.Goal.{Goal}
 use Rattle.md_hlds.specs.declared.goal.GoalKind.{GoalKind, Conj, Disj, If}
@@ -153,6 +153,13 @@ choice_notes c d p t e s a old first second third is f g h =
     ∙ (append_assoc (old ++ notes d p s) (notes c t a.known) (notes c e s) ∙ (append_assoc old (notes d p s) (notes c t a.known ++ notes c e s)
     ∙ ap (λ k. old ++ (notes d p s ++ (notes c t k ++ notes c e s))) (sym known)))))
 
+-- the same where the other arm may be at fault
+pub choice_noted : (c d : Scope) (p t e : HldsGoal) (s n : InstMap) (a : After) (r : Result Bool ModeFault) (old first second third : List Note)
+    → goal d p s ≡ Ok a → first ≡ old ++ notes d p s → second ≡ first ++ notes c t a.known → n ≡ s → IfOk r (λ reach. third ≡ second ++ notes c e n)
+    → IfOk r (λ reach. third ≡ old ++ (notes d p s ++ (notes c t (known_after s (goal d p s)) ++ notes c e s)))
+choice_noted c d p t e s n a (Ok reach) old first second third is f g back h = choice_notes c d p t e s a old first second third is f g (rw (← back) h)
+choice_noted c d p t e s n a (Err x) old first second third is f g back h = tt
+
 -- ---- a goal's own note before those within it
 
 notes_told-set : (ns : List code.Note) (i : ℕ) (n : code.Note) → notes_told (slice_set ns i n) ≡ slice_set (notes_told ns) i (note_told n)
@@ -182,3 +189,23 @@ goal_notes old begun more final i n own m inner e at h f is =
     let told : notes_told begun ≡ notes_told old ++ note_told n ∷ [] = ap notes_told e ∙ notes_told-append old (n ∷ []) in
     let place : i ≡ length (notes_told old) = at ∙ sym (length-notes_told old) in
     ap notes_told f ∙ (notes_told-set more i own ∙ rw (h, told, place, is) (set-middle (notes_told old) (note_told n) m inner))
+
+get-middle : (xs : List Note) (x : Note) (ys : List Note) → slice_get ((xs ++ x ∷ []) ++ ys) (length xs) ≡ Some x
+get-middle [] x ys = refl
+get-middle (z ∷ xs) x ys = get-middle xs x ys
+
+told_at : (ns : List code.Note) (i : ℕ) (m : code.Note) → i < length ns → m ≡ get_or ns i m → slice_get (notes_told ns) i ≡ Some (note_told m)
+told_at [] i m lt is = absurd (omega (arith, lt))
+told_at (n ∷ ns) zero m lt is = rw (← is) refl
+told_at (n ∷ ns) (suc i) m lt is = told_at ns i m (omega (arith, lt)) is
+
+some_same : {A : Type 0} (x y : A) → Some x ≡ Some y → x ≡ y
+some_same x y e = cc
+
+-- a note is what it was before those within were added
+pub kept_note : (old begun more : List code.Note) (i : ℕ) (n m : code.Note) (inner : List Note) → begun ≡ old ++ n ∷ [] → i ≡ length old
+    → notes_told more ≡ notes_told begun ++ inner → i < length more → m ≡ get_or more i m → note_told m ≡ note_told n
+kept_note old begun more i n m inner e at h lt is =
+    let told : notes_told begun ≡ notes_told old ++ note_told n ∷ [] = ap notes_told e ∙ notes_told-append old (n ∷ []) in
+    let place : i ≡ length (notes_told old) = at ∙ sym (length-notes_told old) in
+    some_same (note_told m) (note_told n) (sym (told_at more i m lt is) ∙ rw (h, told, place) (get-middle (notes_told old) (note_told n) inner))
