@@ -2,7 +2,7 @@
 use Rattle.std.proofs.Common.{◌≡◌, refl, sym, ap, ◌∙◌, subst, ℕ, Bool, true, false, not, List, [], ◌∷◌, ◌++◌, Vec, Box, Result, Ok, Err}
 use Rattle.std.specs.declared.alloc.Global.{Global}
 use Rattle.md_hlds.specs.declared.goal.Goal.{Goal}
-use Rattle.md_hlds.specs.declared.goal.GoalKind.{GoalKind, Conj, Disj, If, Not}
+use Rattle.md_hlds.specs.declared.goal.GoalKind.{GoalKind, Conj, Disj, If, Not, Some}
 use Rattle.md_hlds.specs.HldsGoal.{HldsGoal, DisjGoal, IfGoal, SomeGoal, gathered, goal_of, goals_of, expr_of}
 use Rattle.md_hlds.proofs.Bridge.{expr_of-Conj, expr_of-Disj}
 use Rattle.md_inst.specs.declared.fault.ModeFault.{ModeFault}
@@ -25,6 +25,10 @@ disj_is c l k v s is = ap (λ j. expr c l (expr_of j) s) is ∙ ap (λ t. expr c
 
 pub not_is : (c : Scope) (l : ℕ) (k : GoalKind) (b : Box Goal Global) (g : Goal) (s : InstMap) → k ≡ Not b → g ≡ b.value → expr c l (expr_of k) s ≡ expr c l (SomeGoal [] (goal_of g)) s
 not_is c l k b g s is gs = ap (λ j. expr c l (expr_of j) s) is ∙ rw gs refl
+
+pub some_is : (c : Scope) (l : ℕ) (k : GoalKind) (us vs : List ℕ) (b : Box Goal Global) (g : Goal) (s : InstMap) → k ≡ Some vs b → g ≡ b.value → us ≡ vs
+    → expr c l (expr_of k) s ≡ expr c l (SomeGoal us (goal_of g)) s
+some_is c l k us vs b g s is gs same = ap (λ j. expr c l (expr_of j) s) is ∙ rw (gs, same) refl
 
 pub choose_is : (c : Scope) (l : ℕ) (k : GoalKind) (p t e : Box Goal Global) (g h j : Goal) (s : InstMap) → k ≡ If p t e → g ≡ p.value → h ≡ t.value → j ≡ e.value
     → expr c l (expr_of k) s ≡ expr c l (IfGoal (goal_of g) (goal_of h) (goal_of j)) s

@@ -2,7 +2,8 @@
 use Rattle.std.proofs.Common.{◌≡◌, refl, slice_get, sym, ap, ◌∙◌, subst, arith, append-nil, append_assoc, length-append, add-one, ℕ, zero, suc, ◌+◌, ◌<◌, List, [], ◌∷◌, ◌++◌, length, drop, get_or, slice_set, Vec, Box, Bool, Some, Result, Ok, Err, IfOk, Bor}
 use Rattle.std.specs.declared.alloc.Global.{Global}
 use Rattle.md_hlds.specs.declared.goal.Goal.{Goal}
-use Rattle.md_hlds.specs.declared.goal.GoalKind.{GoalKind, Conj, Disj, If}
+use Rattle.md_hlds.specs.declared.goal.GoalKind.{GoalKind, Conj, Disj, If, Not}
+use Rattle.md_hlds.specs.declared.goal.GoalKind.TheVariants as kinds
 use Rattle.md_hlds.specs.declared.types.Det.{Det}
 use Rattle.md_hlds.specs.declared.types.HoTy.{HoTy}
 use Rattle.md_hlds.specs.declared.types.Mode.{Mode}
@@ -42,6 +43,14 @@ pub choice_notes_is : (c : Scope) (k : GoalKind) (p t e : Box Goal Global) (g h 
     → inner_notes c (expr_of k) s
     ≡ notes (within c) (goal_of g) s ++ (notes c (goal_of h) (known_after s (goal (within c) (goal_of g) s)) ++ notes c (goal_of j) s)
 choice_notes_is c k p t e g h j s is gs hs js = ap (λ i. inner_notes c (expr_of i) s) is ∙ rw (gs, hs, js) refl
+
+-- the notes within a goal that is negated or quantified
+pub not_notes_is : (c : Scope) (k : GoalKind) (b : Box Goal Global) (g : Goal) (s : InstMap) → k ≡ Not b → g ≡ b.value → inner_notes c (expr_of k) s ≡ notes (within c) (goal_of g) s
+not_notes_is c k b g s is gs = ap (λ i. inner_notes c (expr_of i) s) is ∙ rw gs refl
+
+pub some_notes_is : (c : Scope) (k : GoalKind) (vs : List ℕ) (b : Box Goal Global) (g : Goal) (s : InstMap) → k ≡ kinds.Some vs b → g ≡ b.value
+    → inner_notes c (expr_of k) s ≡ notes (within c) (goal_of g) s
+some_notes_is c k vs b g s is gs = ap (λ i. inner_notes c (expr_of i) s) is ∙ rw gs refl
 
 pub always : {A : Type 0} (r : Result Bool ModeFault) → A → IfOk r (λ reach. A)
 always (Ok reach) a = a

@@ -78,7 +78,15 @@ impl<'a, 'b> Clause<'a, 'b> {
         notes.push(note)?;
         let reach = self.check_kind(alloc, insts, view, strict, goal, notes)?;
         let size = notes.len() - number;
-        end_note(alloc, view, &goal.kind, insts, reach, size, &mut notes[number])?;
+        end_note(
+            alloc,
+            view,
+            &goal.kind,
+            insts,
+            reach,
+            size,
+            &mut notes[number],
+        )?;
         Ok(reach)
     }
 

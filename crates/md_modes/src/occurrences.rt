@@ -66,27 +66,34 @@ fn add_atomic(vars: &mut Vec<u32>, goal: &GoalKind) -> Result<(), NoMemory>
     match goal {
         GoalKind::Unify(x, term) => {
             vars.push(*x)?;
-            return add_term(vars, term);
+            add_term(vars, term)
         }
-        GoalKind::Arith(z, a, _, b) => vars.extend_from_slice(&[*z, *a, *b])?,
-        GoalKind::Compare(a, _, b) => vars.extend_from_slice(&[*a, *b])?,
-        GoalKind::WriteInt(x, before, after) => vars.extend_from_slice(&[*x, *before, *after])?,
-        GoalKind::WriteStr(x, before, after) => vars.extend_from_slice(&[*x, *before, *after])?,
-        GoalKind::Nl(before, after) => vars.extend_from_slice(&[*before, *after])?,
-        GoalKind::Call(_, _, places) => vars.extend_from_slice(places.as_slice())?,
+        GoalKind::Arith(z, a, _, b) => add_all(vars, &[*z, *a, *b]),
+        GoalKind::Compare(a, _, b) => add_all(vars, &[*a, *b]),
+        GoalKind::WriteInt(x, before, after) => add_all(vars, &[*x, *before, *after]),
+        GoalKind::WriteStr(x, before, after) => add_all(vars, &[*x, *before, *after]),
+        GoalKind::Nl(before, after) => add_all(vars, &[*before, *after]),
+        GoalKind::Call(_, _, places) => add_all(vars, places.as_slice()),
         GoalKind::HoCall(_, closure, places) => {
             vars.push(*closure)?;
-            vars.extend_from_slice(places.as_slice())?;
+            add_all(vars, places.as_slice())
         }
-        GoalKind::Error(x) => vars.push(*x)?,
+        GoalKind::Error(x) => add_all(vars, &[*x]),
         GoalKind::True
         | GoalKind::Fail
         | GoalKind::Conj(_)
         | GoalKind::Disj(_)
         | GoalKind::If(..)
         | GoalKind::Not(_)
-        | GoalKind::Some(..) => {}
+        | GoalKind::Some(..) => Ok(()),
     }
+}
+
+/// Adds these variables.
+fn add_all(vars: &mut Vec<u32>, places: &[u32]) -> Result<(), NoMemory>
+    ensures { OnOk result (vars.new.items ≡ vars.old.items ++ places.now) }
+{
+    vars.extend_from_slice(places)?;
     Ok(())
 }
 

@@ -22,11 +22,7 @@ pub struct Start<'a> {
 
 impl<'a> Start<'a> {
     /// The variables of a goal of this kind, with what is known of them.
-    pub fn new(
-        alloc: Global,
-        goal: &GoalKind,
-        insts: &[Inst<'a>],
-    ) -> Result<Start<'a>, NoMemory>
+    pub fn new(alloc: Global, goal: &GoalKind, insts: &[Inst<'a>]) -> Result<Start<'a>, NoMemory>
         ensures local { IfOk result (λ start. IsLocal start.local.places.items start.local.counts.items (expr_variables (expr_of goal.now))) }
         ensures before { IfOk result (λ start. inst_map_of start.before.items ≡ seen start.local.places.items (inst_map_of insts.now)) }
     {

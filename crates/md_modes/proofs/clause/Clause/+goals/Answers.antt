@@ -1,26 +1,25 @@
-use Rattle.std.proofs.Common.{◌≡◌, ◌∙◌, refl, sym, ap, arith, subst, ℕ, false, true, [], ◌∷◌, ◌++◌, List, length, ◌<◌, Ok, Err, add-one}
+use Rattle.std.proofs.Common.{◌≡◌, ◌∙◌, refl, sym, ap, arith, subst, false, true, [], ◌∷◌, ◌++◌, List, length, ◌<◌, Ok, Err, add-one, rules}
 use Rattle.std.proofs.lemmas.Result.{err_from_is_err_and}
 use Rattle.md_hlds.specs.HldsGoal.{DisjGoal, goal_of, goals_of, expr_of, gathered}
 use Rattle.md_inst.specs.Instantiation.{InstMap}
 use Rattle.md_inst.specs.Kinds.{inst_map_of}
-use Rattle.md_modes.specs.Branches.{After, after, binds_some, some_of, outside}
+use Rattle.md_modes.specs.Branches.{After, after, binds_some}
 use Rattle.md_modes.specs.Goals.{goal, expr, each, arms, variables, expr_variables}
 use Rattle.md_modes.specs.Notes.{Note, role_of, inner_notes, each_notes, arm_notes}
 use Rattle.md_modes.specs.Classes.{class_told, notes_told}
-use Rattle.md_modes.specs.Tally.{AreCounts}
 use Rattle.md_modes.specs.Joins.{occurs, Ends}
 use Rattle.md_modes.specs.Views.{seen, put_all, seen_ends, Leaves, AllLeave}
 use Rattle.md_modes.specs.Clauses.{scope_at}
 use Rattle.md_modes.proofs.ArmLemmas.{no_ends, seen_ends-more, all_leave-more}
-use Rattle.md_modes.proofs.Choices.{reaches_along, conj_is, disj_is, choose_is, three_variables, inside_ok, inside_by, inside_binds, condition_fault, then_fault, choose_last, choose_fault, once_fault, once_outside, once_right}
-use Rattle.md_modes.proofs.GoalLemmas.{arms-begin, arms-more, arms-fault, either_fault, arms-end}
+use Rattle.md_modes.proofs.Choices.{reaches_along, not_is, some_is, conj_is, disj_is, choose_is, three_variables, inside_ok, inside_by, inside_binds, condition_fault, then_fault, choose_last, choose_fault, once_fault, once_outside, once_right}
+use Rattle.md_modes.proofs.GoalLemmas.{each-more, each-fault, each-end, arms-begin, arms-more, arms-fault, either_fault, arms-end}
 use Rattle.md_modes.proofs.Insides.{places_of, view_leaves, views_leave, put_back, put_own, own_leaves, is_arm, among_first, among_others, among_itself, among_second, among_third, among_goals, binds_by, branch_end, own_note, view_counts, view_along, ends_seen, ends_viewed, reaches_from}
 use Rattle.md_modes.proofs.Listed.{goals_variables, goals_variables-Disj, variables-If}
 use Rattle.md_modes.proofs.NoteNames.{own_size}
 use Rattle.md_modes.proofs.Views.{length-seen}
 use Rattle.md_inst.proofs.Insts.{length-inst_map_of}
 use Rattle.md_modes.specs.Inside.{IsViewOf}
-use Rattle.md_modes.proofs.Notings.{within_notes, goal_notes, notes_along, each_notes_is, arm_notes_is, arms-loop, arms-loop-end, choice_noted, choice_notes_is, kept_note, always}
+use Rattle.md_modes.proofs.Notings.{not_notes_is, some_notes_is, each-loop, each-loop-end, within_notes, goal_notes, notes_along, each_notes_is, arm_notes_is, arms-loop, arms-loop-end, choice_noted, choice_notes_is, kept_note, always}
 use Rattle.md_modes.proofs.clause.Clause.+goals.Goals as goals
 
 pub check_viewed-index_mut-requires : goals.check_viewed-index_mut-requires
@@ -384,3 +383,84 @@ check_last_arm-returns-clause-reaches t c vars ends h among leave are v right wr
 
 pub check_last_arm-returns-clause-notes : goals.check_last_arm-returns-clause-notes
 check_last_arm-returns-clause-notes t c = always c.end_arms.result c.in_ok-reach.ensures.notes
+
+pub check_each-loop-goal-preserved : goals.check_each-loop-goal-preserved
+check_each-loop-goal-preserved t c =
+    let scope = scope_at c.args.self.now c.args.strict in
+    let gs = c.args.goals.now in
+    let i = c.loop-goal.goal-index in
+    let g = c.goal-item.result in
+    let s = inst_map_of c.loop-goal.insts.items in
+    let r = inst_map_of c.check.new.insts.items in
+    let inv = c.loop-goal.invariant in
+    let found = c.in_ok-goes_on.ensures.reaches in (
+      inv.0 ∙ (each-more scope gs i g s r c.loop-goal.reach c.in_ok-goes_on.goes_on c.loop-goal-test.true c.goal-item.is found ∙ rw (c.both-reach.ensures, add-one) refl),
+      each-loop scope gs i g s (after r c.in_ok-goes_on.goes_on) (notes_told c.loop-goal.notes.items) (notes_told c.check.new.notes.items) _ c.loop-goal-test.true c.goal-item.is
+          c.in_ok-goes_on.ensures.notes found inv.1,
+    )
+
+pub check_each-returns-in_err-goes_on-clause-reaches : goals.check_each-returns-in_err-goes_on-clause-reaches
+check_each-returns-in_err-goes_on-clause-reaches t c =
+    let inv = c.loop-goal.invariant in
+    let told = err_from_is_err_and c.from_residual.result c.from_residual.ensures.1 in
+    rw (told.1, told.2)
+    (λ ne.
+    inv.0
+    ∙ each-fault (scope_at c.args.self.now c.args.strict) c.args.goals.now c.loop-goal.goal-index c.goal-item.result (inst_map_of c.loop-goal.insts.items) c.loop-goal.reach _
+    c.loop-goal-test.true c.goal-item.is (c.in_err-goes_on.ensures.reaches ne))
+
+pub check_each-returns-clause-reaches : goals.check_each-returns-clause-reaches
+check_each-returns-clause-reaches t c =
+    c.loop-goal.invariant.0
+    ∙ each-end (scope_at c.args.self.now c.args.strict) c.args.goals.now c.loop-goal.goal-index (inst_map_of c.loop-goal.insts.items) c.loop-goal.reach (omega arith)
+
+pub check_each-returns-clause-notes : goals.check_each-returns-clause-notes
+check_each-returns-clause-notes t c =
+    each-loop-end (scope_at c.args.self.now c.args.strict) c.args.goals.now c.loop-goal.goal-index (inst_map_of c.loop-goal.insts.items) _ _ (omega arith) c.loop-goal.invariant.1
+
+pub check-check_viewed-requires : goals.check-check_viewed-requires
+check-check_viewed-requires t c = (
+  search rules,
+  record {
+    local = c.in_ok-start.ensures.local;
+    all = c.deref-2.ensures.value;
+    before = ap inst_map_of c.deref-3.ensures.value ∙ (c.in_ok-start.ensures.before ∙ rw c.deref.ensures.value refl);
+  },
+)
+
+pub check_viewed-check_kind-requires : goals.check_viewed-check_kind-requires
+check_viewed-check_kind-requires t c = (search rules, c.requires.view)
+
+pub check_kind-returns-in-Not-clause-reaches : goals.check_kind-returns-in-Not-clause-reaches
+check_kind-returns-in-Not-clause-reaches t c =
+    reaches_along c.check_inside.result (inst_map_of c.check_inside.new.insts.items) _ _
+    (not_is (scope_at c.args.self.now c.args.strict) c.args.goal.now.line c.args.goal.now.kind c.in-Not.inner c.deref-in-Not.result.now (inst_map_of c.args.insts.now.items)
+    c.in-Not.is c.deref-in-Not.ensures)
+    c.check_inside.ensures.reaches
+
+pub check_kind-returns-in-Not-clause-notes : goals.check_kind-returns-in-Not-clause-notes
+check_kind-returns-in-Not-clause-notes t c =
+    notes_along c.check_inside.result (notes_told c.args.notes.now.items) (notes_told c.check_inside.new.notes.items) _ _
+    (not_notes_is (scope_at c.args.self.now c.args.strict) c.args.goal.now.kind c.in-Not.inner c.deref-in-Not.result.now (inst_map_of c.args.insts.now.items)
+    c.in-Not.is c.deref-in-Not.ensures)
+    c.check_inside.ensures.notes
+
+pub check_kind-returns-in-Some-clause-reaches : goals.check_kind-returns-in-Some-clause-reaches
+check_kind-returns-in-Some-clause-reaches t c =
+    reaches_along c.check_inside-in-Some.result (inst_map_of c.check_inside-in-Some.new.insts.items) _ _
+    (some_is (scope_at c.args.self.now c.args.strict) c.args.goal.now.line c.args.goal.now.kind c.as_slice-in-Some.result.now c.in-Some.quantified c.in-Some.inner
+    c.deref-in-Some.result.now (inst_map_of c.args.insts.now.items) c.in-Some.is c.deref-in-Some.ensures c.as_slice-in-Some.ensures)
+    c.check_inside-in-Some.ensures.reaches
+
+pub check_kind-returns-in-Some-clause-notes : goals.check_kind-returns-in-Some-clause-notes
+check_kind-returns-in-Some-clause-notes t c =
+    notes_along c.check_inside-in-Some.result (notes_told c.args.notes.now.items) (notes_told c.check_inside-in-Some.new.notes.items) _ _
+    (some_notes_is (scope_at c.args.self.now c.args.strict) c.args.goal.now.kind c.in-Some.quantified c.in-Some.inner c.deref-in-Some.result.now (inst_map_of c.args.insts.now.items)
+    c.in-Some.is c.deref-in-Some.ensures)
+    c.check_inside-in-Some.ensures.notes
+
+pub check_arm-returns-clause-local : goals.check_arm-returns-clause-local
+check_arm-returns-clause-local t c = c.in_ok-start.ensures.local
+
+pub check_arm-returns-clause-before : goals.check_arm-returns-clause-before
+check_arm-returns-clause-before t c = c.in_ok-start.ensures.before ∙ rw c.deref.ensures.value refl
