@@ -81,7 +81,9 @@ pub fn add_checked<'a>(
         places: &arm.start.local.places,
         before: &arm.start.before,
     };
-    add_arm(alloc, view, own, joined, insts, arm.reach)
+    let more = add_arm(alloc, view, own, joined, insts, arm.reach);
+    drop(arm);
+    more
 }
 
 /// One arm more whose end is reachable.

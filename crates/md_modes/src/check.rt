@@ -39,15 +39,10 @@ fn check_program(alloc: Global, program: &Program, notes: &mut Vec<Note>) -> Res
     ensures checked { Checks result (spec.checked (hlds_of program.now)) }
     ensures notes { OnOk result (notes_told notes.new.items ≡ notes_told notes.old.items ++ program_notes (hlds_of program.now)) }
 {
-    check_whole(alloc, Names::new(alloc, program)?, notes)
-}
-
-/// Checks the program that has these names, and gives them up.
-fn check_whole(alloc: Global, names: Names<'_>, notes: &mut Vec<Note>) -> Result<(), ModeFault>
-    ensures checked { Checks result (spec.checked (hlds_of names.entry)) }
-    ensures notes { OnOk result (notes_told notes.new.items ≡ notes_told notes.old.items ++ program_notes (hlds_of names.entry)) }
-{
-    check_named(alloc, &names, notes)
+    let names = Names::new(alloc, program)?;
+    let end = check_named(alloc, &names, notes);
+    drop(names);
+    end
 }
 
 /// Checks the program that has these names.
@@ -96,7 +91,9 @@ fn check_clause<'a>(
         pred,
         counts: counts_of_clause(alloc, pred)?,
     };
-    check_body(alloc, &clause, notes)
+    let end = check_body(alloc, &clause, notes);
+    drop(clause);
+    end
 }
 
 /// Checks the body of a clause from its inputs on, and then its outputs.
@@ -111,7 +108,9 @@ fn check_body<'a>(
     let pred = clause.pred;
     let mut insts = entry(alloc, pred)?;
     let reach = clause.check(alloc, &mut insts, false, &pred.body, notes)?;
-    check_end(&insts, pred, reach)
+    let end = check_end(&insts, pred, reach);
+    drop(insts);
+    end
 }
 
 /// Checks the outputs at the end of a clause, if that is reachable.

@@ -54,7 +54,9 @@ impl<'a, 'b> Clause<'a, 'b> {
             outside,
             before: &start.before,
         };
-        self.check_viewed(alloc, insts, view, strict, goal, notes)
+        let reach = self.check_viewed(alloc, insts, view, strict, goal, notes);
+        drop(start);
+        reach
     }
 
     /// Checks a goal of whose variables this is known, and notes what is found.
@@ -278,7 +280,9 @@ impl<'a, 'b> Clause<'a, 'b> {
     {
         let reach = self.check(alloc, insts, true, goal, notes)?;
         let after = seen(alloc, &view.outside.local.places, insts)?;
-        if binds_some(view.outside, view.before, &after) {
+        let binds = binds_some(view.outside, view.before, &after);
+        drop(after);
+        if binds {
             return Err(ModeFault::BranchBinds(line));
         }
         Ok(reach)

@@ -146,8 +146,8 @@ check_arms-returns-clause-notes t c h =
     (arms-loop-end (scope_at c.args.self.now c.args.at.strict) c.args.goals.now c.loop-goal.goal-index (inst_map_of c.args.insts.now.items) _ _ (omega arith)
     (c.loop-goal.invariant h).noted)
 
-pub check_condition-returns-then-binds_some-clause-reaches : goals.check_condition-returns-then-binds_some-clause-reaches
-check_condition-returns-then-binds_some-clause-reaches t c vars h among ne =
+pub check_condition-returns-then-binds-clause-reaches : goals.check_condition-returns-then-binds-clause-reaches
+check_condition-returns-then-binds-clause-reaches t c vars h among ne =
     let k = c.args.self.now in
     let view = c.args.view in
     let scope = scope_at k true in
@@ -158,7 +158,7 @@ check_condition-returns-then-binds_some-clause-reaches t c vars h among ne =
     let known = ap inst_map_of c.deref-3.ensures.value ∙ (c.in_ok-after.ensures.known ∙ rw (c.deref.ensures.value, c.deref-2.ensures.value) refl) in
     inside_binds scope c.args.line vars p s a c.in_ok-reach.ensures.reaches
     (binds_by k view vars s r true true h (view_leaves k view vars s scope p a h among c.in_ok-reach.ensures.reaches)
-    (ap (binds_some (occurs view.outside) (inst_map_of view.before.now)) (sym known) ∙ (sym c.binds_some.ensures ∙ c.if-binds_some.true)))
+    (ap (binds_some (occurs view.outside) (inst_map_of view.before.now)) (sym known) ∙ (sym c.binds_some-binds.ensures ∙ c.if-binds.true)))
 
 pub check_condition-returns-clause-reaches : goals.check_condition-returns-clause-reaches
 check_condition-returns-clause-reaches t c vars h among =
@@ -172,7 +172,7 @@ check_condition-returns-clause-reaches t c vars h among =
     let known = ap inst_map_of c.deref-3.ensures.value ∙ (c.in_ok-after.ensures.known ∙ rw (c.deref.ensures.value, c.deref-2.ensures.value) refl) in
     inside_by scope c.args.line vars p s a c.in_ok-reach.ensures.reaches
     (binds_by k view vars s r true false h (view_leaves k view vars s scope p a h among c.in_ok-reach.ensures.reaches)
-    (ap (binds_some (occurs view.outside) (inst_map_of view.before.now)) (sym known) ∙ (sym c.binds_some.ensures ∙ c.if-binds_some.false)))
+    (ap (binds_some (occurs view.outside) (inst_map_of view.before.now)) (sym known) ∙ (sym c.binds_some-binds.ensures ∙ c.if-binds.false)))
 
 pub check_inside-returns-in_err-check_condition-clause-reaches : goals.check_inside-returns-in_err-check_condition-clause-reaches
 check_inside-returns-in_err-check_condition-clause-reaches t c =
@@ -418,8 +418,8 @@ pub check_each-returns-clause-notes : goals.check_each-returns-clause-notes
 check_each-returns-clause-notes t c =
     each-loop-end (scope_at c.args.self.now c.args.strict) c.args.goals.now c.loop-goal.goal-index (inst_map_of c.loop-goal.insts.items) _ _ (omega arith) c.loop-goal.invariant.1
 
-pub check-check_viewed-requires : goals.check-check_viewed-requires
-check-check_viewed-requires t c = (
+pub check-check_viewed-reach-requires : goals.check-check_viewed-reach-requires
+check-check_viewed-reach-requires t c = (
   search rules,
   record {
     local = c.in_ok-start.ensures.local;
