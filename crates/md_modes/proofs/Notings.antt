@@ -121,6 +121,31 @@ opened-more cs more args i a u whole lt is is_more same so_far =
     ∙ (ap (λ (x : HldsType). hlds_types_of cs ++ x ∷ types_of (args_of (drop (suc i) args))) same
     ∙ (ap (λ xs. hlds_types_of cs ++ xs) (sym (args-step args i a lt is)) ∙ so_far))))
 
+modes-step : (args : List (Ty × Mode)) (i : ℕ) (a : Ty × Mode) → i < length args → a ≡ get_or args i a
+    → modes_of (args_of (drop i args)) ≡ a.1 ∷ modes_of (args_of (drop (suc i) args))
+modes-step [] i a lt is = absurd (omega (arith, lt))
+modes-step (b ∷ args) zero a lt is = rw is refl
+modes-step (b ∷ args) (suc i) a lt is = modes-step args i a (omega (arith, lt)) is
+
+pub modes-more : (ms more : List Mode) (args : List (Ty × Mode)) (i : ℕ) (a : Ty × Mode) (whole : List Mode) → i < length args → a ≡ get_or args i a → more ≡ ms ++ a.1 ∷ []
+    → ms ++ modes_of (args_of (drop i args)) ≡ whole → more ++ modes_of (args_of (drop (i + 1) args)) ≡ whole
+modes-more ms more args i a whole lt is is_more so_far =
+    rw (is_more, add-one)
+    (append_assoc ms (a.1 ∷ []) (modes_of (args_of (drop (suc i) args))) ∙ (ap (λ xs. ms ++ xs) (sym (modes-step args i a lt is)) ∙ so_far))
+
+no_args_left : (args : List (Ty × Mode)) (i : ℕ) → length args ≡ i → drop i args ≡ []
+no_args_left [] zero e = refl
+no_args_left [] (suc i) e = refl
+no_args_left (a ∷ args) zero e = absurd (omega (arith, e))
+no_args_left (a ∷ args) (suc i) e = no_args_left args i (omega (arith, e))
+
+pub modes-end : (ms whole : List Mode) (args : List (Ty × Mode)) (i : ℕ) → length args ≡ i → ms ++ modes_of (args_of (drop i args)) ≡ whole → ms ≡ whole
+modes-end ms whole args i e so_far = sym (append-nil ms) ∙ rw (← ap (λ left. modes_of (args_of left)) (no_args_left args i e)) so_far
+
+pub opened-end : (ts : List Ty) (whole : List HldsType) (args : List (Ty × Mode)) (i : ℕ) → length args ≡ i
+    → hlds_types_of ts ++ types_of (args_of (drop i args)) ≡ whole → hlds_types_of ts ≡ whole
+opened-end ts whole args i e so_far = sym (append-nil (hlds_types_of ts)) ∙ rw (← ap (λ left. types_of (args_of left)) (no_args_left args i e)) so_far
+
 -- ---- loops over goals
 
 pub each-loop : (c : Scope) (gs : List Goal) (i : ℕ) (g : Goal) (s : InstMap) (a : After) (old new whole : List Note) → i < length gs → g ≡ get_or gs i g
