@@ -21,7 +21,7 @@ pub enum Class {
 }
 
 /// What is found at one goal.
-#[derive(Debug, Drop)]
+#[derive(Drop)]
 pub struct Note {
     /// Of a unification or a higher-order call.
     pub class: Option<Class>,
