@@ -1,5 +1,5 @@
 -- Judgements of the code: one goal and then others, one arm beside others, and a goal with those within it.
-use Rattle.std.proofs.Common.{◌≡◌, refl, sym, ap, ◌∙◌, subst, ℕ, suc, ◌+◌, ◌<◌, Bool, true, false, ◌&&◌, ◌||◌, List, [], ◌∷◌, ◌++◌, length, length-append, drop, get_or, Option, Some, None, Vec, Box, Result, append_assoc, slice_set}
+use Rattle.std.proofs.Common.{◌≡◌, refl, sym, ap, ◌∙◌, subst, arith, append-nil, ℕ, zero, suc, ◌+◌, ◌<◌, Bool, true, false, ◌&&◌, ◌||◌, List, [], ◌∷◌, ◌++◌, length, length-append, drop, get_or, Option, Some, None, Vec, Box, Result, append_assoc, slice_set}
 use Rattle.std.specs.Prelude.{IfOk}
 use Rattle.std.specs.declared.alloc.Global.{Global}
 use Rattle.md_hlds.specs.declared.goal.Goal.{Goal}
@@ -15,7 +15,7 @@ use Rattle.md_det.specs.declared.pair.Bound.TheVariants.{Zero, One, Many}
 use Rattle.md_det.specs.declared.pair.Pair.{Pair}
 use Rattle.md_det.specs.Bounds.{product, sum, greatest, is_many}
 use Rattle.md_det.specs.Pairs.{in_turn, one_of_two}
-use Rattle.md_det.specs.Judge.{Reading, Judgement, judgement, Found, found, whole, or_else, beside, and_then, or_arm, condition_fault, judge_part, judge_expr, judge_each, judge_arms, onto}
+use Rattle.md_det.specs.Judge.{no_arm, Reading, Judgement, judgement, Found, found, whole, or_else, beside, and_then, or_arm, condition_fault, judge_part, judge_expr, judge_each, judge_arms, onto}
 use Rattle.md_det.specs.Told.{found_told, found_onto}
 use Rattle.md_switch.proofs.KeyLemmas.{parts-step}
 
@@ -114,6 +114,57 @@ arms_next r at again gs i g p f olds q h news lt is told =
     ∙ (ap (λ n. or_arm at (or_arm at (judgement p f olds) j) (judge_arms r n at again rest)) count
     ∙ rw (pairs, faults, finds) refl))
 
+-- ---- no goal is left, and no arm
+
+none_left : (gs : List Goal) (i : ℕ) → length gs ≡ i → drop i gs ≡ []
+none_left [] zero e = refl
+none_left [] (suc i) e = refl
+none_left (g ∷ gs) zero e = absurd (omega (arith, e))
+none_left (g ∷ gs) (suc i) e = none_left gs i (omega (arith, e))
+
+product-one : (b : Bound) → product b One ≡ b
+product-one Zero = refl
+product-one One = refl
+product-one Many = refl
+
+sum-zero : (b : Bound) → sum b Zero ≡ b
+sum-zero Zero = refl
+sum-zero One = refl
+sum-zero Many = refl
+
+greatest-zero : (b : Bound) → greatest b Zero ≡ b
+greatest-zero Zero = refl
+greatest-zero One = refl
+greatest-zero Many = refl
+
+or-nothing : (b : Bool) → (b || false) ≡ b
+or-nothing true = refl
+or-nothing false = refl
+
+and-nothing : (b : Bool) → (b && true) ≡ b
+and-nothing true = refl
+and-nothing false = refl
+
+or_else-none : (f : Option DetFault) → or_else f None ≡ f
+or_else-none None = refl
+or_else-none (Some f) = refl
+
+beside-no_arm : (at : Option ℕ) (p : Pair) → beside at p (no_arm at) ≡ p
+beside-no_arm None p = rw (and-nothing p.may_fail, sum-zero p.bound) refl
+beside-no_arm (Some x) p = rw (or-nothing p.may_fail, greatest-zero p.bound) refl
+
+pub each_end : (r : Reading) (n : ℕ) (at : Option ℕ) (again : Bool) (gs : List Goal) (i : ℕ) (p : Pair) (f : Option DetFault) (olds : List Finding) (j : Judgement) → length gs ≡ i
+    → j ≡ and_then (judgement p f olds) (judge_each r n at again (gathered (goals_of (drop i gs)))) → judgement p f olds ≡ j
+each_end r n at again gs i p f olds j e told =
+    sym (told ∙ (ap (λ hs. and_then (judgement p f olds) (judge_each r n at again (gathered (goals_of hs)))) (none_left gs i e)
+    ∙ rw (or-nothing p.may_fail, product-one p.bound, or_else-none f, append-nil olds) refl))
+
+pub arms_end : (r : Reading) (n : ℕ) (at : Option ℕ) (again : Bool) (gs : List Goal) (i : ℕ) (p : Pair) (f : Option DetFault) (olds : List Finding) (j : Judgement) → length gs ≡ i
+    → j ≡ or_arm at (judgement p f olds) (judge_arms r n at again (gathered (goals_of (drop i gs)))) → judgement p f olds ≡ j
+arms_end r n at again gs i p f olds j e told =
+    sym (told ∙ (ap (λ hs. or_arm at (judgement p f olds) (judge_arms r n at again (gathered (goals_of hs)))) (none_left gs i e)
+    ∙ rw (beside-no_arm at p, or_else-none f, append-nil olds) refl))
+
 -- ---- a goal with those within it
 
 -- a place at the end is filled later
@@ -192,3 +243,9 @@ choice_found r n at again l k cb tb eb c t e olds first second news p q s f g h 
 
     all_same : (a b : Pair) (c d : Option DetFault) (x y : List Finding) → a ≡ b → c ≡ d → x ≡ y → found None a c x ≡ found None b d y
     all_same a b c d x y e f g = rw (e, f, g) refl
+
+-- a goal's own place is still there after those within it were added
+pub still_within : (olds with_own news : List Finding) (x : Finding) (w : Option Switch) (p : Pair) (f : Option DetFault) (t : Found) (i : ℕ)
+    → with_own ≡ olds ++ x ∷ [] → found w p f news ≡ found_onto with_own t → i ≡ length olds → i < length news
+still_within olds with_own news x w p f t i is told at =
+    omega (arith, ap (λ (y : Found). length y.below) told ∙ length-append with_own t.below, ap length is ∙ length-append olds (x ∷ []), at)

@@ -6,3 +6,4 @@ pub mod KeyLemmas
 pub mod Judging
 pub mod Whole
 mod Reach
+pub mod Errors

@@ -1,7 +1,8 @@
 // The judgement of a goal: how often it may succeed, its first fault, and what is found at it and at the goals within it.
 ghost use Rattle.std.specs.Prelude.{◌≡◌, ◌<◌, ◌+◌, ◌^◌, suc, ◌||◌, is_none, length, None, IfOk};
 ghost use Rattle.md_hlds.specs.HldsGoal.{ConjGoal, DisjGoal, IfGoal, goal_of, goals_of, gathered, expr_of};
-ghost use Rattle.md_det.specs.Judge.{judge_part, judge_expr, judge_each, judge_arms, onto};
+ghost use Rattle.md_det.specs.Judge.{or_else, judge_part, judge_expr, judge_each, judge_arms, onto};
+ghost use Rattle.md_det.specs.Pairs.{one_of_two};
 ghost use Rattle.md_det.specs.Told.{reading_in, judged_told, found_told, found_onto};
 
 use crate::atomic::{atomic_pair, condition_fault, io_fault};
@@ -104,18 +105,17 @@ fn judge_kind(
             let fault = condition_fault(context, goal.line, number + 1, tested.pair);
             let first = judge(context, then, None, again, findings)?;
             let second = judge(context, otherwise, None, again, findings)?;
-            let fault = fault.or(tested.fault.or(first.fault.or(second.fault)));
-            Ok(Found::plain(first.pair.or(second.pair), fault))
+            Ok(chosen(fault, tested, first, second))
         }
         GoalKind::Not(inner) => {
             let judged = judge(context, inner, None, again, findings)?;
-            let fault = io_fault(context, number, again, goal.line).or(judged.fault);
-            Ok(Found::plain(Pair::UNSURE, fault))
+            let fault = io_fault(context, number, again, goal.line);
+            Ok(around(Pair::UNSURE, fault, judged.fault))
         }
         GoalKind::Some(_, inner) => {
             let judged = judge(context, inner, None, again, findings)?;
-            let fault = io_fault(context, number, again, goal.line).or(judged.fault);
-            Ok(Found::plain(judged.pair.cut(), fault))
+            let fault = io_fault(context, number, again, goal.line);
+            Ok(around(judged.pair.cut(), fault, judged.fault))
         }
         _ => {
             let pair = atomic_pair(context.moded, &goal.kind, number, at);
@@ -123,6 +123,21 @@ fn judge_kind(
             Ok(Found::plain(pair, fault))
         }
     }
+}
+
+/// Of an if-then-else with this fault of its own, from its parts.
+fn chosen(own: Option<DetFault>, tested: Judged, first: Judged, second: Judged) -> Found
+    ensures { result ≡ record { switch = None; pair = one_of_two first.pair second.pair; fault = or_else own (or_else tested.fault (or_else first.fault second.fault)) } }
+{
+    let fault = own.or(tested.fault.or(first.fault.or(second.fault)));
+    Found::plain(first.pair.or(second.pair), fault)
+}
+
+/// Of a goal around another, with a fault of its own and one of the other.
+fn around(pair: Pair, own: Option<DetFault>, inner: Option<DetFault>) -> Found
+    ensures { result ≡ record { switch = None; pair = pair; fault = or_else own inner } }
+{
+    Found::plain(pair, own.or(inner))
 }
 
 /// Judges goals in turn.

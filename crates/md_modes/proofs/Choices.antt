@@ -2,7 +2,7 @@
 use Rattle.std.proofs.Common.{◌≡◌, refl, sym, ap, ◌∙◌, subst, ℕ, Bool, true, false, not, List, [], ◌∷◌, ◌++◌, Vec, Box, Result, Ok, Err}
 use Rattle.std.specs.declared.alloc.Global.{Global}
 use Rattle.md_hlds.specs.declared.goal.Goal.{Goal}
-use Rattle.md_hlds.specs.declared.goal.GoalKind.{GoalKind, Conj, Disj, If, Not}
+use Rattle.md_hlds.specs.declared.goal.GoalKind.{GoalKind, Conj, Disj, If, Not, Some}
 use Rattle.md_hlds.specs.HldsGoal.{HldsGoal, DisjGoal, IfGoal, SomeGoal, gathered, goal_of, goals_of, expr_of}
 use Rattle.md_hlds.proofs.Bridge.{expr_of-Conj, expr_of-Disj}
 use Rattle.md_inst.specs.declared.fault.ModeFault.{ModeFault}
@@ -25,6 +25,10 @@ disj_is c l k v s is = ap (λ j. expr c l (expr_of j) s) is ∙ ap (λ t. expr c
 
 pub not_is : (c : Scope) (l : ℕ) (k : GoalKind) (b : Box Goal Global) (g : Goal) (s : InstMap) → k ≡ Not b → g ≡ b.value → expr c l (expr_of k) s ≡ expr c l (SomeGoal [] (goal_of g)) s
 not_is c l k b g s is gs = ap (λ j. expr c l (expr_of j) s) is ∙ rw gs refl
+
+pub some_is : (c : Scope) (l : ℕ) (k : GoalKind) (us vs : List ℕ) (b : Box Goal Global) (g : Goal) (s : InstMap) → k ≡ Some vs b → g ≡ b.value → us ≡ vs
+    → expr c l (expr_of k) s ≡ expr c l (SomeGoal us (goal_of g)) s
+some_is c l k us vs b g s is gs same = ap (λ j. expr c l (expr_of j) s) is ∙ rw (gs, same) refl
 
 pub choose_is : (c : Scope) (l : ℕ) (k : GoalKind) (p t e : Box Goal Global) (g h j : Goal) (s : InstMap) → k ≡ If p t e → g ≡ p.value → h ≡ t.value → j ≡ e.value
     → expr c l (expr_of k) s ≡ expr c l (IfGoal (goal_of g) (goal_of h) (goal_of j)) s
@@ -93,13 +97,14 @@ pub then_fault : (c : Scope) (l : ℕ) (p t e : HldsGoal) (s : InstMap) (a : Aft
     → goal c t a.known ≡ Err x → expr c l (IfGoal p t e) s ≡ Err x
 then_fault c l p t e s a x f h = choose_inside c l p t e s ∙ rw (f, h) refl
 
-pub else_fault : (c : Scope) (l : ℕ) (p t e : HldsGoal) (s : InstMap) (a b : After) (x : ModeFault) → inside (within c) l (three_variables p t e) p s ≡ Ok a
-    → goal c t a.known ≡ Ok b → goal c e s ≡ Err x → expr c l (IfGoal p t e) s ≡ Err x
-else_fault c l p t e s a b x f h i = choose_inside c l p t e s ∙ rw (f, h, i) refl
+-- the end of an if-then-else, and a fault of its second arm, by what is known before that arm
+pub choose_last : (c : Scope) (l : ℕ) (p t e : HldsGoal) (s n : InstMap) (a b d : After) → inside (within c) l (three_variables p t e) p s ≡ Ok a
+    → goal c t a.known ≡ Ok b → n ≡ s → goal c e n ≡ Ok d → expr c l (IfGoal p t e) s ≡ joined l (outside c.all (three_variables p t e)) n (b ∷ d ∷ [])
+choose_last c l p t e s n a b d f h back i = choose_inside c l p t e s ∙ rw (f, h, ← back, i) refl
 
-pub choose_joined : (c : Scope) (l : ℕ) (p t e : HldsGoal) (s : InstMap) (a b d : After) → inside (within c) l (three_variables p t e) p s ≡ Ok a
-    → goal c t a.known ≡ Ok b → goal c e s ≡ Ok d → expr c l (IfGoal p t e) s ≡ joined l (outside c.all (three_variables p t e)) s (b ∷ d ∷ [])
-choose_joined c l p t e s a b d f h i = choose_inside c l p t e s ∙ rw (f, h, i) refl
+pub choose_fault : (c : Scope) (l : ℕ) (p t e : HldsGoal) (s n : InstMap) (a b : After) (x : ModeFault) → inside (within c) l (three_variables p t e) p s ≡ Ok a
+    → goal c t a.known ≡ Ok b → n ≡ s → goal c e n ≡ Err x → expr c l (IfGoal p t e) s ≡ Err x
+choose_fault c l p t e s n a b x f h back i = choose_inside c l p t e s ∙ rw (f, h, ← back, i) refl
 
 -- ---- a goal that is negated or quantified
 

@@ -20,3 +20,4 @@ pub mod Sharing
 pub mod Insides
 pub mod RoleLemmas
 pub mod Rules
+pub mod ClauseLoops

@@ -1,8 +1,9 @@
 -- Notes of goals, one after the other.
-use Rattle.std.proofs.Common.{◌≡◌, refl, sym, ap, ◌∙◌, subst, arith, append-nil, append_assoc, length-append, add-one, ℕ, zero, suc, ◌+◌, ◌<◌, List, [], ◌∷◌, ◌++◌, length, drop, get_or, slice_set, Vec, Box, Bool, Some, Result, Ok, Err, IfOk, Bor}
+use Rattle.std.proofs.Common.{◌≡◌, refl, slice_get, sym, ap, ◌∙◌, subst, arith, append-nil, append_assoc, length-append, add-one, ℕ, zero, suc, ◌+◌, ◌<◌, List, [], ◌∷◌, ◌++◌, length, drop, get_or, slice_set, Vec, Box, Bool, Some, Result, Ok, Err, IfOk, Bor}
 use Rattle.std.specs.declared.alloc.Global.{Global}
 use Rattle.md_hlds.specs.declared.goal.Goal.{Goal}
-use Rattle.md_hlds.specs.declared.goal.GoalKind.{GoalKind, Conj, Disj, If}
+use Rattle.md_hlds.specs.declared.goal.GoalKind.{GoalKind, Conj, Disj, If, Not}
+use Rattle.md_hlds.specs.declared.goal.GoalKind.TheVariants as kinds
 use Rattle.md_hlds.specs.declared.types.Det.{Det}
 use Rattle.md_hlds.specs.declared.types.HoTy.{HoTy}
 use Rattle.md_hlds.specs.declared.types.Mode.{Mode}
@@ -42,6 +43,14 @@ pub choice_notes_is : (c : Scope) (k : GoalKind) (p t e : Box Goal Global) (g h 
     → inner_notes c (expr_of k) s
     ≡ notes (within c) (goal_of g) s ++ (notes c (goal_of h) (known_after s (goal (within c) (goal_of g) s)) ++ notes c (goal_of j) s)
 choice_notes_is c k p t e g h j s is gs hs js = ap (λ i. inner_notes c (expr_of i) s) is ∙ rw (gs, hs, js) refl
+
+-- the notes within a goal that is negated or quantified
+pub not_notes_is : (c : Scope) (k : GoalKind) (b : Box Goal Global) (g : Goal) (s : InstMap) → k ≡ Not b → g ≡ b.value → inner_notes c (expr_of k) s ≡ notes (within c) (goal_of g) s
+not_notes_is c k b g s is gs = ap (λ i. inner_notes c (expr_of i) s) is ∙ rw gs refl
+
+pub some_notes_is : (c : Scope) (k : GoalKind) (vs : List ℕ) (b : Box Goal Global) (g : Goal) (s : InstMap) → k ≡ kinds.Some vs b → g ≡ b.value
+    → inner_notes c (expr_of k) s ≡ notes (within c) (goal_of g) s
+some_notes_is c k vs b g s is gs = ap (λ i. inner_notes c (expr_of i) s) is ∙ rw gs refl
 
 pub always : {A : Type 0} (r : Result Bool ModeFault) → A → IfOk r (λ reach. A)
 always (Ok reach) a = a
@@ -112,6 +121,31 @@ opened-more cs more args i a u whole lt is is_more same so_far =
     ∙ (ap (λ (x : HldsType). hlds_types_of cs ++ x ∷ types_of (args_of (drop (suc i) args))) same
     ∙ (ap (λ xs. hlds_types_of cs ++ xs) (sym (args-step args i a lt is)) ∙ so_far))))
 
+modes-step : (args : List (Ty × Mode)) (i : ℕ) (a : Ty × Mode) → i < length args → a ≡ get_or args i a
+    → modes_of (args_of (drop i args)) ≡ a.1 ∷ modes_of (args_of (drop (suc i) args))
+modes-step [] i a lt is = absurd (omega (arith, lt))
+modes-step (b ∷ args) zero a lt is = rw is refl
+modes-step (b ∷ args) (suc i) a lt is = modes-step args i a (omega (arith, lt)) is
+
+pub modes-more : (ms more : List Mode) (args : List (Ty × Mode)) (i : ℕ) (a : Ty × Mode) (whole : List Mode) → i < length args → a ≡ get_or args i a → more ≡ ms ++ a.1 ∷ []
+    → ms ++ modes_of (args_of (drop i args)) ≡ whole → more ++ modes_of (args_of (drop (i + 1) args)) ≡ whole
+modes-more ms more args i a whole lt is is_more so_far =
+    rw (is_more, add-one)
+    (append_assoc ms (a.1 ∷ []) (modes_of (args_of (drop (suc i) args))) ∙ (ap (λ xs. ms ++ xs) (sym (modes-step args i a lt is)) ∙ so_far))
+
+no_args_left : (args : List (Ty × Mode)) (i : ℕ) → length args ≡ i → drop i args ≡ []
+no_args_left [] zero e = refl
+no_args_left [] (suc i) e = refl
+no_args_left (a ∷ args) zero e = absurd (omega (arith, e))
+no_args_left (a ∷ args) (suc i) e = no_args_left args i (omega (arith, e))
+
+pub modes-end : (ms whole : List Mode) (args : List (Ty × Mode)) (i : ℕ) → length args ≡ i → ms ++ modes_of (args_of (drop i args)) ≡ whole → ms ≡ whole
+modes-end ms whole args i e so_far = sym (append-nil ms) ∙ rw (← ap (λ left. modes_of (args_of left)) (no_args_left args i e)) so_far
+
+pub opened-end : (ts : List Ty) (whole : List HldsType) (args : List (Ty × Mode)) (i : ℕ) → length args ≡ i
+    → hlds_types_of ts ++ types_of (args_of (drop i args)) ≡ whole → hlds_types_of ts ≡ whole
+opened-end ts whole args i e so_far = sym (append-nil (hlds_types_of ts)) ∙ rw (← ap (λ left. types_of (args_of left)) (no_args_left args i e)) so_far
+
 -- ---- loops over goals
 
 pub each-loop : (c : Scope) (gs : List Goal) (i : ℕ) (g : Goal) (s : InstMap) (a : After) (old new whole : List Note) → i < length gs → g ≡ get_or gs i g
@@ -153,6 +187,13 @@ choice_notes c d p t e s a old first second third is f g h =
     ∙ (append_assoc (old ++ notes d p s) (notes c t a.known) (notes c e s) ∙ (append_assoc old (notes d p s) (notes c t a.known ++ notes c e s)
     ∙ ap (λ k. old ++ (notes d p s ++ (notes c t k ++ notes c e s))) (sym known)))))
 
+-- the same where the other arm may be at fault
+pub choice_noted : (c d : Scope) (p t e : HldsGoal) (s n : InstMap) (a : After) (r : Result Bool ModeFault) (old first second third : List Note)
+    → goal d p s ≡ Ok a → first ≡ old ++ notes d p s → second ≡ first ++ notes c t a.known → n ≡ s → IfOk r (λ reach. third ≡ second ++ notes c e n)
+    → IfOk r (λ reach. third ≡ old ++ (notes d p s ++ (notes c t (known_after s (goal d p s)) ++ notes c e s)))
+choice_noted c d p t e s n a (Ok reach) old first second third is f g back h = choice_notes c d p t e s a old first second third is f g (rw (← back) h)
+choice_noted c d p t e s n a (Err x) old first second third is f g back h = tt
+
 -- ---- a goal's own note before those within it
 
 notes_told-set : (ns : List code.Note) (i : ℕ) (n : code.Note) → notes_told (slice_set ns i n) ≡ slice_set (notes_told ns) i (note_told n)
@@ -182,3 +223,23 @@ goal_notes old begun more final i n own m inner e at h f is =
     let told : notes_told begun ≡ notes_told old ++ note_told n ∷ [] = ap notes_told e ∙ notes_told-append old (n ∷ []) in
     let place : i ≡ length (notes_told old) = at ∙ sym (length-notes_told old) in
     ap notes_told f ∙ (notes_told-set more i own ∙ rw (h, told, place, is) (set-middle (notes_told old) (note_told n) m inner))
+
+get-middle : (xs : List Note) (x : Note) (ys : List Note) → slice_get ((xs ++ x ∷ []) ++ ys) (length xs) ≡ Some x
+get-middle [] x ys = refl
+get-middle (z ∷ xs) x ys = get-middle xs x ys
+
+told_at : (ns : List code.Note) (i : ℕ) (m : code.Note) → i < length ns → m ≡ get_or ns i m → slice_get (notes_told ns) i ≡ Some (note_told m)
+told_at [] i m lt is = absurd (omega (arith, lt))
+told_at (n ∷ ns) zero m lt is = rw (← is) refl
+told_at (n ∷ ns) (suc i) m lt is = told_at ns i m (omega (arith, lt)) is
+
+some_same : {A : Type 0} (x y : A) → Some x ≡ Some y → x ≡ y
+some_same x y e = cc
+
+-- a note is what it was before those within were added
+pub kept_note : (old begun more : List code.Note) (i : ℕ) (n m : code.Note) (inner : List Note) → begun ≡ old ++ n ∷ [] → i ≡ length old
+    → notes_told more ≡ notes_told begun ++ inner → i < length more → m ≡ get_or more i m → note_told m ≡ note_told n
+kept_note old begun more i n m inner e at h lt is =
+    let told : notes_told begun ≡ notes_told old ++ note_told n ∷ [] = ap notes_told e ∙ notes_told-append old (n ∷ []) in
+    let place : i ≡ length (notes_told old) = at ∙ sym (length-notes_told old) in
+    some_same (note_told m) (note_told n) (sym (told_at more i m lt is) ∙ rw (h, told, place) (get-middle (notes_told old) (note_told n) inner))

@@ -10,6 +10,7 @@ ghost use Rattle.md_modes.specs.Joins.{IsJoin, Ends, IsArm, IsEnd, ReachesExactl
 use crate::end::End;
 use crate::joined::Joined;
 use crate::nonlocals::View;
+use crate::start::Start;
 use crate::view::{put_all, seen};
 use md_base::NoMemory;
 use md_inst::{Inst, ModeFault};
@@ -20,6 +21,14 @@ use std::alloc::Global;
 pub struct Own<'a, 'b> {
     pub places: &'b [u32],
     pub before: &'b [Inst<'a>],
+}
+
+/// An arm of a branch that was checked: its variables with what was known of them before it, and whether the place after it
+/// is reachable.
+#[derive(Drop)]
+pub struct Arm<'a> {
+    pub start: Start<'a>,
+    pub reach: bool,
 }
 
 /// One arm more, and what the arms so far whose ends are reachable have in common. Afterwards what is known of the arm's
@@ -51,6 +60,30 @@ pub fn add_arm<'a>(
     let more = one_more(alloc, end, joined)?;
     put_all(insts, own.places, own.before);
     Ok(Some(more))
+}
+
+/// The same of an arm that was checked and is done with.
+pub fn add_checked<'a>(
+    alloc: Global,
+    view: View<'a, '_>,
+    arm: Arm<'a>,
+    joined: Option<Joined<'a>>,
+    insts: &mut Vec<Inst<'a>>,
+) -> Result<Option<Joined<'a>>, NoMemory>
+    ensures insts { OnOk result (inst_map_of insts.new.items
+        ≡ views.put_all arm.entry.start.local.places.items (inst_map_of arm.entry.start.before.items) (inst_map_of insts.old.items)) }
+    ensures ends { IfOk result (λ more. (s : InstMap) → (ends : List After) → IsArm view.entry arm.entry.start.local.places.items s (inst_map_of insts.old.items)
+        → Ends (occurs view.entry.outside) (inst_map_of view.entry.before.now) joined.entry ends
+        → Ends (occurs view.entry.outside) (inst_map_of view.entry.before.now) more
+        (ends ++ after (views.seen view.entry.outside.local.now.places.items (inst_map_of insts.old.items)) arm.entry.reach ∷ [])) }
+{
+    let own = Own {
+        places: &arm.start.local.places,
+        before: &arm.start.before,
+    };
+    let more = add_arm(alloc, view, own, joined, insts, arm.reach);
+    drop(arm);
+    more
 }
 
 /// One arm more whose end is reachable.

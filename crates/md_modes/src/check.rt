@@ -2,6 +2,8 @@
 ghost use Rattle.std.specs.Prelude.{◌≡◌, ◌≢◌, None, Some, ◌++◌, IfOk, OnOk, MatchResult};
 ghost use Rattle.md_hlds.specs.Hlds.{hlds_of, procedure_of, procedures_of};
 ghost use Rattle.md_inst.specs.declared.fault.ModeFault.TheVariants as faults;
+ghost use Rattle.md_inst.specs.Kinds.{inst_map_of, Finds};
+ghost use Rattle.md_modes.specs.Branches.{after};
 ghost use Rattle.md_modes.specs.Modes as spec;
 ghost use Rattle.md_modes.specs.Modes.{mode_fault};
 ghost use Rattle.md_modes.specs.Notes.{program_notes, notes_from, clause_notes};
@@ -16,7 +18,7 @@ use crate::main_predicate::has_main;
 use crate::moded::Moded;
 use crate::tally::counts_of_clause;
 use md_hlds::{Pred, Program};
-use md_inst::ModeFault;
+use md_inst::{Inst, ModeFault};
 use md_names::Names;
 use std::alloc::Global;
 
@@ -38,7 +40,9 @@ fn check_program(alloc: Global, program: &Program, notes: &mut Vec<Note>) -> Res
     ensures notes { OnOk result (notes_told notes.new.items ≡ notes_told notes.old.items ++ program_notes (hlds_of program.now)) }
 {
     let names = Names::new(alloc, program)?;
-    check_named(alloc, &names, notes)
+    let end = check_named(alloc, &names, notes);
+    drop(names);
+    end
 }
 
 /// Checks the program that has these names.
@@ -87,13 +91,37 @@ fn check_clause<'a>(
         pred,
         counts: counts_of_clause(alloc, pred)?,
     };
+    let end = check_body(alloc, &clause, notes);
+    drop(clause);
+    end
+}
+
+/// Checks the body of a clause from its inputs on, and then its outputs.
+fn check_body<'a>(
+    alloc: Global,
+    clause: &Clause<'a, '_>,
+    notes: &mut Vec<Note>,
+) -> Result<(), ModeFault>
+    ensures checked { Checks result (spec.clause (hlds_of clause.now.names.now) (procedure_of clause.now.pred.now)) }
+    ensures notes { OnOk result (notes_told notes.new.items ≡ notes_told notes.old.items ++ clause_notes (hlds_of clause.now.names.now) (procedure_of clause.now.pred.now)) }
+{
+    let pred = clause.pred;
     let mut insts = entry(alloc, pred)?;
     let reach = clause.check(alloc, &mut insts, false, &pred.body, notes)?;
+    let end = check_end(&insts, pred, reach);
+    drop(insts);
+    end
+}
+
+/// Checks the outputs at the end of a clause, if that is reachable.
+fn check_end(insts: &[Inst<'_>], pred: &Pred, reach: bool) -> Result<(), ModeFault>
+    ensures { Finds result (spec.end (procedure_of pred.now) (after (inst_map_of insts.now) reach)) }
+{
     if !reach {
         return Ok(());
     }
     check_exits(
-        &insts,
+        insts,
         pred.clause_line,
         pred.args.as_slice(),
         pred.head.as_slice(),

@@ -2,7 +2,6 @@
 
 use md_hlds::HoTy;
 use md_names::Named;
-use std::alloc::Global;
 
 /// What a unification does, or the type of the closure that a higher-order call calls.
 #[derive(Debug, Drop)]
@@ -22,7 +21,7 @@ pub enum Class {
 }
 
 /// What is found at one goal.
-#[derive(Debug, Drop)]
+#[derive(Drop)]
 pub struct Note {
     /// Of a unification or a higher-order call.
     pub class: Option<Class>,
@@ -38,18 +37,4 @@ pub struct Note {
     /// Whether an io state is a variable of the goal, before or after it; a conjunction, disjunction or if-then-else names
     /// none itself.
     pub names_io: bool,
-}
-
-impl Note {
-    /// A note that says nothing.
-    pub fn blank(alloc: Global) -> Note {
-        Note {
-            class: None,
-            named: Named::Nothing,
-            size: 0,
-            binds: Vec::new(alloc),
-            binds_outside: false,
-            names_io: false,
-        }
-    }
 }

@@ -1,21 +1,29 @@
 // The goals of a clause.
-ghost use Rattle.std.specs.Prelude.{◌≡◌, ◌++◌, ◌&&◌, ℕ, List, true, IfOk};
+ghost use Rattle.std.specs.Prelude.{◌≡◌, ◌≢◌, ◌++◌, ◌&&◌, ℕ, List, [], ◌∷◌, true, Ok, Err, IfOk, MatchResult};
 ghost use Rattle.md_hlds.specs.HldsGoal.{DisjGoal, SomeGoal, goal_of, goals_of, expr_of, gathered};
 ghost use Rattle.md_modes.specs.Goals.{parts_variables};
 ghost use Rattle.md_modes.specs.Goals as spec;
 ghost use Rattle.md_modes.specs.Notes as noted;
 ghost use Rattle.md_modes.specs.Classes.{notes_told};
-ghost use Rattle.md_modes.specs.Joins.{Reaches};
+ghost use Rattle.md_modes.specs.Joins.{Reaches, Ends, occurs};
 ghost use Rattle.md_modes.specs.Inside.{IsViewOf, AreAmong, inside};
 ghost use Rattle.md_modes.specs.Clauses.{scope_at};
 ghost use Rattle.md_inst.specs.Kinds.{inst_map_of};
+ghost use Rattle.md_inst.specs.declared.fault.ModeFault.TheVariants as faults;
+ghost use Rattle.md_inst.specs.Verdict.{Verdict};
+ghost use Rattle.md_inst.specs.declared.fault.ModeFault.{ModeFault};
+ghost use Rattle.md_modes.specs.Branches.{After, after};
+ghost use Rattle.md_modes.specs.Branches as branches;
+ghost use Rattle.md_modes.specs.Tally.{IsLocal};
+ghost use Rattle.md_modes.specs.Views.{seen, seen_ends, AllLeave};
 
-use crate::arms::{Own, add_arm, end_arms};
+use crate::arms::{Arm, Own, add_arm, add_checked, end_arms};
 use crate::class::Note;
 use crate::clause::Clause;
-use crate::finding::{Change, class_of};
-use crate::local::Local;
+use crate::joined::Joined;
 use crate::nonlocals::{Nonlocals, View, binds_some};
+use crate::noting::{begin_note, end_note};
+use crate::start::Start;
 use crate::view::{put_all, seen};
 use md_hlds::{Goal, GoalKind};
 use md_inst::{Inst, ModeFault, Spot, atomic};
@@ -37,41 +45,54 @@ impl<'a, 'b> Clause<'a, 'b> {
         ensures notes { IfOk result (λ reach. notes_told notes.new.items
             ≡ notes_told notes.old.items ++ noted.notes (scope_at self.now strict) (goal_of goal.now) (inst_map_of insts.old.items)) }
     {
-        let local = Local::new(alloc, &goal.kind)?;
-        let class = class_of(alloc, self.names, &goal.kind, insts)?;
-        let before = seen(alloc, &local.places, insts)?;
-        let number = notes.len();
-        notes.push(Note::blank(alloc))?;
+        let start = Start::new(alloc, &goal.kind, insts)?;
         let outside = Nonlocals {
             all: &self.counts,
-            local: &local,
+            local: &start.local,
         };
         let view = View {
             outside,
-            before: &before,
+            before: &start.before,
         };
+        let reach = self.check_viewed(alloc, insts, view, strict, goal, notes);
+        drop(start);
+        reach
+    }
+
+    /// Checks a goal of whose variables this is known, and notes what is found.
+    #[cycle(goals)]
+    fn check_viewed(
+        &self,
+        alloc: Global,
+        insts: &mut Vec<Inst<'a>>,
+        view: View<'a, '_>,
+        strict: bool,
+        goal: &Goal,
+        notes: &mut Vec<Note>,
+    ) -> Result<bool, ModeFault>
+        requires view { IsViewOf self.now view (spec.expr_variables (expr_of goal.now.kind)) (inst_map_of insts.now.items) }
+        ensures reaches { Reaches result (inst_map_of insts.new.items) (spec.goal (scope_at self.now strict) (goal_of goal.now) (inst_map_of insts.old.items)) }
+        ensures notes { IfOk result (λ reach. notes_told notes.new.items
+            ≡ notes_told notes.old.items ++ noted.notes (scope_at self.now strict) (goal_of goal.now) (inst_map_of insts.old.items)) }
+    {
+        let number = notes.len();
+        let note = begin_note(alloc, self.names, &goal.kind, insts)?;
+        notes.push(note)?;
         let reach = self.check_kind(alloc, insts, view, strict, goal, notes)?;
-        let after = seen(alloc, &local.places, insts)?;
-        let change = Change {
-            places: &local.places,
-            before: &before,
-            after: &after,
-        };
-        let binds = change.binds(alloc, reach)?;
-        let binds_outside = outside.has_some(&binds);
         let size = notes.len() - number;
-        notes[number] = Note {
-            class,
-            named: self.names.in_goal(&goal.kind),
+        end_note(
+            alloc,
+            view,
+            &goal.kind,
+            insts,
+            reach,
             size,
-            binds,
-            binds_outside,
-            names_io: change.names_io(&goal.kind),
-        };
+            &mut notes[number],
+        )?;
         Ok(reach)
     }
 
-    /// Checks a goal of whose variables this is known.
+    /// Checks what a goal consists of, where this is known of its variables.
     #[cycle(goals)]
     fn check_kind(
         &self,
@@ -104,9 +125,7 @@ impl<'a, 'b> Clause<'a, 'b> {
                     before: view.before,
                 };
                 let joined = add_arm(alloc, view, own, None, insts, reach)?;
-                let reach = self.check(alloc, insts, strict, otherwise, notes)?;
-                let joined = add_arm(alloc, view, own, joined, insts, reach)?;
-                end_arms(view, joined, insts, goal.line)
+                self.check_last_arm(alloc, insts, view, at, otherwise, joined, notes)
             }
             GoalKind::Not(inner) => self.check_inside(alloc, insts, view, at, &[], inner, notes),
             GoalKind::Some(quantified, inner) => {
@@ -157,15 +176,63 @@ impl<'a, 'b> Clause<'a, 'b> {
     {
         let mut joined = None;
         for goal in goals {
-            let local = Local::new(alloc, &goal.kind)?;
-            let before = seen(alloc, &local.places, insts)?;
-            let reach = self.check(alloc, insts, at.strict, goal, notes)?;
-            let own = Own {
-                places: &local.places,
-                before: &before,
-            };
-            joined = add_arm(alloc, view, own, joined, insts, reach)?;
+            let arm = self.check_arm(alloc, insts, at.strict, goal, notes)?;
+            joined = add_checked(alloc, view, arm, joined, insts)?;
         }
+        end_arms(view, joined, insts, at.line)
+    }
+
+    /// Checks an arm of a disjunction, and gives what was known of its variables before it.
+    #[cycle(goals)]
+    fn check_arm(
+        &self,
+        alloc: Global,
+        insts: &mut Vec<Inst<'a>>,
+        strict: bool,
+        goal: &Goal,
+        notes: &mut Vec<Note>,
+    ) -> Result<Arm<'a>, ModeFault>
+        ensures local { IfOk result (λ arm. IsLocal arm.start.local.places.items arm.start.local.counts.items (spec.variables (goal_of goal.now))) }
+        ensures before { IfOk result (λ arm. inst_map_of arm.start.before.items ≡ seen arm.start.local.places.items (inst_map_of insts.old.items)) }
+        ensures reaches { MatchResult result (λ arm. spec.goal (scope_at self.now strict) (goal_of goal.now) (inst_map_of insts.old.items) ≡ Ok (after (inst_map_of insts.new.items) arm.reach))
+            (λ fault. fault ≢ faults.NoMemory → spec.goal (scope_at self.now strict) (goal_of goal.now) (inst_map_of insts.old.items) ≡ Err fault) }
+        ensures notes { IfOk result (λ arm. notes_told notes.new.items
+            ≡ notes_told notes.old.items ++ noted.notes (scope_at self.now strict) (goal_of goal.now) (inst_map_of insts.old.items)) }
+    {
+        let start = Start::new(alloc, &goal.kind, insts)?;
+        let reach = self.check(alloc, insts, strict, goal, notes)?;
+        Ok(Arm { start, reach })
+    }
+
+    /// Checks the last arm of a branch, whose arms before it have this in common, and ends the branch.
+    #[cycle(goals)]
+    fn check_last_arm(
+        &self,
+        alloc: Global,
+        insts: &mut Vec<Inst<'a>>,
+        view: View<'a, '_>,
+        at: Spot,
+        goal: &Goal,
+        joined: Option<Joined<'a>>,
+        notes: &mut Vec<Note>,
+    ) -> Result<bool, ModeFault>
+        ensures reaches { (vars : List ℕ) → (ends : List After) → IsViewOf self.now view.entry vars (inst_map_of insts.old.items) → AreAmong (spec.variables (goal_of goal.now)) vars
+            → AllLeave view.entry.outside.local.now.places.items (inst_map_of insts.old.items) ends
+            → Ends (occurs view.entry.outside) (inst_map_of view.entry.before.now) joined.entry (seen_ends view.entry.outside.local.now.places.items ends)
+            → (v : Verdict After)
+            → ((last : After) → spec.goal (scope_at self.now at.strict) (goal_of goal.now) (inst_map_of insts.old.items) ≡ Ok last
+            → v ≡ branches.joined at.line (branches.outside (scope_at self.now at.strict).all vars) (inst_map_of insts.old.items) (ends ++ last ∷ []))
+            → ((fault : ModeFault) → spec.goal (scope_at self.now at.strict) (goal_of goal.now) (inst_map_of insts.old.items) ≡ Err fault → v ≡ Err fault)
+            → Reaches result (inst_map_of insts.new.items) v }
+        ensures notes { IfOk result (λ reach. notes_told notes.new.items
+            ≡ notes_told notes.old.items ++ noted.notes (scope_at self.now at.strict) (goal_of goal.now) (inst_map_of insts.old.items)) }
+    {
+        let reach = self.check(alloc, insts, at.strict, goal, notes)?;
+        let own = Own {
+            places: &view.outside.local.places,
+            before: view.before,
+        };
+        let joined = add_arm(alloc, view, own, joined, insts, reach)?;
         end_arms(view, joined, insts, at.line)
     }
 
@@ -213,7 +280,9 @@ impl<'a, 'b> Clause<'a, 'b> {
     {
         let reach = self.check(alloc, insts, true, goal, notes)?;
         let after = seen(alloc, &view.outside.local.places, insts)?;
-        if binds_some(view.outside, view.before, &after) {
+        let binds = binds_some(view.outside, view.before, &after);
+        drop(after);
+        if binds {
             return Err(ModeFault::BranchBinds(line));
         }
         Ok(reach)

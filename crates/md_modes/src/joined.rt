@@ -13,7 +13,7 @@ use md_inst::{Inst, ModeFault, inst_in};
 use std::alloc::Global;
 
 /// A variable that all arms so far bind, by its number among those of the branch.
-#[derive(Clone, Copy, Debug)]
+#[derive(Clone, Copy)]
 pub struct Shared {
     pub number: usize,
     /// Whether some arm binds it with another type than the first.

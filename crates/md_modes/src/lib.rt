@@ -17,7 +17,9 @@ mod local;
 mod main_predicate;
 mod moded;
 mod nonlocals;
+mod noting;
 mod occurrences;
+mod start;
 mod tally;
 mod view;
 

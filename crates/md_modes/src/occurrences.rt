@@ -1,5 +1,5 @@
 // The variables of a goal or a clause, as often as they occur.
-ghost use Rattle.std.specs.Prelude.{◌≡◌, ◌++◌, IfOk, OnOk};
+ghost use Rattle.std.specs.Prelude.{◌≡◌, [], ◌∷◌, ◌++◌, IfOk, OnOk};
 ghost use Rattle.md_hlds.specs.Hlds.{procedure_of};
 ghost use Rattle.md_hlds.specs.HldsGoal.{goals_of, expr_of, gathered};
 ghost use Rattle.md_modes.specs.Goals.{expr_variables, parts_variables, term_variables, clause_variables};
@@ -65,29 +65,55 @@ fn add_atomic(vars: &mut Vec<u32>, goal: &GoalKind) -> Result<(), NoMemory>
 {
     match goal {
         GoalKind::Unify(x, term) => {
-            vars.push(*x)?;
-            return add_term(vars, term);
+            add_one(vars, *x)?;
+            add_term(vars, term)
         }
-        GoalKind::Arith(z, a, _, b) => vars.extend_from_slice(&[*z, *a, *b])?,
-        GoalKind::Compare(a, _, b) => vars.extend_from_slice(&[*a, *b])?,
-        GoalKind::WriteInt(x, before, after) => vars.extend_from_slice(&[*x, *before, *after])?,
-        GoalKind::WriteStr(x, before, after) => vars.extend_from_slice(&[*x, *before, *after])?,
-        GoalKind::Nl(before, after) => vars.extend_from_slice(&[*before, *after])?,
-        GoalKind::Call(_, _, places) => vars.extend_from_slice(places.as_slice())?,
+        GoalKind::Arith(z, a, _, b) => add_three(vars, *z, *a, *b),
+        GoalKind::Compare(a, _, b) => add_two(vars, *a, *b),
+        GoalKind::WriteInt(x, before, after) => add_three(vars, *x, *before, *after),
+        GoalKind::WriteStr(x, before, after) => add_three(vars, *x, *before, *after),
+        GoalKind::Nl(before, after) => add_two(vars, *before, *after),
+        GoalKind::Call(_, _, places) => add_all(vars, places.as_slice()),
         GoalKind::HoCall(_, closure, places) => {
-            vars.push(*closure)?;
-            vars.extend_from_slice(places.as_slice())?;
+            add_one(vars, *closure)?;
+            add_all(vars, places.as_slice())
         }
-        GoalKind::Error(x) => vars.push(*x)?,
+        GoalKind::Error(x) => add_one(vars, *x),
         GoalKind::True
         | GoalKind::Fail
         | GoalKind::Conj(_)
         | GoalKind::Disj(_)
         | GoalKind::If(..)
         | GoalKind::Not(_)
-        | GoalKind::Some(..) => {}
+        | GoalKind::Some(..) => Ok(()),
     }
+}
+
+/// Adds these variables.
+fn add_all(vars: &mut Vec<u32>, places: &[u32]) -> Result<(), NoMemory>
+    ensures { OnOk result (vars.new.items ≡ vars.old.items ++ places.now) }
+{
+    vars.extend_from_slice(places)?;
     Ok(())
+}
+
+fn add_one(vars: &mut Vec<u32>, x: u32) -> Result<(), NoMemory>
+    ensures { OnOk result (vars.new.items ≡ vars.old.items ++ x ∷ []) }
+{
+    vars.push(x)?;
+    Ok(())
+}
+
+fn add_two(vars: &mut Vec<u32>, x: u32, y: u32) -> Result<(), NoMemory>
+    ensures { OnOk result (vars.new.items ≡ vars.old.items ++ x ∷ y ∷ []) }
+{
+    add_all(vars, &[x, y])
+}
+
+fn add_three(vars: &mut Vec<u32>, x: u32, y: u32, z: u32) -> Result<(), NoMemory>
+    ensures { OnOk result (vars.new.items ≡ vars.old.items ++ x ∷ y ∷ z ∷ []) }
+{
+    add_all(vars, &[x, y, z])
 }
 
 fn add_term(vars: &mut Vec<u32>, term: &Term) -> Result<(), NoMemory>

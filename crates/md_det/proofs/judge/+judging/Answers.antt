@@ -2,7 +2,7 @@ use Rattle.std.proofs.Common.{◌≡◌, ◌∙◌, ◌+◌, suc, refl, arith, a
 use Rattle.md_hlds.specs.HldsGoal.{gathered, goals_of, expr_of}
 use Rattle.md_det.specs.Judge.{condition_fault, judge_expr}
 use Rattle.md_det.specs.Told.{reading_in, found_told, found_onto}
-use Rattle.md_det.proofs.Judging.{each_next, arms_next, own_set, conj_found, disj_found, choice_found}
+use Rattle.md_det.proofs.Judging.{each_next, arms_next, each_end, arms_end, still_within, own_set, conj_found, disj_found, choice_found}
 use Rattle.md_det.proofs.judge.+judging.Goals as goal
 use Rattle.md_det.proofs.judge.+judging.Goals.{judge_each-then-again, judge_each-else-again}
 
@@ -34,7 +34,7 @@ judge_kind-returns-in_ok-second-in-If t c =
     let r = reading_in c.args.context.now in
     let own : c.condition_fault-fault.result ≡ condition_fault r c.args.goal.now.line (suc c.args.number) c.in_ok-tested-in-If.tested.pair
     = c.condition_fault-fault.ensures ∙ rw add-one refl in
-    rw (c.plain-in-If.ensures, c.or-in-If-2.ensures, c.or-fault.ensures, c.or-in-If.ensures, c.or.ensures)
+    rw c.chosen.ensures
     (choice_found (reading_in c.args.context.now) c.args.number c.args.at c.args.again c.args.goal.now.line c.args.goal.now.kind
     c.in-If.condition c.in-If.then c.in-If.otherwise c.deref.result.now c.deref-in-If.result.now c.deref-in-If-2.result.now
     c.args.findings.now.items c.judge.new.findings.items c.judge-in-If.new.findings.items c.judge-in-If-2.new.findings.items
@@ -61,3 +61,19 @@ judge_arms-loop-arm-preserved t c =
     ∙ (arms_next (reading_in c.args.context.now) c.args.at c.args.again c.args.arms.now c.loop-arm.arm-index c.arm-item.result c.loop-arm.all.pair c.loop-arm.all.fault
     c.loop-arm.findings.items c.in_ok-judged.judged.pair c.in_ok-judged.judged.fault c.judge.new.findings.items (omega arith) c.arm-item.is c.in_ok-judged.ensures
     ∙ rw (c.beside.ensures, c.or.ensures) refl)
+
+pub judge_each-returns : goal.judge_each-returns
+judge_each-returns t c =
+    each_end (reading_in c.args.context.now) (length c.loop-goal.findings.items) c.loop-goal.at c.loop-goal.again c.args.goals.now c.loop-goal.goal-index
+    c.loop-goal.all.pair c.loop-goal.all.fault c.loop-goal.findings.items _ (omega arith) c.loop-goal.invariant
+
+pub judge_arms-returns : goal.judge_arms-returns
+judge_arms-returns t c =
+    arms_end (reading_in c.args.context.now) (length c.loop-arm.findings.items) c.args.at c.args.again c.args.arms.now c.loop-arm.arm-index
+    c.loop-arm.all.pair c.loop-arm.all.fault c.loop-arm.findings.items _ (omega arith) c.loop-arm.invariant
+
+pub judge-index_mut-requires : goal.judge-index_mut-requires
+judge-index_mut-requires t c =
+    let lt = still_within c.args.findings.now.items c.push.new.self.items c.judge_kind.new.findings.items _ c.in_ok-found.found.switch c.in_ok-found.found.pair c.in_ok-found.found.fault
+    _ c.len-place.result c.in_ok-push.ensures.items c.in_ok-found.ensures (omega (arith, c.len-place.ensures, c.args.findings.now.ok)) in
+    omega (arith, lt, c.judge_kind.new.findings.ok)

@@ -1,8 +1,9 @@
-use Rattle.std.proofs.Common.{◌∙◌, ap, sym, List}
+use Rattle.std.proofs.Common.{◌∙◌, ap, sym, arith, List}
 use Rattle.md_hlds.specs.declared.goal.Goal.{Goal}
 use Rattle.md_hlds.specs.HldsGoal.{expr_of, goals_of, gathered}
 use Rattle.md_hlds.proofs.Bridge.{expr_of-Conj, expr_of-Disj}
 use Rattle.md_det.specs.Throws.{expr_has_error, some_has_error}
+use Rattle.md_det.proofs.Errors.{error-missed, error-found, error-none}
 use Rattle.md_det.proofs.throws.+errors.Goals as goal
 
 pub has_error-returns-in-Conj : goal.has_error-returns-in-Conj
@@ -16,3 +17,16 @@ has_error-returns-in-Disj t c =
     c.some_has_error-in-Disj.ensures
     ∙ (ap (λ (gs : List Goal). some_has_error (gathered (goals_of gs))) c.as_slice-in-Disj.ensures.value
     ∙ sym (ap (λ k. expr_has_error (expr_of k)) c.in-Disj.is ∙ ap expr_has_error (expr_of-Disj c.in-Disj.arms)))
+
+pub some_has_error-loop-goal-preserved : goal.some_has_error-loop-goal-preserved
+some_has_error-loop-goal-preserved t c =
+    c.loop-goal.invariant
+    ∙ error-missed c.args.goals.now c.loop-goal.goal-index c.goal-item.result c.loop-goal-test.true c.goal-item.is (sym c.has_error.ensures ∙ c.if-has_error.false)
+
+pub some_has_error-returns-then-has_error : goal.some_has_error-returns-then-has_error
+some_has_error-returns-then-has_error t c =
+    sym (c.loop-goal.invariant
+    ∙ error-found c.args.goals.now c.loop-goal.goal-index c.goal-item.result c.loop-goal-test.true c.goal-item.is (sym c.has_error.ensures ∙ c.if-has_error.true))
+
+pub some_has_error-returns : goal.some_has_error-returns
+some_has_error-returns t c = sym (c.loop-goal.invariant ∙ error-none c.args.goals.now c.loop-goal.goal-index (omega arith))

@@ -1,59 +1,70 @@
-use Rattle.std.proofs.Common.{◌≡◌, ◌∙◌, refl, sym, ap, arith, subst, ℕ, false, true, [], ◌∷◌, ◌++◌, List, Ok, Err, add-one}
+use Rattle.std.proofs.Common.{◌≡◌, ◌∙◌, refl, sym, ap, arith, subst, false, true, [], ◌∷◌, ◌++◌, List, length, ◌<◌, Ok, Err, add-one, rules}
 use Rattle.std.proofs.lemmas.Result.{err_from_is_err_and}
 use Rattle.md_hlds.specs.HldsGoal.{DisjGoal, goal_of, goals_of, expr_of, gathered}
 use Rattle.md_inst.specs.Instantiation.{InstMap}
 use Rattle.md_inst.specs.Kinds.{inst_map_of}
-use Rattle.md_modes.specs.Branches.{After, after, binds_some, some_of, outside}
+use Rattle.md_modes.specs.Branches.{After, after, binds_some}
 use Rattle.md_modes.specs.Goals.{goal, expr, each, arms, variables, expr_variables}
-use Rattle.md_modes.specs.Notes.{role_of, inner_notes, each_notes, arm_notes}
+use Rattle.md_modes.specs.Notes.{Note, role_of, inner_notes, each_notes, arm_notes}
 use Rattle.md_modes.specs.Classes.{class_told, notes_told}
-use Rattle.md_modes.specs.Tally.{AreCounts}
 use Rattle.md_modes.specs.Joins.{occurs, Ends}
-use Rattle.md_modes.specs.Views.{seen, put_all, seen_ends, Leaves}
+use Rattle.md_modes.specs.Views.{seen, put_all, seen_ends, Leaves, AllLeave}
 use Rattle.md_modes.specs.Clauses.{scope_at}
 use Rattle.md_modes.proofs.ArmLemmas.{no_ends, seen_ends-more, all_leave-more}
-use Rattle.md_modes.proofs.Choices.{reaches_along, conj_is, disj_is, choose_is, three_variables, inside_ok, inside_by, inside_binds, condition_fault, then_fault, else_fault, choose_joined, once_fault, once_outside, once_right}
-use Rattle.md_modes.proofs.GoalLemmas.{arms-begin, arms-more, arms-fault, either_fault, arms-end}
+use Rattle.md_modes.proofs.Choices.{reaches_along, not_is, some_is, conj_is, disj_is, choose_is, three_variables, inside_ok, inside_by, inside_binds, condition_fault, then_fault, choose_last, choose_fault, once_fault, once_outside, once_right}
+use Rattle.md_modes.proofs.GoalLemmas.{each-more, each-fault, each-end, arms-begin, arms-more, arms-fault, either_fault, arms-end}
 use Rattle.md_modes.proofs.Insides.{places_of, view_leaves, views_leave, put_back, put_own, own_leaves, is_arm, among_first, among_others, among_itself, among_second, among_third, among_goals, binds_by, branch_end, own_note, view_counts, view_along, ends_seen, ends_viewed, reaches_from}
 use Rattle.md_modes.proofs.Listed.{goals_variables, goals_variables-Disj, variables-If}
 use Rattle.md_modes.proofs.NoteNames.{own_size}
-use Rattle.md_modes.proofs.Notings.{within_notes, goal_notes, notes_along, each_notes_is, arm_notes_is, arms-loop, arms-loop-end, choice_notes, choice_notes_is, always}
+use Rattle.md_modes.proofs.Views.{length-seen}
+use Rattle.md_inst.proofs.Insts.{length-inst_map_of}
+use Rattle.md_modes.specs.Inside.{IsViewOf}
+use Rattle.md_modes.proofs.Notings.{not_notes_is, some_notes_is, each-loop, each-loop-end, within_notes, goal_notes, notes_along, each_notes_is, arm_notes_is, arms-loop, arms-loop-end, choice_noted, choice_notes_is, kept_note, always}
 use Rattle.md_modes.proofs.clause.Clause.+goals.Goals as goals
 
-pub check-index_mut-requires : goals.check-index_mut-requires
-check-index_mut-requires t c =
-    let lt = within_notes c.args.notes.now.items c.push.new.self.items c.check_kind.new.notes.items c.blank.result _ c.in_ok-push.ensures.items c.in_ok-reach.ensures.notes in
+pub check_viewed-index_mut-requires : goals.check_viewed-index_mut-requires
+check_viewed-index_mut-requires t c =
+    let lt = within_notes c.args.notes.now.items c.push.new.self.items c.check_kind.new.notes.items c.in_ok-note.note _ c.in_ok-push.ensures.items c.in_ok-reach.ensures.notes in
     omega (arith, lt, c.len-number.ensures)
 
-pub check-overflow_sub-size : goals.check-overflow_sub-size
-check-overflow_sub-size t c =
-    let lt = within_notes c.args.notes.now.items c.push.new.self.items c.check_kind.new.notes.items c.blank.result _ c.in_ok-push.ensures.items c.in_ok-reach.ensures.notes in
+pub check_viewed-overflow_sub-size : goals.check_viewed-overflow_sub-size
+check_viewed-overflow_sub-size t c =
+    let lt = within_notes c.args.notes.now.items c.push.new.self.items c.check_kind.new.notes.items c.in_ok-note.note _ c.in_ok-push.ensures.items c.in_ok-reach.ensures.notes in
     omega (arith, lt, c.len-number.ensures, c.len.ensures)
 
-pub check-returns-clause-notes : goals.check-returns-clause-notes
-check-returns-clause-notes t c =
+pub check_viewed-end_note-requires : goals.check_viewed-end_note-requires
+check_viewed-end_note-requires t c =
+    let view = c.args.view in
+    sym (length-inst_map_of view.before.now) ∙ (ap length c.requires.view.before ∙ length-seen (places_of view) (inst_map_of c.args.insts.now.items))
+
+pub check_viewed-returns-clause-notes : goals.check_viewed-returns-clause-notes
+check_viewed-returns-clause-notes t c =
     let k = c.args.self.now in
+    let view = c.args.view in
     let scope = scope_at k c.args.strict in
     let s = inst_map_of c.args.insts.now.items in
     let r = inst_map_of c.check_kind.new.insts.items in
     let l = c.args.goal.now.line in
     let kind = expr_of c.args.goal.now.kind in
-    let local = c.in_ok-local.local in
-    let before : inst_map_of c.deref-9.result.now ≡ seen local.places.items s
-    = ap inst_map_of c.deref-9.ensures.value ∙ (c.in_ok-before.ensures.known ∙ rw (c.deref-2.ensures.value, c.deref-3.ensures.value) refl) in
-    let after' : inst_map_of c.deref-10.result.now ≡ seen local.places.items r
-    = ap inst_map_of c.deref-10.ensures.value ∙ (c.in_ok-after.ensures.known ∙ rw (c.deref-6.ensures.value, c.deref-7.ensures.value) refl) in
-    let size = own_size scope l kind s c.args.notes.now.items c.push.new.self.items c.check_kind.new.notes.items c.blank.result c.len-number.result c.len.result _
-    c.in_ok-push.ensures.items (omega (arith, c.len-number.ensures)) c.in_ok-reach.ensures.notes (omega (arith, c.len.ensures)) refl in
-    let counted = subst (λ (cs : List ℕ). AreCounts cs scope.all) (sym c.deref-4.ensures.value) k.counted in
-    goal_notes c.args.notes.now.items c.push.new.self.items c.check_kind.new.notes.items _ c.len-number.result c.blank.result _ _ (inner_notes scope kind s)
-    c.in_ok-push.ensures.items (omega (arith, c.len-number.ensures)) c.in_ok-reach.ensures.notes refl
-    (own_note scope l kind local.places.items local.counts.items c.deref-8.result.now s r (inst_map_of c.deref-9.result.now) (inst_map_of c.deref-10.result.now)
-    c.in_ok-reach.reach (class_told c.in_ok-class.class) (role_of scope.program kind s) c.in_ok-binds.binds.items c.names_io.result c.has_some-binds_outside.result c.in_goal.result _
-    c.in_ok-local.ensures c.deref-8.ensures.value c.in_ok-reach.ensures.reaches before after'
-    (c.in_ok-class.ensures ∙ rw c.deref.ensures.value refl) c.in_ok-binds.ensures c.names_io.ensures c.in_goal.ensures size
-    (c.has_some-binds_outside.ensures scope.all (expr_variables kind) counted c.in_ok-local.ensures
-    ∙ ap (λ (xs : List ℕ). some_of (outside scope.all (expr_variables kind)) xs) c.deref-11.ensures.value))
+    let old = c.args.notes.now.items in
+    let begun = c.push.new.self.items in
+    let more = c.check_kind.new.notes.items in
+    let number = c.len-number.result in
+    let first = c.in_ok-note.note in
+    let note = c.end_note.new.note in
+    let told = c.in_ok-end_note.ensures in
+    let at : number ≡ length old = omega (arith, c.len-number.ensures) in
+    let inner = c.in_ok-reach.ensures.notes in
+    let within' : number < length more = omega (arith, within_notes old begun more first _ c.in_ok-push.ensures.items inner, at) in
+    let kept = kept_note old begun more number first c.index_mut.result.now _ c.in_ok-push.ensures.items at inner within' c.index_mut.ensures.value in
+    let size = own_size scope l kind s old begun more first number c.len.result _ c.in_ok-push.ensures.items at inner (omega (arith, c.len.ensures)) refl in
+    goal_notes old begun more _ number first note _ (inner_notes scope kind s) c.in_ok-push.ensures.items at inner refl
+    (own_note scope l kind (places_of view) view.outside.local.now.counts.items (places_of view) s r (inst_map_of view.before.now) (seen (places_of view) (inst_map_of c.deref-2.result.now))
+    c.in_ok-reach.reach (class_told note.class) (role_of scope.program kind s) note.binds.items note.names_io note.binds_outside note.named note.size
+    c.requires.view.local refl c.in_ok-reach.ensures.reaches c.requires.view.before (rw c.deref-2.ensures.value refl)
+    (ap class_told told.class ∙ (ap (λ (n : Note). n.role) kept ∙ (c.in_ok-note.ensures.class ∙ rw c.deref.ensures.value refl)))
+    told.binds told.state (told.named ∙ (ap (λ (n : Note). n.named) kept ∙ c.in_ok-note.ensures.named)) (told.size ∙ size)
+    (told.outside scope.all (expr_variables kind) (view_counts k view (expr_variables kind) s c.args.strict c.requires.view) c.requires.view.local))
 
 pub check_arms-loop-goal-init : goals.check_arms-loop-goal-init
 check_arms-loop-goal-init t c view = record {
@@ -65,17 +76,17 @@ check_arms-loop-goal-init t c view = record {
   noted = refl;
 }
 
-pub check_arms-returns-in_err-reach-clause-reaches : goals.check_arms-returns-in_err-reach-clause-reaches
-check_arms-returns-in_err-reach-clause-reaches t c view =
+pub check_arms-returns-in_err-arm-clause-reaches : goals.check_arms-returns-in_err-arm-clause-reaches
+check_arms-returns-in_err-arm-clause-reaches t c view =
     let scope = scope_at c.args.self.now c.args.at.strict in
     let s = inst_map_of c.args.insts.now.items in
     let inv = c.loop-goal.invariant view in
-    let told = err_from_is_err_and c.from_residual-in_err-reach.result c.from_residual-in_err-reach.ensures.1 in
+    let told = err_from_is_err_and c.from_residual.result c.from_residual.ensures.1 in
     rw (told.1, told.2)
     (λ ne.
-    either_fault scope c.args.at.line (gathered (goals_of c.args.goals.now)) s c.in_err-reach.field-0.0
-    (inv.rest ∙ arms-fault scope c.args.goals.now c.loop-goal.goal-index c.goal-item.result s c.in_err-reach.field-0.0 inv.ends c.loop-goal-test.true c.goal-item.is
-    (subst (λ (k : InstMap). goal scope (goal_of c.goal-item.result) k ≡ Err c.in_err-reach.field-0.0) inv.known (c.in_err-reach.ensures.reaches ne))))
+    either_fault scope c.args.at.line (gathered (goals_of c.args.goals.now)) s c.in_err-arm.field-0.0
+    (inv.rest ∙ arms-fault scope c.args.goals.now c.loop-goal.goal-index c.goal-item.result s c.in_err-arm.field-0.0 inv.ends c.loop-goal-test.true c.goal-item.is
+    (subst (λ (k : InstMap). goal scope (goal_of c.goal-item.result) k ≡ Err c.in_err-arm.field-0.0) inv.known (c.in_err-arm.ensures.reaches ne))))
 
 pub check_arms-loop-goal-preserved : goals.check_arms-loop-goal-preserved
 check_arms-loop-goal-preserved t c h =
@@ -85,19 +96,18 @@ check_arms-loop-goal-preserved t c h =
     let vars = goals_variables gs in
     let scope = scope_at k c.args.at.strict in
     let s = inst_map_of c.args.insts.now.items in
-    let r = inst_map_of c.check.new.insts.items in
-    let a = after r c.in_ok-reach.reach in
+    let r = inst_map_of c.check_arm.new.insts.items in
+    let a = after r c.in_ok-arm.arm.reach in
     let inv = c.loop-goal.invariant h in
     let i = c.loop-goal.goal-index in
     let g = c.goal-item.result in
     let p = occurs view.outside in
-    let found : goal scope (goal_of g) s ≡ Ok a = rw (← inv.known) c.in_ok-reach.ensures.reaches in
+    let found : goal scope (goal_of g) s ≡ Ok a = rw (← inv.known) c.in_ok-arm.ensures.reaches in
     let leaves = view_leaves k view vars s scope (goal_of g) a h (among_goals gs i g c.loop-goal-test.true c.goal-item.is) found in
-    let own = c.deref-in-loop-goal-2.result.now in
-    let same : own ≡ c.in_ok-local.local.places.items = c.deref-in-loop-goal-2.ensures.value in
-    let before : inst_map_of c.deref-in-loop-goal-3.result.now ≡ seen own s =
-    ap inst_map_of c.deref-in-loop-goal-3.ensures.value ∙ (c.in_ok-before.ensures.known ∙ rw (c.deref.ensures.value, c.deref-in-loop-goal.ensures.value, inv.known, same) refl) in
-    let alone : Leaves own s r = rw same (own_leaves c.in_ok-local.local.places.items c.in_ok-local.local.counts.items s scope (goal_of g) a c.in_ok-local.ensures found) in
+    let arm = c.in_ok-arm.arm in
+    let own = arm.start.local.places.items in
+    let before : inst_map_of arm.start.before.items ≡ seen own s = c.in_ok-arm.ensures.before ∙ rw inv.known refl in
+    let alone : Leaves own s r = own_leaves own arm.start.local.counts.items s scope (goal_of g) a c.in_ok-arm.ensures.local found in
     let ends = seen_ends (places_of view) inv.ends in
     record {
       ends = inv.ends ++ a ∷ [];
@@ -107,9 +117,9 @@ check_arms-loop-goal-preserved t c h =
           (c.in_ok-joined.ensures.ends s ends (is_arm k view vars own s r h alone) (ends_viewed k view vars s p c.loop-goal.joined ends h inv.are_ends)));
       leave = all_leave-more (places_of view) s inv.ends a inv.leave leaves;
       rest = inv.rest ∙ rw add-one (arms-more scope gs i g s a inv.ends c.loop-goal-test.true c.goal-item.is found);
-      known = put_own own s r (inst_map_of c.deref-in-loop-goal-3.result.now) (inst_map_of c.add_arm.new.insts.items) before alone c.in_ok-joined.ensures.insts;
-      noted = arms-loop scope gs i g s (notes_told c.loop-goal.notes.items) (notes_told c.check.new.notes.items) _ c.loop-goal-test.true c.goal-item.is
-          (rw (← inv.known) c.in_ok-reach.ensures.notes) inv.noted;
+      known = put_own own s r (inst_map_of arm.start.before.items) (inst_map_of c.add_checked.new.insts.items) before alone c.in_ok-joined.ensures.insts;
+      noted = arms-loop scope gs i g s (notes_told c.loop-goal.notes.items) (notes_told c.check_arm.new.notes.items) _ c.loop-goal-test.true c.goal-item.is
+          (rw (← inv.known) c.in_ok-arm.ensures.notes) inv.noted;
     }
 
 pub check_arms-returns-clause-reaches : goals.check_arms-returns-clause-reaches
@@ -136,8 +146,8 @@ check_arms-returns-clause-notes t c h =
     (arms-loop-end (scope_at c.args.self.now c.args.at.strict) c.args.goals.now c.loop-goal.goal-index (inst_map_of c.args.insts.now.items) _ _ (omega arith)
     (c.loop-goal.invariant h).noted)
 
-pub check_condition-returns-then-binds_some-clause-reaches : goals.check_condition-returns-then-binds_some-clause-reaches
-check_condition-returns-then-binds_some-clause-reaches t c vars h among ne =
+pub check_condition-returns-then-binds-clause-reaches : goals.check_condition-returns-then-binds-clause-reaches
+check_condition-returns-then-binds-clause-reaches t c vars h among ne =
     let k = c.args.self.now in
     let view = c.args.view in
     let scope = scope_at k true in
@@ -148,7 +158,7 @@ check_condition-returns-then-binds_some-clause-reaches t c vars h among ne =
     let known = ap inst_map_of c.deref-3.ensures.value ∙ (c.in_ok-after.ensures.known ∙ rw (c.deref.ensures.value, c.deref-2.ensures.value) refl) in
     inside_binds scope c.args.line vars p s a c.in_ok-reach.ensures.reaches
     (binds_by k view vars s r true true h (view_leaves k view vars s scope p a h among c.in_ok-reach.ensures.reaches)
-    (ap (binds_some (occurs view.outside) (inst_map_of view.before.now)) (sym known) ∙ (sym c.binds_some.ensures ∙ c.if-binds_some.true)))
+    (ap (binds_some (occurs view.outside) (inst_map_of view.before.now)) (sym known) ∙ (sym c.binds_some-binds.ensures ∙ c.if-binds.true)))
 
 pub check_condition-returns-clause-reaches : goals.check_condition-returns-clause-reaches
 check_condition-returns-clause-reaches t c vars h among =
@@ -162,7 +172,7 @@ check_condition-returns-clause-reaches t c vars h among =
     let known = ap inst_map_of c.deref-3.ensures.value ∙ (c.in_ok-after.ensures.known ∙ rw (c.deref.ensures.value, c.deref-2.ensures.value) refl) in
     inside_by scope c.args.line vars p s a c.in_ok-reach.ensures.reaches
     (binds_by k view vars s r true false h (view_leaves k view vars s scope p a h among c.in_ok-reach.ensures.reaches)
-    (ap (binds_some (occurs view.outside) (inst_map_of view.before.now)) (sym known) ∙ (sym c.binds_some.ensures ∙ c.if-binds_some.false)))
+    (ap (binds_some (occurs view.outside) (inst_map_of view.before.now)) (sym known) ∙ (sym c.binds_some-binds.ensures ∙ c.if-binds.false)))
 
 pub check_inside-returns-in_err-check_condition-clause-reaches : goals.check_inside-returns-in_err-check_condition-clause-reaches
 check_inside-returns-in_err-check_condition-clause-reaches t c =
@@ -205,72 +215,6 @@ check_inside-returns-clause-reaches t c =
     (once_right scope c.args.at.line vs p s _ inside'
     (sym (c.has_some.ensures scope.all vars (view_counts k view vars s c.args.at.strict c.requires.view) c.requires.view.local) ∙ c.if-has_some.false))
 
-pub check_kind-returns-in_err-check_condition-in-If-clause-reaches : goals.check_kind-returns-in_err-check_condition-in-If-clause-reaches
-check_kind-returns-in_err-check_condition-in-If-clause-reaches t c =
-    let k = c.args.self.now in
-    let scope = scope_at k c.args.strict in
-    let l = c.args.goal.now.line in
-    let kind = c.args.goal.now.kind in
-    let s = inst_map_of c.args.insts.now.items in
-    let g = c.deref.result.now in
-    let h = c.in-If.then.value in
-    let j = c.in-If.otherwise.value in
-    let vars = three_variables (goal_of g) (goal_of h) (goal_of j) in
-    let view = view_along k c.args.view _ vars s (variables-If kind c.in-If.condition c.in-If.then c.in-If.otherwise g h j c.in-If.is c.deref.ensures refl refl) c.requires.view in
-    let told = err_from_is_err_and c.from_residual.result c.from_residual.ensures.1 in
-    rw (told.1, told.2)
-    (λ ne. choose_is scope l kind c.in-If.condition c.in-If.then c.in-If.otherwise g h j s c.in-If.is c.deref.ensures refl refl
-    ∙ condition_fault scope l (goal_of g) (goal_of h) (goal_of j) s _ (c.in_err-check_condition-in-If.ensures.reaches vars view (among_first _ _) ne))
-
-pub check_kind-returns-in_err-reach-in-If-clause-reaches : goals.check_kind-returns-in_err-reach-in-If-clause-reaches
-check_kind-returns-in_err-reach-in-If-clause-reaches t c =
-    let k = c.args.self.now in
-    let scope = scope_at k c.args.strict in
-    let l = c.args.goal.now.line in
-    let kind = c.args.goal.now.kind in
-    let s = inst_map_of c.args.insts.now.items in
-    let g = c.deref.result.now in
-    let h = c.deref-in-If.result.now in
-    let j = c.in-If.otherwise.value in
-    let vars = three_variables (goal_of g) (goal_of h) (goal_of j) in
-    let view = view_along k c.args.view _ vars s (variables-If kind c.in-If.condition c.in-If.then c.in-If.otherwise g h j c.in-If.is c.deref.ensures c.deref-in-If.ensures refl) c.requires.view in
-    let first = c.in_ok-check_condition-in-If.ensures.reaches vars view (among_first _ _) in
-    let told = err_from_is_err_and c.from_residual-in_err-reach-in-If.result c.from_residual-in_err-reach-in-If.ensures.1 in
-    rw (told.1, told.2)
-    (λ ne. choose_is scope l kind c.in-If.condition c.in-If.then c.in-If.otherwise g h j s c.in-If.is c.deref.ensures c.deref-in-If.ensures refl
-    ∙ then_fault scope l (goal_of g) (goal_of h) (goal_of j) s _ _ first (c.in_err-reach-in-If.ensures.reaches ne))
-
-pub check_kind-returns-in_err-reach-in-If-2-clause-reaches : goals.check_kind-returns-in_err-reach-in-If-2-clause-reaches
-check_kind-returns-in_err-reach-in-If-2-clause-reaches t c =
-    let k = c.args.self.now in
-    let scope = scope_at k c.args.strict in
-    let l = c.args.goal.now.line in
-    let kind = c.args.goal.now.kind in
-    let s = inst_map_of c.args.insts.now.items in
-    let g = c.deref.result.now in
-    let h = c.deref-in-If.result.now in
-    let j = c.deref-in-If-3.result.now in
-    let p = goal_of g in
-    let t' = goal_of h in
-    let e = goal_of j in
-    let vars = three_variables p t' e in
-    let view = view_along k c.args.view _ vars s
-    (variables-If kind c.in-If.condition c.in-If.then c.in-If.otherwise g h j c.in-If.is c.deref.ensures c.deref-in-If.ensures c.deref-in-If-3.ensures) c.requires.view in
-    let a = after (inst_map_of c.check_condition.new.insts.items) c.in_ok-check_condition-in-If.field-0 in
-    let first = c.in_ok-check_condition-in-If.ensures.reaches vars view (among_first _ _) in
-    let b = after (inst_map_of c.check.new.insts.items) c.in_ok-reach-in-If.reach in
-    let then' : goal scope t' a.known ≡ Ok b = c.in_ok-reach-in-If.ensures.reaches in
-    let leaves = views_leave k c.args.view vars s (scope_at k true) scope p t' a b view (among_first _ _) (among_second p t' e) (inside_ok (scope_at k true) l vars p s a first) then' in
-    let own = c.deref-in-If-2.result.now in
-    let same : own ≡ places_of c.args.view = c.deref-in-If-2.ensures.value in
-    let before : inst_map_of c.args.view.before.now ≡ seen own s = view.before ∙ rw same refl in
-    let alone : Leaves own s b.known = rw same leaves in
-    let back = put_own own s b.known (inst_map_of c.args.view.before.now) (inst_map_of c.add_arm.new.insts.items) before alone c.in_ok-joined-in-If.ensures.insts in
-    let told = err_from_is_err_and c.from_residual-in_err-reach-in-If-2.result c.from_residual-in_err-reach-in-If-2.ensures.1 in
-    rw (told.1, told.2)
-    (λ ne. choose_is scope l kind c.in-If.condition c.in-If.then c.in-If.otherwise g h j s c.in-If.is c.deref.ensures c.deref-in-If.ensures c.deref-in-If-3.ensures
-    ∙ else_fault scope l p t' e s a b _ first then' (rw (← back) (c.in_err-reach-in-If-2.ensures.reaches ne)))
-
 pub check_kind-returns-in-Conj-clause-reaches : goals.check_kind-returns-in-Conj-clause-reaches
 check_kind-returns-in-Conj-clause-reaches t c =
     let scope = scope_at c.args.self.now c.args.strict in
@@ -306,8 +250,43 @@ check_kind-returns-in-Disj-clause-notes t c =
     (c.check_arms.ensures.notes (view_along c.args.self.now c.args.view _ _ s
     (goals_variables-Disj c.args.goal.now.kind c.in-Disj.arms c.in-Disj.is ∙ ap goals_variables (sym c.as_slice-in-Disj.ensures.value)) c.requires.view))
 
-pub check_kind-returns-in_ok-joined-in-If-2-clause-reaches : goals.check_kind-returns-in_ok-joined-in-If-2-clause-reaches
-check_kind-returns-in_ok-joined-in-If-2-clause-reaches t c =
+pub check_kind-returns-in_err-check_condition-in-If-clause-reaches : goals.check_kind-returns-in_err-check_condition-in-If-clause-reaches
+check_kind-returns-in_err-check_condition-in-If-clause-reaches t c =
+    let k = c.args.self.now in
+    let scope = scope_at k c.args.strict in
+    let l = c.args.goal.now.line in
+    let kind = c.args.goal.now.kind in
+    let s = inst_map_of c.args.insts.now.items in
+    let g = c.deref.result.now in
+    let h = c.in-If.then.value in
+    let j = c.in-If.otherwise.value in
+    let vars = three_variables (goal_of g) (goal_of h) (goal_of j) in
+    let view = view_along k c.args.view _ vars s (variables-If kind c.in-If.condition c.in-If.then c.in-If.otherwise g h j c.in-If.is c.deref.ensures refl refl) c.requires.view in
+    let told = err_from_is_err_and c.from_residual.result c.from_residual.ensures.1 in
+    rw (told.1, told.2)
+    (λ ne. choose_is scope l kind c.in-If.condition c.in-If.then c.in-If.otherwise g h j s c.in-If.is c.deref.ensures refl refl
+    ∙ condition_fault scope l (goal_of g) (goal_of h) (goal_of j) s _ (c.in_err-check_condition-in-If.ensures.reaches vars view (among_first _ _) ne))
+
+pub check_kind-returns-in_err-reach-in-If-clause-reaches : goals.check_kind-returns-in_err-reach-in-If-clause-reaches
+check_kind-returns-in_err-reach-in-If-clause-reaches t c =
+    let k = c.args.self.now in
+    let scope = scope_at k c.args.strict in
+    let l = c.args.goal.now.line in
+    let kind = c.args.goal.now.kind in
+    let s = inst_map_of c.args.insts.now.items in
+    let g = c.deref.result.now in
+    let h = c.deref-in-If.result.now in
+    let j = c.in-If.otherwise.value in
+    let vars = three_variables (goal_of g) (goal_of h) (goal_of j) in
+    let view = view_along k c.args.view _ vars s (variables-If kind c.in-If.condition c.in-If.then c.in-If.otherwise g h j c.in-If.is c.deref.ensures c.deref-in-If.ensures refl) c.requires.view in
+    let first = c.in_ok-check_condition-in-If.ensures.reaches vars view (among_first _ _) in
+    let told = err_from_is_err_and c.from_residual-in_err-reach-in-If.result c.from_residual-in_err-reach-in-If.ensures.1 in
+    rw (told.1, told.2)
+    (λ ne. choose_is scope l kind c.in-If.condition c.in-If.then c.in-If.otherwise g h j s c.in-If.is c.deref.ensures c.deref-in-If.ensures refl
+    ∙ then_fault scope l (goal_of g) (goal_of h) (goal_of j) s _ _ first (c.in_err-reach-in-If.ensures.reaches ne))
+
+pub check_kind-returns-in_ok-joined-in-If-clause-reaches : goals.check_kind-returns-in_ok-joined-in-If-clause-reaches
+check_kind-returns-in_ok-joined-in-If-clause-reaches t c =
     let k = c.args.self.now in
     let scope = scope_at k c.args.strict in
     let l = c.args.goal.now.line in
@@ -331,24 +310,17 @@ check_kind-returns-in_ok-joined-in-If-2-clause-reaches t c =
     let same : own ≡ places_of c.args.view = c.deref-in-If-2.ensures.value in
     let before : inst_map_of c.args.view.before.now ≡ seen own s = view.before ∙ rw same refl in
     let alone : Leaves own s b.known = rw same leaves in
-    let back = put_own own s b.known (inst_map_of c.args.view.before.now) (inst_map_of c.add_arm.new.insts.items) before alone c.in_ok-joined-in-If.ensures.insts in
-    let d = after (inst_map_of c.check-in-If.new.insts.items) c.in_ok-reach-in-If-2.reach in
-    let else' : goal scope e s ≡ Ok d = rw (← back) c.in_ok-reach-in-If-2.ensures.reaches in
-    let leaves' = view_leaves k c.args.view vars s scope e d view (among_third p t' e) else' in
-    let alone' : Leaves own s d.known = rw same leaves' in
-    let back' = put_own own s d.known (inst_map_of c.args.view.before.now) (inst_map_of c.add_arm-in-If.new.insts.items) before alone' c.in_ok-joined-in-If-2.ensures.insts in
-    let ends = seen_ends (places_of c.args.view) (b ∷ d ∷ []) in
-    let two = c.in_ok-joined-in-If-2.ensures.ends s _ (is_arm k c.args.view vars own s d.known view alone')
-    (c.in_ok-joined-in-If.ensures.ends s [] (is_arm k c.args.view vars own s b.known view alone) (no_ends _ _)) in
-    let now = inst_map_of c.end_arms.new.insts.items in
-    branch_end k c.args.view vars s now c.args.strict l (b ∷ d ∷ []) c.end_arms.result _ view (leaves, (leaves', tt))
-    (choose_is scope l kind c.in-If.condition c.in-If.then c.in-If.otherwise g h j s c.in-If.is c.deref.ensures c.deref-in-If.ensures c.deref-in-If-3.ensures
-    ∙ choose_joined scope l p t' e s a b d first then' else')
-    (reaches_from c.end_arms.result now (inst_map_of c.add_arm-in-If.new.insts.items) s (places_of c.args.view) _ back'
-    (c.end_arms.ensures (occurs c.args.view.outside) ends two (view.before ∙ ap (seen (places_of c.args.view)) (sym back'))))
+    let now = inst_map_of c.add_arm.new.insts.items in
+    let back : now ≡ s = put_own own s b.known (inst_map_of c.args.view.before.now) now before alone c.in_ok-joined-in-If.ensures.insts in
+    let is = choose_is scope l kind c.in-If.condition c.in-If.then c.in-If.otherwise g h j s c.in-If.is c.deref.ensures c.deref-in-If.ensures c.deref-in-If-3.ensures in
+    c.check_last_arm.ensures.reaches vars (b ∷ []) (subst (λ (m : InstMap). IsViewOf k c.args.view vars m) (sym back) view) (among_third p t' e)
+    (subst (λ (m : InstMap). AllLeave (places_of c.args.view) m (b ∷ [])) (sym back) (leaves, tt))
+    (c.in_ok-joined-in-If.ensures.ends s [] (is_arm k c.args.view vars own s b.known view alone) (no_ends _ _)) (expr scope l (expr_of kind) s)
+    (λ d right. is ∙ choose_last scope l p t' e s now a b d first then' back right)
+    (λ x wrong. is ∙ choose_fault scope l p t' e s now a b x first then' back wrong)
 
-pub check_kind-returns-in_ok-joined-in-If-2-clause-notes : goals.check_kind-returns-in_ok-joined-in-If-2-clause-notes
-check_kind-returns-in_ok-joined-in-If-2-clause-notes t c =
+pub check_kind-returns-in_ok-joined-in-If-clause-notes : goals.check_kind-returns-in_ok-joined-in-If-clause-notes
+check_kind-returns-in_ok-joined-in-If-clause-notes t c =
     let k = c.args.self.now in
     let scope = scope_at k c.args.strict in
     let l = c.args.goal.now.line in
@@ -364,16 +336,131 @@ check_kind-returns-in_ok-joined-in-If-2-clause-notes t c =
     let view = view_along k c.args.view _ vars s
     (variables-If kind c.in-If.condition c.in-If.then c.in-If.otherwise g h j c.in-If.is c.deref.ensures c.deref-in-If.ensures c.deref-in-If-3.ensures) c.requires.view in
     let a = after (inst_map_of c.check_condition.new.insts.items) c.in_ok-check_condition-in-If.field-0 in
-    let found = inside_ok (scope_at k true) l vars p s a (c.in_ok-check_condition-in-If.ensures.reaches vars view (among_first _ _)) in
+    let first = c.in_ok-check_condition-in-If.ensures.reaches vars view (among_first _ _) in
     let b = after (inst_map_of c.check.new.insts.items) c.in_ok-reach-in-If.reach in
-    let leaves = views_leave k c.args.view vars s (scope_at k true) scope p t' a b view (among_first _ _) (among_second p t' e) found c.in_ok-reach-in-If.ensures.reaches in
+    let then' : goal scope t' a.known ≡ Ok b = c.in_ok-reach-in-If.ensures.reaches in
+    let leaves = views_leave k c.args.view vars s (scope_at k true) scope p t' a b view (among_first _ _) (among_second p t' e) (inside_ok (scope_at k true) l vars p s a first) then' in
     let own = c.deref-in-If-2.result.now in
     let same : own ≡ places_of c.args.view = c.deref-in-If-2.ensures.value in
     let before : inst_map_of c.args.view.before.now ≡ seen own s = view.before ∙ rw same refl in
     let alone : Leaves own s b.known = rw same leaves in
-    let back = put_own own s b.known (inst_map_of c.args.view.before.now) (inst_map_of c.add_arm.new.insts.items) before alone c.in_ok-joined-in-If.ensures.insts in
-    always c.end_arms.result
-    (choice_notes scope (scope_at k true) p t' e s a _ _ _ (notes_told c.check-in-If.new.notes.items) found
-    c.in_ok-check_condition-in-If.ensures.notes c.in_ok-reach-in-If.ensures.notes (rw (← back) c.in_ok-reach-in-If-2.ensures.notes)
-    ∙ ap (λ ns. notes_told c.args.notes.now.items ++ ns)
-    (sym (choice_notes_is scope kind c.in-If.condition c.in-If.then c.in-If.otherwise g h j s c.in-If.is c.deref.ensures c.deref-in-If.ensures c.deref-in-If-3.ensures)))
+    let now = inst_map_of c.add_arm.new.insts.items in
+    let back : now ≡ s = put_own own s b.known (inst_map_of c.args.view.before.now) now before alone c.in_ok-joined-in-If.ensures.insts in
+    notes_along c.check_last_arm.result (notes_told c.args.notes.now.items) (notes_told c.check_last_arm.new.notes.items) _ _
+    (choice_notes_is scope kind c.in-If.condition c.in-If.then c.in-If.otherwise g h j s c.in-If.is c.deref.ensures c.deref-in-If.ensures c.deref-in-If-3.ensures)
+    (choice_noted scope (scope_at k true) p t' e s now a c.check_last_arm.result _ _ _ _ (inside_ok (scope_at k true) l vars p s a first)
+    c.in_ok-check_condition-in-If.ensures.notes c.in_ok-reach-in-If.ensures.notes back c.check_last_arm.ensures.notes)
+
+pub check_last_arm-returns-in_err-reach-clause-reaches : goals.check_last_arm-returns-in_err-reach-clause-reaches
+check_last_arm-returns-in_err-reach-clause-reaches t c vars ends h among leave are v right wrong =
+    let told = err_from_is_err_and c.from_residual.result c.from_residual.ensures.1 in
+    rw (told.1, told.2) (λ ne. wrong _ (c.in_err-reach.ensures.reaches ne))
+
+pub check_last_arm-returns-clause-reaches : goals.check_last_arm-returns-clause-reaches
+check_last_arm-returns-clause-reaches t c vars ends h among leave are v right wrong =
+    let k = c.args.self.now in
+    let view = c.args.view in
+    let scope = scope_at k c.args.at.strict in
+    let l = c.args.at.line in
+    let s = inst_map_of c.args.insts.now.items in
+    let p = goal_of c.args.goal.now in
+    let places = places_of view in
+    let d = after (inst_map_of c.check.new.insts.items) c.in_ok-reach.reach in
+    let found : goal scope p s ≡ Ok d = c.in_ok-reach.ensures.reaches in
+    let leaves = view_leaves k view vars s scope p d h among found in
+    let own = c.deref.result.now in
+    let same : own ≡ places = c.deref.ensures.value in
+    let before : inst_map_of view.before.now ≡ seen own s = h.before ∙ rw same refl in
+    let alone : Leaves own s d.known = rw same leaves in
+    let back = put_own own s d.known (inst_map_of view.before.now) (inst_map_of c.add_arm.new.insts.items) before alone c.in_ok-joined.ensures.insts in
+    let all = subst (λ (es : List After). Ends (occurs view.outside) (inst_map_of view.before.now) c.in_ok-joined.joined es) (sym (seen_ends-more places ends d))
+    (c.in_ok-joined.ensures.ends s (seen_ends places ends) (is_arm k view vars own s d.known h alone) are) in
+    let now = inst_map_of c.end_arms.new.insts.items in
+    branch_end k view vars s now c.args.at.strict l (ends ++ d ∷ []) c.end_arms.result _ h (all_leave-more places s ends d leave leaves)
+    (right d found)
+    (reaches_from c.end_arms.result now (inst_map_of c.add_arm.new.insts.items) s places _ back
+    (c.end_arms.ensures (occurs view.outside) (seen_ends places (ends ++ d ∷ [])) all (h.before ∙ ap (seen places) (sym back))))
+
+pub check_last_arm-returns-clause-notes : goals.check_last_arm-returns-clause-notes
+check_last_arm-returns-clause-notes t c = always c.end_arms.result c.in_ok-reach.ensures.notes
+
+pub check_each-loop-goal-preserved : goals.check_each-loop-goal-preserved
+check_each-loop-goal-preserved t c =
+    let scope = scope_at c.args.self.now c.args.strict in
+    let gs = c.args.goals.now in
+    let i = c.loop-goal.goal-index in
+    let g = c.goal-item.result in
+    let s = inst_map_of c.loop-goal.insts.items in
+    let r = inst_map_of c.check.new.insts.items in
+    let inv = c.loop-goal.invariant in
+    let found = c.in_ok-goes_on.ensures.reaches in (
+      inv.0 ∙ (each-more scope gs i g s r c.loop-goal.reach c.in_ok-goes_on.goes_on c.loop-goal-test.true c.goal-item.is found ∙ rw (c.both-reach.ensures, add-one) refl),
+      each-loop scope gs i g s (after r c.in_ok-goes_on.goes_on) (notes_told c.loop-goal.notes.items) (notes_told c.check.new.notes.items) _ c.loop-goal-test.true c.goal-item.is
+          c.in_ok-goes_on.ensures.notes found inv.1,
+    )
+
+pub check_each-returns-in_err-goes_on-clause-reaches : goals.check_each-returns-in_err-goes_on-clause-reaches
+check_each-returns-in_err-goes_on-clause-reaches t c =
+    let inv = c.loop-goal.invariant in
+    let told = err_from_is_err_and c.from_residual.result c.from_residual.ensures.1 in
+    rw (told.1, told.2)
+    (λ ne.
+    inv.0
+    ∙ each-fault (scope_at c.args.self.now c.args.strict) c.args.goals.now c.loop-goal.goal-index c.goal-item.result (inst_map_of c.loop-goal.insts.items) c.loop-goal.reach _
+    c.loop-goal-test.true c.goal-item.is (c.in_err-goes_on.ensures.reaches ne))
+
+pub check_each-returns-clause-reaches : goals.check_each-returns-clause-reaches
+check_each-returns-clause-reaches t c =
+    c.loop-goal.invariant.0
+    ∙ each-end (scope_at c.args.self.now c.args.strict) c.args.goals.now c.loop-goal.goal-index (inst_map_of c.loop-goal.insts.items) c.loop-goal.reach (omega arith)
+
+pub check_each-returns-clause-notes : goals.check_each-returns-clause-notes
+check_each-returns-clause-notes t c =
+    each-loop-end (scope_at c.args.self.now c.args.strict) c.args.goals.now c.loop-goal.goal-index (inst_map_of c.loop-goal.insts.items) _ _ (omega arith) c.loop-goal.invariant.1
+
+pub check-check_viewed-reach-requires : goals.check-check_viewed-reach-requires
+check-check_viewed-reach-requires t c = (
+  search rules,
+  record {
+    local = c.in_ok-start.ensures.local;
+    all = c.deref-2.ensures.value;
+    before = ap inst_map_of c.deref-3.ensures.value ∙ (c.in_ok-start.ensures.before ∙ rw c.deref.ensures.value refl);
+  },
+)
+
+pub check_viewed-check_kind-requires : goals.check_viewed-check_kind-requires
+check_viewed-check_kind-requires t c = (search rules, c.requires.view)
+
+pub check_kind-returns-in-Not-clause-reaches : goals.check_kind-returns-in-Not-clause-reaches
+check_kind-returns-in-Not-clause-reaches t c =
+    reaches_along c.check_inside.result (inst_map_of c.check_inside.new.insts.items) _ _
+    (not_is (scope_at c.args.self.now c.args.strict) c.args.goal.now.line c.args.goal.now.kind c.in-Not.inner c.deref-in-Not.result.now (inst_map_of c.args.insts.now.items)
+    c.in-Not.is c.deref-in-Not.ensures)
+    c.check_inside.ensures.reaches
+
+pub check_kind-returns-in-Not-clause-notes : goals.check_kind-returns-in-Not-clause-notes
+check_kind-returns-in-Not-clause-notes t c =
+    notes_along c.check_inside.result (notes_told c.args.notes.now.items) (notes_told c.check_inside.new.notes.items) _ _
+    (not_notes_is (scope_at c.args.self.now c.args.strict) c.args.goal.now.kind c.in-Not.inner c.deref-in-Not.result.now (inst_map_of c.args.insts.now.items)
+    c.in-Not.is c.deref-in-Not.ensures)
+    c.check_inside.ensures.notes
+
+pub check_kind-returns-in-Some-clause-reaches : goals.check_kind-returns-in-Some-clause-reaches
+check_kind-returns-in-Some-clause-reaches t c =
+    reaches_along c.check_inside-in-Some.result (inst_map_of c.check_inside-in-Some.new.insts.items) _ _
+    (some_is (scope_at c.args.self.now c.args.strict) c.args.goal.now.line c.args.goal.now.kind c.as_slice-in-Some.result.now c.in-Some.quantified c.in-Some.inner
+    c.deref-in-Some.result.now (inst_map_of c.args.insts.now.items) c.in-Some.is c.deref-in-Some.ensures c.as_slice-in-Some.ensures)
+    c.check_inside-in-Some.ensures.reaches
+
+pub check_kind-returns-in-Some-clause-notes : goals.check_kind-returns-in-Some-clause-notes
+check_kind-returns-in-Some-clause-notes t c =
+    notes_along c.check_inside-in-Some.result (notes_told c.args.notes.now.items) (notes_told c.check_inside-in-Some.new.notes.items) _ _
+    (some_notes_is (scope_at c.args.self.now c.args.strict) c.args.goal.now.kind c.in-Some.quantified c.in-Some.inner c.deref-in-Some.result.now (inst_map_of c.args.insts.now.items)
+    c.in-Some.is c.deref-in-Some.ensures)
+    c.check_inside-in-Some.ensures.notes
+
+pub check_arm-returns-clause-local : goals.check_arm-returns-clause-local
+check_arm-returns-clause-local t c = c.in_ok-start.ensures.local
+
+pub check_arm-returns-clause-before : goals.check_arm-returns-clause-before
+check_arm-returns-clause-before t c = c.in_ok-start.ensures.before ∙ rw c.deref.ensures.value refl

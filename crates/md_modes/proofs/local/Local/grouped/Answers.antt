@@ -1,5 +1,5 @@
-use Rattle.std.proofs.Common.{refl, take}
-use Rattle.md_modes.proofs.Locals.{all_no_less, local-step}
+use Rattle.std.proofs.Common.{refl, arith, take}
+use Rattle.md_modes.proofs.Locals.{all_no_less, local-step, local-end}
 use Rattle.md_modes.proofs.local.Local.grouped.Goals as goal
 
 pub loop-place-preserved : goal.loop-place-preserved
@@ -8,3 +8,6 @@ loop-place-preserved c =
     let i = c.loop-place.place-index in
     local-step c.add.new.self.places.items c.add.new.self.counts.items xs i _ c.loop-place-test.true refl
     (c.in_ok-add.ensures (take i xs) c.loop-place.invariant (all_no_less xs i c.requires c.loop-place-test.true))
+
+pub returns : goal.returns
+returns c = local-end c.loop-place.local.places.items c.loop-place.local.counts.items c.args.vars.now c.loop-place.place-index (omega arith) c.loop-place.invariant

@@ -1,0 +1,33 @@
+// What is known before a goal.
+ghost use Rattle.std.specs.Prelude.{◌≡◌, IfOk};
+ghost use Rattle.md_hlds.specs.HldsGoal.{expr_of};
+ghost use Rattle.md_inst.specs.Kinds.{inst_map_of};
+ghost use Rattle.md_modes.specs.Goals.{expr_variables};
+ghost use Rattle.md_modes.specs.Tally.{IsLocal};
+ghost use Rattle.md_modes.specs.Views.{seen};
+
+use crate::local::Local;
+use crate::view::seen;
+use md_base::NoMemory;
+use md_hlds::GoalKind;
+use md_inst::Inst;
+use std::alloc::Global;
+
+/// The variables of a goal, and what is known of them before it.
+#[derive(Drop)]
+pub struct Start<'a> {
+    pub local: Local,
+    pub before: Vec<Inst<'a>>,
+}
+
+impl<'a> Start<'a> {
+    /// The variables of a goal of this kind, with what is known of them.
+    pub fn new(alloc: Global, goal: &GoalKind, insts: &[Inst<'a>]) -> Result<Start<'a>, NoMemory>
+        ensures local { IfOk result (λ start. IsLocal start.local.places.items start.local.counts.items (expr_variables (expr_of goal.now))) }
+        ensures before { IfOk result (λ start. inst_map_of start.before.items ≡ seen start.local.places.items (inst_map_of insts.now)) }
+    {
+        let local = Local::new(alloc, goal)?;
+        let before = seen(alloc, &local.places, insts)?;
+        Ok(Start { local, before })
+    }
+}
