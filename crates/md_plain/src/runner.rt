@@ -189,7 +189,7 @@ fn advance<'a>(
                     waits,
                     next,
                 };
-                let turn = unfold(bump, program, front, *first)?;
+                let turn = unfold(bump, program, &front, *first)?;
                 let moved = turned(bump, left, frame.act, first.number, turn)?;
                 Ok(moved)
             }

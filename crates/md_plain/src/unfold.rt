@@ -51,10 +51,10 @@ pub struct Front<'a> {
 pub fn unfold<'a>(
     bump: &'a Bump,
     program: &'a Program,
-    front: Front<'a>,
+    front: &Front<'a>,
     first: Numbered<'a>,
 ) -> Result<Unfolded<'a>, NoMemory>
-    ensures { IfOk result (λ u. unfolded_of u ≡ unfolds (hlds_of program.now) (frame_of front.entry.frame) first.entry.number (numbereds_of front.entry.goals.now) (frames_of front.entry.callers.now) (waits_of front.entry.waits.now) front.entry.next (goal_of first.entry.goal.now)) }
+    ensures { IfOk result (λ u. unfolded_of u ≡ unfolds (hlds_of program.now) (frame_of front.now.frame) first.entry.number (numbereds_of front.now.goals.now) (frames_of front.now.callers.now) (waits_of front.now.waits.now) front.now.next (goal_of first.entry.goal.now)) }
 {
     let number = first.number;
     let kind = &first.goal.kind;
@@ -92,10 +92,10 @@ pub fn unfold<'a>(
 fn unfold_simple<'a>(
     bump: &'a Bump,
     program: &Program,
-    front: Front<'a>,
+    front: &Front<'a>,
     kind: &'a GoalKind,
 ) -> Result<Unfolded<'a>, NoMemory>
-    ensures { IfOk result (λ u. unfolded_of u ≡ goes_simply (frame_of front.entry.frame) (numbereds_of front.entry.goals.now) (frames_of front.entry.callers.now) (waits_of front.entry.waits.now) front.entry.next (simply (hlds_of program.now) (frame_of front.entry.frame).env (expr_of kind.now))) }
+    ensures { IfOk result (λ u. unfolded_of u ≡ goes_simply (frame_of front.now.frame) (numbereds_of front.now.goals.now) (frames_of front.now.callers.now) (waits_of front.now.waits.now) front.now.next (simply (hlds_of program.now) (frame_of front.now.frame).env (expr_of kind.now))) }
 {
     let outcome = simple(bump, program, front.frame.env, kind)?;
     simply(bump, front, outcome)
@@ -104,11 +104,11 @@ fn unfold_simple<'a>(
 /// A conjunction's parts are done before what comes after it.
 fn conjunction<'a>(
     bump: &'a Bump,
-    front: Front<'a>,
+    front: &Front<'a>,
     number: u64,
     parts: &'a [Goal],
 ) -> Result<Unfolded<'a>, NoMemory>
-    ensures { IfOk result (λ u. unfolded_of u ≡ Turns 1 [] (state (Goes (DoingOf (frame_of front.entry.frame) (numbered_from (suc number) (gathered (goals_of parts.now)) ++ numbereds_of front.entry.goals.now)) (frames_of front.entry.callers.now)) (waits_of front.entry.waits.now) front.entry.next)) }
+    ensures { IfOk result (λ u. unfolded_of u ≡ Turns 1 [] (state (Goes (DoingOf (frame_of front.now.frame) (numbered_from (suc number) (gathered (goals_of parts.now)) ++ numbereds_of front.now.goals.now)) (frames_of front.now.callers.now)) (waits_of front.now.waits.now) front.now.next)) }
 {
     let goals = numbered_from(bump, more(number)?, parts, front.goals)?;
     Ok(turn_to(
@@ -122,10 +122,10 @@ fn conjunction<'a>(
 /// A simple goal goes, fails, throws or sticks.
 fn simply<'a>(
     bump: &'a Bump,
-    front: Front<'a>,
+    front: &Front<'a>,
     outcome: Outcome<'a>,
 ) -> Result<Unfolded<'a>, NoMemory>
-    ensures { IfOk result (λ u. unfolded_of u ≡ goes_simply (frame_of front.entry.frame) (numbereds_of front.entry.goals.now) (frames_of front.entry.callers.now) (waits_of front.entry.waits.now) front.entry.next (outcome_of outcome.entry)) }
+    ensures { IfOk result (λ u. unfolded_of u ≡ goes_simply (frame_of front.now.frame) (numbereds_of front.now.goals.now) (frames_of front.now.callers.now) (waits_of front.now.waits.now) front.now.next (outcome_of outcome.entry)) }
 {
     let (waits, next) = (front.waits, front.next);
     match outcome {
@@ -224,12 +224,12 @@ fn alone<'a>(
 /// A condition runs by itself, and this waits for it.
 fn condition_runs<'a>(
     bump: &'a Bump,
-    front: Front<'a>,
+    front: &Front<'a>,
     number: u64,
     goal: &'a Goal,
     wait: Wait<'a>,
 ) -> Result<Unfolded<'a>, NoMemory>
-    ensures { IfOk result (λ u. unfolded_of u ≡ Turns 1 [] (state (Goes (alone (frame_of front.entry.frame) (numbered_goal (suc number) (goal_of goal.now))) []) (wait_of wait.entry ∷ (waits_of front.entry.waits.now)) front.entry.next)) }
+    ensures { IfOk result (λ u. unfolded_of u ≡ Turns 1 [] (state (Goes (alone (frame_of front.now.frame) (numbered_goal (suc number) (goal_of goal.now))) []) (wait_of wait.entry ∷ (waits_of front.now.waits.now)) front.now.next)) }
 {
     let frame = alone(bump, front.frame, more(number)?, goal)?;
     let waits = cons(bump, wait, front.waits)?;
@@ -238,11 +238,11 @@ fn condition_runs<'a>(
 
 fn negation<'a>(
     bump: &'a Bump,
-    front: Front<'a>,
+    front: &Front<'a>,
     number: u64,
     goal: &'a Goal,
 ) -> Result<Unfolded<'a>, NoMemory>
-    ensures { IfOk result (λ u. unfolded_of u ≡ Turns 1 [] (state (Goes (alone (frame_of front.entry.frame) (numbered_goal (suc number) (goal_of goal.now))) []) (Negation (DoingOf (frame_of front.entry.frame) (numbereds_of front.entry.goals.now)) (frames_of front.entry.callers.now) ∷ (waits_of front.entry.waits.now)) front.entry.next)) }
+    ensures { IfOk result (λ u. unfolded_of u ≡ Turns 1 [] (state (Goes (alone (frame_of front.now.frame) (numbered_goal (suc number) (goal_of goal.now))) []) (Negation (DoingOf (frame_of front.now.frame) (numbereds_of front.now.goals.now)) (frames_of front.now.callers.now) ∷ (waits_of front.now.waits.now)) front.now.next)) }
 {
     let wait = Wait::Negation(to_do(front.frame, front.goals), front.callers);
     condition_runs(bump, front, number, goal, wait)
@@ -251,11 +251,11 @@ fn negation<'a>(
 /// A quantified goal, which is cut at its first answer.
 fn quantified<'a>(
     bump: &'a Bump,
-    front: Front<'a>,
+    front: &Front<'a>,
     number: u64,
     goal: &'a Goal,
 ) -> Result<Unfolded<'a>, NoMemory>
-    ensures { IfOk result (λ u. unfolded_of u ≡ Turns 1 [] (state (Goes (alone (frame_of front.entry.frame) (numbered_goal (suc number) (goal_of goal.now))) []) (Single (DoingOf (frame_of front.entry.frame) (numbereds_of front.entry.goals.now)) (frames_of front.entry.callers.now) ∷ (waits_of front.entry.waits.now)) front.entry.next)) }
+    ensures { IfOk result (λ u. unfolded_of u ≡ Turns 1 [] (state (Goes (alone (frame_of front.now.frame) (numbered_goal (suc number) (goal_of goal.now))) []) (Single (DoingOf (frame_of front.now.frame) (numbereds_of front.now.goals.now)) (frames_of front.now.callers.now) ∷ (waits_of front.now.waits.now)) front.now.next)) }
 {
     let wait = Wait::Single(to_do(front.frame, front.goals), front.callers);
     condition_runs(bump, front, number, goal, wait)
@@ -264,15 +264,15 @@ fn quantified<'a>(
 /// An if-then-else.
 fn conditional<'a>(
     bump: &'a Bump,
-    front: Front<'a>,
+    front: &Front<'a>,
     number: u64,
     condition: &'a Goal,
     then: &'a Goal,
     otherwise: &'a Goal,
 ) -> Result<Unfolded<'a>, NoMemory>
-    ensures { IfOk result (λ u. unfolded_of u ≡ Turns 1 [] (state (Goes (alone (frame_of front.entry.frame) (numbered_goal (suc number) (goal_of condition.now))) [])
-        (Condition (DoingOf (frame_of front.entry.frame) (numbereds_of front.entry.goals.now)) (frames_of front.entry.callers.now) (numbered_goal (suc number + goal_size (goal_of condition.now)) (goal_of then.now))
-        (numbered_goal (suc number + goal_size (goal_of condition.now) + goal_size (goal_of then.now)) (goal_of otherwise.now)) ∷ (waits_of front.entry.waits.now)) front.entry.next)) }
+    ensures { IfOk result (λ u. unfolded_of u ≡ Turns 1 [] (state (Goes (alone (frame_of front.now.frame) (numbered_goal (suc number) (goal_of condition.now))) [])
+        (Condition (DoingOf (frame_of front.now.frame) (numbereds_of front.now.goals.now)) (frames_of front.now.callers.now) (numbered_goal (suc number + goal_size (goal_of condition.now)) (goal_of then.now))
+        (numbered_goal (suc number + goal_size (goal_of condition.now) + goal_size (goal_of then.now)) (goal_of otherwise.now)) ∷ (waits_of front.now.waits.now)) front.now.next)) }
 {
     let second = plus(more(number)?, goal_size(condition)?)?;
     let third = plus(second, goal_size(then)?)?;
@@ -293,11 +293,11 @@ fn conditional<'a>(
 fn disjunction<'a>(
     bump: &'a Bump,
     program: &Program,
-    front: Front<'a>,
+    front: &Front<'a>,
     number: u64,
     arms: &'a [Goal],
 ) -> Result<Unfolded<'a>, NoMemory>
-    ensures { IfOk result (λ u. unfolded_of u ≡ chooses (frame_of front.entry.frame) (numbereds_of front.entry.goals.now) (frames_of front.entry.callers.now) (waits_of front.entry.waits.now) front.entry.next (numbered_from (suc number) (gathered (goals_of arms.now))) (switch_shape (hlds_of program.now) (gathered (goals_of arms.now)))) }
+    ensures { IfOk result (λ u. unfolded_of u ≡ chooses (frame_of front.now.frame) (numbereds_of front.now.goals.now) (frames_of front.now.callers.now) (waits_of front.now.waits.now) front.now.next (numbered_from (suc number) (gathered (goals_of arms.now))) (switch_shape (hlds_of program.now) (gathered (goals_of arms.now)))) }
 {
     let shape = switch_shape(bump, program, arms)?;
     let arms = numbered_from(bump, more(number)?, arms, &[])?;
@@ -313,10 +313,10 @@ fn disjunction<'a>(
 /// The arms are tried as what failed comes back to them.
 fn tries<'a>(
     bump: &'a Bump,
-    front: Front<'a>,
+    front: &Front<'a>,
     arms: &'a [Numbered<'a>],
 ) -> Result<Unfolded<'a>, NoMemory>
-    ensures { IfOk result (λ u. unfolded_of u ≡ tries (frame_of front.entry.frame) (numbereds_of front.entry.goals.now) (frames_of front.entry.callers.now) (waits_of front.entry.waits.now) front.entry.next (numbereds_of arms.now)) }
+    ensures { IfOk result (λ u. unfolded_of u ≡ tries (frame_of front.now.frame) (numbereds_of front.now.goals.now) (frames_of front.now.callers.now) (waits_of front.now.waits.now) front.now.next (numbereds_of arms.now)) }
 {
     let frame = to_do(front.frame, front.goals);
     let waits = cons(bump, Wait::Others(frame, front.callers, arms), front.waits)?;
@@ -325,10 +325,10 @@ fn tries<'a>(
 
 fn takes_arm<'a>(
     bump: &'a Bump,
-    front: Front<'a>,
+    front: &Front<'a>,
     arm: Option<Numbered<'a>>,
 ) -> Result<Unfolded<'a>, NoMemory>
-    ensures { IfOk result (λ u. unfolded_of u ≡ takes_arm (frame_of front.entry.frame) (numbereds_of front.entry.goals.now) (frames_of front.entry.callers.now) (waits_of front.entry.waits.now) front.entry.next (option_numbered arm.entry)) }
+    ensures { IfOk result (λ u. unfolded_of u ≡ takes_arm (frame_of front.now.frame) (numbereds_of front.now.goals.now) (frames_of front.now.callers.now) (waits_of front.now.waits.now) front.now.next (option_numbered arm.entry)) }
 {
     let Some(arm) = arm else {
         return Ok(turn_back(front.waits, front.next));
