@@ -161,7 +161,7 @@ fn enter_open<'a>(
 ) -> Result<State<'a>, NoMemory>
     ensures { IfOk result (λ after. state_of after ≡ enters Multi (frame_of callee.entry) (DoingOf (frame_of front.now.frame) (numbereds_of front.now.goals.now)) (frames_of front.now.callers.now) (waits_of front.now.waits.now) front.now.next) }
 {
-    let caller = to_do(front.frame, front.goals);
+    let caller = to_do(&front.frame, front.goals);
     let callers = cons(bump, caller, front.callers)?;
     Ok(State {
         now: Doing::Goes(callee, callers),
@@ -170,10 +170,14 @@ fn enter_open<'a>(
     })
 }
 
-fn enter_cut<'a>(bump: &'a Bump, callee: Frame<'a>, front: &Front<'a>) -> Result<State<'a>, NoMemory>
+fn enter_cut<'a>(
+    bump: &'a Bump,
+    callee: Frame<'a>,
+    front: &Front<'a>,
+) -> Result<State<'a>, NoMemory>
     ensures { IfOk result (λ after. state_of after ≡ enters Semidet (frame_of callee.entry) (DoingOf (frame_of front.now.frame) (numbereds_of front.now.goals.now)) (frames_of front.now.callers.now) (waits_of front.now.waits.now) front.now.next) }
 {
-    let caller = to_do(front.frame, front.goals);
+    let caller = to_do(&front.frame, front.goals);
     let wait = Wait::Returning(front.next, callee.pairs, caller, front.callers);
     let callee = Frame {
         pairs: &[],

@@ -176,14 +176,14 @@ fn advance<'a>(
 {
     let waits = state.waits;
     let next = state.next;
-    match state.now {
+    match &state.now {
         Doing::Fails => Ok(stepped(left, retried(bump, waits, next)?)),
         Doing::Throws(callers) => Ok(stepped(left, unwound(bump, callers, waits, next)?)),
         Doing::Goes(frame, callers) => match frame.goals {
             [] => Ok(stepped(left, returned(bump, frame, callers, waits, next)?)),
             [first, goals @ ..] => {
                 let front = Front {
-                    frame,
+                    frame: *frame,
                     goals,
                     callers,
                     waits,

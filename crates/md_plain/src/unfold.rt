@@ -112,7 +112,7 @@ fn conjunction<'a>(
 {
     let goals = numbered_from(bump, more(number)?, parts, front.goals)?;
     Ok(turn_to(
-        to_do(front.frame, goals),
+        to_do(&front.frame, goals),
         front.callers,
         front.waits,
         front.next,
@@ -131,7 +131,7 @@ fn simply<'a>(
     match outcome {
         Outcome::Go(env, extra, words, out) => {
             let items = made(bump, front.frame.act, words, out)?;
-            let now = Doing::Goes(knowing(front.frame, env, front.goals), front.callers);
+            let now = Doing::Goes(knowing(&front.frame, env, front.goals), front.callers);
             let after = State { now, waits, next };
             Ok(Unfolded::Turns(more(extra)?, items, after))
         }
@@ -244,7 +244,7 @@ fn negation<'a>(
 ) -> Result<Unfolded<'a>, NoMemory>
     ensures { IfOk result (λ u. unfolded_of u ≡ Turns 1 [] (state (Goes (alone (frame_of front.now.frame) (numbered_goal (suc number) (goal_of goal.now))) []) (Negation (DoingOf (frame_of front.now.frame) (numbereds_of front.now.goals.now)) (frames_of front.now.callers.now) ∷ (waits_of front.now.waits.now)) front.now.next)) }
 {
-    let wait = Wait::Negation(to_do(front.frame, front.goals), front.callers);
+    let wait = Wait::Negation(to_do(&front.frame, front.goals), front.callers);
     condition_runs(bump, front, number, goal, wait)
 }
 
@@ -257,7 +257,7 @@ fn quantified<'a>(
 ) -> Result<Unfolded<'a>, NoMemory>
     ensures { IfOk result (λ u. unfolded_of u ≡ Turns 1 [] (state (Goes (alone (frame_of front.now.frame) (numbered_goal (suc number) (goal_of goal.now))) []) (Single (DoingOf (frame_of front.now.frame) (numbereds_of front.now.goals.now)) (frames_of front.now.callers.now) ∷ (waits_of front.now.waits.now)) front.now.next)) }
 {
-    let wait = Wait::Single(to_do(front.frame, front.goals), front.callers);
+    let wait = Wait::Single(to_do(&front.frame, front.goals), front.callers);
     condition_runs(bump, front, number, goal, wait)
 }
 
@@ -284,7 +284,7 @@ fn conditional<'a>(
         number: third,
         goal: otherwise,
     };
-    let frame = to_do(front.frame, front.goals);
+    let frame = to_do(&front.frame, front.goals);
     let wait = Wait::Condition(frame, front.callers, then, otherwise);
     condition_runs(bump, front, number, condition, wait)
 }
@@ -318,7 +318,7 @@ fn tries<'a>(
 ) -> Result<Unfolded<'a>, NoMemory>
     ensures { IfOk result (λ u. unfolded_of u ≡ tries (frame_of front.now.frame) (numbereds_of front.now.goals.now) (frames_of front.now.callers.now) (waits_of front.now.waits.now) front.now.next (numbereds_of arms.now)) }
 {
-    let frame = to_do(front.frame, front.goals);
+    let frame = to_do(&front.frame, front.goals);
     let waits = cons(bump, Wait::Others(frame, front.callers, arms), front.waits)?;
     Ok(turn_back(waits, front.next))
 }
@@ -335,7 +335,7 @@ fn takes_arm<'a>(
     };
     let goals = cons(bump, arm, front.goals)?;
     Ok(turn_to(
-        to_do(front.frame, goals),
+        to_do(&front.frame, goals),
         front.callers,
         front.waits,
         front.next,
