@@ -101,7 +101,7 @@ fn make_call<'a>(
         held,
         arguments,
     )?;
-    let after = enter(bump, pred.det, callee, front)?;
+    let after = enter(bump, pred.det, &callee, front)?;
     Ok(Unfolded::Turns(call_weight(pred)?, items, after))
 }
 
@@ -140,10 +140,10 @@ fn body<'a>(
 fn enter<'a>(
     bump: &'a Bump,
     det: Det,
-    callee: Frame<'a>,
+    callee: &Frame<'a>,
     front: &Front<'a>,
 ) -> Result<State<'a>, NoMemory>
-    ensures { IfOk result (λ after. state_of after ≡ enters det (frame_of callee.entry) (DoingOf (frame_of front.now.frame) (numbereds_of front.now.goals.now)) (frames_of front.now.callers.now) (waits_of front.now.waits.now) front.now.next) }
+    ensures { IfOk result (λ after. state_of after ≡ enters det (frame_of callee.now) (DoingOf (frame_of front.now.frame) (numbereds_of front.now.goals.now)) (frames_of front.now.callers.now) (waits_of front.now.waits.now) front.now.next) }
 {
     match det {
         Det::Multi => enter_open(bump, callee, front),
@@ -156,15 +156,15 @@ fn enter<'a>(
 
 fn enter_open<'a>(
     bump: &'a Bump,
-    callee: Frame<'a>,
+    callee: &Frame<'a>,
     front: &Front<'a>,
 ) -> Result<State<'a>, NoMemory>
-    ensures { IfOk result (λ after. state_of after ≡ enters Multi (frame_of callee.entry) (DoingOf (frame_of front.now.frame) (numbereds_of front.now.goals.now)) (frames_of front.now.callers.now) (waits_of front.now.waits.now) front.now.next) }
+    ensures { IfOk result (λ after. state_of after ≡ enters Multi (frame_of callee.now) (DoingOf (frame_of front.now.frame) (numbereds_of front.now.goals.now)) (frames_of front.now.callers.now) (waits_of front.now.waits.now) front.now.next) }
 {
     let caller = to_do(&front.frame, front.goals);
     let callers = cons(bump, caller, front.callers)?;
     Ok(State {
-        now: Doing::Goes(callee, callers),
+        now: Doing::Goes(*callee, callers),
         waits: cons(bump, Wait::Over(front.next), front.waits)?,
         next: more(front.next)?,
     })
@@ -172,16 +172,16 @@ fn enter_open<'a>(
 
 fn enter_cut<'a>(
     bump: &'a Bump,
-    callee: Frame<'a>,
+    callee: &Frame<'a>,
     front: &Front<'a>,
 ) -> Result<State<'a>, NoMemory>
-    ensures { IfOk result (λ after. state_of after ≡ enters Semidet (frame_of callee.entry) (DoingOf (frame_of front.now.frame) (numbereds_of front.now.goals.now)) (frames_of front.now.callers.now) (waits_of front.now.waits.now) front.now.next) }
+    ensures { IfOk result (λ after. state_of after ≡ enters Semidet (frame_of callee.now) (DoingOf (frame_of front.now.frame) (numbereds_of front.now.goals.now)) (frames_of front.now.callers.now) (waits_of front.now.waits.now) front.now.next) }
 {
     let caller = to_do(&front.frame, front.goals);
     let wait = Wait::Returning(front.next, callee.pairs, caller, front.callers);
     let callee = Frame {
         pairs: &[],
-        ..callee
+        ..*callee
     };
     Ok(State {
         now: Doing::Goes(callee, &[]),

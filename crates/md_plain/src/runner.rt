@@ -3,6 +3,7 @@ ghost use Rattle.std.specs.Prelude.{ℕ, ◌≡◌, ◌++◌, length, Some, IfOk
 ghost use Rattle.md_hlds.specs.Hlds.{Hlds, hlds_of, procedures_of, procedure_of, is_called, find_procedure, procedure_called};
 ghost use Rattle.md_hlds.specs.Trace.{Items};
 ghost use Rattle.md_hlds.specs.Run.{run, main_name, main_env, main_frame};
+ghost use Rattle.md_steps.specs.Steps.{Turns, Sticks};
 ghost use Rattle.md_steps.specs.Standing.{StandsIn, AfterIn, AfterTurnIn};
 ghost use Rattle.md_plain.specs.Values.{env_of};
 ghost use Rattle.md_plain.specs.Names.{option_procedure};
@@ -219,18 +220,44 @@ fn turned<'a>(
 {
     match turn {
         Unfolded::Turns(weight, items, after) => {
-            if weight > left {
-                return Ok(Move::Ends(&[]));
-            }
-            let items = cons(bump, Item::Turn(act, Some(number), weight), items)?;
-            Ok(Move::On(items, left - weight, after))
+            turned_to(bump, left, act, number, weight, items, after)
         }
-        Unfolded::Sticks(weight) => {
-            if weight > left {
-                return Ok(Move::Ends(&[]));
-            }
-            let stuck = one(bump, Item::Stuck)?;
-            Ok(Move::Ends(cons(bump, Item::Turn(act, Some(number), weight), stuck)?))
-        }
+        Unfolded::Sticks(weight) => stuck(bump, left, act, number, weight),
     }
+}
+
+/// A turn to this state after these items.
+fn turned_to<'a>(
+    bump: &'a Bump,
+    left: u64,
+    act: u64,
+    number: u64,
+    weight: u64,
+    items: &'a [Item<'a>],
+    after: State<'a>,
+) -> Result<Move<'a>, NoMemory>
+    ensures { IfOk result (λ m. (s : Hlds) (b : ℕ) (done : Items) → AfterTurnIn s b left done act number (Turns weight (items_told items.now) (state_of after.entry)) → Leads s b done m) }
+{
+    if weight > left {
+        return Ok(Move::Ends(&[]));
+    }
+    let items = cons(bump, Item::Turn(act, Some(number), weight), items)?;
+    Ok(Move::On(items, left - weight, after))
+}
+
+/// A turn at a goal for which there is no rule.
+fn stuck<'a>(
+    bump: &'a Bump,
+    left: u64,
+    act: u64,
+    number: u64,
+    weight: u64,
+) -> Result<Move<'a>, NoMemory>
+    ensures { IfOk result (λ m. (s : Hlds) (b : ℕ) (done : Items) → AfterTurnIn s b left done act number (Sticks weight) → Leads s b done m) }
+{
+    if weight > left {
+        return Ok(Move::Ends(&[]));
+    }
+    let stuck = one(bump, Item::Stuck)?;
+    Ok(Move::Ends(cons(bump, Item::Turn(act, Some(number), weight), stuck)?))
 }
