@@ -3,11 +3,13 @@ ghost use Rattle.std.specs.Prelude.{ℕ, ◌≡◌, ◌++◌, length, Some, IfOk
 ghost use Rattle.md_hlds.specs.Hlds.{Hlds, hlds_of, procedures_of, procedure_of, is_called, find_procedure, procedure_called};
 ghost use Rattle.md_hlds.specs.Trace.{Items};
 ghost use Rattle.md_hlds.specs.Run.{run, main_name, main_env, main_frame};
-ghost use Rattle.md_steps.specs.Steps.{Turns, Sticks};
+ghost use Rattle.md_steps.specs.Steps.{Turns, Sticks, unfolds};
+ghost use Rattle.md_hlds.specs.HldsGoal.{goal_of};
+ghost use Rattle.md_plain.specs.Goals.{numbereds_of};
 ghost use Rattle.md_steps.specs.Standing.{StandsIn, AfterIn, AfterTurnIn};
 ghost use Rattle.md_plain.specs.Values.{env_of};
 ghost use Rattle.md_plain.specs.Names.{option_procedure};
-ghost use Rattle.md_plain.specs.States.{frame_of, state_of, items_told};
+ghost use Rattle.md_plain.specs.States.{frame_of, frames_of, waits_of, state_of, items_told};
 ghost use Rattle.md_plain.specs.Steps.{step_of};
 ghost use Rattle.md_plain.specs.Unfolded.{unfolded_of};
 ghost use Rattle.md_plain.specs.Leads.{Leads};
@@ -190,12 +192,26 @@ fn advance<'a>(
                     waits,
                     next,
                 };
-                let turn = unfold(bump, program, &front, *first)?;
-                let moved = turned(bump, left, frame.act, first.number, turn)?;
-                Ok(moved)
+                at_goal(bump, program, left, &front, first)
             }
         },
     }
+}
+
+/// The turn of a frame at its first goal.
+fn at_goal<'a>(
+    bump: &'a Bump,
+    program: &'a Program,
+    left: u64,
+    front: &Front<'a>,
+    first: &Numbered<'a>,
+) -> Result<Move<'a>, NoMemory>
+    ensures { IfOk result (λ m. (b : ℕ) (done : Items)
+        → AfterTurnIn (hlds_of program.now) b left done front.now.frame.act first.now.number (unfolds (hlds_of program.now) (frame_of front.now.frame) first.now.number (numbereds_of front.now.goals.now) (frames_of front.now.callers.now) (waits_of front.now.waits.now) front.now.next (goal_of first.now.goal.now))
+        → Leads (hlds_of program.now) b done m) }
+{
+    let turn = unfold(bump, program, front, *first)?;
+    turned(bump, left, front.frame.act, first.number, turn)
 }
 
 /// A step that takes nothing of the budget.

@@ -73,14 +73,28 @@ pub fn retried<'a>(bump: &'a Bump, waits: &'a [Wait<'a>], next: u64) -> Result<S
             Wait::Again(a) => failed_on(bump, Item::Redo(*a), waits, next),
             Wait::Over(a) => failed_on(bump, Item::Fail(*a), waits, next),
             Wait::Condition(frame, callers, _, otherwise) => {
-                let goals = cons(bump, *otherwise, frame.goals)?;
-                Ok(goes(&to_do(frame, goals), callers, waits, next))
+                missed(bump, frame, callers, *otherwise, waits, next)
             }
             Wait::Negation(frame, callers) => Ok(goes(frame, callers, waits, next)),
             Wait::Single(..) => Ok(fails(waits, next)),
             Wait::Returning(a, ..) => failed_on(bump, Item::Fail(*a), waits, next),
         },
     }
+}
+
+/// A condition isn't met.
+fn missed<'a>(
+    bump: &'a Bump,
+    frame: &Frame<'a>,
+    callers: &'a [Frame<'a>],
+    otherwise: Numbered<'a>,
+    waits: &'a [Wait<'a>],
+    next: u64,
+) -> Result<Step<'a>, NoMemory>
+    ensures { IfOk result (λ step. step_of step ≡ On [] (state (Goes (doing (frame_of frame.now) (numbered_of otherwise.entry ∷ (frame_of frame.now).goals)) (frames_of callers.now)) (waits_of waits.now) next)) }
+{
+    let goals = cons(bump, otherwise, frame.goals)?;
+    Ok(goes(&to_do(frame, goals), callers, waits, next))
 }
 
 /// An exception leaves one frame, or one entry of what waits.
