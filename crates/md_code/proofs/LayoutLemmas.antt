@@ -10,7 +10,7 @@ use Rattle.md_hlds.specs.Hlds.{Hlds, procedure_of, procedures_of}
 use Rattle.md_hlds.proofs.Bridge.{expr_of-Conj, expr_of-Disj}
 use Rattle.md_code.specs.declared.code.Entry.{Entry}
 use Rattle.md_code.specs.declared.code.Routine.{Routine}
-use Rattle.md_code.specs.Layout.{Cell, cell, Begun, planned, begins, places, table, inner_table, conjunction_table, arm_table, clause_table, routine_of, routines_from}
+use Rattle.md_code.specs.Layout.{Cell, cell, Begun, Tests, planned, begins, places, table, inner_table, conjunction_table, arm_table, clause_table, routine_of, routines_from}
 use Rattle.md_code.specs.Told.{cell_of, cells_of, routine_told, routines_told}
 use Rattle.md_switch.proofs.KeyLemmas.{parts-step}
 use Rattle.md_code.specs.IsCode.{IsTableOf}
@@ -66,6 +66,10 @@ planned-Conj s n next k v e = ap (λ j. planned s n next (expr_of j)) e ∙ ap (
 pub planned-Disj : (s : Hlds) (n : ℕ) (next : Option ℕ) (k : GoalKind) (v : Vec Goal Global) → k ≡ Disj v
     → planned s n next (expr_of k) ≡ planned s n next (DisjGoal (gathered (goals_of v.items)))
 planned-Disj s n next k v e = ap (λ j. planned s n next (expr_of j)) e ∙ ap (planned s n next) (expr_of-Disj v)
+
+pub planned-If : (s : Hlds) (n : ℕ) (next : Option ℕ) (k : GoalKind) (c t e : Box Goal Global) (x y : Goal) → k ≡ If c t e → x ≡ c.value → y ≡ t.value
+    → planned s n next (expr_of k) ≡ Tests (suc n) (suc n + goal_size (goal_of x)) (suc n + goal_size (goal_of x) + goal_size (goal_of y))
+planned-If s n next k c t e x y is xs ys = ap (λ j. planned s n next (expr_of j)) is ∙ rw (sym xs, sym ys) refl
 
 -- an if-then-else, whose three goals are laid one after the other
 pub inner-If : (s : Hlds) (olds first second : List Entry) (next : Option ℕ) (k : GoalKind) (c t e : Box Goal Global) (x y z : Goal) → k ≡ If c t e

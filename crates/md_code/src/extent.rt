@@ -1,7 +1,7 @@
 // How many goals and call sites a goal has.
 ghost use Rattle.std.specs.Prelude.{◌≡◌, ◌+◌, IfOk};
 ghost use Rattle.md_hlds.specs.HldsGoal.{goal_of, goals_of, gathered};
-ghost use Rattle.md_code.specs.Extents.{extent_of, extents_of, both_extents};
+ghost use Rattle.md_code.specs.Extents.{extent, extent_of, extents_of, both_extents};
 
 use md_base::NoMemory;
 use md_hlds::{Goal, GoalKind};
@@ -25,7 +25,7 @@ pub fn extent_of(goal: &Goal) -> Result<Extent, NoMemory>
             let condition = extent_of(condition)?;
             let then = extent_of(then)?;
             let otherwise = extent_of(otherwise)?;
-            Extent::PLAIN.and(condition.and(then.and(otherwise)?)?)
+            Extent::of_test(condition, then, otherwise)
         }
         GoalKind::Not(inner) => Extent::PLAIN.and(extent_of(inner)?),
         GoalKind::Some(_, inner) => Extent::PLAIN.and(extent_of(inner)?),
@@ -61,6 +61,13 @@ impl Extent {
     const PLAIN: Extent = Extent { goals: 1, sites: 0 };
 
     const CALL: Extent = Extent { goals: 1, sites: 1 };
+
+    /// Of an if-then-else, by those of its parts.
+    fn of_test(condition: Extent, then: Extent, otherwise: Extent) -> Result<Extent, NoMemory>
+        ensures { IfOk result (λ whole. whole ≡ both_extents (extent 1 0) (both_extents condition (both_extents then otherwise))) }
+    {
+        Extent::PLAIN.and(condition.and(then.and(otherwise)?)?)
+    }
 
     /// The two together.
     fn and(self, other: Extent) -> Result<Extent, NoMemory>

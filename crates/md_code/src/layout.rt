@@ -1,8 +1,8 @@
 // Goals laid out in text order, outer before inner.
-ghost use Rattle.std.specs.Prelude.{◌≡◌, ◌++◌, length, OnOk};
+ghost use Rattle.std.specs.Prelude.{◌≡◌, ◌+◌, ◌++◌, length, IfOk, OnOk};
 ghost use Rattle.md_hlds.specs.Hlds.{hlds_of};
-ghost use Rattle.md_hlds.specs.HldsGoal.{expr_of, goal_of, goals_of, gathered};
-ghost use Rattle.md_code.specs.Layout.{table, inner_table, conjunction_table, arm_table};
+ghost use Rattle.md_hlds.specs.HldsGoal.{expr_of, goal_of, goals_of, gathered, goal_size};
+ghost use Rattle.md_code.specs.Layout.{begins, table, inner_table, conjunction_table, arm_table};
 ghost use Rattle.md_code.specs.Told.{cells_of};
 
 use crate::code::Entry;
@@ -77,11 +77,24 @@ fn lay_conjunction<'a>(
         ≡ cells_of entries.old.items ++ conjunction_table (hlds_of moded.now) (length entries.old.items) next (gathered (goals_of goals.now))) }
 {
     for (number, goal) in goals.iter().enumerate() {
-        let end = sum(entries.len(), extent_of(goal)?.goals)?;
-        let then = begins(&goals[number + 1..], end, next)?;
+        let then = led_to(goal, &goals[number + 1..], entries.len(), next)?;
         lay(moded, entries, goal, then)?;
     }
     Ok(())
+}
+
+/// Where a part of a conjunction leads to, which has the place `at`: to where the others behind it are begun, or where
+/// there are none to `next`.
+fn led_to(
+    goal: &Goal,
+    others: &[Goal],
+    at: usize,
+    next: Option<u32>,
+) -> Result<Option<u32>, NoMemory>
+    ensures { IfOk result (λ place. place ≡ begins (at + goal_size (goal_of goal.now)) (gathered (goals_of others.now)) next) }
+{
+    let end = sum(at, extent_of(goal)?.goals)?;
+    begins(others, end, next)
 }
 
 /// Adds the entries of goals that each lead to `next`.

@@ -2,7 +2,8 @@
 ghost use Rattle.std.specs.Prelude.{◌≡◌, ◌+◌, suc, length, IfOk};
 ghost use Rattle.md_hlds.specs.Hlds.{hlds_of};
 ghost use Rattle.md_hlds.specs.HldsGoal.{expr_of, goal_of, goals_of, gathered, goal_size};
-ghost use Rattle.md_code.specs.Layout.{planned, predicate_in, begins, places};
+ghost use Rattle.md_switch.specs.Reading.{read_shape};
+ghost use Rattle.md_code.specs.Layout.{planned, predicate_in, begins, places, Conjoins, Chooses, Tests};
 ghost use Rattle.md_code.specs.Told.{step_told};
 
 use crate::code::Step;
@@ -38,19 +39,45 @@ pub fn step_of<'a>(
             Ok(Step::Call(*site, predicate_in(moded.named(number)), arguments))
         }
         GoalKind::HoCall(site, closure, arguments) => Ok(Step::HoCall(*site, *closure, arguments)),
-        GoalKind::Conj(goals) => Ok(Step::Conj(begins(goals.as_slice(), inner, next)?)),
-        GoalKind::Disj(arms) => {
-            let shape = shape_of(alloc, moded, arms.as_slice(), place(inner)?)?;
-            Ok(Step::Disj(places_of(alloc, arms.as_slice(), inner)?, shape))
-        }
-        GoalKind::If(condition, then, _) => {
-            let second = sum(inner, extent_of(condition)?.goals)?;
-            let third = sum(second, extent_of(then)?.goals)?;
-            Ok(Step::If(place(inner)?, place(second)?, place(third)?))
-        }
+        GoalKind::Conj(goals) => conjunction_step(goals.as_slice(), inner, next),
+        GoalKind::Disj(arms) => disjunction_step(alloc, moded, arms.as_slice(), inner),
+        GoalKind::If(condition, then, _) => test_step(condition, then, inner),
         GoalKind::Not(_) => Ok(Step::Not(place(inner)?)),
         GoalKind::Some(..) => Ok(Step::Some(place(inner)?)),
     }
+}
+
+/// The step of a conjunction, whose first part has this number; after it comes `next`.
+fn conjunction_step<'a>(
+    goals: &[Goal],
+    first: usize,
+    next: Option<u32>,
+) -> Result<Step<'a>, NoMemory>
+    ensures { IfOk result (λ step. step_told step ≡ Conjoins (begins first (gathered (goals_of goals.now)) next)) }
+{
+    Ok(Step::Conj(begins(goals, first, next)?))
+}
+
+/// The step of a disjunction, whose first arm has this number.
+fn disjunction_step<'a>(
+    alloc: Global,
+    moded: &Moded,
+    arms: &'a [Goal],
+    first: usize,
+) -> Result<Step<'a>, NoMemory>
+    ensures { IfOk result (λ step. step_told step ≡ Chooses (places first (gathered (goals_of arms.now))) (read_shape (hlds_of moded.now) first (gathered (goals_of arms.now)))) }
+{
+    let shape = shape_of(alloc, moded, arms, place(first)?)?;
+    Ok(Step::Disj(places_of(alloc, arms, first)?, shape))
+}
+
+/// The step of an if-then-else, whose condition has this number.
+fn test_step<'a>(condition: &Goal, then: &Goal, first: usize) -> Result<Step<'a>, NoMemory>
+    ensures { IfOk result (λ step. step_told step ≡ Tests first (first + goal_size (goal_of condition.now)) (first + goal_size (goal_of condition.now) + goal_size (goal_of then.now))) }
+{
+    let second = sum(first, extent_of(condition)?.goals)?;
+    let third = sum(second, extent_of(then)?.goals)?;
+    Ok(Step::If(place(first)?, place(second)?, place(third)?))
 }
 
 /// The place where goals that begin at `first` are begun: where there are none, it goes on with what comes next.

@@ -18,12 +18,13 @@ use Rattle.md_machine.specs.declared.wait.Choice.{Choice}
 use Rattle.md_machine.specs.declared.wait.Cut.{Cut}
 use Rattle.md_machine.specs.declared.wait.Wait.{Wait}
 use Rattle.md_machine.specs.declared.wait.Wait.TheVariants.{Others, Again}
+use Rattle.md_machine.specs.declared.step.Doing.{Doing}
 use Rattle.md_machine.specs.declared.step.Doing.TheVariants.{Goes, Throws}
 use Rattle.md_machine.specs.declared.step.Port.TheVariants.{Exit, Excp}
 use Rattle.md_machine.specs.Frames.{Ways, frame_of, frames_of, callers_of, nearest_told, IsKnown, AreKnown, AreKnownAbove, NearestKnown}
 use Rattle.md_machine.specs.Waits.{BothKnown, AreWaits, IsChoice, IsReturning}
 use Rattle.md_machine.specs.declared.step.Step.{Step}
-use Rattle.md_machine.specs.States.{IsOn, IsStep}
+use Rattle.md_machine.specs.States.{IsDoing, IsOn, IsStep}
 
 unwinds_to : {M : Type 0} → (known : List (M × ℕ)) (from : Ways) (next : ℕ) (xs : List (Wait M)) (ws : List machine.Wait) (f : Frame M) (rest : Rc (Chain M) Global) (js : List trace.Frame)
     → frame_of from f ∷ frames_of from rest.value ≡ js → IsKnown known f.activation × AreKnown known rest.value → AreWaits known from xs ws
@@ -85,20 +86,16 @@ arms_by : {M : Type 0} → (known : List (M × ℕ)) (from : Ways) (c : Choice M
 arms_by known from c first others w [] is lead both = absurd lead
 arms_by known from c first others w (p ∷ ps) is lead both = record { arm = p; arms = ps; is = is; leads = lead.1; lead = lead.2; both = both }
 
-tries_by : {M : Type 0} → (known : List (M × ℕ)) (from : Ways) (next : ℕ) (xs zs : List (Wait M)) (ws : List machine.Wait) (w : machine.Wait) (c e : Choice M) (d : Frame M) (shared : Option (Rc (Chain M) Global)) (first : ℕ)
-    → frame_of from d ≡ trace.doing (frame_of from c.frame) (from (Some first)) → d.activation ≡ c.frame.activation → callers_of from shared ≡ callers_of from c.callers → AreKnownAbove known shared
+tries_by : {M : Type 0} → (known : List (M × ℕ)) (from : Ways) (next : ℕ) (xs zs : List (Wait M)) (ws : List machine.Wait) (w : machine.Wait) (c e : Choice M) (doing : Doing M) (first : ℕ)
+    → IsDoing known from doing (machine.Goes (trace.doing (frame_of from c.frame) (from (Some first))) (callers_of from c.callers))
     → zs ≡ Others e ∷ xs → e.frame ≡ c.frame → e.callers ≡ c.callers → Arms known from c first e.arms.now w → AreWaits known from xs ws
-    → IsOn known from None (Goes d shared) zs next (retried (w ∷ ws) next)
-tries_by known from next xs zs ws w c e d shared first is act same same-known stack frame callers arms wait = record {
+    → IsOn known from None doing zs next (retried (w ∷ ws) next)
+tries_by known from next xs zs ws w c e doing first does stack frame callers arms wait = record {
   after = machine.state (machine.Goes (trace.doing (frame_of from c.frame) (arms.arm ∷ from c.frame.place)) (callers_of from c.callers)) (machine.Others (frame_of from c.frame) (callers_of from c.callers) arms.arms ∷ ws) next;
   is = ap (λ (v : machine.Wait). retried (v ∷ ws) next) arms.is;
   port_known = tt;
   state = record {
-    does = (
-      ap (λ (g : List Numbered). machine.Goes (trace.doing (frame_of from c.frame) g) (callers_of from c.callers)) (sym arms.leads)
-          ∙ (ap (λ (g : trace.Frame). machine.Goes g (callers_of from c.callers)) (sym is) ∙ ap (λ (cs : List trace.Frame). machine.Goes (frame_of from d) cs) (sym same)),
-      (subst (IsKnown known) (sym act) arms.both.0, same-known),
-    );
+    does = subst (λ (g : List Numbered). IsDoing known from doing (machine.Goes (trace.doing (frame_of from c.frame) g) (callers_of from c.callers))) arms.leads does;
     wait = subst (λ (ys : List (Wait _)). AreWaits known from ys (machine.Others (frame_of from c.frame) (callers_of from c.callers) arms.arms ∷ ws)) (sym stack) (
       record {
         arms = arms.arms;
@@ -112,17 +109,28 @@ tries_by known from next xs zs ws w c e d shared first is act same same-known st
   };
 }
 
+-- a copy of a frame that goes on with an arm
+pub tries_arm : {M : Type 0} → (known : List (M × ℕ)) (from : Ways) (f copy d : Frame M) (js shared : Option (Rc (Chain M) Global)) (arm : ℕ)
+    → frame_of from copy ≡ frame_of from f → copy.activation ≡ f.activation → frame_of from d ≡ trace.doing (frame_of from copy) (from (Some arm)) → d.activation ≡ copy.activation
+    → callers_of from shared ≡ callers_of from js → (AreKnownAbove known js → AreKnownAbove known shared) → BothKnown known f js
+    → IsDoing known from (Goes d shared) (machine.Goes (trace.doing (frame_of from f) (from (Some arm))) (callers_of from js))
+tries_arm known from f copy d js shared arm same act is act' same-callers known-too both = (
+  ap (λ (g : trace.Frame). machine.Goes (trace.doing g (from (Some arm))) (callers_of from js)) (sym same)
+      ∙ (ap (λ (g : trace.Frame). machine.Goes g (callers_of from js)) (sym is) ∙ ap (λ (cs : List trace.Frame). machine.Goes (frame_of from d) cs) (sym same-callers)),
+  (subst (IsKnown known) (sym (act' ∙ act)) both.0, known-too both.1),
+)
+
 split_arms : (places others : List ℕ) → 1 ≤ length places → others ≡ take (length places - 1) (drop 1 places) → places ≡ slice_index_or places 0 0 ∷ others
 split_arms [] others some is = absurd (omega (arith, some))
 split_arms (p ∷ ps) others some is = ap (λ qs. p ∷ qs) (sym (is ∙ take_all _ ps (omega arith)))
 
-pub tries_next : {M : Type 0} → (known : List (M × ℕ)) (from : Ways) (next : ℕ) (xs zs : List (Wait M)) (ws : List machine.Wait) (w : machine.Wait) (c e : Choice M) (d : Frame M) (shared : Option (Rc (Chain M) Global))
+pub tries_next : {M : Type 0} → (known : List (M × ℕ)) (from : Ways) (next : ℕ) (xs zs : List (Wait M)) (ws : List machine.Wait) (w : machine.Wait) (c e : Choice M) (doing : Doing M)
     → 1 ≤ length c.arms.now → e.arms.now ≡ take (length c.arms.now - 1) (drop 1 c.arms.now)
-    → frame_of from d ≡ trace.doing (frame_of from c.frame) (from (Some (slice_index_or c.arms.now 0 0))) → d.activation ≡ c.frame.activation → callers_of from shared ≡ callers_of from c.callers → AreKnownAbove known shared
+    → (BothKnown known c.frame c.callers → IsDoing known from doing (machine.Goes (trace.doing (frame_of from c.frame) (from (Some (slice_index_or c.arms.now 0 0)))) (callers_of from c.callers)))
     → zs ≡ Others e ∷ xs → e.frame ≡ c.frame → e.callers ≡ c.callers → IsChoice known from c w → AreWaits known from xs ws
-    → IsOn known from None (Goes d shared) zs next (retried (w ∷ ws) next)
-tries_next known from next xs zs ws w c e d shared some split is act same same-known stack frame callers choice wait =
-    tries_by known from next xs zs ws w c e d shared (slice_index_or c.arms.now 0 0) is act same same-known stack frame callers
+    → IsOn known from None doing zs next (retried (w ∷ ws) next)
+tries_next known from next xs zs ws w c e doing some split does stack frame callers choice wait =
+    tries_by known from next xs zs ws w c e doing (slice_index_or c.arms.now 0 0) (does choice.both) stack frame callers
     (arms_by known from c (slice_index_or c.arms.now 0 0) e.arms.now w choice.arms choice.is (subst (λ (ps : List ℕ). LeadOn from c.frame.place ps choice.arms) (split_arms c.arms.now e.arms.now some split) choice.lead) choice.both) wait
 
 -- a frame that has a caller returns to it

@@ -180,6 +180,13 @@ did t named old new slots limit made other s g all same is same-goal same-name =
     subst (λ (xs : List (Option Value)). outcomes.Does limit new other (simple s (env_of xs) g)) same
     (subst (λ (o : Outcome). outcomes.Does limit new o (simple s (env_of old) g)) is (all s g same-goal same-name))
 
+-- where the turn that was made is this one
+pub turns_to : {M E : Type 0} → (t : GoalExpr) (named : Named) (next : Option ℕ) (f : Frame M) (js : Option (Rc (Chain M) Global)) (left : ℕ) (turn : Turn M) (r : Result (Turn M) E)
+    → IfOk r (λ made. made ≡ turn) → ((waits : List (Wait M)) → Unfolds (Does t named) next f js left turn waits waits)
+    → IfOk r (λ made. (waits : List (Wait M)) → Unfolds (Does t named) next f js left made waits waits)
+turns_to t named next f js left turn (Err e) is here = tt
+turns_to t named next f js left turn (Ok made) is here = λ waits. subst (λ x. Unfolds (Does t named) next f js left x waits waits) (sym is) (here waits)
+
 pub simply_goes : {M : Type 0} → (t : GoalExpr) (named : Named) (next : Option ℕ) (f d : Frame M) (js : Option (Rc (Chain M) Global)) (left extra words weight : ℕ) (bytes : Option (Bor (List ℕ))) (old new : List (Option Value)) (made : Outcome) (xs : List (Wait M))
     → 1 ≤ left → DidSimply t named old new (left - 1) made → old ≡ f.slots.items → made ≡ outcome.Goes extra words bytes → weight ≡ suc extra
     → ((from : Ways) → frame_of from d ≡ trace.knowing (frame_of from f) (env_of new) (from next)) → d.activation ≡ f.activation

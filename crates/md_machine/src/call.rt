@@ -114,7 +114,7 @@ pub fn enter<'a, 'p, M: Copy + Drop>(
     call: &Call<'a, 'p>,
     activation: Activation<M>,
     next: Option<u32>,
-    frame: Frame<'a, M>,
+    mut frame: Frame<'a, M>,
     callers: Option<Rc<Chain<'a, M>>>,
     waits: &mut Waits<'a, M>,
 ) -> Result<Doing<'a, M>, NoMemory>
@@ -126,14 +126,13 @@ pub fn enter<'a, 'p, M: Copy + Drop>(
 {
     let det = call.routine.det;
     let callee = body(alloc, call, activation, &frame)?;
-    let place = next;
-    let caller = Frame { place, ..frame };
+    frame.place = next;
     match det {
-        Det::Multi => enter_open(alloc, callee, caller, callers, waits),
-        Det::Nondet => enter_open(alloc, callee, caller, callers, waits),
-        Det::Det => enter_cut(callee, caller, callers, waits),
-        Det::Semidet => enter_cut(callee, caller, callers, waits),
-        Det::Failure => enter_cut(callee, caller, callers, waits),
+        Det::Multi => enter_open(alloc, callee, frame, callers, waits),
+        Det::Nondet => enter_open(alloc, callee, frame, callers, waits),
+        Det::Det => enter_cut(callee, frame, callers, waits),
+        Det::Semidet => enter_cut(callee, frame, callers, waits),
+        Det::Failure => enter_cut(callee, frame, callers, waits),
     }
 }
 
@@ -182,7 +181,7 @@ fn enter_open<'a, M: Copy + Drop>(
 
 /// The body runs up to its first answer.
 fn enter_cut<'a, M: Copy + Drop>(
-    callee: Frame<'a, M>,
+    mut callee: Frame<'a, M>,
     caller: Frame<'a, M>,
     callers: Option<Rc<Chain<'a, M>>>,
     waits: &mut Waits<'a, M>,
@@ -199,10 +198,7 @@ fn enter_cut<'a, M: Copy + Drop>(
         frame: caller,
         callers,
     }))?;
-    let callee = Frame {
-        head: &[],
-        arguments: &[],
-        ..callee
-    };
+    callee.head = &[];
+    callee.arguments = &[];
     Ok(Doing::Goes(callee, None))
 }

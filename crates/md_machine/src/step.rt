@@ -1,13 +1,14 @@
 // The steps that unfold no goal.
-ghost use Rattle.std.specs.Prelude.{ℕ, ◌≡◌, List, ◌∷◌, IfOk, length};
+ghost use Rattle.std.specs.Prelude.{ℕ, ◌≡◌, List, ◌∷◌, Some, IfOk, length};
 ghost use Rattle.md_hlds.specs.Value.{Env};
+ghost use Rattle.md_hlds.specs.Trace as trace;
 ghost use Rattle.md_steps.specs.State as machine;
 ghost use Rattle.md_steps.specs.Steps.{returned, answered, retried, unwound, thrown_on};
 ghost use Rattle.md_value.specs.Values.{env_of};
 ghost use Rattle.md_machine.specs.Frames.{Ways, frame_of, frames_of, callers_of, IsKnown, AreKnown, AreKnownAbove};
 ghost use Rattle.md_machine.specs.Waits.{stack_of, BothKnown, IsWait, AreWaits, IsChoice, IsCondition, IsReturning};
 ghost use Rattle.md_machine.specs.declared.wait.Wait.{Wait};
-ghost use Rattle.md_machine.specs.States.{IsStep};
+ghost use Rattle.md_machine.specs.States.{IsDoing, IsStep};
 
 use crate::frame::{Activation, Chain, Frame, nearest, share, under};
 use crate::wait::{Choice, Cut, Wait, Waits};
@@ -61,19 +62,19 @@ pub fn returned<'a, M: Copy + Drop>(
 {
     match nearest(alloc, callers)? {
         None => Ok(answered(frame.slots, waits)),
-        Some((caller, others)) => exit_to(frame, caller, others, waits),
+        Some((caller, others)) => exit_to(&frame, caller, others, waits),
     }
 }
 
 /// A frame returns to its caller, and a redo is due when the caller comes back.
 fn exit_to<'a, M: Copy + Drop>(
-    frame: Frame<'a, M>,
+    frame: &Frame<'a, M>,
     mut caller: Frame<'a, M>,
     callers: Rc<Chain<'a, M>>,
     waits: &mut Waits<'a, M>,
 ) -> Result<Step<'a, M>, NoMemory>
-    ensures { IfOk result (λ step. (known : List (M × ℕ)) (from : Ways) (next : ℕ) (ws : List machine.Wait) → IsKnown known frame.entry.activation → IsKnown known caller.entry.activation → AreKnown known callers.entry.value → AreWaits known from (stack_of waits.old) ws
-        → IsStep known from step (stack_of waits.new) next (returned (frame_of from frame.entry) (frame_of from caller.entry ∷ frames_of from callers.entry.value) ws next)) }
+    ensures { IfOk result (λ step. (known : List (M × ℕ)) (from : Ways) (next : ℕ) (ws : List machine.Wait) → IsKnown known frame.now.activation → IsKnown known caller.entry.activation → AreKnown known callers.entry.value → AreWaits known from (stack_of waits.old) ws
+        → IsStep known from step (stack_of waits.new) next (returned (frame_of from frame.now) (frame_of from caller.entry ∷ frames_of from callers.entry.value) ws next)) }
 {
     give_back(frame.head, frame.arguments, &frame.slots, &mut caller.slots);
     waits.push(Wait::Again(frame.activation))?;
@@ -108,7 +109,7 @@ fn answered<'a, M: Copy + Drop>(
 /// A condition is met: what it found is known in the then part.
 fn met<'a, M: Copy + Drop>(
     slots: Vec<Option<Value<'a>>>,
-    frame: Frame<'a, M>,
+    mut frame: Frame<'a, M>,
     callers: Option<Rc<Chain<'a, M>>>,
     then: u32,
 ) -> Step<'a, M>
@@ -116,11 +117,8 @@ fn met<'a, M: Copy + Drop>(
         → IsCondition known from frame.entry callers.entry then otherwise w → AreWaits known from xs ws
         → IsStep known from result xs next (answered (env_of slots.entry.items) (w ∷ ws) next) }
 {
-    let frame = Frame {
-        slots,
-        place: Some(then),
-        ..frame
-    };
+    frame.slots = slots;
+    frame.place = Some(then);
     Step::On(None, Doing::Goes(frame, callers))
 }
 
@@ -177,7 +175,7 @@ fn come_back<'a, M: Copy + Drop>(
 
 /// A condition isn't met.
 fn missed<'a, M: Copy + Drop>(
-    frame: Frame<'a, M>,
+    mut frame: Frame<'a, M>,
     callers: Option<Rc<Chain<'a, M>>>,
     otherwise: u32,
 ) -> Step<'a, M>
@@ -185,40 +183,42 @@ fn missed<'a, M: Copy + Drop>(
         → IsCondition known from frame.entry callers.entry then otherwise w → AreWaits known from xs ws
         → IsStep known from result xs next (retried (w ∷ ws) next) }
 {
-    let place = Some(otherwise);
-    Step::On(None, Doing::Goes(Frame { place, ..frame }, callers))
+    frame.place = Some(otherwise);
+    Step::On(None, Doing::Goes(frame, callers))
 }
 
 /// The next of these arms is tried, and the others wait; where there is none, it has failed.
 fn next_arm<'a, M: Copy + Drop>(
     alloc: Global,
-    choice: Choice<'a, M>,
+    mut choice: Choice<'a, M>,
     waits: &mut Waits<'a, M>,
 ) -> Result<Step<'a, M>, NoMemory>
     ensures { IfOk result (λ step. (known : List (M × ℕ)) (from : Ways) (next : ℕ) (w : machine.Wait) (ws : List machine.Wait)
         → IsChoice known from choice.entry w → AreWaits known from (stack_of waits.old) ws
         → IsStep known from step (stack_of waits.new) next (retried (w ∷ ws) next)) }
 {
-    let Choice {
-        frame,
-        callers,
-        arms,
-    } = choice;
-    let [first, others @ ..] = arms else {
+    let [first, others @ ..] = choice.arms else {
         return Ok(Step::On(None, Doing::Fails));
     };
-    let tried = Frame {
-        place: Some(*first),
-        ..frame.copy(alloc)?
-    };
-    let shared = share(&callers)?;
-    let arms = others;
-    waits.push(Wait::Others(Choice {
-        frame,
-        callers,
-        arms,
-    }))?;
-    Ok(Step::On(None, Doing::Goes(tried, shared)))
+    let tried = tried(alloc, &choice, *first)?;
+    choice.arms = others;
+    waits.push(Wait::Others(choice))?;
+    Ok(Step::On(None, tried))
+}
+
+/// A copy of the frame of these arms goes on with the arm at a place.
+fn tried<'a, M: Copy + Drop>(
+    alloc: Global,
+    choice: &Choice<'a, M>,
+    arm: u32,
+) -> Result<Doing<'a, M>, NoMemory>
+    ensures { IfOk result (λ doing. (known : List (M × ℕ)) (from : Ways) → BothKnown known choice.now.frame choice.now.callers
+        → IsDoing known from doing (machine.Goes (trace.doing (frame_of from choice.now.frame) (from (Some arm))) (callers_of from choice.now.callers))) }
+{
+    let mut frame = choice.frame.copy(alloc)?;
+    frame.place = Some(arm);
+    let callers = share(&choice.callers)?;
+    Ok(Doing::Goes(frame, callers))
 }
 
 /// An exception leaves one frame, or one entry of what waits.

@@ -59,34 +59,40 @@ pub fn simple_goal<'a, M: Copy + Drop>(
             written,
         } => {
             frame.place = next;
-            let doing = Doing::Goes(frame, callers);
-            Ok(Turn::Goes(weight_of(extra)?, words, written, doing))
+            weighed(extra, words, written, Doing::Goes(frame, callers))
         }
-        Outcome::Fails(extra) => Ok(Turn::Goes(weight_of(extra)?, 0, None, Doing::Fails)),
+        Outcome::Fails(extra) => weighed(extra, 0, None, Doing::Fails),
         Outcome::Throws(bytes) => Ok(Turn::Throws(bytes, under(alloc, frame, callers)?)),
         Outcome::Sticks => Ok(Turn::Sticks),
         Outcome::TooHeavy => Ok(Turn::TooHeavy),
     }
 }
 
-/// The weight of a turn, by how much it is more than 1.
-fn weight_of(extra: u32) -> Result<u32, NoMemory>
-    ensures { IfOk result (λ weight. weight ≡ suc extra) }
+/// A turn that goes on, by how much its weight is more than 1.
+fn weighed<'a, M: Copy + Drop>(
+    extra: u32,
+    words: u32,
+    written: Option<&'a [u8]>,
+    doing: Doing<'a, M>,
+) -> Result<Turn<'a, M>, NoMemory>
+    ensures { IfOk result (λ turn. turn ≡ Turn.Goes (suc extra) words written.entry doing.entry) }
 {
-    extra.checked_add(1).ok_or(NoMemory)
+    let Some(weight) = extra.checked_add(1) else {
+        return Err(NoMemory);
+    };
+    Ok(Turn::Goes(weight, words, written, doing))
 }
 
 /// A conjunction's parts are done before what comes after it.
 pub fn conjunction<'a, M: Copy + Drop>(
     first: Option<u32>,
-    frame: Frame<'a, M>,
+    mut frame: Frame<'a, M>,
     callers: Option<Rc<Chain<'a, M>>>,
 ) -> Turn<'a, M>
     ensures { (waits : List (Wait M)) (next : Option ℕ) (left : ℕ) → 1 ≤ left → Unfolds (Conjoins first) next frame.entry callers.entry left result waits waits }
 {
-    let place = first;
-    let doing = Doing::Goes(Frame { place, ..frame }, callers);
-    Turn::Goes(1, 0, None, doing)
+    frame.place = first;
+    Turn::Goes(1, 0, None, Doing::Goes(frame, callers))
 }
 
 /// A disjunction: a switch on a variable that has a value takes one arm, any other tries all of them.
@@ -116,7 +122,7 @@ pub fn disjunction<'a, M: Copy + Drop>(
 fn tries<'a, M: Copy + Drop>(
     arms: &'a [u32],
     next: Option<u32>,
-    frame: Frame<'a, M>,
+    mut frame: Frame<'a, M>,
     callers: Option<Rc<Chain<'a, M>>>,
     waits: &mut Waits<'a, M>,
 ) -> Result<Turn<'a, M>, NoMemory>
@@ -124,8 +130,7 @@ fn tries<'a, M: Copy + Drop>(
         → 1 ≤ left → LeadOn from next arms.now ps → BothKnown known frame.entry callers.entry → AreWaits known from (stack_of waits.old) ws
         → IsTurn known from a left turn (stack_of waits.new) number (tries (frame_of from frame.entry) (from next) (callers_of from callers.entry) ws number ps)) }
 {
-    let place = next;
-    let frame = Frame { place, ..frame };
+    frame.place = next;
     waits.push(Wait::Others(Choice {
         frame,
         callers,
@@ -138,7 +143,7 @@ fn tries<'a, M: Copy + Drop>(
 fn takes_arm<'a, M: Copy + Drop>(
     arms: &[u32],
     chosen: Option<usize>,
-    frame: Frame<'a, M>,
+    mut frame: Frame<'a, M>,
     callers: Option<Rc<Chain<'a, M>>>,
 ) -> Turn<'a, M>
     ensures { (known : List (M × ℕ)) (from : Ways) (a left number : ℕ) (next : Option ℕ) (xs : List (Wait M)) (ws : List machine.Wait) (ps : List Numbered)
@@ -149,8 +154,8 @@ fn takes_arm<'a, M: Copy + Drop>(
     if place.is_none() {
         return Turn::Goes(1, 0, None, Doing::Fails);
     }
-    let doing = Doing::Goes(Frame { place, ..frame }, callers);
-    Turn::Goes(1, 0, None, doing)
+    frame.place = place;
+    Turn::Goes(1, 0, None, Doing::Goes(frame, callers))
 }
 
 /// The place of the arm that was chosen, if there is one.
@@ -168,17 +173,16 @@ pub fn conditional<'a, M: Copy + Drop>(
     alloc: Global,
     places: (u32, u32, u32),
     next: Option<u32>,
-    frame: Frame<'a, M>,
+    mut frame: Frame<'a, M>,
     callers: Option<Rc<Chain<'a, M>>>,
     waits: &mut Waits<'a, M>,
 ) -> Result<Turn<'a, M>, NoMemory>
     ensures { IfOk result (λ turn. (left : ℕ) → 1 ≤ left → Unfolds (Tests places.0 places.1 places.2) next frame.entry callers.entry left turn (stack_of waits.old) (stack_of waits.new)) }
 {
     let (condition, then, otherwise) = places;
-    let place = next;
     let runs = alone(alloc, &frame, condition)?;
-    let after = Frame { place, ..frame };
-    waits.push(Wait::Condition(after, callers, then, otherwise))?;
+    frame.place = next;
+    waits.push(Wait::Condition(frame, callers, then, otherwise))?;
     Ok(Turn::Goes(1, 0, None, Doing::Goes(runs, None)))
 }
 
@@ -187,15 +191,15 @@ pub fn negation<'a, M: Copy + Drop>(
     alloc: Global,
     goal: u32,
     next: Option<u32>,
-    frame: Frame<'a, M>,
+    mut frame: Frame<'a, M>,
     callers: Option<Rc<Chain<'a, M>>>,
     waits: &mut Waits<'a, M>,
 ) -> Result<Turn<'a, M>, NoMemory>
     ensures { IfOk result (λ turn. (left : ℕ) → 1 ≤ left → Unfolds (Negates goal) next frame.entry callers.entry left turn (stack_of waits.old) (stack_of waits.new)) }
 {
-    let place = next;
     let runs = alone(alloc, &frame, goal)?;
-    waits.push(Wait::Negation(Frame { place, ..frame }, callers))?;
+    frame.place = next;
+    waits.push(Wait::Negation(frame, callers))?;
     Ok(Turn::Goes(1, 0, None, Doing::Goes(runs, None)))
 }
 
@@ -204,15 +208,15 @@ pub fn quantified<'a, M: Copy + Drop>(
     alloc: Global,
     goal: u32,
     next: Option<u32>,
-    frame: Frame<'a, M>,
+    mut frame: Frame<'a, M>,
     callers: Option<Rc<Chain<'a, M>>>,
     waits: &mut Waits<'a, M>,
 ) -> Result<Turn<'a, M>, NoMemory>
     ensures { IfOk result (λ turn. (left : ℕ) → 1 ≤ left → Unfolds (Quantifies goal) next frame.entry callers.entry left turn (stack_of waits.old) (stack_of waits.new)) }
 {
-    let place = next;
     let runs = alone(alloc, &frame, goal)?;
-    waits.push(Wait::Single(Frame { place, ..frame }, callers))?;
+    frame.place = next;
+    waits.push(Wait::Single(frame, callers))?;
     Ok(Turn::Goes(1, 0, None, Doing::Goes(runs, None)))
 }
 
@@ -225,11 +229,9 @@ fn alone<'a, M: Copy + Drop>(
     ensures told { IfOk result (λ runs. (from : Ways) (p : Numbered) → from (Some goal) ≡ p ∷ [] → frame_of from runs ≡ trace.alone (frame_of from frame.now) p) }
     ensures activation { IfOk result (λ runs. runs.activation ≡ frame.now.activation) }
 {
-    let copy = frame.copy(alloc)?;
-    Ok(Frame {
-        place: Some(goal),
-        head: &[],
-        arguments: &[],
-        ..copy
-    })
+    let mut copy = frame.copy(alloc)?;
+    copy.place = Some(goal);
+    copy.head = &[];
+    copy.arguments = &[];
+    Ok(copy)
 }

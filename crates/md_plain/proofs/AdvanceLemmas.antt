@@ -1,5 +1,5 @@
 -- What each step of the program makes of a machine that stands in a run.
-use Rattle.std.proofs.Common.{◌≡◌, refl, ap, ◌∙◌, sym, subst, arith, ℕ, suc, ◌-◌, ◌<◌, ◌≤◌, List, [], ◌∷◌, length, take, drop, get_or}
+use Rattle.std.proofs.Common.{◌≡◌, refl, ap, ◌∙◌, sym, subst, arith, ℕ, suc, ◌-◌, ◌<◌, ◌≤◌, List, [], ◌∷◌, length, take, drop, get_or, Result, Ok, Err, IfOk}
 use Rattle.std.proofs.lemmas.List.{take_all}
 use denote.Ref.{Bor}
 use Rattle.md_hlds.specs.Hlds.{Hlds}
@@ -20,6 +20,8 @@ use Rattle.md_plain.specs.declared.unfold.Unfolded.{Unfolded}
 use Rattle.md_plain.specs.Goals.{numbered_of, numbereds_of}
 use Rattle.md_plain.specs.States.{frame_of, frames_of, waits_of, doing_of, state_of}
 use Rattle.md_plain.specs.Steps.{step_of}
+use Rattle.md_plain.specs.declared.runner.Move.{Move}
+use Rattle.md_plain.specs.Leads.{Leads}
 use Rattle.md_plain.specs.Unfolded.{unfolded_of}
 
 -- a machine whose state does this
@@ -50,13 +52,26 @@ after_return s b left done st step f js now few is here =
     along s b left done step (returned (frame_of f) (frames_of js.now) (waits_of st.waits.now) st.next) is
     (returns_in s b left done (frame_of f) (frames_of js.now) (waits_of st.waits.now) st.next (no_goals f.goals.now few) (stands_doing s b left done st (Goes f js) now here))
 
-pub after_turn : (s : Hlds) (b left : ℕ) (done : Items) (st : State) (u : Unfolded) (f : Frame) (js : Bor (List Frame)) (p : Numbered) (goals : List MeantNumbered) → st.now ≡ Goes f js
+pub before_turn : (s : Hlds) (b left : ℕ) (done : Items) (st : State) (f : Frame) (js : Bor (List Frame)) (p : Numbered) (goals : List MeantNumbered) → st.now ≡ Goes f js
+    → numbereds_of f.goals.now ≡ numbered_of p ∷ goals → StandsIn s b left done (state_of st)
+    → AfterTurnIn s b left done f.act p.number (unfolds s (frame_of f) p.number goals (frames_of js.now) (waits_of st.waits.now) st.next (numbered_of p).goal)
+before_turn s b left done st f js p goals now front here =
+    unfolds_in s b left done (frame_of f) (frames_of js.now) (waits_of st.waits.now) st.next (numbered_of p) goals front (stands_doing s b left done st (Goes f js) now here)
+
+-- where the turn is that of the definition, it leads on from that
+pub turned_by : {E : Type 0} → (s : Hlds) (left act number : ℕ) (u : Unfolded) (v : MeantUnfolded) (r : Result Move E) → unfolded_of u ≡ v
+    → IfOk r (λ m. (s : Hlds) (b : ℕ) (done : Items) → AfterTurnIn s b left done act number (unfolded_of u) → Leads s b done m)
+    → IfOk r (λ m. (b : ℕ) (done : Items) → AfterTurnIn s b left done act number v → Leads s b done m)
+turned_by s left act number u v (Err e) is here = tt
+turned_by s left act number u v (Ok m) is here = λ b done after. here s b done (subst (λ (x : MeantUnfolded). AfterTurnIn s b left done act number x) (sym is) after)
+
+-- where a turn leads on from a goal, it leads on from a frame that is at it
+pub goes_by : {E : Type 0} → (s : Hlds) (left : ℕ) (st : State) (f : Frame) (js : Bor (List Frame)) (p : Numbered) (goals : List MeantNumbered) (r : Result Move E) → st.now ≡ Goes f js
     → numbereds_of f.goals.now ≡ numbered_of p ∷ goals
-    → unfolded_of u ≡ unfolds s (frame_of f) p.number goals (frames_of js.now) (waits_of st.waits.now) st.next (numbered_of p).goal
-    → StandsIn s b left done (state_of st) → AfterTurnIn s b left done f.act p.number (unfolded_of u)
-after_turn s b left done st u f js p goals now front is here =
-    subst (λ (v : MeantUnfolded). AfterTurnIn s b left done f.act p.number v) (sym is)
-    (unfolds_in s b left done (frame_of f) (frames_of js.now) (waits_of st.waits.now) st.next (numbered_of p) goals front (stands_doing s b left done st (Goes f js) now here))
+    → IfOk r (λ m. (b : ℕ) (done : Items) → AfterTurnIn s b left done f.act p.number (unfolds s (frame_of f) p.number goals (frames_of js.now) (waits_of st.waits.now) st.next (numbered_of p).goal) → Leads s b done m)
+    → IfOk r (λ m. (b : ℕ) (done : Items) → StandsIn s b left done (state_of st) → Leads s b done m)
+goes_by s left st f js p goals (Err e) now front leads = tt
+goes_by s left st f js p goals (Ok m) now front leads = λ b done here. leads b done (before_turn s b left done st f js p goals now front here)
 
 -- the first goal and the rest of them
 pub front_rest : (ps : List Numbered) (p d : Numbered) → 1 ≤ length ps → p ≡ get_or ps 0 d → numbereds_of ps ≡ numbered_of p ∷ numbereds_of (take (length ps - 1) (drop 1 ps))

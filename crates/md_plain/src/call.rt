@@ -27,12 +27,12 @@ use md_hlds::{Det, Pred, Program};
 pub fn apply<'a>(
     bump: &'a Bump,
     program: &'a Program,
-    front: Front<'a>,
+    front: &Front<'a>,
     site: u32,
     arguments: &[u32],
     value: Option<Value<'a>>,
 ) -> Result<Unfolded<'a>, NoMemory>
-    ensures { IfOk result (λ u. unfolded_of u ≡ applies (hlds_of program.now) (frame_of front.entry.frame) (numbereds_of front.entry.goals.now) (frames_of front.entry.callers.now) (waits_of front.entry.waits.now) front.entry.next site arguments.now (option_value value.entry)) }
+    ensures { IfOk result (λ u. unfolded_of u ≡ applies (hlds_of program.now) (frame_of front.now.frame) (numbereds_of front.now.goals.now) (frames_of front.now.callers.now) (waits_of front.now.waits.now) front.now.next site arguments.now (option_value value.entry)) }
 {
     match value {
         Some(Value::Closure(number, held)) => {
@@ -50,13 +50,13 @@ pub fn apply<'a>(
 pub fn call<'a>(
     bump: &'a Bump,
     program: &'a Program,
-    front: Front<'a>,
+    front: &Front<'a>,
     site: u32,
     called: Option<(u64, &'a Pred)>,
     held: &Parts<'a>,
     arguments: &[u32],
 ) -> Result<Unfolded<'a>, NoMemory>
-    ensures { IfOk result (λ u. unfolded_of u ≡ calls (hlds_of program.now) (frame_of front.entry.frame) (numbereds_of front.entry.goals.now) (frames_of front.entry.callers.now) (waits_of front.entry.waits.now) front.entry.next site (option_procedure called.entry) (parts_of held.now) arguments.now) }
+    ensures { IfOk result (λ u. unfolded_of u ≡ calls (hlds_of program.now) (frame_of front.now.frame) (numbereds_of front.now.goals.now) (frames_of front.now.callers.now) (waits_of front.now.waits.now) front.now.next site (option_procedure called.entry) (parts_of held.now) arguments.now) }
 {
     let Some((number, pred)) = called else {
         return Ok(Unfolded::Sticks(1));
@@ -80,14 +80,14 @@ fn fits(pred: &Pred, held: &Parts, arguments: &[u32]) -> Result<bool, NoMemory>
 fn make_call<'a>(
     bump: &'a Bump,
     program: &'a Program,
-    front: Front<'a>,
+    front: &Front<'a>,
     site: u32,
     number: u64,
     pred: &'a Pred,
     held: &Parts<'a>,
     arguments: &[u32],
 ) -> Result<Unfolded<'a>, NoMemory>
-    ensures { IfOk result (λ u. unfolded_of u ≡ calls_if (hlds_of program.now) (frame_of front.entry.frame) (numbereds_of front.entry.goals.now) (frames_of front.entry.callers.now) (waits_of front.entry.waits.now) front.entry.next site (number, procedure_of pred.now) (parts_of held.now) arguments.now true) }
+    ensures { IfOk result (λ u. unfolded_of u ≡ calls_if (hlds_of program.now) (frame_of front.now.frame) (numbereds_of front.now.goals.now) (frames_of front.now.callers.now) (waits_of front.now.waits.now) front.now.next site (number, procedure_of pred.now) (parts_of held.now) arguments.now true) }
 {
     let call = Item::Call(front.next, Some(front.frame.act), Some(site), number);
     let items = one(bump, call)?;
@@ -101,7 +101,7 @@ fn make_call<'a>(
         held,
         arguments,
     )?;
-    let after = enter(bump, pred.det, callee, front)?;
+    let after = enter(bump, pred.det, &callee, front)?;
     Ok(Unfolded::Turns(call_weight(pred)?, items, after))
 }
 
@@ -140,10 +140,10 @@ fn body<'a>(
 fn enter<'a>(
     bump: &'a Bump,
     det: Det,
-    callee: Frame<'a>,
-    front: Front<'a>,
+    callee: &Frame<'a>,
+    front: &Front<'a>,
 ) -> Result<State<'a>, NoMemory>
-    ensures { IfOk result (λ after. state_of after ≡ enters det (frame_of callee.entry) (DoingOf (frame_of front.entry.frame) (numbereds_of front.entry.goals.now)) (frames_of front.entry.callers.now) (waits_of front.entry.waits.now) front.entry.next) }
+    ensures { IfOk result (λ after. state_of after ≡ enters det (frame_of callee.now) (DoingOf (frame_of front.now.frame) (numbereds_of front.now.goals.now)) (frames_of front.now.callers.now) (waits_of front.now.waits.now) front.now.next) }
 {
     match det {
         Det::Multi => enter_open(bump, callee, front),
@@ -156,28 +156,32 @@ fn enter<'a>(
 
 fn enter_open<'a>(
     bump: &'a Bump,
-    callee: Frame<'a>,
-    front: Front<'a>,
+    callee: &Frame<'a>,
+    front: &Front<'a>,
 ) -> Result<State<'a>, NoMemory>
-    ensures { IfOk result (λ after. state_of after ≡ enters Multi (frame_of callee.entry) (DoingOf (frame_of front.entry.frame) (numbereds_of front.entry.goals.now)) (frames_of front.entry.callers.now) (waits_of front.entry.waits.now) front.entry.next) }
+    ensures { IfOk result (λ after. state_of after ≡ enters Multi (frame_of callee.now) (DoingOf (frame_of front.now.frame) (numbereds_of front.now.goals.now)) (frames_of front.now.callers.now) (waits_of front.now.waits.now) front.now.next) }
 {
-    let caller = to_do(front.frame, front.goals);
+    let caller = to_do(&front.frame, front.goals);
     let callers = cons(bump, caller, front.callers)?;
     Ok(State {
-        now: Doing::Goes(callee, callers),
+        now: Doing::Goes(*callee, callers),
         waits: cons(bump, Wait::Over(front.next), front.waits)?,
         next: more(front.next)?,
     })
 }
 
-fn enter_cut<'a>(bump: &'a Bump, callee: Frame<'a>, front: Front<'a>) -> Result<State<'a>, NoMemory>
-    ensures { IfOk result (λ after. state_of after ≡ enters Semidet (frame_of callee.entry) (DoingOf (frame_of front.entry.frame) (numbereds_of front.entry.goals.now)) (frames_of front.entry.callers.now) (waits_of front.entry.waits.now) front.entry.next) }
+fn enter_cut<'a>(
+    bump: &'a Bump,
+    callee: &Frame<'a>,
+    front: &Front<'a>,
+) -> Result<State<'a>, NoMemory>
+    ensures { IfOk result (λ after. state_of after ≡ enters Semidet (frame_of callee.now) (DoingOf (frame_of front.now.frame) (numbereds_of front.now.goals.now)) (frames_of front.now.callers.now) (waits_of front.now.waits.now) front.now.next) }
 {
-    let caller = to_do(front.frame, front.goals);
+    let caller = to_do(&front.frame, front.goals);
     let wait = Wait::Returning(front.next, callee.pairs, caller, front.callers);
     let callee = Frame {
         pairs: &[],
-        ..callee
+        ..*callee
     };
     Ok(State {
         now: Doing::Goes(callee, &[]),

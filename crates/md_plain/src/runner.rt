@@ -3,10 +3,13 @@ ghost use Rattle.std.specs.Prelude.{ℕ, ◌≡◌, ◌++◌, length, Some, IfOk
 ghost use Rattle.md_hlds.specs.Hlds.{Hlds, hlds_of, procedures_of, procedure_of, is_called, find_procedure, procedure_called};
 ghost use Rattle.md_hlds.specs.Trace.{Items};
 ghost use Rattle.md_hlds.specs.Run.{run, main_name, main_env, main_frame};
+ghost use Rattle.md_steps.specs.Steps.{Turns, Sticks, unfolds};
+ghost use Rattle.md_hlds.specs.HldsGoal.{goal_of};
+ghost use Rattle.md_plain.specs.Goals.{numbereds_of};
 ghost use Rattle.md_steps.specs.Standing.{StandsIn, AfterIn, AfterTurnIn};
 ghost use Rattle.md_plain.specs.Values.{env_of};
 ghost use Rattle.md_plain.specs.Names.{option_procedure};
-ghost use Rattle.md_plain.specs.States.{frame_of, state_of, items_told};
+ghost use Rattle.md_plain.specs.States.{frame_of, frames_of, waits_of, state_of, items_told};
 ghost use Rattle.md_plain.specs.Steps.{step_of};
 ghost use Rattle.md_plain.specs.Unfolded.{unfolded_of};
 ghost use Rattle.md_plain.specs.Leads.{Leads};
@@ -176,25 +179,39 @@ fn advance<'a>(
 {
     let waits = state.waits;
     let next = state.next;
-    match state.now {
+    match &state.now {
         Doing::Fails => Ok(stepped(left, retried(bump, waits, next)?)),
         Doing::Throws(callers) => Ok(stepped(left, unwound(bump, callers, waits, next)?)),
         Doing::Goes(frame, callers) => match frame.goals {
             [] => Ok(stepped(left, returned(bump, frame, callers, waits, next)?)),
             [first, goals @ ..] => {
                 let front = Front {
-                    frame,
+                    frame: *frame,
                     goals,
                     callers,
                     waits,
                     next,
                 };
-                let turn = unfold(bump, program, front, *first)?;
-                let moved = turned(bump, left, frame.act, first.number, turn)?;
-                Ok(moved)
+                at_goal(bump, program, left, &front, first)
             }
         },
     }
+}
+
+/// The turn of a frame at its first goal.
+fn at_goal<'a>(
+    bump: &'a Bump,
+    program: &'a Program,
+    left: u64,
+    front: &Front<'a>,
+    first: &Numbered<'a>,
+) -> Result<Move<'a>, NoMemory>
+    ensures { IfOk result (λ m. (b : ℕ) (done : Items)
+        → AfterTurnIn (hlds_of program.now) b left done front.now.frame.act first.now.number (unfolds (hlds_of program.now) (frame_of front.now.frame) first.now.number (numbereds_of front.now.goals.now) (frames_of front.now.callers.now) (waits_of front.now.waits.now) front.now.next (goal_of first.now.goal.now))
+        → Leads (hlds_of program.now) b done m) }
+{
+    let turn = unfold(bump, program, front, *first)?;
+    turned(bump, left, front.frame.act, first.number, turn)
 }
 
 /// A step that takes nothing of the budget.
@@ -219,18 +236,44 @@ fn turned<'a>(
 {
     match turn {
         Unfolded::Turns(weight, items, after) => {
-            if weight > left {
-                return Ok(Move::Ends(&[]));
-            }
-            let items = cons(bump, Item::Turn(act, Some(number), weight), items)?;
-            Ok(Move::On(items, left - weight, after))
+            turned_to(bump, left, act, number, weight, items, after)
         }
-        Unfolded::Sticks(weight) => {
-            if weight > left {
-                return Ok(Move::Ends(&[]));
-            }
-            let stuck = one(bump, Item::Stuck)?;
-            Ok(Move::Ends(cons(bump, Item::Turn(act, Some(number), weight), stuck)?))
-        }
+        Unfolded::Sticks(weight) => stuck(bump, left, act, number, weight),
     }
+}
+
+/// A turn to this state after these items.
+fn turned_to<'a>(
+    bump: &'a Bump,
+    left: u64,
+    act: u64,
+    number: u64,
+    weight: u64,
+    items: &'a [Item<'a>],
+    after: State<'a>,
+) -> Result<Move<'a>, NoMemory>
+    ensures { IfOk result (λ m. (s : Hlds) (b : ℕ) (done : Items) → AfterTurnIn s b left done act number (Turns weight (items_told items.now) (state_of after.entry)) → Leads s b done m) }
+{
+    if weight > left {
+        return Ok(Move::Ends(&[]));
+    }
+    let items = cons(bump, Item::Turn(act, Some(number), weight), items)?;
+    Ok(Move::On(items, left - weight, after))
+}
+
+/// A turn at a goal for which there is no rule.
+fn stuck<'a>(
+    bump: &'a Bump,
+    left: u64,
+    act: u64,
+    number: u64,
+    weight: u64,
+) -> Result<Move<'a>, NoMemory>
+    ensures { IfOk result (λ m. (s : Hlds) (b : ℕ) (done : Items) → AfterTurnIn s b left done act number (Sticks weight) → Leads s b done m) }
+{
+    if weight > left {
+        return Ok(Move::Ends(&[]));
+    }
+    let stuck = one(bump, Item::Stuck)?;
+    Ok(Move::Ends(cons(bump, Item::Turn(act, Some(number), weight), stuck)?))
 }

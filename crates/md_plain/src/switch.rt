@@ -90,19 +90,29 @@ fn keys_of<'a>(
 {
     match arms {
         [] => Ok(Some(&[])),
-        [first, rest @ ..] => {
-            let Some((tested, key)) = arm_key(program, first) else {
-                return Ok(None);
-            };
-            let Some(keys) = keys_of(bump, program, variable, rest)? else {
-                return Ok(None);
-            };
-            if variable == tested {
-                return Ok(Some(cons(bump, key, keys)?));
-            }
-            Ok(None)
-        }
+        [first, rest @ ..] => match arm_key(program, first) {
+            None => Ok(None),
+            Some(key) => with_key(bump, variable, key, keys_of(bump, program, variable, rest)?),
+        },
     }
+}
+
+/// The key of an arm and those of the arms behind it, where it is of this variable.
+fn with_key<'a>(
+    bump: &'a Bump,
+    variable: u32,
+    key: (u32, Key<'a>),
+    keys: Option<&'a [Key<'a>]>,
+) -> Result<Option<&'a [Key<'a>]>, NoMemory>
+    ensures { IfOk result (λ all. option_keys all ≡ prepend_key variable (variable_key_told (Some key.entry)) (option_keys keys.entry)) }
+{
+    let Some(keys) = keys else {
+        return Ok(None);
+    };
+    if variable == key.0 {
+        return Ok(Some(cons(bump, key.1, keys)?));
+    }
+    Ok(None)
 }
 
 /// The variable and the key of an arm: its first direct part decides, where it is a conjunction.

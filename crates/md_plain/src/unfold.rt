@@ -3,6 +3,7 @@ ghost use Rattle.std.specs.Prelude.{ℕ, ◌≡◌, ◌+◌, ◌++◌, ◌∷◌
 ghost use Rattle.md_hlds.specs.HldsGoal.{goal_of, goals_of, gathered, expr_of, numbered_from, numbered_goal, goal_size};
 ghost use Rattle.md_hlds.specs.Hlds.{hlds_of, procedure_of};
 ghost use Rattle.md_hlds.specs.Value.{value_at};
+ghost use Rattle.md_hlds.specs.Simple.{Go, Throws};
 ghost use Rattle.md_hlds.specs.Trace.{alone, allocated, written};
 ghost use Rattle.md_hlds.specs.Trace.{doing as DoingOf};
 ghost use Rattle.md_steps.specs.State.{Goes, Fails, Negation, Single, Condition, state};
@@ -13,7 +14,7 @@ ghost use Rattle.md_plain.specs.Names.{option_procedure};
 ghost use Rattle.md_plain.specs.Goals.{numbered_of, numbereds_of, option_numbered};
 ghost use Rattle.md_plain.specs.Keys.{keys_told, shape_told};
 ghost use Rattle.md_plain.specs.Outcomes.{outcome_of, bytes_told, simply};
-ghost use Rattle.md_plain.specs.States.{frame_of, frames_of, wait_of, waits_of, state_of, items_told};
+ghost use Rattle.md_plain.specs.States.{doing_of, frame_of, frames_of, wait_of, waits_of, state_of, items_told};
 ghost use Rattle.md_plain.specs.Unfolded.{unfolded_of};
 
 use crate::arena::cons;
@@ -25,7 +26,7 @@ use crate::simple::{Outcome, simple};
 use crate::state::{Doing, Frame, Item, State, Wait};
 use crate::step::{knowing, one, to_do};
 use crate::switch::{arm_for, switch_shape};
-use crate::value::{Parts, next as more, plus};
+use crate::value::{Parts, Value, next as more, plus};
 use bumpalo::Bump;
 use md_base::NoMemory;
 use md_hlds::{Goal, GoalKind, Program};
@@ -51,10 +52,10 @@ pub struct Front<'a> {
 pub fn unfold<'a>(
     bump: &'a Bump,
     program: &'a Program,
-    front: Front<'a>,
+    front: &Front<'a>,
     first: Numbered<'a>,
 ) -> Result<Unfolded<'a>, NoMemory>
-    ensures { IfOk result (λ u. unfolded_of u ≡ unfolds (hlds_of program.now) (frame_of front.entry.frame) first.entry.number (numbereds_of front.entry.goals.now) (frames_of front.entry.callers.now) (waits_of front.entry.waits.now) front.entry.next (goal_of first.entry.goal.now)) }
+    ensures { IfOk result (λ u. unfolded_of u ≡ unfolds (hlds_of program.now) (frame_of front.now.frame) first.entry.number (numbereds_of front.now.goals.now) (frames_of front.now.callers.now) (waits_of front.now.waits.now) front.now.next (goal_of first.entry.goal.now)) }
 {
     let number = first.number;
     let kind = &first.goal.kind;
@@ -92,10 +93,10 @@ pub fn unfold<'a>(
 fn unfold_simple<'a>(
     bump: &'a Bump,
     program: &Program,
-    front: Front<'a>,
+    front: &Front<'a>,
     kind: &'a GoalKind,
 ) -> Result<Unfolded<'a>, NoMemory>
-    ensures { IfOk result (λ u. unfolded_of u ≡ goes_simply (frame_of front.entry.frame) (numbereds_of front.entry.goals.now) (frames_of front.entry.callers.now) (waits_of front.entry.waits.now) front.entry.next (simply (hlds_of program.now) (frame_of front.entry.frame).env (expr_of kind.now))) }
+    ensures { IfOk result (λ u. unfolded_of u ≡ goes_simply (frame_of front.now.frame) (numbereds_of front.now.goals.now) (frames_of front.now.callers.now) (waits_of front.now.waits.now) front.now.next (simply (hlds_of program.now) (frame_of front.now.frame).env (expr_of kind.now))) }
 {
     let outcome = simple(bump, program, front.frame.env, kind)?;
     simply(bump, front, outcome)
@@ -104,15 +105,15 @@ fn unfold_simple<'a>(
 /// A conjunction's parts are done before what comes after it.
 fn conjunction<'a>(
     bump: &'a Bump,
-    front: Front<'a>,
+    front: &Front<'a>,
     number: u64,
     parts: &'a [Goal],
 ) -> Result<Unfolded<'a>, NoMemory>
-    ensures { IfOk result (λ u. unfolded_of u ≡ Turns 1 [] (state (Goes (DoingOf (frame_of front.entry.frame) (numbered_from (suc number) (gathered (goals_of parts.now)) ++ numbereds_of front.entry.goals.now)) (frames_of front.entry.callers.now)) (waits_of front.entry.waits.now) front.entry.next)) }
+    ensures { IfOk result (λ u. unfolded_of u ≡ Turns 1 [] (state (Goes (DoingOf (frame_of front.now.frame) (numbered_from (suc number) (gathered (goals_of parts.now)) ++ numbereds_of front.now.goals.now)) (frames_of front.now.callers.now)) (waits_of front.now.waits.now) front.now.next)) }
 {
     let goals = numbered_from(bump, more(number)?, parts, front.goals)?;
     Ok(turn_to(
-        to_do(front.frame, goals),
+        &to_do(&front.frame, goals),
         front.callers,
         front.waits,
         front.next,
@@ -122,39 +123,55 @@ fn conjunction<'a>(
 /// A simple goal goes, fails, throws or sticks.
 fn simply<'a>(
     bump: &'a Bump,
-    front: Front<'a>,
+    front: &Front<'a>,
     outcome: Outcome<'a>,
 ) -> Result<Unfolded<'a>, NoMemory>
-    ensures { IfOk result (λ u. unfolded_of u ≡ goes_simply (frame_of front.entry.frame) (numbereds_of front.entry.goals.now) (frames_of front.entry.callers.now) (waits_of front.entry.waits.now) front.entry.next (outcome_of outcome.entry)) }
+    ensures { IfOk result (λ u. unfolded_of u ≡ goes_simply (frame_of front.now.frame) (numbereds_of front.now.goals.now) (frames_of front.now.callers.now) (waits_of front.now.waits.now) front.now.next (outcome_of outcome.entry)) }
 {
-    let (waits, next) = (front.waits, front.next);
     match outcome {
-        Outcome::Go(env, extra, words, out) => {
-            let items = made(bump, front.frame.act, words, out)?;
-            let now = Doing::Goes(knowing(front.frame, env, front.goals), front.callers);
-            let after = State { now, waits, next };
-            Ok(Unfolded::Turns(more(extra)?, items, after))
-        }
-        Outcome::No(extra) => {
-            let after = State {
-                now: Doing::Fails,
-                waits,
-                next,
-            };
-            Ok(Unfolded::Turns(more(extra)?, &[], after))
-        }
-        Outcome::Throws(bytes) => {
-            let items = one(bump, Item::Throw(bytes))?;
-            let frames = cons(bump, front.frame, front.callers)?;
-            let after = State {
-                now: Doing::Throws(frames),
-                waits,
-                next,
-            };
-            Ok(Unfolded::Turns(1, items, after))
-        }
+        Outcome::Go(env, extra, words, out) => went(bump, front, env, extra, words, out),
+        Outcome::No(extra) => Ok(turn_after(more(extra)?, &[], Doing::Fails, front)),
+        Outcome::Throws(bytes) => threw(bump, front, bytes),
         Outcome::Stop => Ok(Unfolded::Sticks(1)),
     }
+}
+
+/// A simple goal succeeds with this environment, at a weight more by 1 than `extra`.
+fn went<'a>(
+    bump: &'a Bump,
+    front: &Front<'a>,
+    env: &'a [Option<Value<'a>>],
+    extra: u64,
+    words: u64,
+    out: Option<&'a [u8]>,
+) -> Result<Unfolded<'a>, NoMemory>
+    ensures { IfOk result (λ u. unfolded_of u ≡ goes_simply (frame_of front.now.frame) (numbereds_of front.now.goals.now) (frames_of front.now.callers.now) (waits_of front.now.waits.now) front.now.next (Go (env_of env.now) extra words (bytes_told out.entry))) }
+{
+    let items = made(bump, front.frame.act, words, out)?;
+    let now = Doing::Goes(knowing(&front.frame, env, front.goals), front.callers);
+    Ok(turn_after(more(extra)?, items, now, front))
+}
+
+/// A simple goal throws these bytes.
+fn threw<'a>(bump: &'a Bump, front: &Front<'a>, bytes: &'a [u8]) -> Result<Unfolded<'a>, NoMemory>
+    ensures { IfOk result (λ u. unfolded_of u ≡ goes_simply (frame_of front.now.frame) (numbereds_of front.now.goals.now) (frames_of front.now.callers.now) (waits_of front.now.waits.now) front.now.next (Throws bytes.now)) }
+{
+    let items = one(bump, Item::Throw(bytes))?;
+    let frames = cons(bump, front.frame, front.callers)?;
+    Ok(turn_after(1, items, Doing::Throws(frames), front))
+}
+
+/// A turn of this weight that makes these items, after which the machine does this.
+fn turn_after<'a>(
+    weight: u64,
+    items: &'a [Item<'a>],
+    now: Doing<'a>,
+    front: &Front<'a>,
+) -> Unfolded<'a>
+    ensures { unfolded_of result ≡ Turns weight (items_told items.now) (state (doing_of now.entry) (waits_of front.now.waits.now) front.now.next) }
+{
+    let (waits, next) = (front.waits, front.next);
+    Unfolded::Turns(weight, items, State { now, waits, next })
 }
 
 /// An allocation, where there are words, and an output, where there is one.
@@ -185,14 +202,14 @@ fn written<'a>(bump: &'a Bump, out: Option<&'a [u8]>) -> Result<&'a [Item<'a>], 
 
 /// A turn of weight 1 to this frame, without an item.
 fn turn_to<'a>(
-    frame: Frame<'a>,
+    frame: &Frame<'a>,
     callers: &'a [Frame<'a>],
     waits: &'a [Wait<'a>],
     next: u64,
 ) -> Unfolded<'a>
-    ensures { unfolded_of result ≡ Turns 1 [] (state (Goes (frame_of frame.entry) (frames_of callers.now)) (waits_of waits.now) next) }
+    ensures { unfolded_of result ≡ Turns 1 [] (state (Goes (frame_of frame.now) (frames_of callers.now)) (waits_of waits.now) next) }
 {
-    let now = Doing::Goes(frame, callers);
+    let now = Doing::Goes(*frame, callers);
     Unfolded::Turns(1, &[], State { now, waits, next })
 }
 
@@ -207,72 +224,72 @@ fn turn_back<'a>(waits: &'a [Wait<'a>], next: u64) -> Unfolded<'a>
 /// One goal by itself, as a condition is run.
 fn alone<'a>(
     bump: &'a Bump,
-    frame: Frame<'a>,
+    frame: &Frame<'a>,
     number: u64,
     goal: &'a Goal,
 ) -> Result<Frame<'a>, NoMemory>
-    ensures { IfOk result (λ f. frame_of f ≡ alone (frame_of frame.entry) (numbered_goal number (goal_of goal.now))) }
+    ensures { IfOk result (λ f. frame_of f ≡ alone (frame_of frame.now) (numbered_goal number (goal_of goal.now))) }
 {
     let goals = cons(bump, Numbered { number, goal }, &[])?;
     Ok(Frame {
         goals,
         pairs: &[],
-        ..frame
+        ..*frame
     })
 }
 
 /// A condition runs by itself, and this waits for it.
 fn condition_runs<'a>(
     bump: &'a Bump,
-    front: Front<'a>,
+    front: &Front<'a>,
     number: u64,
     goal: &'a Goal,
-    wait: Wait<'a>,
+    wait: &Wait<'a>,
 ) -> Result<Unfolded<'a>, NoMemory>
-    ensures { IfOk result (λ u. unfolded_of u ≡ Turns 1 [] (state (Goes (alone (frame_of front.entry.frame) (numbered_goal (suc number) (goal_of goal.now))) []) (wait_of wait.entry ∷ (waits_of front.entry.waits.now)) front.entry.next)) }
+    ensures { IfOk result (λ u. unfolded_of u ≡ Turns 1 [] (state (Goes (alone (frame_of front.now.frame) (numbered_goal (suc number) (goal_of goal.now))) []) (wait_of wait.now ∷ (waits_of front.now.waits.now)) front.now.next)) }
 {
-    let frame = alone(bump, front.frame, more(number)?, goal)?;
-    let waits = cons(bump, wait, front.waits)?;
-    Ok(turn_to(frame, &[], waits, front.next))
+    let frame = alone(bump, &front.frame, more(number)?, goal)?;
+    let waits = cons(bump, *wait, front.waits)?;
+    Ok(turn_to(&frame, &[], waits, front.next))
 }
 
 fn negation<'a>(
     bump: &'a Bump,
-    front: Front<'a>,
+    front: &Front<'a>,
     number: u64,
     goal: &'a Goal,
 ) -> Result<Unfolded<'a>, NoMemory>
-    ensures { IfOk result (λ u. unfolded_of u ≡ Turns 1 [] (state (Goes (alone (frame_of front.entry.frame) (numbered_goal (suc number) (goal_of goal.now))) []) (Negation (DoingOf (frame_of front.entry.frame) (numbereds_of front.entry.goals.now)) (frames_of front.entry.callers.now) ∷ (waits_of front.entry.waits.now)) front.entry.next)) }
+    ensures { IfOk result (λ u. unfolded_of u ≡ Turns 1 [] (state (Goes (alone (frame_of front.now.frame) (numbered_goal (suc number) (goal_of goal.now))) []) (Negation (DoingOf (frame_of front.now.frame) (numbereds_of front.now.goals.now)) (frames_of front.now.callers.now) ∷ (waits_of front.now.waits.now)) front.now.next)) }
 {
-    let wait = Wait::Negation(to_do(front.frame, front.goals), front.callers);
-    condition_runs(bump, front, number, goal, wait)
+    let wait = Wait::Negation(to_do(&front.frame, front.goals), front.callers);
+    condition_runs(bump, front, number, goal, &wait)
 }
 
 /// A quantified goal, which is cut at its first answer.
 fn quantified<'a>(
     bump: &'a Bump,
-    front: Front<'a>,
+    front: &Front<'a>,
     number: u64,
     goal: &'a Goal,
 ) -> Result<Unfolded<'a>, NoMemory>
-    ensures { IfOk result (λ u. unfolded_of u ≡ Turns 1 [] (state (Goes (alone (frame_of front.entry.frame) (numbered_goal (suc number) (goal_of goal.now))) []) (Single (DoingOf (frame_of front.entry.frame) (numbereds_of front.entry.goals.now)) (frames_of front.entry.callers.now) ∷ (waits_of front.entry.waits.now)) front.entry.next)) }
+    ensures { IfOk result (λ u. unfolded_of u ≡ Turns 1 [] (state (Goes (alone (frame_of front.now.frame) (numbered_goal (suc number) (goal_of goal.now))) []) (Single (DoingOf (frame_of front.now.frame) (numbereds_of front.now.goals.now)) (frames_of front.now.callers.now) ∷ (waits_of front.now.waits.now)) front.now.next)) }
 {
-    let wait = Wait::Single(to_do(front.frame, front.goals), front.callers);
-    condition_runs(bump, front, number, goal, wait)
+    let wait = Wait::Single(to_do(&front.frame, front.goals), front.callers);
+    condition_runs(bump, front, number, goal, &wait)
 }
 
 /// An if-then-else.
 fn conditional<'a>(
     bump: &'a Bump,
-    front: Front<'a>,
+    front: &Front<'a>,
     number: u64,
     condition: &'a Goal,
     then: &'a Goal,
     otherwise: &'a Goal,
 ) -> Result<Unfolded<'a>, NoMemory>
-    ensures { IfOk result (λ u. unfolded_of u ≡ Turns 1 [] (state (Goes (alone (frame_of front.entry.frame) (numbered_goal (suc number) (goal_of condition.now))) [])
-        (Condition (DoingOf (frame_of front.entry.frame) (numbereds_of front.entry.goals.now)) (frames_of front.entry.callers.now) (numbered_goal (suc number + goal_size (goal_of condition.now)) (goal_of then.now))
-        (numbered_goal (suc number + goal_size (goal_of condition.now) + goal_size (goal_of then.now)) (goal_of otherwise.now)) ∷ (waits_of front.entry.waits.now)) front.entry.next)) }
+    ensures { IfOk result (λ u. unfolded_of u ≡ Turns 1 [] (state (Goes (alone (frame_of front.now.frame) (numbered_goal (suc number) (goal_of condition.now))) [])
+        (Condition (DoingOf (frame_of front.now.frame) (numbereds_of front.now.goals.now)) (frames_of front.now.callers.now) (numbered_goal (suc number + goal_size (goal_of condition.now)) (goal_of then.now))
+        (numbered_goal (suc number + goal_size (goal_of condition.now) + goal_size (goal_of then.now)) (goal_of otherwise.now)) ∷ (waits_of front.now.waits.now)) front.now.next)) }
 {
     let second = plus(more(number)?, goal_size(condition)?)?;
     let third = plus(second, goal_size(then)?)?;
@@ -284,20 +301,20 @@ fn conditional<'a>(
         number: third,
         goal: otherwise,
     };
-    let frame = to_do(front.frame, front.goals);
+    let frame = to_do(&front.frame, front.goals);
     let wait = Wait::Condition(frame, front.callers, then, otherwise);
-    condition_runs(bump, front, number, condition, wait)
+    condition_runs(bump, front, number, condition, &wait)
 }
 
 /// A disjunction of these arms: a switch on a variable that has a value takes one arm, any other tries all of them.
 fn disjunction<'a>(
     bump: &'a Bump,
     program: &Program,
-    front: Front<'a>,
+    front: &Front<'a>,
     number: u64,
     arms: &'a [Goal],
 ) -> Result<Unfolded<'a>, NoMemory>
-    ensures { IfOk result (λ u. unfolded_of u ≡ chooses (frame_of front.entry.frame) (numbereds_of front.entry.goals.now) (frames_of front.entry.callers.now) (waits_of front.entry.waits.now) front.entry.next (numbered_from (suc number) (gathered (goals_of arms.now))) (switch_shape (hlds_of program.now) (gathered (goals_of arms.now)))) }
+    ensures { IfOk result (λ u. unfolded_of u ≡ chooses (frame_of front.now.frame) (numbereds_of front.now.goals.now) (frames_of front.now.callers.now) (waits_of front.now.waits.now) front.now.next (numbered_from (suc number) (gathered (goals_of arms.now))) (switch_shape (hlds_of program.now) (gathered (goals_of arms.now)))) }
 {
     let shape = switch_shape(bump, program, arms)?;
     let arms = numbered_from(bump, more(number)?, arms, &[])?;
@@ -313,29 +330,29 @@ fn disjunction<'a>(
 /// The arms are tried as what failed comes back to them.
 fn tries<'a>(
     bump: &'a Bump,
-    front: Front<'a>,
+    front: &Front<'a>,
     arms: &'a [Numbered<'a>],
 ) -> Result<Unfolded<'a>, NoMemory>
-    ensures { IfOk result (λ u. unfolded_of u ≡ tries (frame_of front.entry.frame) (numbereds_of front.entry.goals.now) (frames_of front.entry.callers.now) (waits_of front.entry.waits.now) front.entry.next (numbereds_of arms.now)) }
+    ensures { IfOk result (λ u. unfolded_of u ≡ tries (frame_of front.now.frame) (numbereds_of front.now.goals.now) (frames_of front.now.callers.now) (waits_of front.now.waits.now) front.now.next (numbereds_of arms.now)) }
 {
-    let frame = to_do(front.frame, front.goals);
+    let frame = to_do(&front.frame, front.goals);
     let waits = cons(bump, Wait::Others(frame, front.callers, arms), front.waits)?;
     Ok(turn_back(waits, front.next))
 }
 
 fn takes_arm<'a>(
     bump: &'a Bump,
-    front: Front<'a>,
+    front: &Front<'a>,
     arm: Option<Numbered<'a>>,
 ) -> Result<Unfolded<'a>, NoMemory>
-    ensures { IfOk result (λ u. unfolded_of u ≡ takes_arm (frame_of front.entry.frame) (numbereds_of front.entry.goals.now) (frames_of front.entry.callers.now) (waits_of front.entry.waits.now) front.entry.next (option_numbered arm.entry)) }
+    ensures { IfOk result (λ u. unfolded_of u ≡ takes_arm (frame_of front.now.frame) (numbereds_of front.now.goals.now) (frames_of front.now.callers.now) (waits_of front.now.waits.now) front.now.next (option_numbered arm.entry)) }
 {
     let Some(arm) = arm else {
         return Ok(turn_back(front.waits, front.next));
     };
     let goals = cons(bump, arm, front.goals)?;
     Ok(turn_to(
-        to_do(front.frame, goals),
+        &to_do(&front.frame, goals),
         front.callers,
         front.waits,
         front.next,

@@ -1,6 +1,6 @@
 // Environments: a slot for each variable of a clause, by its place, with the variable's value where it has one.
-ghost use Rattle.std.specs.Prelude.{◌≡◌, length, None, IfOk};
-ghost use Rattle.md_hlds.specs.Value.{value_at, values_at, bound, blank};
+ghost use Rattle.std.specs.Prelude.{◌≡◌, length, None, Some, IfOk};
+ghost use Rattle.md_hlds.specs.Value.{value_at, values_at, prepend_value, bound, blank};
 ghost use Rattle.md_hlds.specs.Trace.{back, back_value, passed, given, without, pairs_of};
 ghost use Rattle.md_value.specs.Values.{value_of, parts_of, option_value, option_parts, env_of};
 
@@ -51,15 +51,24 @@ pub(crate) fn values_at<'a>(
 {
     match variables {
         [] => Ok(Some(bump.try_alloc(Parts::Nothing)?)),
-        [first, rest @ ..] => {
-            let Some(value) = value_at(slots, *first) else {
-                return Ok(None);
-            };
-            let Some(values) = values_at(bump, slots, rest)? else {
-                return Ok(None);
-            };
-            Ok(Some(bump.try_alloc(Parts::Also(value, values))?))
-        }
+        [first, rest @ ..] => match value_at(slots, *first) {
+            None => Ok(None),
+            Some(value) => also(bump, value, values_at(bump, slots, rest)?),
+        },
+    }
+}
+
+/// A value and those after it, in the arena, where each variable has one.
+fn also<'a>(
+    bump: &'a Bump,
+    value: Value<'a>,
+    values: Option<&'a Parts<'a>>,
+) -> Result<Option<&'a Parts<'a>>, NoMemory>
+    ensures { IfOk result (λ all. option_parts all ≡ prepend_value (Some (value_of value.entry)) (option_parts values.entry)) }
+{
+    match values {
+        None => Ok(None),
+        Some(values) => Ok(Some(bump.try_alloc(Parts::Also(value, values))?)),
     }
 }
 

@@ -1,8 +1,8 @@
 // What a unification does in an environment.
 ghost use Rattle.std.specs.Prelude.{ℕ, ◌≡◌, ◌≤◌, ◌&&◌, length, nat_eq, Some, IfOk};
 ghost use Rattle.md_hlds.specs.Hlds.{Hlds, Procedure};
-ghost use Rattle.md_hlds.specs.Value.{value_at, values_at, value_count, bound, Number, Literal};
-ghost use Rattle.md_hlds.specs.Simple.{goes, unify, unify_values, unify_constant, build, take_apart, same_functor, unify_functor, close, unify_predicate};
+ghost use Rattle.md_hlds.specs.Value.{value_at, values_at, value_count, bound, compared, Number, Literal};
+ghost use Rattle.md_hlds.specs.Simple.{goes, unify, compare_values, unify_values, unify_constant, build, take_apart, same_functor, unify_functor, close, unify_predicate};
 ghost use Rattle.md_names.specs.Named.{term_name};
 ghost use Rattle.md_value.specs.Values.{value_of, values_of, parts_of, env_of};
 ghost use Rattle.md_value.specs.Outcomes.{Does, DoesLightly};
@@ -75,17 +75,30 @@ fn unify_values<'a>(
 {
     match value_at(slots, x) {
         Some(v) => match value_at(slots, y) {
-            Some(w) => match same(alloc, v, w, limit)? {
-                Same::Equal(pairs) => Ok(goes(pairs, 0)),
-                Same::Differ(pairs) => Ok(Outcome::Fails(pairs)),
-                Same::Over => Ok(Outcome::TooHeavy),
-            },
+            Some(w) => unify_found(alloc, v, w, slots, limit),
             None => Ok(binds(y, v, slots)),
         },
         None => match value_at(slots, y) {
             Some(w) => Ok(binds(x, w, slots)),
             None => Ok(Outcome::Sticks),
         },
+    }
+}
+
+/// The values of two variables are compared.
+fn unify_found<'a>(
+    alloc: Global,
+    v: Value<'a>,
+    w: Value<'a>,
+    slots: &[Option<Value<'a>>],
+    limit: u32,
+) -> Result<Outcome<'a>, NoMemory>
+    ensures { IfOk result (λ o. Does limit slots.now o (compare_values (env_of slots.now) (compared (value_of v.entry) (value_of w.entry)))) }
+{
+    match same(alloc, v, w, limit)? {
+        Same::Equal(pairs) => Ok(goes(pairs, 0)),
+        Same::Differ(pairs) => Ok(Outcome::Fails(pairs)),
+        Same::Over => Ok(Outcome::TooHeavy),
     }
 }
 

@@ -2,7 +2,6 @@ use Rattle.std.proofs.Common.{◌≡◌, ◌∙◌, ◌+◌, ◌++◌, sym, ap, 
 use Rattle.md_hlds.specs.declared.goal.Goal.{Goal}
 use Rattle.md_hlds.specs.Hlds.{hlds_of}
 use Rattle.md_hlds.specs.HldsGoal.{goal_of, goal_size, goals_of, gathered}
-use Rattle.md_code.specs.declared.extent.Extent.{Extent}
 use Rattle.md_code.specs.Layout.{Cell, cell, begins, conjunction_table, arm_table}
 use Rattle.md_code.specs.Told.{cells_of}
 use Rattle.md_code.proofs.LayoutLemmas.{laid, inner-Conj, inner-Disj, inner-If, what_is_left, conjunction-next, arms-next}
@@ -53,11 +52,10 @@ lay_arms-loop-arm-preserved t c =
 pub lay_conjunction-loop-number-preserved : goal.lay_conjunction-loop-number-preserved
 lay_conjunction-loop-number-preserved t c =
     let olds = c.loop-number.entries.items in
-    let size : c.in_ok-extent_of.field-0.goals ≡ goal_size (goal_of c.index-goals-number.result) = ap (λ (e : Extent). e.goals) c.in_ok-extent_of.ensures in
-    let end' : c.in_ok-end.end ≡ length olds + goal_size (goal_of c.index-goals-number.result)
-    = omega (arith, c.in_ok-end.ensures, c.len.ensures, c.loop-number.entries.ok, size) in
+    let end = c.len.result + goal_size (goal_of c.index-goals-number.result) in
+    let end' : end ≡ length olds + goal_size (goal_of c.index-goals-number.result) = omega (arith, c.len.ensures, c.loop-number.entries.ok) in
     c.loop-number.invariant
-    ∙ conjunction-next (hlds_of c.args.moded.now) olds c.lay.new.entries.items c.args.next c.in_ok-then.then c.args.goals.now c.loop-number.number c.in_ok-end.end c.index-goals-number.result
+    ∙ conjunction-next (hlds_of c.args.moded.now) olds c.lay.new.entries.items c.args.next c.in_ok-then.then c.args.goals.now c.loop-number.number end c.index-goals-number.result
     (omega arith) c.index-goals-number.is end'
-    (c.in_ok-then.ensures ∙ ap (λ (gs : List Goal). begins c.in_ok-end.end (gathered (goals_of gs)) c.args.next) (what_is_left (c.loop-number.number + 1) c.args.goals.now))
+    (c.in_ok-then.ensures ∙ ap (λ (gs : List Goal). begins end (gathered (goals_of gs)) c.args.next) (what_is_left (c.loop-number.number + 1) c.args.goals.now))
     c.in_ok-lay.ensures

@@ -1,7 +1,7 @@
 use Rattle.std.proofs.Common.{◌-◌, length, take, drop}
 use Rattle.md_hlds.specs.Hlds.{hlds_of}
 use Rattle.md_plain.specs.Goals.{numbereds_of}
-use Rattle.md_plain.proofs.AdvanceLemmas.{after_failure, after_throw, after_return, after_turn, front_rest}
+use Rattle.md_plain.proofs.AdvanceLemmas.{after_failure, after_throw, after_return, goes_by, front_rest}
 use Rattle.md_plain.proofs.runner.advance.Goals as goal
 
 pub returns-in_ok-retried-in-Fails : goal.returns-in_ok-retried-in-Fails
@@ -19,9 +19,8 @@ returns-in_ok-returned-in-empty c = λ b done here.
     c.stepped-in-empty.ensures (hlds_of c.args.program.now) b done
     (after_return (hlds_of c.args.program.now) b c.args.left done c.args.state c.in_ok-returned-in-empty.field-0 c.in-Goes.frame c.in-Goes.callers c.in-Goes.is c.in-empty.len_below c.in_ok-returned-in-empty.ensures here)
 
-pub returns-in_ok-moved-in-len1-up : goal.returns-in_ok-moved-in-len1-up
-returns-in_ok-moved-in-len1-up c = λ b done here.
-    c.in_ok-moved-in-len1-up.ensures (hlds_of c.args.program.now) b done
-    (after_turn (hlds_of c.args.program.now) b c.args.left done c.args.state c.in_ok-turn-in-len1-up.turn c.in-Goes.frame c.in-Goes.callers c.first-item.result
-    (numbereds_of (take (length c.in-Goes.frame.goals.now - 1) (drop 1 c.in-Goes.frame.goals.now))) c.in-Goes.is
-    (front_rest c.in-Goes.frame.goals.now c.first-item.result _ c.in-len1-up.len_at_least c.first-item.is) c.in_ok-turn-in-len1-up.ensures here)
+pub returns-in-len1-up : goal.returns-in-len1-up
+returns-in-len1-up c =
+    goes_by (hlds_of c.args.program.now) c.args.left c.args.state c.in-Goes.frame c.in-Goes.callers c.first-item.result
+    (numbereds_of (take (length c.in-Goes.frame.goals.now - 1) (drop 1 c.in-Goes.frame.goals.now))) c.at_goal.result c.in-Goes.is
+    (front_rest c.in-Goes.frame.goals.now c.first-item.result _ c.in-len1-up.len_at_least c.first-item.is) c.at_goal.ensures
