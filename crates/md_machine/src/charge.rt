@@ -1,5 +1,5 @@
 // What a turn costs, and what it leaves.
-ghost use Rattle.std.specs.Prelude.{◌≡◌, ◌++◌, IfOk, OnOk};
+ghost use Rattle.std.specs.Prelude.{◌≡◌, ◌++◌, OnOk};
 ghost use Rattle.md_value.specs.Outcomes.{bytes_told};
 ghost use Rattle.md_machine.specs.Running.{bytes_or_none, IsEntryFound, Charged, CanAllocate, Allocates};
 
@@ -8,17 +8,14 @@ use md_base::NoMemory;
 use md_code::Entry;
 use md_trace::PortSink;
 
-/// A turn of this weight is taken off what is left of the budget, and what it writes and throws is kept; gives back what
-/// is done next.
-pub fn charge<'a, M: Copy + Drop, T: Drop>(
+/// A turn of this weight is taken off what is left of the budget, and what it writes and throws is kept.
+pub fn charge<'a, M: Copy + Drop>(
     machine: &mut Machine<'a, M>,
     weight: u32,
     written: Option<&[u8]>,
     thrown: Option<&'a [u8]>,
-    next: T,
-) -> Result<T, NoMemory>
-    ensures next { IfOk result (λ same. same ≡ next) }
-    ensures charged { OnOk result (Charged machine.old machine.new weight (bytes_told written.entry) (bytes_told thrown.entry)) }
+) -> Result<(), NoMemory>
+    ensures { OnOk result (Charged machine.old machine.new weight (bytes_told written.entry) (bytes_told thrown.entry)) }
 {
     let Some(left) = machine.left.checked_sub(weight) else {
         return Err(NoMemory);
@@ -28,7 +25,7 @@ pub fn charge<'a, M: Copy + Drop, T: Drop>(
     if machine.error.is_none() {
         machine.error = thrown;
     }
-    Ok(next)
+    Ok(())
 }
 
 fn write(output: &mut Vec<u8>, written: Option<&[u8]>) -> Result<(), NoMemory>
