@@ -12,7 +12,7 @@ use Rattle.md_tool.specs.declared.fault.Fault.TheVariants.{Usage, Read, TooLong,
 use Rattle.md_tool.specs.Fault.{fault_line}
 use Rattle.md_tool.specs.Generated.{gen_text, GenEnds}
 use Rattle.md_tool.specs.Reported.{ReportEnds, IsPageOfRun, HasNoPageOfRun}
-use Rattle.md_tool.specs.Summed.{HasAddedUp, SumEnds}
+use Rattle.md_tool.specs.Summed.{SumEnds}
 use Rattle.md_tool.specs.Turns.{IsCoverageOfRun, HasNoProcedure}
 use Rattle.md_tool.specs.Told.{Tells, NothingChanged, EndIsTold, CommandEnds, TopEnds}
 use Rattle.md_tool.proofs.StreamLemmas.{rose_before, rose_after, none_added}
@@ -119,10 +119,6 @@ gen_told held net net' n summary out out' err err' reads writes outs errs nets s
 
 -- ---- profiles that are added up
 
-pub sum_done : (held held' : Option Files) (net net' : Option Connections) (names : List (List ℕ)) (out out' err err' : Option (List ℕ)) (reads writes outs errs nets : Type 0)
-    → HasAddedUp held names out out' → held' ≡ held → err' ≡ err → TopEnds (Some (Sum names)) held held' net net' out out' err err' reads writes outs errs nets 0
-sum_done held held' net net' names out out' err err' reads writes outs errs nets done kept same = record { end = Ok tt; at = []; between = err; command = (done, kept, refl); told = (refl, same) }
-
-pub sum_told : (held held' : Option Files) (net net' : Option Connections) (names : List (List ℕ)) (at : List ℕ) (out out' err err' : Option (List ℕ)) (reads writes outs errs nets : Type 0) (status : ℕ) (fault : Fault)
-    → SumEnds held names at out out' reads outs (Err fault) → held' ≡ held → Tells fault at err err' errs status → TopEnds (Some (Sum names)) held held' net net' out out' err err' reads writes outs errs nets status
-sum_told held held' net net' names at out out' err err' reads writes outs errs nets status fault ends kept told = record { end = Err fault; at = at; between = err; command = (ends, kept, refl); told = told }
+pub sum_told : (held held' : Option Files) (net net' : Option Connections) (names : List (List ℕ)) (at : List ℕ) (out out' err err' : Option (List ℕ)) (reads writes outs errs nets : Type 0) (status : ℕ) (r : Result (Unit {0}) Fault)
+    → SumEnds held names at out out' reads outs r → held' ≡ held → EndIsTold r at err err' errs status → TopEnds (Some (Sum names)) held held' net net' out out' err err' reads writes outs errs nets status
+sum_told held held' net net' names at out out' err err' reads writes outs errs nets status r ends kept told = record { end = r; at = at; between = err; command = (ends, kept, refl); told = told }
