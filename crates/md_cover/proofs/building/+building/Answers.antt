@@ -4,7 +4,7 @@ use Rattle.md_hlds.specs.HldsGoal.{GoalExpr, goal_of, goals_of, gathered, parts_
 use Rattle.md_det.specs.Findings.{program_findings}
 use Rattle.md_turns.specs.Equations as spec
 use Rattle.md_cover.specs.Told.{quantities_of, equations_of, view_counts}
-use Rattle.md_cover.proofs.BuildingLemmas.{conj-is, disj-is, if-is, if-built, parts-step, size-step, numbers-step, arm-step}
+use Rattle.md_cover.proofs.BuildingLemmas.{conj-is, disj-is, if-is, if-built, entered, parts-step, size-step, numbers-step, arm-step}
 use Rattle.md_cover.proofs.ToldLemmas.{quantities-append}
 use Rattle.md_cover.proofs.building.+building.Goals as goal
 
@@ -35,10 +35,13 @@ add_kind-returns-in_ok-add_both-in-If-2-clause-equations t c = λ v is.
     let e = if-is c.args.kind.now c.in-If.condition c.in-If.then c.in-If.otherwise c.deref.result.now c.deref-in-If.result.now c.deref-in-If-2.result.now c.in-If.is c.deref.ensures c.deref-in-If.ensures c.deref-in-If-2.ensures in
     subst (λ (x : GoalExpr). equations_of c.add_both-in-If.new.equations.items ≡ equations_of c.args.equations.now.items ++ spec.expr_equations (program_findings (hlds_of c.args.checked.now)) (view_counts v) c.args.number x) (sym e)
     (if-built (program_findings (hlds_of c.args.checked.now)) (view_counts v) c.args.number c.in_ok-asked-in-If.asked c.in_ok-held-in-If.held c.in_ok-lapsed-in-If.lapsed
-    (goal_of c.deref.result.now) (goal_of c.deref-in-If.result.now) (goal_of c.deref-in-If-2.result.now) _ _ _ _ _ _ _ _
+    (goal_of c.deref.result.now) (goal_of c.deref-in-If.result.now) (goal_of c.deref-in-If-2.result.now) _ _ _ _ _ _
     c.in_ok-asked-in-If.ensures c.in_ok-held-in-If.ensures.next c.in_ok-lapsed-in-If.ensures.next
-    c.in_ok-add_equal-in-If.ensures (c.in_ok-held-in-If.ensures.equations v is) c.in_ok-add_equal-in-If-2.ensures (c.in_ok-lapsed-in-If.ensures.equations v is)
+    (c.in_ok-held-in-If.ensures.equations v is) (c.in_ok-lapsed-in-If.ensures.equations v is)
     c.in_ok-add_both-in-If.ensures (c.in_ok-next-in-If.ensures.equations v is) c.in_ok-add_both-in-If-2.ensures)
+
+pub add_entered-returns-clause-equations : goal.add_entered-returns-clause-equations
+add_entered-returns-clause-equations t c = λ v is. entered c.add_goal.result (equations_of c.args.equations.now.items) _ _ _ _ c.in_ok-add_equal.ensures (c.add_goal.ensures.equations v is)
 
 pub add_disjunction-loop-arm-preserved : goal.add_disjunction-loop-arm-preserved
 add_disjunction-loop-arm-preserved t c =
