@@ -30,16 +30,14 @@ pub parts-step : (gs : List Goal) (i : ℕ) (g : Goal) → i < length gs → g �
 parts-step gs i g lt is = rw add-one (ap (λ (hs : List Goal). gathered (goals_of hs)) (drop-cons gs i g lt ∙ ap (λ (h : Goal). h ∷ drop (suc i) gs) (sym is)))
 
 -- one part of a conjunction
-pub conj-step : (fs : List Finding) (c : PortCounts) (n m next : ℕ) (before : spec.Quantity) (ps rest : HldsGoals) (p : HldsGoal) (olds mids news : List spec.Equation) → ps ≡ also p rest → next ≡ m + goal_size p
-    → mids ≡ olds ++ (spec.equals (spec.Entries m) before ∷ []) → news ≡ mids ++ spec.goal_equations fs c m p
+pub conj-step : (fs : List Finding) (c : PortCounts) (n m next : ℕ) (before : spec.Quantity) (ps rest : HldsGoals) (p : HldsGoal) (olds news : List spec.Equation) → ps ≡ also p rest → next ≡ m + goal_size p
+    → news ≡ olds ++ (spec.equals (spec.Entries m) before ∷ spec.goal_equations fs c m p)
     → news ++ spec.each_equations fs c n (spec.Exits m) next rest ≡ olds ++ spec.each_equations fs c n before m ps
-conj-step fs c n m next before ps rest p olds mids news is at one two =
-    let first : news ≡ (olds ++ (spec.equals (spec.Entries m) before ∷ [])) ++ spec.goal_equations fs c m p = two ∙ ap (λ xs. xs ++ spec.goal_equations fs c m p) one in
-    ap (λ xs. xs ++ spec.each_equations fs c n (spec.Exits m) next rest) first
-    ∙ (ap (λ (k : ℕ). ((olds ++ (spec.equals (spec.Entries m) before ∷ [])) ++ spec.goal_equations fs c m p) ++ spec.each_equations fs c n (spec.Exits m) k rest) at
-    ∙ (append_assoc (olds ++ (spec.equals (spec.Entries m) before ∷ [])) (spec.goal_equations fs c m p) _
-    ∙ (append_assoc olds (spec.equals (spec.Entries m) before ∷ []) _
-    ∙ ap (λ qs. olds ++ spec.each_equations fs c n before m qs) (sym is))))
+conj-step fs c n m next before ps rest p olds news is at one =
+    ap (λ xs. xs ++ spec.each_equations fs c n (spec.Exits m) next rest) one
+    ∙ (ap (λ (k : ℕ). (olds ++ (spec.equals (spec.Entries m) before ∷ spec.goal_equations fs c m p)) ++ spec.each_equations fs c n (spec.Exits m) k rest) at
+    ∙ (append_assoc olds (spec.equals (spec.Entries m) before ∷ spec.goal_equations fs c m p) _
+    ∙ ap (λ qs. olds ++ spec.each_equations fs c n before m qs) (sym is)))
 
 pub size-step : (ps rest : HldsGoals) (p : HldsGoal) (m next : ℕ) → ps ≡ also p rest → next ≡ m + goal_size p → next + goals_size rest ≡ m + goals_size ps
 size-step ps rest p m next is at = let e = ap goals_size is in omega (arith, e, at)

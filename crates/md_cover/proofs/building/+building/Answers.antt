@@ -3,8 +3,8 @@ use Rattle.md_hlds.specs.Hlds.{hlds_of}
 use Rattle.md_hlds.specs.HldsGoal.{GoalExpr, goal_of, goals_of, gathered, parts_size}
 use Rattle.md_det.specs.Findings.{program_findings}
 use Rattle.md_turns.specs.Equations as spec
-use Rattle.md_cover.specs.Told.{quantities_of, equations_of, view_counts}
-use Rattle.md_cover.proofs.BuildingLemmas.{conj-is, disj-is, if-is, if-built, entered, parts-step, size-step, numbers-step, arm-step}
+use Rattle.md_cover.specs.Told.{quantity_of, quantities_of, equations_of, view_counts}
+use Rattle.md_cover.proofs.BuildingLemmas.{conj-is, disj-is, if-is, if-built, entered, parts-step, conj-step, size-step, numbers-step, arm-step}
 use Rattle.md_cover.proofs.ToldLemmas.{quantities-append}
 use Rattle.md_cover.proofs.building.+building.Goals as goal
 
@@ -42,6 +42,22 @@ add_kind-returns-in_ok-add_both-in-If-2-clause-equations t c = λ v is.
 
 pub add_entered-returns-clause-equations : goal.add_entered-returns-clause-equations
 add_entered-returns-clause-equations t c = λ v is. entered c.add_goal.result (equations_of c.args.equations.now.items) _ _ _ _ c.in_ok-add_equal.ensures (c.add_goal.ensures.equations v is)
+
+pub add_conjunction-loop-goal-preserved : goal.add_conjunction-loop-goal-preserved
+add_conjunction-loop-goal-preserved t c =
+    let i = c.loop-goal.goal-index in
+    let gs = c.args.goals.now in
+    let ps = gathered (goals_of (drop i gs)) in
+    let rest = gathered (goals_of (drop (i + 1) gs)) in
+    let p = goal_of c.goal-item.result in
+    let step = parts-step gs i c.goal-item.result (omega arith) c.goal-item.is in
+    let at = c.in_ok-next-2.ensures.next in
+    let inv = c.loop-goal.invariant in
+    let m = c.loop-goal.next in
+    let n = c.in_ok-next-2.next in (
+      size-step ps rest p m n step at ∙ inv.0,
+      λ v is. conj-step (program_findings (hlds_of c.args.checked.now)) (view_counts v) c.args.number m n (quantity_of c.loop-goal.before) ps rest p (equations_of c.loop-goal.equations.items) (equations_of c.add_entered.new.equations.items) step at (c.in_ok-next-2.ensures.equations v is) ∙ inv.1 v is,
+    )
 
 pub add_disjunction-loop-arm-preserved : goal.add_disjunction-loop-arm-preserved
 add_disjunction-loop-arm-preserved t c =
