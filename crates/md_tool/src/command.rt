@@ -206,7 +206,8 @@ fn tell<E: Sink>(alloc: Global, fault: &Fault, file: &str, err: &mut E) -> u8
         return Fault::NoMemory.status();
     };
     match write_whole(err, &line) {
+        Ok(()) => fault.status(),
+        Err(WriteFault::Write) => fault.status(),
         Err(WriteFault::NoMemory) => Fault::NoMemory.status(),
-        _ => fault.status(),
     }
 }
