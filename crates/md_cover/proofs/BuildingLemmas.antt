@@ -51,6 +51,15 @@ arm-step fs c m next ps rest p olds news is at one =
     ∙ (append_assoc olds (spec.goal_equations fs c m p) _
     ∙ ap (λ qs. olds ++ spec.arm_equations fs c m qs) (sym is)))
 
+-- before the first arm
+pub arms-begin : (fs : List Finding) (c : PortCounts) (n first : ℕ) (ps : HldsGoals) (found w : Option Switch) (olds news : List spec.Equation) → first ≡ suc n → found ≡ w
+    → news ≡ olds ++ spec.entering n (spec.numbers_from first ps) found
+    → news ++ spec.arm_equations fs c first ps ≡ (olds ++ spec.entering n (spec.numbers_from (suc n) ps) w) ++ spec.arm_equations fs c (suc n) ps
+arms-begin fs c n first ps found w olds news at same one =
+    ap (λ xs. xs ++ spec.arm_equations fs c first ps) one
+    ∙ (ap (λ (k : ℕ). (olds ++ spec.entering n (spec.numbers_from k ps) found) ++ spec.arm_equations fs c k ps) at
+    ∙ ap (λ (x : Option Switch). (olds ++ spec.entering n (spec.numbers_from (suc n) ps) x) ++ spec.arm_equations fs c (suc n) ps) same)
+
 pub numbers-step : (f : ℕ → spec.Quantity) (m next : ℕ) (ps rest : HldsGoals) (p : HldsGoal) (olds news : List spec.Quantity) → ps ≡ also p rest → next ≡ m + goal_size p → news ≡ olds ++ f m ∷ []
     → news ++ map f (spec.numbers_from next rest) ≡ olds ++ map f (spec.numbers_from m ps)
 numbers-step f m next ps rest p olds news is at one =

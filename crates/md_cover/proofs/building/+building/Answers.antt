@@ -1,10 +1,11 @@
-use Rattle.std.proofs.Common.{◌≡◌, ◌∙◌, ◌+◌, ◌++◌, sym, ap, subst, arith, ℕ, drop, IfOk}
+use Rattle.std.proofs.Common.{◌≡◌, ◌∙◌, ◌+◌, ◌++◌, sym, ap, subst, arith, ℕ, List, map, drop, IfOk}
 use Rattle.md_hlds.specs.Hlds.{hlds_of}
-use Rattle.md_hlds.specs.HldsGoal.{GoalExpr, goal_of, goals_of, gathered, parts_size}
+use Rattle.md_hlds.specs.HldsGoal.{GoalExpr, goal_of, goals_of, gathered, goals_size, parts_size}
 use Rattle.md_det.specs.Findings.{program_findings}
 use Rattle.md_turns.specs.Equations as spec
+use Rattle.md_cover.specs.declared.equation.Quantity.{Quantity}
 use Rattle.md_cover.specs.Told.{quantity_of, quantities_of, equations_of, view_counts}
-use Rattle.md_cover.proofs.BuildingLemmas.{conj-is, disj-is, if-is, if-built, entered, parts-step, conj-step, size-step, numbers-step, arm-step}
+use Rattle.md_cover.proofs.BuildingLemmas.{conj-is, disj-is, if-is, if-built, entered, arms-begin, parts-step, conj-step, size-step, numbers-step, arm-step}
 use Rattle.md_cover.proofs.ToldLemmas.{quantities-append}
 use Rattle.md_cover.proofs.building.+building.Goals as goal
 
@@ -57,6 +58,20 @@ add_conjunction-loop-goal-preserved t c =
     let n = c.in_ok-next-2.next in (
       size-step ps rest p m n step at ∙ inv.0,
       λ v is. conj-step (program_findings (hlds_of c.args.checked.now)) (view_counts v) c.args.number m n (quantity_of c.loop-goal.before) ps rest p (equations_of c.loop-goal.equations.items) (equations_of c.add_entered.new.equations.items) step at (c.in_ok-next-2.ensures.equations v is) ∙ inv.1 v is,
+    )
+
+pub add_disjunction-loop-arm-init : goal.add_disjunction-loop-arm-init
+add_disjunction-loop-arm-init t c =
+    let ps = gathered (goals_of c.args.arms.now) in
+    let at = c.in_ok-first.ensures in (
+      ap (λ (k : ℕ). k + goals_size ps) at,
+      (
+        ap (λ (qs : List Quantity). quantities_of qs ++ map (λ x. spec.Entries x) (spec.numbers_from c.in_ok-first.first ps)) c.new-entries.ensures.items ∙ ap (λ (k : ℕ). map (λ x. spec.Entries x) (spec.numbers_from k ps)) at,
+        (
+          ap (λ (qs : List Quantity). quantities_of qs ++ map (λ x. spec.Exits x) (spec.numbers_from c.in_ok-first.first ps)) c.new-exits.ensures.items ∙ ap (λ (k : ℕ). map (λ x. spec.Exits x) (spec.numbers_from k ps)) at,
+          λ v is. arms-begin (program_findings (hlds_of c.args.checked.now)) (view_counts v) c.args.number c.in_ok-first.first ps c.switch-switch.result _ (equations_of c.args.equations.now.items) (equations_of c.enter_first.new.equations.items) at c.switch-switch.ensures c.in_ok-enter_first.ensures,
+        ),
+      ),
     )
 
 pub add_disjunction-loop-arm-preserved : goal.add_disjunction-loop-arm-preserved
