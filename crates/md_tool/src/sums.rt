@@ -38,7 +38,23 @@ pub fn sum_files<'a, S: Store, O: Sink>(
     ensures kept { S.held store.new ≡ S.held store.old }
 {
     let files = load_files(alloc, names, store)?;
-    let text = add_up(alloc, names, &files)?;
+    write_sums(alloc, names, &files, out)
+}
+
+/// Writes the sums of some profiles.
+fn write_sums<'a, O: Sink>(
+    alloc: Global,
+    names: &[&'a str],
+    files: &[Loaded],
+    out: &mut O,
+) -> Result<(), Stopped<'a>>
+    requires some { 1 ≤ length names.now }
+    requires few { length names.now ≤ 16 }
+    requires loaded { (held : Option Files) × AreLoaded held (texts names.now) files.now }
+    ensures { (held : Option Files) → AreLoaded held (texts names.now) files.now
+        → SumStops held (texts names.now) (O.held out.old) (O.held out.new) ⊥ (Rose (O.write_faults out.old) (O.write_faults out.new)) result }
+{
+    let text = add_up(alloc, names, files)?;
     match write(out, &text) {
         Ok(()) => Ok(()),
         Err(fault) => Err(Stopped { file: "", fault }),
