@@ -1,12 +1,12 @@
 // The equations of a goal and of the goals within it.
-ghost use Rattle.std.specs.Prelude.{◌≡◌, ◌++◌, ◌+◌, ◌∷◌, suc, IfOk, OnOk, Some, map};
+ghost use Rattle.std.specs.Prelude.{◌≡◌, ◌++◌, ◌+◌, ◌∷◌, [], suc, IfOk, OnOk, Some, map};
 ghost use Rattle.md_hlds.specs.Hlds.{hlds_of};
-ghost use Rattle.md_hlds.specs.HldsGoal.{goal_of, goals_of, gathered, expr_of, goal_size, parts_size, goals_size};
+ghost use Rattle.md_hlds.specs.HldsGoal.{NotGoal, goal_of, goals_of, gathered, expr_of, goal_size, parts_size, goals_size};
 ghost use Rattle.md_det.specs.Findings.{program_findings, switch_at, pair_at};
 ghost use Rattle.md_cost.specs.FileView.{IsFileView};
 ghost use Rattle.md_cost.specs.View.{View};
 ghost use Rattle.md_turns.specs.Equations as spec;
-ghost use Rattle.md_cover.specs.Told.{quantities_of, equations_of, view_counts, is_whole, chosen};
+ghost use Rattle.md_cover.specs.Told.{quantity_of, quantities_of, equations_of, view_counts, is_whole, chosen};
 ghost use Rattle.md_cover.specs.Solved.{body_equations};
 
 use crate::counts::{counts_of_proc, counts_of_site};
@@ -81,14 +81,10 @@ fn add_kind(
         }
         GoalKind::If(condition, then, otherwise) => {
             let asked = after(number)?;
-            add_equal(
-                equations,
-                Quantity::Entries(asked),
-                Quantity::Entries(number),
-            )?;
-            let held = add_goal(checked, loaded, equations, condition, asked)?;
-            add_equal(equations, Quantity::Entries(held), Quantity::Exits(asked))?;
-            let lapsed = add_goal(checked, loaded, equations, then, held)?;
+            let entered = Quantity::Entries(number);
+            let held = add_entered(checked, loaded, equations, condition, asked, entered)?;
+            let met = Quantity::Exits(asked);
+            let lapsed = add_entered(checked, loaded, equations, then, held, met)?;
             add_both(
                 equations,
                 Quantity::Entries(number),
@@ -104,33 +100,8 @@ fn add_kind(
             )?;
             Ok(next)
         }
-        GoalKind::Not(inner) => {
-            let asked = after(number)?;
-            add_equal(
-                equations,
-                Quantity::Entries(asked),
-                Quantity::Entries(number),
-            )?;
-            let next = add_goal(checked, loaded, equations, inner, asked)?;
-            add_both(
-                equations,
-                Quantity::Entries(number),
-                Quantity::Exits(number),
-                Quantity::Exits(asked),
-            )?;
-            Ok(next)
-        }
-        GoalKind::Some(_, inner) => {
-            let asked = after(number)?;
-            add_equal(
-                equations,
-                Quantity::Entries(asked),
-                Quantity::Entries(number),
-            )?;
-            let next = add_goal(checked, loaded, equations, inner, asked)?;
-            add_equal(equations, Quantity::Exits(number), Quantity::Exits(asked))?;
-            Ok(next)
-        }
+        GoalKind::Not(inner) => add_not(checked, loaded, equations, inner, number),
+        GoalKind::Some(_, inner) => add_some(checked, loaded, equations, inner, number),
         GoalKind::Fail => {
             add_count(equations, Quantity::Exits(number), 0)?;
             after(number)
@@ -148,6 +119,72 @@ fn add_kind(
         | GoalKind::WriteStr(..)
         | GoalKind::Nl(..) => add_simple(checked, equations, number),
     }
+}
+
+/// Adds that the goal of this number is entered as often as this, with the equations of the goal; gives the number that
+/// comes after it.
+#[cycle(building)]
+fn add_entered(
+    checked: &Checked,
+    loaded: &Loaded,
+    equations: &mut Vec<Equation>,
+    goal: &Goal,
+    number: u32,
+    before: Quantity,
+) -> Result<u32, NoMemory>
+    ensures next { IfOk result (λ next. next ≡ number + goal_size (goal_of goal.now)) }
+    ensures equations { (v : View) → IsFileView loaded.now.profile v → IfOk result (λ next. equations_of equations.new.items
+        ≡ equations_of equations.old.items ++ (spec.equals (spec.Entries number) (quantity_of before)
+        ∷ spec.goal_equations (program_findings (hlds_of checked.now)) (view_counts v) number (goal_of goal.now))) }
+{
+    add_equal(equations, Quantity::Entries(number), before)?;
+    add_goal(checked, loaded, equations, goal, number)
+}
+
+/// Adds the equations of a negation of this number.
+#[cycle(building)]
+fn add_not(
+    checked: &Checked,
+    loaded: &Loaded,
+    equations: &mut Vec<Equation>,
+    inner: &Goal,
+    number: u32,
+) -> Result<u32, NoMemory>
+    ensures next { IfOk result (λ next. next ≡ number + suc (goal_size (goal_of inner.now))) }
+    ensures equations { (v : View) → IsFileView loaded.now.profile v → IfOk result (λ next. equations_of equations.new.items
+        ≡ equations_of equations.old.items ++ spec.expr_equations (program_findings (hlds_of checked.now)) (view_counts v) number (NotGoal (goal_of inner.now))) }
+{
+    let asked = after(number)?;
+    let entered = Quantity::Entries(number);
+    let next = add_entered(checked, loaded, equations, inner, asked, entered)?;
+    add_both(
+        equations,
+        Quantity::Entries(number),
+        Quantity::Exits(number),
+        Quantity::Exits(asked),
+    )?;
+    Ok(next)
+}
+
+/// Adds the equations of a goal of this number that hides variables.
+#[cycle(building)]
+fn add_some(
+    checked: &Checked,
+    loaded: &Loaded,
+    equations: &mut Vec<Equation>,
+    inner: &Goal,
+    number: u32,
+) -> Result<u32, NoMemory>
+    ensures next { IfOk result (λ next. next ≡ number + suc (goal_size (goal_of inner.now))) }
+    ensures equations { (v : View) → IsFileView loaded.now.profile v → IfOk result (λ next. equations_of equations.new.items
+        ≡ equations_of equations.old.items ++ (spec.equals (spec.Entries (suc number)) (spec.Entries number)
+        ∷ (spec.goal_equations (program_findings (hlds_of checked.now)) (view_counts v) (suc number) (goal_of inner.now) ++ spec.equals (spec.Exits number) (spec.Exits (suc number)) ∷ []))) }
+{
+    let asked = after(number)?;
+    let entered = Quantity::Entries(number);
+    let next = add_entered(checked, loaded, equations, inner, asked, entered)?;
+    add_equal(equations, Quantity::Exits(number), Quantity::Exits(asked))?;
+    Ok(next)
 }
 
 /// Adds that a goal which succeeds exactly once is left as often as it is entered.
@@ -204,8 +241,7 @@ fn add_conjunction(
     let mut next = after(number)?;
     for goal in goals {
         let place = next;
-        add_equal(equations, Quantity::Entries(place), before)?;
-        next = add_goal(checked, loaded, equations, goal, place)?;
+        next = add_entered(checked, loaded, equations, goal, place, before)?;
         before = Quantity::Exits(place);
     }
     add_equal(equations, Quantity::Exits(number), before)?;

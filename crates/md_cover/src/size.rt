@@ -1,7 +1,7 @@
 // How many goals a goal is, and the number of a procedure's body.
 ghost use Rattle.std.specs.Prelude.{◌≡◌, ◌+◌, IfOk};
 ghost use Rattle.md_hlds.specs.Hlds.{hlds_of, body_number};
-ghost use Rattle.md_hlds.specs.HldsGoal.{goal_of, goals_of, gathered, goal_size, goals_size};
+ghost use Rattle.md_hlds.specs.HldsGoal.{goal_of, goals_of, gathered, goal_size, goals_size, expr_of, parts_size};
 
 use md_base::{NoMemory, ProcId};
 use md_hlds::{Goal, GoalKind, Program};
@@ -26,17 +26,25 @@ pub(crate) fn body_number(program: &Program, id: ProcId) -> Result<u32, NoMemory
 fn size_of(goal: &Goal) -> Result<u32, NoMemory>
     ensures { IfOk result (λ size. size ≡ goal_size (goal_of goal.now)) }
 {
-    match &goal.kind {
-        GoalKind::Conj(goals) => sum(1, size_of_all(goals.as_slice())?),
-        GoalKind::Disj(arms) => sum(1, size_of_all(arms.as_slice())?),
+    sum(1, size_within(&goal.kind)?)
+}
+
+/// The goals within a goal of this kind.
+#[cycle(sizes)]
+fn size_within(kind: &GoalKind) -> Result<u32, NoMemory>
+    ensures { IfOk result (λ size. size ≡ parts_size (expr_of kind.now)) }
+{
+    match kind {
+        GoalKind::Conj(goals) => size_of_all(goals.as_slice()),
+        GoalKind::Disj(arms) => size_of_all(arms.as_slice()),
         GoalKind::If(condition, then, otherwise) => {
             let condition = size_of(condition)?;
             let then = size_of(then)?;
             let otherwise = size_of(otherwise)?;
-            sum(1, sum(condition, sum(then, otherwise)?)?)
+            sum(condition, sum(then, otherwise)?)
         }
-        GoalKind::Not(part) => sum(1, size_of(part)?),
-        GoalKind::Some(_, part) => sum(1, size_of(part)?),
+        GoalKind::Not(part) => size_of(part),
+        GoalKind::Some(_, part) => size_of(part),
         GoalKind::True
         | GoalKind::Fail
         | GoalKind::Unify(..)
@@ -47,7 +55,7 @@ fn size_of(goal: &Goal) -> Result<u32, NoMemory>
         | GoalKind::Nl(..)
         | GoalKind::Call(..)
         | GoalKind::HoCall(..)
-        | GoalKind::Error(_) => Ok(1),
+        | GoalKind::Error(_) => Ok(0),
     }
 }
 

@@ -1,19 +1,19 @@
 -- Goals of a vector, one after the other.
-use Rattle.std.proofs.Common.{◌≡◌, ◌⊎◌, inl, inr, refl, ap, ◌∙◌, sym, subst, arith, add-one, ℕ, zero, suc, ◌+◌, ◌<◌, ◌≤◌, Bool, true, false, ◌||◌, ◌==◌, if◌then◌else◌, List, [], ◌∷◌, ◌++◌, append_assoc, append-nil, length, length-append, drop, get_or, Option, None, Result, Ok, Err, OnOk, Vec, drop-cons}
+use Rattle.std.proofs.Common.{◌≡◌, ◌⊎◌, inl, inr, refl, ap, ◌∙◌, sym, subst, arith, add-one, ℕ, zero, suc, ◌+◌, ◌-◌, ◌<◌, ◌≤◌, Bool, true, false, ◌||◌, ◌==◌, if◌then◌else◌, List, [], ◌∷◌, ◌++◌, append_assoc, append-nil, length, length-append, take, drop, get_or, Option, None, Result, Ok, Err, OnOk, Vec, drop-cons}
 use Rattle.std.proofs.Math.Seq.{get_or-append_seam}
 use Rattle.std.proofs.lemmas.Bool.{cases_lt}
-use Rattle.std.proofs.lemmas.List.{get_or_append_left}
+use Rattle.std.proofs.lemmas.List.{get_or_append_left, length-drop, take_all}
 use Rattle.std.proofs.lemmas.List.Folds.{list_any-append}
 use Rattle.std.specs.declared.alloc.Global.{Global}
 use Rattle.md_hlds.specs.declared.goal.Goal.{Goal}
 use Rattle.md_hlds.specs.declared.goal.GoalKind.{GoalKind, Conj, Disj}
-use Rattle.md_hlds.specs.HldsGoal.{HldsGoal, expr_of, gathered, goal_of, goals_of, goal_size, goals_size, parts_size, numbered_from, numbered_goal}
+use Rattle.md_hlds.specs.HldsGoal.{HldsGoal, HldsGoals, also, expr_of, gathered, goal_of, goals_of, goal_size, goals_size, parts_size, numbered_from, numbered_goal}
 use Rattle.md_hlds.proofs.Bridge.{expr_of-Conj, expr_of-Disj}
 use Rattle.md_modes.specs.Branches.{some_of}
 use Rattle.md_modes.specs.Goals.{variables}
 use Rattle.md_cost.specs.View.{View}
 use Rattle.md_feedback.specs.declared.pairs.Pair.{Pair}
-use Rattle.md_feedback.specs.Search.{Reading, expr_pairs, each_pairs, arm_pairs, partners, pair_with, costly_call, binds_in, mentions, is_among, mark_at, AreMarked, Marks, TakesIn, AreHeavy, TellsHeavy}
+use Rattle.md_feedback.specs.Search.{Reading, goal_pairs, led_by, expr_pairs, each_pairs, arm_pairs, partners, pair_with, costly_call, binds_in, mentions, is_among, mark_at, AreMarked, Marks, TakesIn, AreHeavy, TellsHeavy}
 
 pub parts-step : (gs : List Goal) (i : ℕ) (g : Goal) → i < length gs → g ≡ get_or gs i g → goals_of (drop i gs) ≡ goal_of g ∷ goals_of (drop (i + 1) gs)
 parts-step gs i g lt is = rw add-one (ap goals_of (drop-cons gs i g lt ∙ ap (λ (h : Goal). h ∷ drop (suc i) gs) (sym is)))
@@ -23,6 +23,10 @@ parts-end [] zero e = refl
 parts-end [] (suc i) e = refl
 parts-end (g ∷ gs) zero e = absurd (omega (arith, e))
 parts-end (g ∷ gs) (suc i) e = parts-end gs i (omega (arith, e))
+
+-- the goals behind one are all that are left
+pub behind : (gs : List Goal) (n : ℕ) → take (length gs - n) (drop n gs) ≡ drop n gs
+behind gs n = take_all (length gs - n) (drop n gs) (let same = length-drop n gs in omega (arith, same))
 
 -- ---- sizes
 
@@ -36,7 +40,36 @@ size-Disj g v e =
     let inner : parts_size (expr_of g.kind) ≡ goals_size (gathered (goals_of v.items)) = ap (λ k. parts_size (expr_of k)) e ∙ ap parts_size (expr_of-Disj v) in
     omega (arith, inner)
 
+pub within-Conj : (k : GoalKind) (v : Vec Goal Global) (gs : List Goal) → k ≡ Conj v → gs ≡ v.items → goals_size (gathered (goals_of gs)) ≡ parts_size (expr_of k)
+within-Conj k v gs e same = ap (λ hs. goals_size (gathered (goals_of hs))) same ∙ sym (ap (λ k. parts_size (expr_of k)) e ∙ ap parts_size (expr_of-Conj v))
+
+pub within-Disj : (k : GoalKind) (v : Vec Goal Global) (gs : List Goal) → k ≡ Disj v → gs ≡ v.items → goals_size (gathered (goals_of gs)) ≡ parts_size (expr_of k)
+within-Disj k v gs e same = ap (λ hs. goals_size (gathered (goals_of hs))) same ∙ sym (ap (λ k. parts_size (expr_of k)) e ∙ ap parts_size (expr_of-Disj v))
+
+pub size-step : (ps rest : HldsGoals) (p : HldsGoal) (m next : ℕ) → ps ≡ also p rest → next ≡ m + goal_size p → next + goals_size rest ≡ m + goals_size ps
+size-step ps rest p m next is at = let e = ap goals_size is in omega (arith, e, at)
+
 -- ---- the pairs of goals one after the other
+
+-- of one part of a conjunction, and of those behind it
+pub each-step : (c : Reading) (m next : ℕ) (ps rest : HldsGoals) (p : HldsGoal) (whole olds mids news : List Pair) → ps ≡ also p rest → next ≡ m + goal_size p → mids ≡ olds ++ goal_pairs c m p
+    → news ≡ mids ++ led_by c (costly_call c m p) (binds_in c m) (numbered_from next rest) → whole ≡ olds ++ each_pairs c m ps → whole ≡ news ++ each_pairs c next rest
+each-step c m next ps rest p whole olds mids news is at one two so_far =
+    so_far ∙ (ap (λ qs. olds ++ each_pairs c m qs) is ∙ sym (
+    ap (λ xs. xs ++ each_pairs c next rest) (two ∙ ap (λ xs. xs ++ led_by c (costly_call c m p) (binds_in c m) (numbered_from next rest)) one)
+    ∙ (ap (λ (k : ℕ). ((olds ++ goal_pairs c m p) ++ led_by c (costly_call c m p) (binds_in c m) (numbered_from k rest)) ++ each_pairs c k rest) at
+    ∙ (append_assoc (olds ++ goal_pairs c m p) (led_by c (costly_call c m p) (binds_in c m) (numbered_from (m + goal_size p) rest)) _
+    ∙ append_assoc olds (goal_pairs c m p) _))
+    ))
+
+-- of one arm of a disjunction, and of those behind it
+pub arm-step : (c : Reading) (m next : ℕ) (ps rest : HldsGoals) (p : HldsGoal) (whole olds news : List Pair) → ps ≡ also p rest → next ≡ m + goal_size p → news ≡ olds ++ goal_pairs c m p
+    → whole ≡ olds ++ arm_pairs c m ps → whole ≡ news ++ arm_pairs c next rest
+arm-step c m next ps rest p whole olds news is at one so_far =
+    so_far ∙ (ap (λ qs. olds ++ arm_pairs c m qs) is ∙ sym (
+    ap (λ xs. xs ++ arm_pairs c next rest) one
+    ∙ (ap (λ (k : ℕ). (olds ++ goal_pairs c m p) ++ arm_pairs c k rest) at ∙ append_assoc olds (goal_pairs c m p) _)
+    ))
 
 pub pairs-Conj : (c : Reading) (n : ℕ) (k : GoalKind) (v : Vec Goal Global) → k ≡ Conj v → expr_pairs c n (expr_of k) ≡ each_pairs c n (gathered (goals_of v.items))
 pairs-Conj c n k v e = ap (λ j. expr_pairs c n (expr_of j)) e ∙ ap (expr_pairs c n) (expr_of-Conj v)

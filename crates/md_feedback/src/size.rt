@@ -1,6 +1,6 @@
 // How many goals a goal is.
 ghost use Rattle.std.specs.Prelude.{◌≡◌, ◌+◌, IfOk};
-ghost use Rattle.md_hlds.specs.HldsGoal.{goal_of, goals_of, gathered, goal_size, goals_size};
+ghost use Rattle.md_hlds.specs.HldsGoal.{goal_of, goals_of, gathered, goal_size, goals_size, expr_of, parts_size};
 
 use md_base::NoMemory;
 use md_hlds::{Goal, GoalKind};
@@ -11,17 +11,25 @@ use md_hlds::{Goal, GoalKind};
 pub(crate) fn size_of(goal: &Goal) -> Result<u32, NoMemory>
     ensures { IfOk result (λ size. size ≡ goal_size (goal_of goal.now)) }
 {
-    match &goal.kind {
-        GoalKind::Conj(goals) => sum(1, size_of_all(goals.as_slice())?),
-        GoalKind::Disj(arms) => sum(1, size_of_all(arms.as_slice())?),
+    sum(1, size_within(&goal.kind)?)
+}
+
+/// The goals within a goal of this kind.
+#[cycle(sizes)]
+fn size_within(kind: &GoalKind) -> Result<u32, NoMemory>
+    ensures { IfOk result (λ size. size ≡ parts_size (expr_of kind.now)) }
+{
+    match kind {
+        GoalKind::Conj(goals) => size_of_all(goals.as_slice()),
+        GoalKind::Disj(arms) => size_of_all(arms.as_slice()),
         GoalKind::If(condition, then, otherwise) => {
             let condition = size_of(condition)?;
             let then = size_of(then)?;
             let otherwise = size_of(otherwise)?;
-            sum(1, sum(condition, sum(then, otherwise)?)?)
+            sum(condition, sum(then, otherwise)?)
         }
-        GoalKind::Not(part) => sum(1, size_of(part)?),
-        GoalKind::Some(_, part) => sum(1, size_of(part)?),
+        GoalKind::Not(part) => size_of(part),
+        GoalKind::Some(_, part) => size_of(part),
         GoalKind::True
         | GoalKind::Fail
         | GoalKind::Unify(..)
@@ -32,7 +40,7 @@ pub(crate) fn size_of(goal: &Goal) -> Result<u32, NoMemory>
         | GoalKind::Nl(..)
         | GoalKind::Call(..)
         | GoalKind::HoCall(..)
-        | GoalKind::Error(_) => Ok(1),
+        | GoalKind::Error(_) => Ok(0),
     }
 }
 

@@ -1,6 +1,8 @@
 -- From the profile of a run to the pairs of its calls.
 use Rattle.std.proofs.Common.{◌≡◌, ◌∙◌, sym, subst, ℕ, List}
-use Rattle.std.specs.Prelude.{IsTrue}
+use Rattle.std.specs.Prelude.{Vec, Result, Ok, Err, IfOk, IsTrue}
+use Rattle.std.specs.declared.alloc.Global.{Global}
+use Rattle.md_base.specs.declared.number.NoMemory.{NoMemory}
 use Rattle.md_cost.specs.FileView.{IsFileView}
 use Rattle.md_cost.specs.View.{View}
 use Rattle.md_dynamic.specs.Profile.{ProfileRows}
@@ -45,6 +47,14 @@ feedback_is program budget least k f feedback text viewed means same named share
   pairs = subst (λ (n : ℕ). AreCandidates program viewed.0 n feedback.pairs) same (pairs viewed.0 viewed.1);
   spelled = record { valid = valid (subst (λ (m : List ℕ). IsTrue (is_name m)) (sym named) name); is = is };
 }
+
+-- what the loaded profile says is what the run says
+pub pairs_due : (program : Hlds) (least : ℕ) (f loaded : ProfileRows) (r : Result (Vec ℕ Global) NoMemory)
+    → IfOk r (λ text. (budget : ℕ) → ((v : View) → IsFileView loaded v → IsViewOfRun program budget v) → IsFeedbackOfRun least budget program text.items)
+    → ((budget : ℕ) → IsWithinBounds program budget → IsProfileOfRun program budget f → (v : View) → IsFileView loaded v → IsViewOfRun program budget v)
+    → IfOk r (λ text. (budget : ℕ) → IsWithinBounds program budget → IsProfileOfRun program budget f → IsFeedbackOfRun least budget program text.items)
+pairs_due program least f loaded (Ok text) h means = λ budget bounds p. h budget (means budget bounds p)
+pairs_due program least f loaded (Err e) h means = tt
 
 -- ---- of an accepted text
 

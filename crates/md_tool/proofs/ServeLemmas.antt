@@ -118,3 +118,23 @@ pub connections_failed : (v : View) (requests : ℕ) (net net' : Option Connecti
     → ((before : Connections) → net ≡ Some before → Serves v requests before net' r) → ConnectionsEnd v requests net net' nets (Err (fault_of fault))
 connections_failed v requests net net' nets r faults.Net is rose serves = (rose is, told_served v requests net net' (Err faults.Net) (λ before told. subst (Serves v requests before net') is (serves before told)))
 connections_failed v requests net net' nets r faults.NoMemory is rose serves = told_served v requests net net' (Err faults.NoMemory) (λ before told. subst (Serves v requests before net') is (serves before told))
+
+-- where the file was loaded its reading needn't have failed
+pub served_after : (held : Option Files) (name : List ℕ) (requests : ℕ) (net net' : Option Connections) (out out' : Option (List ℕ)) (reads outs nets : Type 0) (r : Result (Unit {0}) Fault)
+    → ServeEnds held name requests net net' out out' ⊥ outs nets r → ServeEnds held name requests net net' out out' reads outs nets r
+served_after held name requests net net' out out' reads outs nets (Ok done) h = h
+served_after held name requests net net' out out' reads outs nets (Err Usage) h = h
+served_after held name requests net net' out out' reads outs nets (Err Read) h = absurd h.0
+served_after held name requests net net' out out' reads outs nets (Err TooLong) h = h
+served_after held name requests net net' out out' reads outs nets (Err (Refused line w)) h = h
+served_after held name requests net net' out out' reads outs nets (Err OutOfSteps) h = h
+served_after held name requests net net' out out' reads outs nets (Err (Thrown bytes)) h = h
+served_after held name requests net net' out out' reads outs nets (Err (Damaged at kind)) h = h
+served_after held name requests net net' out out' reads outs nets (Err (TooLarge most)) h = h
+served_after held name requests net net' out out' reads outs nets (Err (TwoEntries clique x y)) h = h
+served_after held name requests net net' out out' reads outs nets (Err (DamagedLine n)) h = h
+served_after held name requests net net' out out' reads outs nets (Err AnotherProgram) h = h
+served_after held name requests net net' out out' reads outs nets (Err NoSuchPage) h = h
+served_after held name requests net net' out out' reads outs nets (Err Network) h = h
+served_after held name requests net net' out out' reads outs nets (Err Write) h = h
+served_after held name requests net net' out out' reads outs nets (Err NoMemory) h = h

@@ -1,7 +1,8 @@
 -- What comes of a stored profile.
-use Rattle.std.proofs.Common.{refl, inl, inr, ℕ, List, Option}
-use Rattle.std.specs.Prelude.{Result, Ok, Err}
+use Rattle.std.proofs.Common.{◌≡◌, ◌⊎◌, refl, sym, subst, inl, inr, ℕ, List, Option}
+use Rattle.std.specs.Prelude.{Result, Ok, Err, MatchResult}
 use Rattle.md_base.specs.Files.{Files}
+use Rattle.md_base.specs.Outside.{Rose, added}
 use Rattle.md_cost.specs.FileView.{IsFileView}
 use Rattle.md_cost.specs.Loading.{LoadedRows}
 use Rattle.md_deepfile.specs.Bytes.{file_bytes}
@@ -125,3 +126,23 @@ stored held held' name new out out' reads writes outs f (Err AnotherProgram) s w
 stored held held' name new out out' reads writes outs f (Err NoSuchPage) s whole h = absurd h
 stored held held' name new out out' reads writes outs f (Err Write) s whole h = inr (h.0, record { profile = f; spelled = s.spelled; stored = whole; told = h.1 })
 stored held held' name new out out' reads writes outs f (Err NoMemory) s whole h = inr (inr (record { profile = f; spelled = s.spelled; stored = whole; told = h }))
+
+-- a profile was stored, and then that was told
+abbrev pub StoredThen : (line name bytes : List ℕ) → (held held' : Option Files) → (out out' : Option (List ℕ)) → (writes outs : Type 0) → Result (Unit {0}) Fault → Type 0
+StoredThen line name bytes held held' out out' writes outs r =
+    MatchResult r (λ _. StoreEnds name bytes held held' writes (Ok tt) × (out' ≡ added line out))
+    (λ fault. (StoreEnds name bytes held held' writes (Err fault) × (out' ≡ out)) ⊎ (StoreEnds name bytes held held' writes (Ok tt) × WriteEnds line out out' outs (Err fault)))
+
+-- the same from before the profile was read
+pub from_before : (line name bytes : List ℕ) (held mid held' : Option Files) (out out' : Option (List ℕ)) (before between after : ℕ) (outs : Type 0) (r : Result (Unit {0}) Fault) → mid ≡ held → between ≡ before
+    → StoredThen line name bytes mid held' out out' (Rose between after) outs r → StoredThen line name bytes held held' out out' (Rose before after) outs r
+from_before line name bytes held mid held' out out' before between after outs r kept same h =
+    subst (λ (n : ℕ). StoredThen line name bytes held held' out out' (Rose n after) outs r) same
+    (subst (λ (m : Option Files). StoredThen line name bytes m held' out out' (Rose between after) outs r) kept h)
+
+pub migrated_ends : (held held' : Option Files) (name new : List ℕ) (out out' : Option (List ℕ)) (reads writes outs : Type 0) (f : ProfileRows) (r : Result (Unit {0}) Fault) → IsStored held name longest_migrated f
+    → StoredThen migrated new (file_bytes f) held held' out out' writes outs r → MigrateEnds held held' name new out out' reads writes outs r
+migrated_ends held held' name new out out' reads writes outs f (Ok done) s h = stored held held' name new out out' reads writes outs f (Ok done) s h.0 h.1
+migrated_ends held held' name new out out' reads writes outs f (Err fault) s (inl h) =
+    subst (λ (o : Option (List ℕ)). MigrateEnds held held' name new out o reads writes outs (Err fault)) (sym h.1) (unstored held held' name new out reads writes outs f fault s h.0)
+migrated_ends held held' name new out out' reads writes outs f (Err fault) s (inr h) = stored held held' name new out out' reads writes outs f (Err fault) s h.0 h.1

@@ -1,7 +1,7 @@
 -- What comes of profiles that are added up.
 use Rattle.std.proofs.Common.{◌≡◌, ◌∙◌, refl, sym, ap, inl, inr, ℕ, zero, suc, ◌+◌, ◌<◌, List, [], ◌∷◌, ◌++◌, length, take, drop, Option, Some, arith}
 use Rattle.std.proofs.lemmas.List.{take_more}
-use Rattle.std.specs.Prelude.{Err, slice_get, slice_index_or, option_map}
+use Rattle.std.specs.Prelude.{Result, Ok, Err, slice_get, slice_index_or, option_map}
 use Rattle.std.specs.Borrow.{Bor}
 use Rattle.md_base.specs.Files.{Files}
 use Rattle.md_cost.specs.Loading.{LoadedRows}
@@ -11,9 +11,10 @@ use Rattle.md_static.specs.Tables.{Static}
 use Rattle.md_words.specs.Told.{texts}
 use Rattle.md_tool.specs.declared.fault.Fault.{Fault}
 use Rattle.md_tool.specs.declared.fault.Fault.TheVariants.{Usage, Read, TooLong, Refused, OutOfSteps, Thrown, Damaged, TooLarge, TwoEntries, DamagedLine, AnotherProgram, NoSuchPage, Write, NoMemory, Network}
+use Rattle.md_tool.specs.declared.sums.Stopped.{Stopped}
 use Rattle.md_tool.specs.Due.{WriteEnds}
 use Rattle.md_tool.specs.Stored.{IsLoadedFrom, ViewFails}
-use Rattle.md_tool.specs.Summed.{AreLoaded, StopsAt, AddUpFails, IsSumOf, IsOfAnother, SumEnds, sum_text}
+use Rattle.md_tool.specs.Summed.{AreLoaded, StopsAt, AddUpFails, IsSumOf, IsOfAnother, SumEnds, SumStops, sum_text}
 
 -- ---- lists of loaded profiles
 
@@ -169,3 +170,36 @@ sum_written held names text out out' reads outs (TooLarge most) s h = absurd h
 sum_written held names text out out' reads outs (Damaged place kind) s h = absurd h
 sum_written held names text out out' reads outs (TwoEntries clique a b) s h = absurd h
 sum_written held names text out out' reads outs AnotherProgram s h = absurd h
+
+-- where the files were loaded their reading needn't have failed
+stops_after : (held : Option Files) (names : List (List ℕ)) (at : List ℕ) (reads : Type 0) (fault : Fault) → StopsAt held names at ⊥ fault → StopsAt held names at reads fault
+stops_after held names at reads fault h = record {
+  before = h.before;
+  after = h.after;
+  names_are = h.names_are;
+  files = h.files;
+  loaded = h.loaded;
+  fails = view_rises held at ⊥ reads fault (λ none. absurd none) h.fails;
+}
+
+ends_after : (held : Option Files) (names : List (List ℕ)) (at : List ℕ) (out out' : Option (List ℕ)) (reads outs : Type 0) (fault : Fault) → SumEnds held names at out out' ⊥ outs (Err fault)
+    → SumEnds held names at out out' reads outs (Err fault)
+ends_after held names at out out' reads outs Usage h = h
+ends_after held names at out out' reads outs Read h = (stops_after held names at reads Read h.0, h.1)
+ends_after held names at out out' reads outs TooLong h = h
+ends_after held names at out out' reads outs (Refused line w) h = h
+ends_after held names at out out' reads outs OutOfSteps h = h
+ends_after held names at out out' reads outs (Thrown bytes) h = h
+ends_after held names at out out' reads outs (Damaged place kind) h = (stops_after held names at reads (Damaged place kind) h.0, h.1)
+ends_after held names at out out' reads outs (TooLarge most) h = (stops_after held names at reads (TooLarge most) h.0, h.1)
+ends_after held names at out out' reads outs (TwoEntries clique a b) h = (stops_after held names at reads (TwoEntries clique a b) h.0, h.1)
+ends_after held names at out out' reads outs (DamagedLine n) h = h
+ends_after held names at out out' reads outs AnotherProgram h = h
+ends_after held names at out out' reads outs NoSuchPage h = h
+ends_after held names at out out' reads outs Network h = h
+ends_after held names at out out' reads outs Write h = h
+ends_after held names at out out' reads outs NoMemory h = h
+
+pub sums_after : (held : Option Files) (names : List (List ℕ)) (out out' : Option (List ℕ)) (reads outs : Type 0) (r : Result (Unit {0}) Stopped) → SumStops held names out out' ⊥ outs r → SumStops held names out out' reads outs r
+sums_after held names out out' reads outs (Ok done) h = h
+sums_after held names out out' reads outs (Err stopped) h = ends_after held names stopped.file.now out out' reads outs stopped.fault h

@@ -1,5 +1,5 @@
 -- What comes of a profile as a text.
-use Rattle.std.proofs.Common.{refl, inl, inr, ℕ, List, Option}
+use Rattle.std.proofs.Common.{refl, sym, subst, inl, inr, ℕ, List, Option}
 use Rattle.std.specs.Prelude.{Result, Ok, Err}
 use Rattle.md_base.specs.Files.{Files}
 use Rattle.md_dump.specs.Text.{dump_text}
@@ -10,6 +10,7 @@ use Rattle.md_tool.specs.declared.fault.Fault.TheVariants.{Usage, Read, TooLong,
 use Rattle.md_tool.specs.Due.{WriteEnds, StoreEnds}
 use Rattle.md_tool.specs.Stored.{IsStored, LoadFails, longest_profile}
 use Rattle.md_tool.specs.Texts.{DumpEnds, TextFails, TextSpells, UndumpFails, UndumpEnds, undumped}
+use Rattle.md_tool.proofs.StoredLemmas.{StoredThen}
 
 -- ---- `dump`
 
@@ -126,3 +127,10 @@ stored_text held held' name new out out' reads writes outs f (Err AnotherProgram
 stored_text held held' name new out out' reads writes outs f (Err NoSuchPage) s whole h = absurd h
 stored_text held held' name new out out' reads writes outs f (Err Write) s whole h = inr (h.0, record { profile = f; spelled = s; stored = whole; told = h.1 })
 stored_text held held' name new out out' reads writes outs f (Err NoMemory) s whole h = inr (inr (record { profile = f; spelled = s; stored = whole; told = h }))
+
+pub undumped_ends : (held held' : Option Files) (name new : List ℕ) (out out' : Option (List ℕ)) (reads writes outs : Type 0) (f : ProfileRows) (r : Result (Unit {0}) Fault) → TextSpells held name f
+    → StoredThen undumped new (file_bytes f) held held' out out' writes outs r → UndumpEnds held held' name new out out' reads writes outs r
+undumped_ends held held' name new out out' reads writes outs f (Ok done) s h = stored_text held held' name new out out' reads writes outs f (Ok done) s h.0 h.1
+undumped_ends held held' name new out out' reads writes outs f (Err fault) s (inl h) =
+    subst (λ (o : Option (List ℕ)). UndumpEnds held held' name new out o reads writes outs (Err fault)) (sym h.1) (unstored_text held held' name new out reads writes outs f fault s h.0)
+undumped_ends held held' name new out out' reads writes outs f (Err fault) s (inr h) = stored_text held held' name new out out' reads writes outs f (Err fault) s h.0 h.1

@@ -1,7 +1,7 @@
 -- What a whole call comes to.
-use Rattle.std.proofs.Common.{◌≡◌, refl, sym, subst, inl, inr, ◌⊎◌, ℕ, ◌≤◌, List, [], Bool, true, false, Option, None, Some}
+use Rattle.std.proofs.Common.{◌≡◌, ◌∙◌, refl, sym, ap, subst, inl, inr, ◌⊎◌, ℕ, ◌≤◌, List, [], Bool, true, false, Option, None, Some}
 use Rattle.std.specs.Prelude.{Result, Ok, Err, codes}
-use Rattle.md_base.specs.Outside.{Rose, added}
+use Rattle.md_base.specs.Outside.{Rose, added, PartAdded}
 use Rattle.md_base.specs.Files.{Files}
 use Rattle.md_base.specs.Nets.{Connections}
 use Rattle.md_hlds.specs.Hlds.{Hlds}
@@ -9,13 +9,13 @@ use Rattle.md_query.specs.Asked.{Asked}
 use Rattle.md_words.specs.Form.{Form, Check, Run, Report, Page, Serve, Gen, Migrate, Feedback, Dump, Undump, Cover, Sum}
 use Rattle.md_tool.specs.declared.fault.Fault.{Fault}
 use Rattle.md_tool.specs.declared.fault.Fault.TheVariants.{Usage, Read, TooLong, Refused, OutOfSteps, Thrown, Damaged, TooLarge, TwoEntries, DamagedLine, AnotherProgram, NoSuchPage, Write, NoMemory, Network}
-use Rattle.md_tool.specs.Fault.{fault_line}
+use Rattle.md_tool.specs.Fault.{status_of, fault_line}
 use Rattle.md_tool.specs.Generated.{gen_text, GenEnds}
 use Rattle.md_tool.specs.Reported.{ReportEnds, IsPageOfRun, HasNoPageOfRun}
-use Rattle.md_tool.specs.Summed.{HasAddedUp, SumEnds}
+use Rattle.md_tool.specs.Summed.{SumEnds}
 use Rattle.md_tool.specs.Turns.{IsCoverageOfRun, HasNoProcedure}
 use Rattle.md_tool.specs.Told.{Tells, NothingChanged, EndIsTold, CommandEnds, TopEnds}
-use Rattle.md_tool.proofs.StreamLemmas.{rose_before, rose_after, none_added}
+use Rattle.md_tool.proofs.StreamLemmas.{rose_before, rose_after, none_added, all_added}
 
 nothing_changed : (held : Option Files) (out err : Option (List ℕ)) → NothingChanged held held out out err err
 nothing_changed held out err = record { held_is = refl; out_is = refl; err_is = refl }
@@ -119,10 +119,28 @@ gen_told held net net' n summary out out' err err' reads writes outs errs nets s
 
 -- ---- profiles that are added up
 
-pub sum_done : (held held' : Option Files) (net net' : Option Connections) (names : List (List ℕ)) (out out' err err' : Option (List ℕ)) (reads writes outs errs nets : Type 0)
-    → HasAddedUp held names out out' → held' ≡ held → err' ≡ err → TopEnds (Some (Sum names)) held held' net net' out out' err err' reads writes outs errs nets 0
-sum_done held held' net net' names out out' err err' reads writes outs errs nets done kept same = record { end = Ok tt; at = []; between = err; command = (done, kept, refl); told = (refl, same) }
+pub sum_told : (held held' : Option Files) (net net' : Option Connections) (names : List (List ℕ)) (at : List ℕ) (out out' err err' : Option (List ℕ)) (reads writes outs errs nets : Type 0) (status : ℕ) (r : Result (Unit {0}) Fault)
+    → SumEnds held names at out out' reads outs r → held' ≡ held → EndIsTold r at err err' errs status → TopEnds (Some (Sum names)) held held' net net' out out' err err' reads writes outs errs nets status
+sum_told held held' net net' names at out out' err err' reads writes outs errs nets status r ends kept told = record { end = r; at = at; between = err; command = (ends, kept, refl); told = told }
 
-pub sum_told : (held held' : Option Files) (net net' : Option Connections) (names : List (List ℕ)) (at : List ℕ) (out out' err err' : Option (List ℕ)) (reads writes outs errs nets : Type 0) (status : ℕ) (fault : Fault)
-    → SumEnds held names at out out' reads outs (Err fault) → held' ≡ held → Tells fault at err err' errs status → TopEnds (Some (Sum names)) held held' net net' out out' err err' reads writes outs errs nets status
-sum_told held held' net net' names at out out' err err' reads writes outs errs nets status fault ends kept told = record { end = Err fault; at = at; between = err; command = (ends, kept, refl); told = told }
+-- ---- the line that tells of a fault
+
+-- there was no memory for it
+pub untold : (fault : Fault) (file : List ℕ) (err : Option (List ℕ)) (errs : Type 0) (status : ℕ) → status ≡ 8 → Tells fault file err err errs status
+untold fault file err errs status same = record { told = inr same; part = none_added (fault_line fault file) err; whole = inr (inr same) }
+
+-- it was written
+pub told_whole : (fault : Fault) (file line : List ℕ) (err err' : Option (List ℕ)) (errs : Type 0) (status : ℕ) → line ≡ fault_line fault file → status ≡ status_of fault → err' ≡ added line err → Tells fault file err err' errs status
+told_whole fault file line err err' errs status is same written = record {
+  told = inl same;
+  part = all_added (fault_line fault file) err err' (written ∙ ap (λ (bytes : List ℕ). added bytes err) is);
+  whole = inl (written ∙ ap (λ (bytes : List ℕ). added bytes err) is);
+}
+
+-- a front of it was written, and the stream's count of faults rose
+pub told_until : (fault : Fault) (file line : List ℕ) (err err' : Option (List ℕ)) (errs : Type 0) (status : ℕ) → line ≡ fault_line fault file → status ≡ status_of fault → PartAdded line err err' → errs → Tells fault file err err' errs status
+told_until fault file line err err' errs status is same part rose = record { told = inl same; part = subst (λ (bytes : List ℕ). PartAdded bytes err err') is part; whole = inr (inl rose) }
+
+-- a front of it was written, and memory was refused
+pub told_short : (fault : Fault) (file line : List ℕ) (err err' : Option (List ℕ)) (errs : Type 0) (status : ℕ) → line ≡ fault_line fault file → status ≡ 8 → PartAdded line err err' → Tells fault file err err' errs status
+told_short fault file line err err' errs status is same part = record { told = inr same; part = subst (λ (bytes : List ℕ). PartAdded bytes err err') is part; whole = inr (inr same) }

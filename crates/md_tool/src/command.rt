@@ -1,8 +1,9 @@
 // The commands, with what each does to the store, the streams and the net.
-ghost use Rattle.std.specs.Prelude.{◌≡◌, ◌≤◌, Some, true};
+ghost use Rattle.std.specs.Prelude.{ℕ, ◌≡◌, ◌≤◌, List, length, Result, Some, true};
 ghost use Rattle.md_base.specs.Outside.{Rose};
 ghost use Rattle.md_words.specs.Form.{words_of, HasBounds, form};
-ghost use Rattle.md_words.specs.Told.{told};
+ghost use Rattle.md_words.specs.Told.{told, texts};
+ghost use Rattle.md_tool.specs.Summed.{SumEnds};
 ghost use Rattle.md_tool.specs.Told.{Tells, EndIsTold, TopEnds};
 ghost use Rattle.md_tool.specs.Meaning.{Means, keeps_store, keeps_net};
 
@@ -100,8 +101,12 @@ fn do_command<S: Store, O: Sink, E: Sink, N: Net>(
 {
     match command {
         Command::Check { file, print } => {
-            let end = check_file(alloc, *file, *print, store, out);
-            tell_end(alloc, &end, *file, err)
+            tell_end(
+                alloc,
+                check_file(alloc, *file, *print, store, out),
+                *file,
+                err,
+            )
         }
         Command::Run {
             file,
@@ -109,15 +114,15 @@ fn do_command<S: Store, O: Sink, E: Sink, N: Net>(
             profile,
         } => {
             let end = run_file(alloc, *file, *steps, *profile, store, out);
-            tell_end(alloc, &end, *file, err)
+            tell_end(alloc, end, *file, err)
         }
         Command::Report { file, query, steps } => {
             let end = report_file(alloc, *file, query, *steps, store, out, err);
-            tell_end(alloc, &end, *file, err)
+            tell_end(alloc, end, *file, err)
         }
         Command::Page { name, query } => {
             let end = page_of_file(alloc, *name, query, store, out);
-            tell_end(alloc, &end, *name, err)
+            tell_end(alloc, end, *name, err)
         }
         Command::Serve {
             name,
@@ -125,15 +130,15 @@ fn do_command<S: Store, O: Sink, E: Sink, N: Net>(
             requests,
         } => {
             let end = serve_file(alloc, *name, *port, *requests, store, out, net);
-            tell_end(alloc, &end, *name, err)
+            tell_end(alloc, end, *name, err)
         }
         Command::Gen { n, summary } => {
             let end = generate(alloc, *n, *summary, out);
-            tell_end(alloc, &end, "gen", err)
+            tell_end(alloc, end, "gen", err)
         }
         Command::Migrate { name, new } => {
             let end = migrate_file(alloc, *name, *new, store, out);
-            tell_end(alloc, &end, *name, err)
+            tell_end(alloc, end, *name, err)
         }
         Command::Feedback {
             file,
@@ -142,35 +147,53 @@ fn do_command<S: Store, O: Sink, E: Sink, N: Net>(
             least,
         } => {
             let end = feedback_file(alloc, *file, *new, *steps, *least, store, out);
-            tell_end(alloc, &end, *file, err)
+            tell_end(alloc, end, *file, err)
         }
         Command::Cover { file, proc, steps } => {
             let end = cover_file(alloc, *file, *proc, *steps, store, out, err);
-            tell_end(alloc, &end, *file, err)
+            tell_end(alloc, end, *file, err)
         }
         Command::Dump { name } => {
             let end = dump_file(alloc, *name, store, out);
-            tell_end(alloc, &end, *name, err)
+            tell_end(alloc, end, *name, err)
         }
         Command::Undump { text, new } => {
             let end = undump_file(alloc, *text, *new, store, out);
-            tell_end(alloc, &end, *text, err)
+            tell_end(alloc, end, *text, err)
         }
-        Command::Sum { names } => match sum_files(alloc, names, store, out) {
-            Ok(()) => 0,
-            Err(stopped) => tell(alloc, &stopped.fault, stopped.file, err),
-        },
+        Command::Sum { names } => do_sum(alloc, names, store, out, err),
+    }
+}
+
+/// Adds up the stored profiles of these names, tells a fault, and gives the status.
+fn do_sum<S: Store, O: Sink, E: Sink>(
+    alloc: Global,
+    names: &[&str],
+    store: &mut S,
+    out: &mut O,
+    err: &mut E,
+) -> u8
+    requires some { 1 ≤ length names.now }
+    requires few { length names.now ≤ 16 }
+    ensures ends { (end : Result (Unit {0}) Fault) × (at : List ℕ) × SumEnds (S.held store.old) (texts names.now) at (O.held out.old) (O.held out.new)
+        (Rose (S.read_faults store.old) (S.read_faults store.new)) (Rose (O.write_faults out.old) (O.write_faults out.new)) end
+        × EndIsTold end at (E.held err.old) (E.held err.new) (Rose (E.write_faults err.old) (E.write_faults err.new)) result }
+    ensures kept { S.held store.new ≡ S.held store.old }
+{
+    match sum_files(alloc, names, store, out) {
+        Ok(()) => 0,
+        Err(stopped) => tell(alloc, &stopped.fault, stopped.file, err),
     }
 }
 
 /// Tells how a command ended, and gives the status.
-fn tell_end<E: Sink>(alloc: Global, end: &Result<(), Fault>, file: &str, err: &mut E) -> u8
-    ensures told { EndIsTold end.now file.now (E.held err.old) (E.held err.new) (Rose (E.write_faults err.old) (E.write_faults err.new)) result }
+fn tell_end<E: Sink>(alloc: Global, end: Result<(), Fault>, file: &str, err: &mut E) -> u8
+    ensures told { EndIsTold end file.now (E.held err.old) (E.held err.new) (Rose (E.write_faults err.old) (E.write_faults err.new)) result }
     ensures later { E.write_faults err.old ≤ E.write_faults err.new }
 {
     match end {
         Ok(()) => 0,
-        Err(fault) => tell(alloc, fault, file, err),
+        Err(fault) => tell(alloc, &fault, file, err),
     }
 }
 
@@ -183,7 +206,8 @@ fn tell<E: Sink>(alloc: Global, fault: &Fault, file: &str, err: &mut E) -> u8
         return Fault::NoMemory.status();
     };
     match write_whole(err, &line) {
+        Ok(()) => fault.status(),
+        Err(WriteFault::Write) => fault.status(),
         Err(WriteFault::NoMemory) => Fault::NoMemory.status(),
-        _ => fault.status(),
     }
 }

@@ -1,12 +1,15 @@
 // The command `feedback`.
 ghost use Rattle.std.specs.Prelude.{ℕ, ◌≡◌, ◌≤◌, length, IfOk, IsTrue, MatchResult};
 ghost use Rattle.md_base.specs.Outside.{Rose};
+ghost use Rattle.md_cost.specs.FileView.{IsFileView};
+ghost use Rattle.md_cost.specs.View.{View};
 ghost use Rattle.md_dynamic.specs.Valid.{IsValid};
 ghost use Rattle.md_events.specs.Laws.{IsWithinBounds};
+ghost use Rattle.md_feedback.specs.Search.{HasSitesOf};
 ghost use Rattle.md_feedback.specs.Text.{IsLeast};
 ghost use Rattle.md_hlds.specs.Hlds.{Hlds, hlds_of};
 ghost use Rattle.md_machine.specs.Ran.{IsRunOf};
-ghost use Rattle.md_profile.specs.OfRun.{CanBeProfiled, IsProfileOfRun};
+ghost use Rattle.md_profile.specs.OfRun.{CanBeProfiled, IsProfileOfRun, IsViewOfRun};
 ghost use Rattle.md_static.specs.Names.{is_name};
 ghost use Rattle.md_tool.specs.Accepted.{TextFault};
 ghost use Rattle.md_tool.specs.Candidates.{IsFeedbackOfRun, IsPaired};
@@ -18,6 +21,7 @@ use crate::fault::Fault;
 use crate::run::ended;
 use crate::write::write;
 use md_base::{NoMemory, Sink, Store, WriteFault, write_file};
+use md_cost::Loaded;
 use md_det::Checked;
 use md_dynamic::Profile;
 use md_feedback::{a_site_table_has_the_sites, feedback, write_feedback};
@@ -102,8 +106,25 @@ fn pairs_text(
     tables_give_the_site_table();
     a_site_table_has_the_sites();
     let loaded = load_run(alloc, profile)?;
+    loaded_pairs(alloc, checked, &loaded, least)
+}
+
+/// The text of a run's pairs, by its loaded profile.
+fn loaded_pairs(
+    alloc: Global,
+    checked: &Checked,
+    loaded: &Loaded,
+    least: u32,
+) -> Result<Vec<u8>, NoMemory>
+    requires sites { HasSitesOf (hlds_of checked.now) loaded.now.profile.statics }
+    requires name { IsTrue (is_name (hlds_of checked.now).module_name) }
+    requires least { IsLeast least }
+    ensures { IfOk result (λ text. (budget : ℕ) → ((v : View) → IsFileView loaded.now.profile v → IsViewOfRun (hlds_of checked.now) budget v)
+        → IsFeedbackOfRun least budget (hlds_of checked.now) text.items) }
+{
+    // What is found is of the view of the profile, which has one.
     let _viewed = loaded.profile();
-    let feedback = feedback(alloc, checked, &loaded, u64::from(least))?;
+    let feedback = feedback(alloc, checked, loaded, u64::from(least))?;
     let text = write_feedback(alloc, &feedback)?;
     Ok(text)
 }

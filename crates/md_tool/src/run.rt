@@ -1,11 +1,11 @@
 // The command `run`.
-ghost use Rattle.std.specs.Prelude.{ℕ, ◌≡◌};
-ghost use Rattle.md_base.specs.Outside.{Rose};
+ghost use Rattle.std.specs.Prelude.{ℕ, ◌≡◌, ◌⊎◌, MatchResult, Ok, Err};
+ghost use Rattle.md_base.specs.Outside.{Rose, added};
 ghost use Rattle.md_deepfile.specs.Bytes.{file_bytes};
 ghost use Rattle.md_dynamic.specs.Valid.{IsValid};
 ghost use Rattle.md_hlds.specs.Hlds.{Hlds};
 ghost use Rattle.md_profile.specs.OfRun.{IsProfiled};
-ghost use Rattle.md_tool.specs.Due.{StoreEnds};
+ghost use Rattle.md_tool.specs.Due.{StoreEnds, WriteEnds};
 ghost use Rattle.md_tool.specs.Ends.{TellsEnd, ran_end};
 ghost use Rattle.md_tool.specs.Kept.{IsRunFile, RunEnds, KeepEnds};
 
@@ -54,6 +54,27 @@ pub fn store_profile<S: Store>(
         Err(WriteFault::Write) => Err(Fault::Write),
         Err(WriteFault::NoMemory) => Err(Fault::NoMemory),
     }
+}
+
+/// Stores a profile under a name, and then writes a line that tells so.
+pub fn store_told<S: Store, O: Sink>(
+    alloc: Global,
+    profile: &Profile,
+    name: &str,
+    line: &[u8],
+    store: &mut S,
+    out: &mut O,
+) -> Result<(), Fault>
+    requires { IsValid profile.now }
+    ensures ends { MatchResult result
+        (λ _. StoreEnds name.now (file_bytes profile.now) (S.held store.old) (S.held store.new) (Rose (S.write_faults store.old) (S.write_faults store.new)) (Ok tt) × (O.held out.new ≡ added line.now (O.held out.old)))
+        (λ fault. (StoreEnds name.now (file_bytes profile.now) (S.held store.old) (S.held store.new) (Rose (S.write_faults store.old) (S.write_faults store.new)) (Err fault) × (O.held out.new ≡ O.held out.old))
+        ⊎ (StoreEnds name.now (file_bytes profile.now) (S.held store.old) (S.held store.new) (Rose (S.write_faults store.old) (S.write_faults store.new)) (Ok tt)
+        × WriteEnds line.now (O.held out.old) (O.held out.new) (Rose (O.write_faults out.old) (O.write_faults out.new)) (Err fault))) }
+    ensures reads { S.read_faults store.new ≡ S.read_faults store.old }
+{
+    store_profile(alloc, profile, name, store)?;
+    write(out, line)
 }
 
 /// The answer that tells how a run ended.

@@ -1,10 +1,12 @@
 // The command `serve`.
-ghost use Rattle.std.specs.Prelude.{◌≡◌, ◌≤◌, IfOk, MatchResult, OnOk, string_bytes};
+ghost use Rattle.std.specs.Prelude.{ℕ, ◌≡◌, ◌≤◌, List, Option, IfOk, MatchResult, OnOk, string_bytes};
+ghost use Rattle.md_base.specs.Files.{Files};
 ghost use Rattle.md_base.specs.Outside.{Rose};
 ghost use Rattle.md_cost.specs.FileView.{IsFileView};
 ghost use Rattle.md_cost.specs.View.{View};
 ghost use Rattle.md_tool.specs.Due.{WriteEnds};
 ghost use Rattle.md_tool.specs.Served.{ServeEnds, BindEnds, ConnectionsEnd, fault_of, tally_line};
+ghost use Rattle.md_tool.specs.Stored.{IsLoadedFrom};
 
 use crate::fault::Fault;
 use crate::stored::load_file;
@@ -31,13 +33,27 @@ pub fn serve_file<S: Store, O: Sink, N: Net>(
     ensures kept { S.held store.new ≡ S.held store.old }
 {
     let loaded = load_file(alloc, name, store)?;
+    serve_loaded(alloc, &loaded, port, requests, out, net)
+}
+
+/// Serves the pages of a loaded profile, and writes how many connections came and how many of them were answered.
+fn serve_loaded<O: Sink, N: Net>(
+    alloc: Global,
+    loaded: &Loaded,
+    port: u16,
+    requests: u32,
+    out: &mut O,
+    net: &mut N,
+) -> Result<(), Fault>
+    ensures { (held : Option Files) (name : List ℕ) → IsLoadedFrom held name loaded.now
+        → ServeEnds held name requests (N.connections net.old) (N.connections net.new) (O.held out.old) (O.held out.new)
+        ⊥ (Rose (O.write_faults out.old) (O.write_faults out.new)) (Rose (N.faults net.old) (N.faults net.new)) result }
+{
     // What is served is the view of the profile, which has one.
     let _viewed = loaded.profile();
     bind(net, port)?;
-    match serve(alloc, &loaded, net, requests) {
-        Ok(tally) => tell_tally(alloc, tally, out),
-        Err(fault) => Err(fault),
-    }
+    let tally = serve(alloc, loaded, net, requests)?;
+    tell_tally(alloc, tally, out)
 }
 
 /// Listens at a port.

@@ -8,8 +8,7 @@ ghost use Rattle.md_tool.specs.Stored.{IsStored, IsLoadedFrom, LoadFails, ViewFa
 
 use crate::fault::Fault;
 use crate::paged::write_page;
-use crate::run::store_profile;
-use crate::write::write;
+use crate::run::store_told;
 use md_base::{Sink, Store};
 use md_cost::{CostFault, Loaded, propagate};
 use md_deepfile::{LoadFault, load};
@@ -89,6 +88,5 @@ pub fn migrate_file<S: Store, O: Sink>(
         (Rose (O.write_faults out.old) (O.write_faults out.new)) result }
 {
     let profile = load_profile(alloc, name, LONGEST_MIGRATED, store)?;
-    store_profile(alloc, &profile, new, store)?;
-    write(out, b"migrated\n")
+    store_told(alloc, &profile, new, b"migrated\n", store, out)
 }

@@ -1,8 +1,10 @@
 // The command `sum`.
-ghost use Rattle.std.specs.Prelude.{◌≡◌, ◌≤◌, ◌++◌, Option, length, IfOk, OnOk, MatchResult, string_bytes};
+ghost use Rattle.std.specs.Prelude.{◌≡◌, ◌≤◌, ◌++◌, ◌∷◌, [], Option, length, IfOk, OnOk, MatchResult, string_bytes};
 ghost use Rattle.md_base.specs.Files.{Files};
 ghost use Rattle.md_base.specs.Outside.{Rose};
+ghost use Rattle.md_cost.specs.Loading.{LoadedRows};
 ghost use Rattle.md_words.specs.Told.{texts};
+ghost use Rattle.md_tool.specs.Stored.{IsLoadedFrom, ViewFails};
 ghost use Rattle.md_tool.specs.Summed.{AreLoaded, SumStops, AddUpFails, StopsAt, IsSumOf, sum_lines, sum_title, sum_text};
 
 use crate::fault::Fault;
@@ -36,7 +38,23 @@ pub fn sum_files<'a, S: Store, O: Sink>(
     ensures kept { S.held store.new ≡ S.held store.old }
 {
     let files = load_files(alloc, names, store)?;
-    let text = add_up(alloc, names, &files)?;
+    write_sums(alloc, names, &files, out)
+}
+
+/// Writes the sums of some profiles.
+fn write_sums<'a, O: Sink>(
+    alloc: Global,
+    names: &[&'a str],
+    files: &[Loaded],
+    out: &mut O,
+) -> Result<(), Stopped<'a>>
+    requires some { 1 ≤ length names.now }
+    requires few { length names.now ≤ 16 }
+    requires loaded { (held : Option Files) × AreLoaded held (texts names.now) files.now }
+    ensures { (held : Option Files) → AreLoaded held (texts names.now) files.now
+        → SumStops held (texts names.now) (O.held out.old) (O.held out.new) ⊥ (Rose (O.write_faults out.old) (O.write_faults out.new)) result }
+{
+    let text = add_up(alloc, names, files)?;
     match write(out, &text) {
         Ok(()) => Ok(()),
         Err(fault) => Err(Stopped { file: "", fault }),
@@ -55,18 +73,31 @@ fn load_files<'a, S: Store>(
 {
     let mut files = Vec::new(alloc);
     for name in names {
-        let loaded = match load_file(alloc, *name, store) {
-            Ok(loaded) => loaded,
+        match load_next(alloc, &mut files, *name, store) {
+            Ok(()) => {}
             Err(fault) => return Err(Stopped { file: *name, fault }),
-        };
-        let Ok(()) = files.push(loaded) else {
-            return Err(Stopped {
-                file: *name,
-                fault: Fault::NoMemory,
-            });
-        };
+        }
     }
     Ok(files)
+}
+
+/// Loads the profile in a file, and puts it behind those that were loaded before it.
+fn load_next<S: Store>(
+    alloc: Global,
+    files: &mut Vec<Loaded>,
+    name: &str,
+    store: &mut S,
+) -> Result<(), Fault>
+    ensures loaded { MatchResult result (λ _. (file : LoadedRows) × IsLoadedFrom (S.held store.old) name.now file × (files.new.items ≡ files.old.items ++ file ∷ []))
+        (ViewFails (S.held store.old) name.now (Rose (S.read_faults store.old) (S.read_faults store.new))) }
+    ensures kept { S.held store.new ≡ S.held store.old }
+    ensures later { S.read_faults store.old ≤ S.read_faults store.new }
+{
+    let loaded = load_file(alloc, name, store)?;
+    match files.push(loaded) {
+        Ok(()) => Ok(()),
+        Err(_) => Err(Fault::NoMemory),
+    }
 }
 
 /// The text of the sums of some profiles.

@@ -1,11 +1,13 @@
 // The commands that write a stored profile as a text, and bring it back: `dump` and `undump`.
 ghost use Rattle.std.specs.Prelude.{◌≡◌, ◌≤◌, length, MatchResult};
 ghost use Rattle.md_base.specs.Outside.{Rose};
+ghost use Rattle.md_dump.specs.Text.{dump_text};
 ghost use Rattle.md_dynamic.specs.Valid.{IsValid};
+ghost use Rattle.md_tool.specs.Due.{WriteEnds};
 ghost use Rattle.md_tool.specs.Texts.{DumpEnds, IsDumped, TextFails, TextSpells, UndumpFails, UndumpEnds};
 
 use crate::fault::Fault;
-use crate::run::store_profile;
+use crate::run::store_told;
 use crate::stored::{LONGEST_MIGRATED, LONGEST_PROFILE, load_profile};
 use crate::write::write;
 use md_base::{ReadFault, Sink, Store, read_all};
@@ -25,7 +27,15 @@ pub fn dump_file<S: Store, O: Sink>(
     ensures kept { S.held store.new ≡ S.held store.old }
 {
     let profile = load_profile(alloc, name, LONGEST_PROFILE, store)?;
-    match dump(alloc, &profile) {
+    write_dump(alloc, &profile, out)
+}
+
+/// Writes a profile as a text.
+fn write_dump<O: Sink>(alloc: Global, profile: &Profile, out: &mut O) -> Result<(), Fault>
+    requires { IsValid profile.now }
+    ensures { WriteEnds (dump_text profile.now) (O.held out.old) (O.held out.new) (Rose (O.write_faults out.old) (O.write_faults out.new)) result }
+{
+    match dump(alloc, profile) {
         Ok(text) => write(out, &text),
         Err(_) => Err(Fault::NoMemory),
     }
@@ -44,8 +54,7 @@ pub fn undump_file<S: Store, O: Sink>(
         (Rose (O.write_faults out.old) (O.write_faults out.new)) result }
 {
     let profile = read_dumped(alloc, name, store)?;
-    store_profile(alloc, &profile, new, store)?;
-    write(out, b"undumped\n")
+    store_told(alloc, &profile, new, b"undumped\n", store, out)
 }
 
 /// The profile that the text of a file spells.

@@ -18,6 +18,7 @@ use crate::report::show_output;
 use crate::run::ended;
 use crate::write::write;
 use md_base::{NoMemory, ProcId, Sink, Store};
+use md_cost::Loaded;
 use md_cover::{CoverFault, cover, cover_text, profiles_of_runs_have_their_counts};
 use md_det::Checked;
 use md_dynamic::Profile;
@@ -97,14 +98,26 @@ fn turns_text(
     ensures { IfOk result (λ text. (budget : ℕ) → IsWithinBounds (hlds_of checked.now) budget → IsProfileOfRun (hlds_of checked.now) budget profile
         → IsTextOfTurns (hlds_of checked.now) proc budget text) }
 {
+    let loaded = load_run(alloc, profile)?;
+    loaded_turns(alloc, checked, &loaded, proc)
+}
+
+/// The text of the turns of a procedure's goals in a run, by its loaded profile.
+fn loaded_turns(
+    alloc: Global,
+    checked: &Checked,
+    loaded: &Loaded,
+    proc: u32,
+) -> Result<Option<Vec<u8>>, NoMemory>
+    requires valid { IsValid loaded.now.profile }
+    requires accepted { IsAccepted (hlds_of checked.now) }
+    ensures { IfOk result (λ text. (budget : ℕ) → IsWithinBounds (hlds_of checked.now) budget → IsProfileOfRun (hlds_of checked.now) budget loaded.now.profile
+        → IsTextOfTurns (hlds_of checked.now) proc budget text) }
+{
     runs_are_histories();
     profiles_of_runs_have_their_counts();
-    let loaded = load_run(alloc, profile)?;
-    match cover(alloc, checked, &loaded, ProcId::new(proc)) {
-        Ok(coverage) => match cover_text(alloc, &loaded, &coverage) {
-            Ok(text) => Ok(Some(text)),
-            Err(_) => Err(NoMemory),
-        },
+    match cover(alloc, checked, loaded, ProcId::new(proc)) {
+        Ok(coverage) => Ok(Some(cover_text(alloc, loaded, &coverage)?)),
         Err(CoverFault::NoSuchProc) => Ok(None),
         Err(CoverFault::NoMemory) => Err(NoMemory),
     }

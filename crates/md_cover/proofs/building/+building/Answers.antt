@@ -1,10 +1,11 @@
-use Rattle.std.proofs.Common.{◌≡◌, ◌∙◌, ◌+◌, ◌++◌, sym, ap, subst, arith, ℕ, drop, IfOk}
+use Rattle.std.proofs.Common.{◌≡◌, ◌∙◌, ◌+◌, ◌++◌, sym, ap, subst, arith, ℕ, List, map, drop, IfOk}
 use Rattle.md_hlds.specs.Hlds.{hlds_of}
-use Rattle.md_hlds.specs.HldsGoal.{GoalExpr, goal_of, goals_of, gathered, parts_size}
+use Rattle.md_hlds.specs.HldsGoal.{GoalExpr, goal_of, goals_of, gathered, goals_size, parts_size}
 use Rattle.md_det.specs.Findings.{program_findings}
 use Rattle.md_turns.specs.Equations as spec
-use Rattle.md_cover.specs.Told.{quantities_of, equations_of, view_counts}
-use Rattle.md_cover.proofs.BuildingLemmas.{conj-is, disj-is, if-is, if-built, parts-step, size-step, numbers-step, arm-step}
+use Rattle.md_cover.specs.declared.equation.Quantity.{Quantity}
+use Rattle.md_cover.specs.Told.{quantity_of, quantities_of, equations_of, view_counts}
+use Rattle.md_cover.proofs.BuildingLemmas.{conj-is, disj-is, if-is, if-built, entered, arms-begin, parts-step, conj-step, size-step, numbers-step, arm-step}
 use Rattle.md_cover.proofs.ToldLemmas.{quantities-append}
 use Rattle.md_cover.proofs.building.+building.Goals as goal
 
@@ -35,10 +36,43 @@ add_kind-returns-in_ok-add_both-in-If-2-clause-equations t c = λ v is.
     let e = if-is c.args.kind.now c.in-If.condition c.in-If.then c.in-If.otherwise c.deref.result.now c.deref-in-If.result.now c.deref-in-If-2.result.now c.in-If.is c.deref.ensures c.deref-in-If.ensures c.deref-in-If-2.ensures in
     subst (λ (x : GoalExpr). equations_of c.add_both-in-If.new.equations.items ≡ equations_of c.args.equations.now.items ++ spec.expr_equations (program_findings (hlds_of c.args.checked.now)) (view_counts v) c.args.number x) (sym e)
     (if-built (program_findings (hlds_of c.args.checked.now)) (view_counts v) c.args.number c.in_ok-asked-in-If.asked c.in_ok-held-in-If.held c.in_ok-lapsed-in-If.lapsed
-    (goal_of c.deref.result.now) (goal_of c.deref-in-If.result.now) (goal_of c.deref-in-If-2.result.now) _ _ _ _ _ _ _ _
+    (goal_of c.deref.result.now) (goal_of c.deref-in-If.result.now) (goal_of c.deref-in-If-2.result.now) _ _ _ _ _ _
     c.in_ok-asked-in-If.ensures c.in_ok-held-in-If.ensures.next c.in_ok-lapsed-in-If.ensures.next
-    c.in_ok-add_equal-in-If.ensures (c.in_ok-held-in-If.ensures.equations v is) c.in_ok-add_equal-in-If-2.ensures (c.in_ok-lapsed-in-If.ensures.equations v is)
+    (c.in_ok-held-in-If.ensures.equations v is) (c.in_ok-lapsed-in-If.ensures.equations v is)
     c.in_ok-add_both-in-If.ensures (c.in_ok-next-in-If.ensures.equations v is) c.in_ok-add_both-in-If-2.ensures)
+
+pub add_entered-returns-clause-equations : goal.add_entered-returns-clause-equations
+add_entered-returns-clause-equations t c = λ v is. entered c.add_goal.result (equations_of c.args.equations.now.items) _ _ _ _ c.in_ok-add_equal.ensures (c.add_goal.ensures.equations v is)
+
+pub add_conjunction-loop-goal-preserved : goal.add_conjunction-loop-goal-preserved
+add_conjunction-loop-goal-preserved t c =
+    let i = c.loop-goal.goal-index in
+    let gs = c.args.goals.now in
+    let ps = gathered (goals_of (drop i gs)) in
+    let rest = gathered (goals_of (drop (i + 1) gs)) in
+    let p = goal_of c.goal-item.result in
+    let step = parts-step gs i c.goal-item.result (omega arith) c.goal-item.is in
+    let at = c.in_ok-next-2.ensures.next in
+    let inv = c.loop-goal.invariant in
+    let m = c.loop-goal.next in
+    let n = c.in_ok-next-2.next in (
+      size-step ps rest p m n step at ∙ inv.0,
+      λ v is. conj-step (program_findings (hlds_of c.args.checked.now)) (view_counts v) c.args.number m n (quantity_of c.loop-goal.before) ps rest p (equations_of c.loop-goal.equations.items) (equations_of c.add_entered.new.equations.items) step at (c.in_ok-next-2.ensures.equations v is) ∙ inv.1 v is,
+    )
+
+pub add_disjunction-loop-arm-init : goal.add_disjunction-loop-arm-init
+add_disjunction-loop-arm-init t c =
+    let ps = gathered (goals_of c.args.arms.now) in
+    let at = c.in_ok-first.ensures in (
+      ap (λ (k : ℕ). k + goals_size ps) at,
+      (
+        ap (λ (qs : List Quantity). quantities_of qs ++ map (λ x. spec.Entries x) (spec.numbers_from c.in_ok-first.first ps)) c.new-entries.ensures.items ∙ ap (λ (k : ℕ). map (λ x. spec.Entries x) (spec.numbers_from k ps)) at,
+        (
+          ap (λ (qs : List Quantity). quantities_of qs ++ map (λ x. spec.Exits x) (spec.numbers_from c.in_ok-first.first ps)) c.new-exits.ensures.items ∙ ap (λ (k : ℕ). map (λ x. spec.Exits x) (spec.numbers_from k ps)) at,
+          λ v is. arms-begin (program_findings (hlds_of c.args.checked.now)) (view_counts v) c.args.number c.in_ok-first.first ps c.switch-switch.result _ (equations_of c.args.equations.now.items) (equations_of c.enter_first.new.equations.items) at c.switch-switch.ensures c.in_ok-enter_first.ensures,
+        ),
+      ),
+    )
 
 pub add_disjunction-loop-arm-preserved : goal.add_disjunction-loop-arm-preserved
 add_disjunction-loop-arm-preserved t c =

@@ -1,9 +1,9 @@
-use Rattle.std.proofs.Common.{arith, ◌≡◌, ◌∙◌, ◌+◌, ◌++◌, ap, sym, subst, List, ℕ, IfOk, OnOk}
+use Rattle.std.proofs.Common.{arith, ◌≡◌, ◌∙◌, ◌+◌, ◌++◌, ap, sym, subst, List, ℕ, drop, IfOk, OnOk}
 use Rattle.md_hlds.specs.declared.goal.Goal.{Goal}
-use Rattle.md_hlds.specs.HldsGoal.{goals_of, gathered, goals_size, goal_size, goal_of}
+use Rattle.md_hlds.specs.HldsGoal.{also, goals_of, gathered, numbered_from, goals_size, goal_size, goal_of}
 use Rattle.md_feedback.specs.declared.pairs.Pair.{Pair}
-use Rattle.md_feedback.specs.Search.{reading_in, each_pairs, arm_pairs}
-use Rattle.md_feedback.proofs.Parts.{size-Conj, size-Disj, pairs-Conj, pairs-Disj}
+use Rattle.md_feedback.specs.Search.{reading_in, costly_call, binds_in, led_by, each_pairs, arm_pairs}
+use Rattle.md_feedback.proofs.Parts.{parts-step, behind, size-step, each-step, arm-step, size-Conj, size-Disj, pairs-Conj, pairs-Disj}
 use Rattle.md_feedback.proofs.search.+search.Goals as goal
 
 pub add_goal-returns-in-Conj-clause-next : goal.add_goal-returns-in-Conj-clause-next
@@ -37,3 +37,35 @@ add_goal-returns-in-Disj-clause-pairs t c =
     ∙ (ap (λ (gs : List Goal). arm_pairs r (c.args.number + 1) (gathered (goals_of gs))) c.as_slice-in-Disj.ensures.value
     ∙ sym (pairs-Disj r (c.args.number + 1) c.args.goal.now.kind c.in-Disj.arms c.in-Disj.is)))
     c.add_arms.ensures.pairs
+
+pub add_conjunction-loop-place-preserved : goal.add_conjunction-loop-place-preserved
+add_conjunction-loop-place-preserved t c =
+    let i = c.loop-place.place in
+    let gs = c.args.goals.now in
+    let ps = gathered (goals_of (drop i gs)) in
+    let rest = gathered (goals_of (drop (i + 1) gs)) in
+    let p = goal_of c.index-goals-place.result in
+    let step : ps ≡ also p rest = ap gathered (parts-step gs i c.index-goals-place.result c.loop-place-test.true c.index-goals-place.is) in
+    let at = c.in_ok-next.ensures.next in
+    let inv = c.loop-place.invariant in (
+      size-step ps rest p c.loop-place.number c.in_ok-next.next step at ∙ inv.0,
+      each-step (reading_in c.args.search.now) c.loop-place.number c.in_ok-next.next ps rest p (c.args.pairs.now ++ each_pairs (reading_in c.args.search.now) c.args.first (gathered (goals_of gs)))
+          c.loop-place.pairs c.add_goal.new.pairs c.add_led_by.new.pairs step at c.in_ok-next.ensures.pairs
+          (c.in_ok-add_led_by.ensures ∙ ap (λ (hs : List Goal). c.add_goal.new.pairs ++ led_by (reading_in c.args.search.now) (costly_call (reading_in c.args.search.now) c.loop-place.number p) (binds_in (reading_in c.args.search.now) c.loop-place.number) (numbered_from c.in_ok-next.next (gathered (goals_of hs)))) (behind gs (i + 1)))
+          inv.1,
+    )
+
+pub add_arms-loop-arm-preserved : goal.add_arms-loop-arm-preserved
+add_arms-loop-arm-preserved t c =
+    let i = c.loop-arm.arm-index in
+    let gs = c.args.arms.now in
+    let ps = gathered (goals_of (drop i gs)) in
+    let rest = gathered (goals_of (drop (i + 1) gs)) in
+    let p = goal_of c.arm-item.result in
+    let step : ps ≡ also p rest = ap gathered (parts-step gs i c.arm-item.result c.loop-arm-test.true c.arm-item.is) in
+    let at = c.in_ok-number.ensures.next in
+    let inv = c.loop-arm.invariant in (
+      size-step ps rest p c.loop-arm.number c.in_ok-number.number step at ∙ inv.0,
+      arm-step (reading_in c.args.search.now) c.loop-arm.number c.in_ok-number.number ps rest p (c.args.pairs.now ++ arm_pairs (reading_in c.args.search.now) c.args.first (gathered (goals_of gs)))
+          c.loop-arm.pairs c.add_goal.new.pairs step at c.in_ok-number.ensures.pairs inv.1,
+    )

@@ -3,7 +3,6 @@ use Rattle.std.specs.Borrow.{Bor}
 use Rattle.std.specs.Prelude.{slice_index_or}
 use Rattle.md_base.specs.Outside.{Rose}
 use Rattle.md_words.specs.Told.{texts}
-use Rattle.md_tool.specs.declared.fault.Fault.TheVariants.{NoMemory}
 use Rattle.md_tool.proofs.StreamLemmas.{rose_after}
 use Rattle.md_tool.proofs.SumLemmas.{one_more_loaded, next_texts, stops_at}
 use Rattle.md_tool.proofs.sums.load_files.Goals as goal
@@ -11,26 +10,19 @@ use Rattle.md_tool.proofs.sums.load_files.Goals as goal
 pub returns-in-Err-clause-loaded : goal.returns-in-Err-clause-loaded
 returns-in-Err-clause-loaded g c =
     stops_at (g.S.Store.held c.args.store.now) c.args.names.now c.loop-name.name-index (record { ref_ptr = (0, 0); now = [] }) c.loop-name.files.items
-    (Rose (g.S.Store.read_faults c.loop-name.store) (g.S.Store.read_faults c.load_file.new.store))
-    (Rose (g.S.Store.read_faults c.args.store.now) (g.S.Store.read_faults c.load_file.new.store)) c.in-Err.fault c.loop-name-test.true c.loop-name.invariant.loaded
-    (rose_after (g.S.Store.read_faults c.args.store.now) (g.S.Store.read_faults c.loop-name.store) (g.S.Store.read_faults c.load_file.new.store) c.loop-name.invariant.later)
+    (Rose (g.S.Store.read_faults c.loop-name.store) (g.S.Store.read_faults c.load_next.new.store))
+    (Rose (g.S.Store.read_faults c.args.store.now) (g.S.Store.read_faults c.load_next.new.store)) c.in-Err.fault c.loop-name-test.true c.loop-name.invariant.loaded
+    (rose_after (g.S.Store.read_faults c.args.store.now) (g.S.Store.read_faults c.loop-name.store) (g.S.Store.read_faults c.load_next.new.store) c.loop-name.invariant.later)
     (rw (c.loop-name.invariant.kept) at c.in-Err.ensures.loaded)
-
-pub returns-in_default-clause-loaded : goal.returns-in_default-clause-loaded
-returns-in_default-clause-loaded g c =
-    stops_at (g.S.Store.held c.args.store.now) c.args.names.now c.loop-name.name-index (record { ref_ptr = (0, 0); now = [] }) c.loop-name.files.items
-    (Rose (g.S.Store.read_faults c.loop-name.store) (g.S.Store.read_faults c.load_file.new.store))
-    (Rose (g.S.Store.read_faults c.args.store.now) (g.S.Store.read_faults c.load_file.new.store)) NoMemory c.loop-name-test.true c.loop-name.invariant.loaded
-    (rose_after (g.S.Store.read_faults c.args.store.now) (g.S.Store.read_faults c.loop-name.store) (g.S.Store.read_faults c.load_file.new.store) c.loop-name.invariant.later)
-    tt
 
 pub loop-name-preserved : goal.loop-name-preserved
 loop-name-preserved g c = record {
   loaded =
       let item : Bor (List ℕ) = record { ref_ptr = (0, 0); now = [] } in
-      rw (next_texts c.args.names.now c.loop-name.name-index item c.loop-name-test.true, c.in-Ok-push.ensures.items)
-      (one_more_loaded (g.S.Store.held c.args.store.now) (texts (take c.loop-name.name-index c.args.names.now)) c.loop-name.files.items (slice_index_or c.args.names.now c.loop-name.name-index item).now c.in-Ok.loaded
-      c.loop-name.invariant.loaded (rw (c.loop-name.invariant.kept) at c.in-Ok.ensures.loaded));
-  kept = c.load_file.ensures.kept ∙ c.loop-name.invariant.kept;
-  later = omega (arith, c.loop-name.invariant.later, c.load_file.ensures.later);
+      let next = c.in-Ok.ensures.loaded in
+      rw (next_texts c.args.names.now c.loop-name.name-index item c.loop-name-test.true, next.2)
+      (one_more_loaded (g.S.Store.held c.args.store.now) (texts (take c.loop-name.name-index c.args.names.now)) c.loop-name.files.items (slice_index_or c.args.names.now c.loop-name.name-index item).now next.0
+      c.loop-name.invariant.loaded (rw (c.loop-name.invariant.kept) at next.1));
+  kept = c.load_next.ensures.kept ∙ c.loop-name.invariant.kept;
+  later = omega (arith, c.loop-name.invariant.later, c.load_next.ensures.later);
 }
