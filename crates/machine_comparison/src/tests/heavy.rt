@@ -46,7 +46,7 @@ fn a_million_calls_nest(rt: HostRuntime) -> Result<(), Fail> {
 #[test]
 fn a_million_choices_are_open(rt: HostRuntime) -> Result<(), Fail> {
     comes_to(&rt, CHOICES, 13_000_028, "y", End::Finished)?;
-    comes_to(&rt, CHOICES, 13_000_027, "y", End::OutOfSteps)
+    comes_to(&rt, CHOICES, 13_000_027, "", End::OutOfSteps)
 }
 
 #[test]
