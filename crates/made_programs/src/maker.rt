@@ -95,13 +95,19 @@ impl<'a> Maker<'a> {
             if place > 0 {
                 self.put(", ")?;
             }
-            let picked = self.pick(16).min(15) as usize;
-            self.put_goal(self.family.goals[picked], place)?;
+            self.put_some_goal(place)?;
         }
         Ok(())
     }
 
-    /// A goal between the variables of this place and of the next.
+    /// One of the goals, between the variables of this place and of the next.
+    fn put_some_goal(&mut self, place: u32) -> Result<(), NoMemory> {
+        let picked = self.pick(16).min(15) as usize;
+        let goal = self.family.goals[picked];
+        self.put_goal(goal, place)
+    }
+
+    /// This goal, between the same variables.
     fn put_goal(&mut self, goal: &str, place: u32) -> Result<(), NoMemory> {
         for byte in goal.as_bytes() {
             self.put_byte(*byte, place)?;
