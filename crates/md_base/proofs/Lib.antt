@@ -1,4 +1,3 @@
 pub mod Differ
 pub mod Told
-pub mod Stored
 mod Worked

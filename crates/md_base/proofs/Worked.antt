@@ -1,8 +1,8 @@
 -- The definitions of the outside, computed on small examples.
-use Rattle.std.proofs.Common.{◌≡◌, ℕ, List, [], ◌∷◌, Option, Some, None, true, false, refl, inl, inr, arith, option_map}
+use Rattle.std.proofs.Common.{◌≡◌, ℕ, List, [], ◌∷◌, Option, Some, None, true, false, refl, inl, inr, arith, option_map, if◌then◌else◌}
+use Rattle.std.specs.Str.{bytes_eq}
 use Rattle.md_base.specs.Outside.{Rose, Gives, added, one_more, last_count}
 use Rattle.md_base.specs.Files.{Files, with_file, holding, extended}
-use Rattle.md_base.specs.Memory.{file_in, any_file_in}
 use Rattle.md_base.specs.Streams.{fresh, after_read}
 use Rattle.md_base.specs.Nets.{with_served, connection_of}
 use Rattle.md_base.specs.Counts.{count_of, with_more}
@@ -10,32 +10,23 @@ use Rattle.md_base.specs.declared.measure.Counts.{Counts}
 use Rattle.md_base.specs.declared.measure.Measure.TheVariants.{Redos, Words, Excps}
 
 -- a has 1 2 3, and b has 4
-abbrev two_files : List (List ℕ × List ℕ)
-two_files = (97 ∷ [], 1 ∷ 2 ∷ 3 ∷ []) ∷ (98 ∷ [], 4 ∷ []) ∷ []
+abbrev two_files : Files
+two_files name = if bytes_eq name (97 ∷ []) then Some (1 ∷ 2 ∷ 3 ∷ []) else (if bytes_eq name (98 ∷ []) then Some (4 ∷ []) else None)
 
-found : file_in two_files (98 ∷ []) ≡ Some (4 ∷ [])
-found = refl
-
-not_there : file_in two_files (99 ∷ []) ≡ None
-not_there = refl
-
-empty_there : any_file_in two_files (99 ∷ []) ≡ Some []
-empty_there = refl
-
-written : with_file (97 ∷ []) (9 ∷ []) (file_in two_files) (97 ∷ []) ≡ Some (9 ∷ [])
+written : with_file (97 ∷ []) (9 ∷ []) two_files (97 ∷ []) ≡ Some (9 ∷ [])
 written = refl
 
-untouched : with_file (97 ∷ []) (9 ∷ []) (file_in two_files) (98 ∷ []) ≡ Some (4 ∷ [])
+untouched : with_file (97 ∷ []) (9 ∷ []) two_files (98 ∷ []) ≡ Some (4 ∷ [])
 untouched = refl
 
 -- what a told content has at a name
 abbrev at : List ℕ → Option Files → Option (Option (List ℕ))
 at name told = option_map (λ files. files name) told
 
-grown : at (98 ∷ []) (extended (98 ∷ []) (5 ∷ 6 ∷ []) (Some (file_in two_files))) ≡ Some (Some (4 ∷ 5 ∷ 6 ∷ []))
+grown : at (98 ∷ []) (extended (98 ∷ []) (5 ∷ 6 ∷ []) (Some two_files)) ≡ Some (Some (4 ∷ 5 ∷ 6 ∷ []))
 grown = refl
 
-begun : at (99 ∷ []) (extended (99 ∷ []) (7 ∷ []) (Some (file_in two_files))) ≡ Some (Some (7 ∷ []))
+begun : at (99 ∷ []) (extended (99 ∷ []) (7 ∷ []) (Some two_files)) ≡ Some (Some (7 ∷ []))
 begun = refl
 
 untold : holding (99 ∷ []) (7 ∷ []) None ≡ None

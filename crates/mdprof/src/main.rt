@@ -2,7 +2,7 @@
 //! status. All that it does is `md_tool::top`.
 #![tactic(auto)]
 
-use md_base::{StdSink, StdStore, TcpNet};
+use md_system::{StdSink, StdStore, TcpNet};
 use md_tool::top;
 use std::io::ErrorKind;
 use std::process::ExitCode;

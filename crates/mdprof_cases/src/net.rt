@@ -1,10 +1,10 @@
 // The net that the program is given: the connections of a case, in memory.
 ghost use Rattle.std.specs.Prelude.{◌≤◌, All, IfOk};
-ghost use Rattle.md_base.specs.Memory.{IsFreshFailingLink};
+ghost use Rattle.md_memory.specs.Memory.{IsFreshFailingLink};
 
 use crate::connections::{Connections, Request};
 use crate::outcome::failing;
-use md_base::{MemLink, MemNet};
+use md_memory::{MemLink, MemNet};
 use std::alloc::{AllocError, Global};
 
 /// A net over which these connections come.

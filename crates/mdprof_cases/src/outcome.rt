@@ -1,7 +1,7 @@
 // What comes of a case.
 use crate::case::{Case, File};
 use crate::net::{are_written, net_of};
-use md_base::{MemSink, MemStore};
+use md_memory::{MemSink, MemStore};
 use md_tool::{Status, top};
 use std::alloc::{AllocError, Global};
 
@@ -59,8 +59,8 @@ pub fn failing(alloc: Global, call: u64) -> Result<Vec<u64>, AllocError> {
     Ok(fails)
 }
 
-/// Whether the store holds the files that have to be there, and of others just those that it was given, as they were, and a
-/// run's profile under its usual name.
+/// Whether the store holds the files that have to be there, and of others just those that it was given, as they were, and,
+/// after a run, its profile under the usual name.
 fn are_left(store: &MemStore, case: &Case) -> bool {
     case.left.iter().all(|file| is_left(store, file))
         && store
@@ -77,9 +77,14 @@ fn is_left(store: &MemStore, file: &File) -> bool {
 }
 
 fn may_be_left(case: &Case, name: &str, bytes: &[u8]) -> bool {
-    name == PROFILE
+    (name == PROFILE && is_of_run(case))
         || case.left.iter().any(|file| is_same(file, name, bytes))
         || case.files.iter().any(|file| is_same(file, name, bytes))
+}
+
+/// Whether the case's command is a run.
+fn is_of_run(case: &Case) -> bool {
+    matches!(case.words.first(), Some(word) if word.as_str() == "run")
 }
 
 fn is_same(file: &File, name: &str, bytes: &[u8]) -> bool {

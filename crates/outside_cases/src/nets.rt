@@ -4,7 +4,8 @@ ghost use Rattle.std.specs.Prelude.{◌≡◌};
 use crate::input::{failing, most, number, show_bytes};
 use crate::sinks::write;
 use cases::{Case, Field};
-use md_base::{Link, MemLink, MemNet, Net, SureLink, SureNet};
+use md_base::{Link, Net};
+use md_memory::{MemLink, MemNet, SureLink, SureNet};
 use std::alloc::{AllocError, Global};
 
 /// A port, which nets in memory do not look at.

@@ -1,7 +1,9 @@
 // Sinks: what comes of the lines `write BYTES`, and what they hold then.
 use crate::input::{failing, most, show_bytes};
 use cases::Case;
-use md_base::{MemSink, Sink, StdSink, SureSink, write_whole};
+use md_base::{Sink, write_whole};
+use md_memory::{MemSink, SureSink};
+use md_system::StdSink;
 use std::alloc::{AllocError, Global};
 use std::io;
 

@@ -1,7 +1,8 @@
 // Stores: what comes of calls on them, and what they hold then.
 use crate::input::{failing, halves, most, number, show_bytes};
 use cases::{Case, Field};
-use md_base::{MemStore, Store, SureStore, read_all, write_file};
+use md_base::{Store, read_all, write_file};
+use md_memory::{MemStore, SureStore};
 use std::alloc::{AllocError, Global};
 
 /// A store in memory with the files of the lines `file NAME BYTES`, of which the calls `fails NUMBER` fail.

@@ -1,7 +1,7 @@
 // Responses, and connections in memory that are served.
 use crate::lines::{add_debug, add_line, add_shown, failing, most};
 use cases::Case;
-use md_base::MemLink;
+use md_memory::MemLink;
 use md_cost::Loaded;
 use md_http::{reply, serve_link};
 use std::alloc::{AllocError, Global};

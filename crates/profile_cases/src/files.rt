@@ -3,7 +3,7 @@ ghost use Rattle.std.specs.Prelude.{◌<◌, length};
 
 use crate::lines::{add_debug, add_line, add_shown, add_text, failing, most};
 use cases::Case;
-use md_base::MemStore;
+use md_memory::MemStore;
 use md_deepfile::{DecodeFault, Kind, decode, encode, load};
 use md_dump::{DumpFault, dump, undump};
 use md_feedback::{Feedback, read_feedback, write_feedback};

@@ -5,11 +5,11 @@ use md_machine::{End, Ran};
 use std::process::Abort;
 use std::test::Fail;
 
-/// The run wrote this, ended so, and threw that.
-fn came_to(rt: &impl Abort, ran: &Ran, output: &str, end: End, error: &str) {
-    assert_eq!(rt; ran.output.as_slice(), output.as_bytes());
-    assert_eq!(rt; ran.end, end);
-    assert_eq!(rt; ran.error.as_slice(), error.as_bytes());
+/// The run of this text wrote this, ended so, and threw that.
+fn came_to(rt: &impl Abort, text: &str, ran: &Ran, output: &str, end: End, error: &str) {
+    assert_eq!(rt; ran.output.as_slice(), output.as_bytes(), "{text}");
+    assert_eq!(rt; ran.end, end, "{text}");
+    assert_eq!(rt; ran.error.as_slice(), error.as_bytes(), "{text}");
 }
 
 #[test]
@@ -26,7 +26,7 @@ fn programs_write_and_end_as_they_say(rt: HostRuntime) -> Result<(), Fail> {
         (ERR, 48, "", End::OutOfSteps, ""),
     ] {
         let ran = silent_run(rt.alloc(), text, budget)?;
-        came_to(&rt, &ran, output, end, error);
+        came_to(&rt, text, &ran, output, end, error);
     }
     Ok(())
 }
@@ -35,7 +35,7 @@ fn programs_write_and_end_as_they_say(rt: HostRuntime) -> Result<(), Fail> {
 fn a_run_hands_over_its_ports(rt: HostRuntime) -> Result<(), Fail> {
     // main calls count four times, below one another.
     let (ran, counts) = counted_run(rt.alloc(), COUNT, 58)?;
-    came_to(&rt, &ran, "", End::Finished, "");
+    came_to(&rt, COUNT, &ran, "", End::Finished, "");
     assert_eq!(rt; (counts.calls, counts.exits), (5, 5));
     assert_eq!(rt; (counts.fails, counts.redos), (0, 0));
     assert_eq!(rt; (counts.excps, counts.allocs), (0, 0));

@@ -1,6 +1,6 @@
 use Rattle.std.proofs.Common.{List, All, refl, sym, subst}
 use Rattle.std.proofs.lemmas.List.Elements.{All-push}
-use Rattle.md_base.specs.Memory.{FailingLink, IsFreshFailingLink}
+use Rattle.md_memory.specs.Memory.{FailingLink, IsFreshFailingLink}
 use Rattle.mdprof_cases.proofs.net.links_of.Goals as goal
 
 pub loop-request-preserved : goal.loop-request-preserved

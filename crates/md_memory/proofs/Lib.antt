@@ -1,0 +1,3 @@
+mod Read
+mod Stored
+mod Worked

@@ -1,0 +1,15 @@
+use Rattle.std.proofs.Common.{◌≡◌, ℕ, ◌+◌, ◌==◌, ◌||◌, ◌&&◌, nat_lt, take, drop, length, Option, Some, ap, ◌∙◌, subst}
+use Rattle.md_memory.specs.Memory.{WholeLink}
+use Rattle.md_base.specs.Streams.{Stream, after_read}
+use Rattle.md_memory.proofs.Read.{stream_at, read_on}
+use Rattle.md_memory.proofs.link.SureLinkSource.read.Goals as goal
+
+pub returns-clause-taken : goal.returns-clause-taken
+returns-clause-taken c =
+    let input = c.self.inside.input.items in
+    let place = c.self.inside.place in
+    let count = c.give_rest-count.result in
+    let now : Option Stream = Some (stream_at (take (place + count) input) (drop (place + count) input) c.has_ended-self-inside.result) in
+    subst (λ (link : WholeLink). now ≡ after_read count (length c.args.buf.now) (Some link.stream)) c.self.view_is
+    (read_on input place count _ _
+    (c.has_ended-self-inside.ensures ∙ ap (λ (size : ℕ). c.self.inside.ended || ((count == 0) && nat_lt 0 size)) c.give_rest-count.auto.buf))

@@ -1,0 +1,14 @@
+//! The outside in memory: stores, sinks, connections and nets that tell what they hold, of which chosen calls fail or
+//! none does. Worked examples and comparisons of the profiler run over them.
+#![tactic(auto)]
+
+mod failures;
+mod link;
+mod net;
+mod sink;
+mod store;
+
+pub use link::{MemLink, SureLink};
+pub use net::{MemNet, SureNet};
+pub use sink::{MemSink, SureSink};
+pub use store::{MemStore, SureStore};
