@@ -83,7 +83,7 @@ pub fn entering(
 }
 
 /// What is known of the links that enter a clique: the first two of them.
-#[derive(Clone, Copy, Debug)]
+#[derive(Clone, Copy)]
 pub enum Entry {
     Nothing,
     One(u32),

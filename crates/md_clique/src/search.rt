@@ -8,7 +8,7 @@ use md_base::NoMemory;
 use std::alloc::Global;
 
 /// Where the search stands with a node.
-#[derive(Clone, Copy, Debug)]
+#[derive(Clone, Copy)]
 pub enum State {
     /// No walk has come to it.
     New,
@@ -34,7 +34,7 @@ impl State {
 }
 
 /// What the search does next.
-#[derive(Clone, Copy, Debug)]
+#[derive(Clone, Copy)]
 pub enum Move {
     /// Walk on to this node, which is new.
     Enter(u32),

@@ -9,7 +9,7 @@ use md_base::SiteId;
 use md_dynamic::Profile;
 
 /// The keys of a context or link, one of each kind, where it has them.
-#[derive(Clone, Copy, Debug)]
+#[derive(Clone, Copy)]
 pub struct Keys {
     pub procedures: Option<u32>,
     pub modules: Option<u32>,

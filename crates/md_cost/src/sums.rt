@@ -2,7 +2,7 @@
 use md_base::{Counts, Measure};
 
 /// One sum for each measure, in the order in which they are always written.
-#[derive(Clone, Copy, Debug, PartialEq, Eq)]
+#[derive(Clone, Copy, PartialEq, Eq)]
 pub struct Sums {
     pub calls: u64,
     pub exits: u64,

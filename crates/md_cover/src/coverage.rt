@@ -3,7 +3,7 @@ use md_base::ProcId;
 use std::marker::Model;
 
 /// What a goal is. `Write` is any of the three builtins that write.
-#[derive(Clone, Copy, Debug, PartialEq, Eq)]
+#[derive(Clone, Copy, PartialEq, Eq)]
 pub enum KindName {
     True,
     Fail,
@@ -22,7 +22,7 @@ pub enum KindName {
 }
 
 /// A goal of a procedure and how often it had a turn, where that is known.
-#[derive(Clone, Copy, Debug, PartialEq, Eq)]
+#[derive(Clone, Copy, PartialEq, Eq)]
 pub struct GoalCount {
     /// The goal's place among the procedure's goals, in text order, outer before inner.
     pub place: u32,
@@ -35,7 +35,7 @@ pub struct GoalCount {
 }
 
 /// The goals of a procedure, in text order, outer before inner.
-#[derive(Debug, Drop)]
+#[derive(Drop)]
 pub struct Coverage {
     id: ProcId,
     goals: Vec<GoalCount>,

@@ -6,14 +6,14 @@ ghost use Rattle.md_cover.specs.Told.{quantity_of, quantities_of, equations_of};
 use md_base::NoMemory;
 
 /// How often a goal is entered, and how often it is left with a solution. Goals go by their numbers in the file.
-#[derive(Clone, Copy, Debug, PartialEq, Eq)]
+#[derive(Clone, Copy, PartialEq, Eq)]
 pub(crate) enum Quantity {
     Entries(u32),
     Exits(u32),
 }
 
 /// The whole is the sum of the parts and the number.
-#[derive(Debug, Drop)]
+#[derive(Drop)]
 pub(crate) struct Equation {
     pub whole: Quantity,
     pub parts: Vec<Quantity>,

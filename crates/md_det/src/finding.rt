@@ -13,7 +13,7 @@ pub struct Switch {
 }
 
 /// What is found at one goal.
-#[derive(Clone, Copy, Debug, PartialEq, Eq)]
+#[derive(Clone, Copy, PartialEq, Eq)]
 pub struct Finding {
     /// The switch that the goal is, if it is one.
     pub switch: Option<Switch>,

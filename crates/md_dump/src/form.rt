@@ -15,7 +15,7 @@ pub(crate) struct ProcLine<'a> {
 }
 
 /// The line of a call site. A higher-order site has no callee.
-#[derive(Clone, Copy, Debug, PartialEq, Eq)]
+#[derive(Clone, Copy, PartialEq, Eq)]
 pub(crate) struct SiteLine {
     pub owner: u32,
     pub line: u32,
@@ -23,7 +23,7 @@ pub(crate) struct SiteLine {
 }
 
 /// The line of a link other than the root link.
-#[derive(Clone, Copy, Debug, PartialEq, Eq)]
+#[derive(Clone, Copy, PartialEq, Eq)]
 pub(crate) struct LinkLine {
     pub caller: u32,
     pub site: u32,

@@ -3,7 +3,7 @@ ghost use Rattle.std.specs.Prelude.{◌≡◌};
 ghost use Rattle.md_dump.specs.Lines.{name_of, least_of};
 
 /// A section of the text: a list of the profile behind the number of its members.
-#[derive(Clone, Copy, Debug, PartialEq, Eq)]
+#[derive(Clone, Copy, PartialEq, Eq)]
 pub(crate) enum Section {
     Modules,
     Procs,

@@ -13,7 +13,7 @@ use std::error::Error;
 use std::fmt;
 
 /// What a procedure costs over all runs.
-#[derive(Clone, Copy, Debug, PartialEq, Eq)]
+#[derive(Clone, Copy, PartialEq, Eq)]
 pub struct ProcSum {
     pub id: ProcId,
     pub own: Sums,

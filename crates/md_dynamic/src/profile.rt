@@ -37,7 +37,7 @@ impl From<NoMemory> for CheckFault {
 }
 
 /// A profile: the program's tables, each context's procedure, the links, and whether the run was finished.
-#[derive(Debug, Drop)]
+#[derive(Drop)]
 pub struct Profile {
     statics: Statics,
     nodes: Vec<ProcId>,

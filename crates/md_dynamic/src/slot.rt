@@ -12,7 +12,7 @@ use std::sync::ledger::Ledger;
 
 /// What a context keeps for a call site of its procedure: the link of a plain site, or none before the first call. It takes
 /// four bytes, since no link has the last number.
-#[derive(Clone, Copy, Debug)]
+#[derive(Clone, Copy)]
 pub(crate) struct Slot {
     number: u32,
 }
@@ -47,7 +47,7 @@ impl Slot {
 }
 
 /// What tells the links of higher-order sites apart: the context that calls, the site, and the procedure that is called.
-#[derive(Clone, Copy, Debug, PartialEq, Eq, Hash)]
+#[derive(Clone, Copy, PartialEq, Eq, Hash)]
 pub(crate) struct CalleeKey {
     pub(crate) node: PdId,
     pub(crate) site: SiteId,

@@ -8,7 +8,7 @@ use md_static::Site;
 use std::alloc::Global;
 
 /// The call sites of one procedure, which stand together: the first of them, and how many there are.
-#[derive(Clone, Copy, Debug)]
+#[derive(Clone, Copy)]
 pub struct Span {
     pub first: u32,
     pub count: u32,

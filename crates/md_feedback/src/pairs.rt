@@ -20,13 +20,13 @@ pub struct Pair {
 }
 
 /// A list of pairs, which contracts see as a list.
-#[derive(Debug, Drop)]
+#[derive(Drop)]
 pub struct Pairs {
     items: Vec<Pair>,
 }
 
 /// The pairs of a program's calls that could run side by side with profit.
-#[derive(Debug, Drop)]
+#[derive(Drop)]
 pub struct Feedback {
     /// The program's module.
     pub module: Name,

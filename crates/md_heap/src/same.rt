@@ -19,7 +19,7 @@ pub enum Same {
 }
 
 /// Two cells of as many parts; those from a place on are still to be compared.
-#[derive(Clone, Copy, Debug)]
+#[derive(Clone, Copy)]
 pub struct Frame {
     pub first: u32,
     pub second: u32,
@@ -28,7 +28,7 @@ pub struct Frame {
 }
 
 /// What a look at two nodes finds.
-#[derive(Clone, Copy, Debug)]
+#[derive(Clone, Copy)]
 pub enum Look {
     /// They differ.
     Differing,
@@ -39,7 +39,7 @@ pub enum Look {
 }
 
 /// What a step of a comparison comes to.
-#[derive(Clone, Copy, Debug)]
+#[derive(Clone, Copy)]
 pub enum Step {
     /// A pair that differs.
     Found,

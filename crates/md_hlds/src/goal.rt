@@ -4,7 +4,7 @@ use md_base::{Name, SiteId, Text};
 
 /// A goal with the line of its first token.
 #[cycle(ast)]
-#[derive(Debug, Drop)]
+#[derive(Drop)]
 pub struct Goal {
     pub line: u32,
     pub kind: GoalKind,
@@ -12,7 +12,7 @@ pub struct Goal {
 
 /// What a goal is. Variables are places in the clause's table of names.
 #[cycle(ast)]
-#[derive(Debug, Drop)]
+#[derive(Drop)]
 pub enum GoalKind {
     True,
     Fail,
@@ -39,7 +39,7 @@ pub enum GoalKind {
 }
 
 /// The right side of a unification.
-#[derive(Debug, Drop)]
+#[derive(Drop)]
 pub enum Term {
     Var(u32),
     Int(i64),
@@ -49,7 +49,7 @@ pub enum Term {
 }
 
 /// A name that may be qualified by a module other than the file's.
-#[derive(Debug, Drop)]
+#[derive(Drop)]
 pub struct PredName {
     pub qualifier: Option<Name>,
     pub name: Name,

@@ -6,7 +6,7 @@ use crate::{Det, Goal, Mode, Ty, Variables};
 use md_base::{Name, ProcId, SiteId};
 
 /// A whole program: one file.
-#[derive(Debug, Drop)]
+#[derive(Drop)]
 pub struct Program {
     pub module: Name,
     pub module_line: u32,
@@ -18,7 +18,7 @@ pub struct Program {
 }
 
 /// `:- type NAME ---> FUNCTOR ; ..`.
-#[derive(Debug, Drop)]
+#[derive(Drop)]
 pub struct TypeDef {
     pub name: Name,
     pub line: u32,
@@ -26,14 +26,14 @@ pub struct TypeDef {
 }
 
 /// A functor with the types of its arguments; with none it is a constant.
-#[derive(Debug, Drop)]
+#[derive(Drop)]
 pub struct Functor {
     pub name: Name,
     pub args: Vec<Ty>,
 }
 
 /// A predicate: its declaration and its one clause.
-#[derive(Debug, Drop)]
+#[derive(Drop)]
 pub struct Pred {
     pub qualifier: Option<Name>,
     pub name: Name,

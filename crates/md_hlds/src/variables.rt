@@ -6,7 +6,7 @@ use std::alloc::Global;
 use std::marker::Model;
 
 /// Variables of one clause: places in the clause's table of variable names.
-#[derive(Debug, Drop)]
+#[derive(Drop)]
 pub struct Variables {
     places: Vec<u32>,
 }

@@ -13,7 +13,7 @@ pub(crate) const MOST_BYTES: usize = 8_192;
 const ROOM: usize = 2_731;
 
 /// What the bytes of a connection hold so far.
-#[derive(Clone, Copy, Debug, PartialEq, Eq)]
+#[derive(Clone, Copy, PartialEq, Eq)]
 pub(crate) enum Heard {
     /// A whole head is there.
     Head(RequestSpans),

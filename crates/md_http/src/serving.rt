@@ -15,7 +15,7 @@ use std::error::Error;
 use std::fmt;
 
 /// How many connections were served, and how many of them were answered.
-#[derive(Clone, Copy, Debug, PartialEq, Eq)]
+#[derive(Clone, Copy, PartialEq, Eq)]
 pub struct Tally {
     pub connections: u32,
     pub answered: u32,

@@ -12,7 +12,7 @@ pub enum End {
 }
 
 /// What a run came to.
-#[derive(Debug, Drop)]
+#[derive(Drop)]
 pub struct Ran {
     /// The bytes that it wrote.
     pub output: Vec<u8>,

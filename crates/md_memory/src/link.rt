@@ -9,7 +9,7 @@ use std::marker::Model;
 
 /// A connection in memory that gives or takes a few bytes a call, and of which chosen calls fail: the bytes that it
 /// sends, how many of them were read, whether a read met their end, and the bytes that were written to it.
-#[derive(Debug, Drop)]
+#[derive(Drop)]
 pub struct MemLink {
     input: Vec<u8>,
     place: usize,
@@ -148,7 +148,7 @@ impl Link for MemLink {
 
 /// A connection in memory that never fails: the bytes that it sends, how many of them were read, whether a read met
 /// their end, and the bytes that were written to it.
-#[derive(Debug, Drop)]
+#[derive(Drop)]
 pub struct SureLink {
     input: Vec<u8>,
     place: usize,

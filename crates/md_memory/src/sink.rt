@@ -8,7 +8,7 @@ use md_base::{Failed, Sink};
 use std::marker::Model;
 
 /// A sink in memory that takes a few bytes a call, and of which chosen calls fail.
-#[derive(Debug, Drop)]
+#[derive(Drop)]
 pub struct MemSink {
     bytes: Vec<u8>,
     most: usize,
@@ -81,7 +81,7 @@ impl Sink for MemSink {
 }
 
 /// A sink in memory that never fails.
-#[derive(Debug, Drop)]
+#[derive(Drop)]
 pub struct SureSink {
     bytes: Vec<u8>,
     most: usize,

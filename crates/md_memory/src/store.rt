@@ -10,7 +10,7 @@ use std::alloc::Global;
 use std::marker::Model;
 
 /// A store in memory that gives or takes a few bytes a call, and of which chosen calls fail.
-#[derive(Debug, Drop)]
+#[derive(Drop)]
 pub struct MemStore {
     files: Vec<(String, Vec<u8>)>,
     most: usize,
@@ -154,7 +154,7 @@ impl Store for MemStore {
 }
 
 /// A store in memory that never fails. A file that isn't there is an empty one.
-#[derive(Debug, Drop)]
+#[derive(Drop)]
 pub struct SureStore {
     files: Vec<(String, Vec<u8>)>,
     most: usize,

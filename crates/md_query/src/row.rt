@@ -4,7 +4,7 @@ use md_cost::Sums;
 use std::marker::Model;
 
 /// What a page is of.
-#[derive(Clone, Copy, Debug, PartialEq, Eq)]
+#[derive(Clone, Copy, PartialEq, Eq)]
 pub enum Title {
     /// What the profile is of, and how much it holds.
     Menu,
@@ -23,7 +23,7 @@ pub enum Title {
 }
 
 /// What a number on the menu counts.
-#[derive(Clone, Copy, Debug, PartialEq, Eq)]
+#[derive(Clone, Copy, PartialEq, Eq)]
 pub enum What {
     Contexts,
     Links,
@@ -38,7 +38,7 @@ pub enum What {
 }
 
 /// A row of a page.
-#[derive(Debug, PartialEq, Eq, Drop)]
+#[derive(PartialEq, Eq, Drop)]
 pub enum Row {
     /// The module of which the profile is.
     Main {
@@ -105,7 +105,7 @@ pub enum Row {
 }
 
 /// A page: what it is of, and its rows from top to bottom.
-#[derive(Debug, Drop)]
+#[derive(Drop)]
 pub struct Page {
     title: Title,
     rows: Vec<Row>,

@@ -3,7 +3,7 @@ use md_base::{CsdId, PdId};
 
 /// The mark of an activation: its context, its link, and the active context of its procedure before its call, which is
 /// due again when it is left.
-#[derive(Clone, Copy, Debug, PartialEq, Eq)]
+#[derive(Clone, Copy, PartialEq, Eq)]
 pub struct Saved {
     pub top: PdId,
     pub middle: CsdId,

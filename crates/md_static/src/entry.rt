@@ -2,7 +2,7 @@
 use md_base::{Name, ProcId};
 
 /// A procedure: its module by number, its name and its number of arguments.
-#[derive(Debug, Drop)]
+#[derive(Drop)]
 pub struct Proc {
     pub module: u32,
     pub name: Name,

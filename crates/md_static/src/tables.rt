@@ -8,7 +8,7 @@ use std::marker::Model;
 
 /// The modules, procedures and call sites of a program. Module 0 is the file's; the others follow in the order in
 /// which a predicate of theirs is first declared. Procedures and call sites are in text order.
-#[derive(Debug, Drop)]
+#[derive(Drop)]
 pub struct Statics {
     modules: Vec<Name>,
     procs: Vec<Proc>,

@@ -2,7 +2,7 @@
 use crate::Kind;
 
 /// A token: its kind, the bytes that spell it, and its line, counted from 1.
-#[derive(Clone, Copy, Debug)]
+#[derive(Clone, Copy)]
 pub struct Token<'a> {
     pub kind: Kind,
     pub text: &'a [u8],

@@ -46,7 +46,7 @@ pub enum Fault {
 }
 
 /// Why a text isn't accepted as a program.
-#[derive(Clone, Copy, Debug, PartialEq, Eq)]
+#[derive(Clone, Copy, PartialEq, Eq)]
 pub enum Refusal {
     /// It spells no program.
     Text(Refused),

@@ -7,7 +7,7 @@ use std::alloc::Global;
 use std::marker::Model;
 
 /// Keeps the seven own counts of each procedure, and the procedures of the current activation's chain.
-#[derive(Debug, Drop)]
+#[derive(Drop)]
 pub struct Counter {
     own: Vec<Counts>,
     chain: Vec<ProcId>,

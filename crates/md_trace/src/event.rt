@@ -3,7 +3,7 @@ use md_base::{ProcId, SiteId};
 
 /// One port of one activation, or an allocation by it. Activations are numbered from 0 in the order of their
 /// calls; activation 0 is that of the main procedure.
-#[derive(Clone, Copy, Debug, PartialEq, Eq)]
+#[derive(Clone, Copy, PartialEq, Eq)]
 pub enum Event {
     /// Activation `act` of the procedure `callee` begins, called by the activation `parent` at the call site
     /// `site`; the main procedure has neither.

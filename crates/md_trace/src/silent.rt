@@ -7,7 +7,7 @@ use crate::port_sink::PortSink;
 use md_base::{NoMemory, ProcId, SiteId};
 
 /// A sink that keeps nothing, and so stands for every port history.
-#[derive(Clone, Copy, Debug, Default)]
+#[derive(Clone, Copy, Default)]
 pub struct Silent;
 
 impl PortSink for Silent {

@@ -3,7 +3,7 @@ ghost use Rattle.std.specs.Prelude.{◌≡◌};
 ghost use Rattle.md_words.specs.Tools.{name_of, named_in, tools, later_tools, tool_named};
 
 /// A command, by what it is for.
-#[derive(Clone, Copy, Debug, PartialEq, Eq)]
+#[derive(Clone, Copy, PartialEq, Eq)]
 pub enum Tool {
     Check,
     Run,
