@@ -9,7 +9,7 @@ use crate::functors::{Declared, functors_of};
 use crate::key::{FunctorKey, PredicateKey};
 use crate::named::Named;
 use crate::predicates::{key_of, predicates_of};
-use crate::types::{functor_names, type_names};
+use crate::types::names_of_types;
 use indexmap::{IndexMap, IndexSet};
 use md_base::{Name, NoMemory, ProcId};
 use md_hlds::{Functor, GoalKind, Pred, PredName, Program, Term, TypeDef};
@@ -53,8 +53,7 @@ impl<'a> Names<'a> {
     {
         let predicates = predicates_of(alloc, program)?;
         let functors = functors_of(alloc, program)?;
-        let type_names = type_names(alloc, program)?;
-        let functor_names = functor_names(alloc, program)?;
+        let (type_names, functor_names) = names_of_types(alloc, program)?;
         Ok(Names {
             program,
             predicates,

@@ -8,8 +8,21 @@ use md_base::NoMemory;
 use md_hlds::{Functor, Program, TypeDef};
 use std::alloc::Global;
 
+/// The names of the types of a program, and those of its functors.
+pub fn names_of_types<'a>(
+    alloc: Global,
+    program: &'a Program,
+) -> Result<(IndexSet<&'a [u8]>, IndexSet<&'a [u8]>), NoMemory>
+    ensures types { IfOk result (λ names. AreTypeNames names.0 (type_defs_of program.now.types.items)) }
+    ensures functors { IfOk result (λ names. AreFunctorNames names.1 (type_defs_of program.now.types.items)) }
+{
+    let types = type_names(alloc, program)?;
+    let functors = functor_names(alloc, program)?;
+    Ok((types, functors))
+}
+
 /// The names of the types of a program.
-pub fn type_names<'a>(alloc: Global, program: &'a Program) -> Result<IndexSet<&'a [u8]>, NoMemory>
+fn type_names<'a>(alloc: Global, program: &'a Program) -> Result<IndexSet<&'a [u8]>, NoMemory>
     ensures { IfOk result (λ names. AreTypeNames names (type_defs_of program.now.types.items)) }
 {
     let mut names = IndexSet::new(alloc);
@@ -20,7 +33,7 @@ pub fn type_names<'a>(alloc: Global, program: &'a Program) -> Result<IndexSet<&'
 }
 
 /// The names of the functors of a program.
-pub fn functor_names<'a>(
+fn functor_names<'a>(
     alloc: Global,
     program: &'a Program,
 ) -> Result<IndexSet<&'a [u8]>, NoMemory>
