@@ -16,10 +16,10 @@ pub enum Failed {
 
 impl fmt::Display for Failed {
     fn fmt<W: fmt::Write>(&self, f: &mut fmt::Formatter<W>) -> fmt::Result {
-        match self {
-            Failed::Device => write!(f, "a device failed"),
-            Failed::NoMemory => write!(f, "want of memory"),
-        }
+        f.write_str(match self {
+            Failed::Device => "a device failed",
+            Failed::NoMemory => "want of memory",
+        })
     }
 }
 

@@ -20,11 +20,11 @@ pub enum ReadFault {
 
 impl fmt::Display for ReadFault {
     fn fmt<W: fmt::Write>(&self, f: &mut fmt::Formatter<W>) -> fmt::Result {
-        match self {
-            ReadFault::Read => write!(f, "the file can't be read"),
-            ReadFault::TooLarge => write!(f, "the file is too large"),
-            ReadFault::NoMemory => write!(f, "want of memory"),
-        }
+        f.write_str(match self {
+            ReadFault::Read => "the file can't be read",
+            ReadFault::TooLarge => "the file is too large",
+            ReadFault::NoMemory => "want of memory",
+        })
     }
 }
 
@@ -47,10 +47,10 @@ pub enum WriteFault {
 
 impl fmt::Display for WriteFault {
     fn fmt<W: fmt::Write>(&self, f: &mut fmt::Formatter<W>) -> fmt::Result {
-        match self {
-            WriteFault::Write => write!(f, "the bytes can't be written"),
-            WriteFault::NoMemory => write!(f, "want of memory"),
-        }
+        f.write_str(match self {
+            WriteFault::Write => "the bytes can't be written",
+            WriteFault::NoMemory => "want of memory",
+        })
     }
 }
 
