@@ -48,24 +48,31 @@ impl ModeFault {
             ModeFault::NoMemory => None,
         }
     }
+
+    /// What is wrong.
+    fn words(&self) -> &'static str
+        ensures { result.now ≡ mode_fault_words self.now }
+    {
+        match self {
+            ModeFault::UnknownName(_) => "unknown name",
+            ModeFault::Arity(_) => "wrong number of arguments",
+            ModeFault::TypeClash(_) => "type clash",
+            ModeFault::Unbound(_) => "unbound variable",
+            ModeFault::BoundTwice(_) => "variable bound twice",
+            ModeFault::BranchBinds(_) => "branches bind differently",
+            ModeFault::IoUsed(_) => "io used",
+            ModeFault::ClosureTest(_) => "closure compared",
+            ModeFault::NoMain(_) => "no main",
+            ModeFault::NoMemory => "want of memory",
+        }
+    }
 }
 
 impl fmt::Display for ModeFault {
     ghost output = { λ fault. Some (mode_fault_words fault) };
 
     fn fmt<W: fmt::Write>(&self, f: &mut fmt::Formatter<W>) -> fmt::Result {
-        match self {
-            ModeFault::UnknownName(_) => f.write_str("unknown name"),
-            ModeFault::Arity(_) => f.write_str("wrong number of arguments"),
-            ModeFault::TypeClash(_) => f.write_str("type clash"),
-            ModeFault::Unbound(_) => f.write_str("unbound variable"),
-            ModeFault::BoundTwice(_) => f.write_str("variable bound twice"),
-            ModeFault::BranchBinds(_) => f.write_str("branches bind differently"),
-            ModeFault::IoUsed(_) => f.write_str("io used"),
-            ModeFault::ClosureTest(_) => f.write_str("closure compared"),
-            ModeFault::NoMain(_) => f.write_str("no main"),
-            ModeFault::NoMemory => f.write_str("want of memory"),
-        }
+        f.write_str(self.words())
     }
 }
 
