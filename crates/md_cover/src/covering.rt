@@ -11,9 +11,9 @@ ghost use Rattle.md_cover.specs.Known.{table_of};
 ghost use Rattle.md_cover.specs.Solved.{body_equations, IsSolved, with_turns, HaveFewExits};
 ghost use Rattle.md_cover.specs.Coverage.{IsAccepted, has_full_count, gives_turns, IsCountedIn, IsCoverageOf};
 
+use crate::bodies::body_number;
 use crate::building::add_body;
 use crate::rows::add_rows;
-use crate::size::body_number;
 use crate::solving::Known;
 use crate::{CoverFault, Coverage, GoalCount};
 use md_base::{Counts, NoMemory, ProcId};

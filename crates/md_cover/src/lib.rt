@@ -1,6 +1,7 @@
 //! How often each goal of a procedure had a turn, as a table and as a text.
 #![tactic(auto)]
 
+mod bodies;
 mod building;
 mod counts;
 mod coverage;
@@ -11,7 +12,6 @@ mod laws;
 mod name;
 mod number;
 mod rows;
-mod size;
 mod solving;
 mod text;
 

@@ -40,12 +40,6 @@ size-Disj g v e =
     let inner : parts_size (expr_of g.kind) ≡ goals_size (gathered (goals_of v.items)) = ap (λ k. parts_size (expr_of k)) e ∙ ap parts_size (expr_of-Disj v) in
     omega (arith, inner)
 
-pub within-Conj : (k : GoalKind) (v : Vec Goal Global) (gs : List Goal) → k ≡ Conj v → gs ≡ v.items → goals_size (gathered (goals_of gs)) ≡ parts_size (expr_of k)
-within-Conj k v gs e same = ap (λ hs. goals_size (gathered (goals_of hs))) same ∙ sym (ap (λ k. parts_size (expr_of k)) e ∙ ap parts_size (expr_of-Conj v))
-
-pub within-Disj : (k : GoalKind) (v : Vec Goal Global) (gs : List Goal) → k ≡ Disj v → gs ≡ v.items → goals_size (gathered (goals_of gs)) ≡ parts_size (expr_of k)
-within-Disj k v gs e same = ap (λ hs. goals_size (gathered (goals_of hs))) same ∙ sym (ap (λ k. parts_size (expr_of k)) e ∙ ap parts_size (expr_of-Disj v))
-
 pub size-step : (ps rest : HldsGoals) (p : HldsGoal) (m next : ℕ) → ps ≡ also p rest → next ≡ m + goal_size p → next + goals_size rest ≡ m + goals_size ps
 size-step ps rest p m next is at = let e = ap goals_size is in omega (arith, e, at)
 

@@ -13,7 +13,6 @@ mod pairs;
 mod read;
 mod reading;
 mod search;
-mod size;
 mod write;
 
 pub use candidates::feedback;

@@ -7,9 +7,8 @@ ghost use Rattle.md_feedback.specs.Search.{reading_in, costly_call, call_at, pai
 use crate::marks::{mark, mentions};
 use crate::pairs::{Pair, Pairs};
 use crate::reading::Search;
-use crate::size::{size_of, sum};
 use md_base::{NoMemory, ProcId, SiteId};
-use md_hlds::{Det, Goal, GoalKind};
+use md_hlds::{Det, Goal, GoalKind, goal_size};
 use md_modes::{Moded, Named};
 use std::alloc::Global;
 
@@ -135,7 +134,7 @@ fn add_partners(
     let mut place = next;
     for goal in behind {
         add_partner(search, first, goal, place, &mut bound, pairs)?;
-        place = sum(place, size_of(goal)?)?;
+        place = sum(place, goal_size(goal)?)?;
     }
     Ok(())
 }
@@ -241,4 +240,11 @@ fn heavy_call(heavy: &[Option<u64>], site: SiteId) -> Option<(SiteId, u64)>
         Some(Some(total)) => Some((site, *total)),
         Some(None) | None => None,
     }
+}
+
+/// The sum of two numbers of goals.
+fn sum(first: u32, second: u32) -> Result<u32, NoMemory>
+    ensures { IfOk result (λ sum. sum ≡ first + second) }
+{
+    first.checked_add(second).ok_or(NoMemory)
 }

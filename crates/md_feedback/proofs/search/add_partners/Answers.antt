@@ -12,6 +12,6 @@ loop-goal-init c =
 pub loop-goal-preserved : goal.loop-goal-preserved
 loop-goal-preserved c =
     let r = reading_in c.args.search.now in
-    partners_go_on r (c.args.first.0, c.args.first.1) c.args.behind.now c.loop-goal.goal-index c.loop-goal.place c.in_ok-place.place c.in_ok-size_of.field-0 c.goal-item.result
-    c.loop-goal.bound.items c.add_partner.new.bound.items _ c.loop-goal.pairs c.add_partner.new.pairs (omega arith) c.goal-item.is c.in_ok-size_of.ensures c.in_ok-place.ensures
+    partners_go_on r (c.args.first.0, c.args.first.1) c.args.behind.now c.loop-goal.goal-index c.loop-goal.place c.in_ok-place.place c.in_ok-goal_size.field-0 c.goal-item.result
+    c.loop-goal.bound.items c.add_partner.new.bound.items _ c.loop-goal.pairs c.add_partner.new.pairs (omega arith) c.goal-item.is c.in_ok-goal_size.ensures c.in_ok-place.ensures
     c.in_ok-add_partner.ensures c.loop-goal.invariant
