@@ -101,12 +101,8 @@ fn do_command<S: Store, O: Sink, E: Sink, N: Net>(
 {
     match command {
         Command::Check { file, print } => {
-            tell_end(
-                alloc,
-                check_file(alloc, *file, *print, store, out),
-                *file,
-                err,
-            )
+            let end = check_file(alloc, *file, *print, store, out);
+            tell_end(alloc, end, *file, err)
         }
         Command::Run {
             file,
