@@ -32,9 +32,9 @@ units-returns t c =
     let e = no_more (λ n. units_from c.args.room (within c.args.room) n (goals_of c.loop-turn.found.items) (input_of c.loop-turn.input)) _ c.loop-turn._turn c.loop-turn-test.false c.loop-turn.invariant in
     first_of (search rules, grind (arith, common_steps), search (rules, goals_of-append), grind (arith, common_steps, goals_of-append))
 
-pub arms-returns-in_err-inner : goal.arms-returns-in_err-inner
+pub arms-returns-in_err-part : goal.arms-returns-in_err-part
 unfolding arms_from
-arms-returns-in_err-inner t c =
+arms-returns-in_err-part t c =
     let e = one_more (λ n. arms_from (within c.args.room) n (goals_of c.loop-turn.found.items) (input_of c.loop-turn.input)) _ c.loop-turn._turn c.loop-turn-test.true c.loop-turn.invariant in
     first_of (search rules, grind (arith, common_steps), search (rules, goals_of-append), grind (arith, common_steps, goals_of-append))
 
@@ -70,8 +70,8 @@ pub conjunction-returns-in_err-units : goal.conjunction-returns-in_err-units
 conjunction-returns-in_err-units t c =
     rw (conjunction_is c.args.room (input_of c.args.input.now)) (first_of (search rules, grind (arith, common_steps)))
 
-pub inner-returns : goal.inner-returns
-inner-returns t c =
+pub part-returns : goal.part-returns
+part-returns t c =
     rw (within_is c.args.room (input_of c.args.input.now) c.requires) c.conjunction.ensures
 
 pub disjunction-returns : goal.disjunction-returns
