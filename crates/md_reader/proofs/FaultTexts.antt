@@ -1,9 +1,9 @@
 -- The cause of each refusal, and what is answered where there is one.
-use Rattle.std.proofs.Common.{◌≡◌, ◌≢◌, ℕ, List, [], ◌∷◌, Err, sym, ◌∙◌, subst, true, append_assoc, Result, Ok, Option, Some, None, refl, ap}
+use Rattle.std.proofs.Common.{◌≡◌, ◌≢◌, ℕ, IfOk, IfErr, MatchResult, List, [], ◌∷◌, Err, sym, ◌∙◌, subst, true, append_assoc, Result, Ok, Option, Some, None, refl, ap}
 use Rattle.md_hlds.specs.declared.program.Program.{Program}
 use Rattle.md_hlds.specs.Hlds.{Hlds, hlds_of}
 use Rattle.md_token.specs.declared.kind.Kind.TheVariants as kind
-use Rattle.md_token.specs.Token.{tokens_of}
+use Rattle.md_token.specs.Token.{Lexeme, tokens_of}
 use Rattle.md_reader.specs.declared.refused.Refusal.{Refusal}
 use Rattle.md_reader.specs.declared.refused.Refusal.TheVariants as refusal
 use Rattle.md_token.proofs.Ends.{tokens_end}
@@ -104,3 +104,22 @@ answer_limit (Err (refused.Duplicate second)) text line h f = λ n. absurd (let 
 answer_limit (Err (refused.Syntax other)) text line h f = λ n. absurd (one_kind_of_fault text other line (reading_syntax text other (h n)) f)
 answer_limit (Err (refused.Limit other)) text line h f = λ n. ap refused.Limit (one_limit_fault text other line (reading_limit text other (h n)) f)
 answer_limit (Err refused.NoMemory) text line h f = λ n. absurd (n refl)
+
+-- ---- what follows from an answer
+
+-- an answer to a text's tokens is one to the text
+pub answer_of : (r : Result Program Refused) (text : List ℕ) (ts : List Lexeme) → ts ≡ tokens_of text → MatchResult r (λ p. outcome_of (rule.program (rule.start ts)) ≡ Ok (hlds_of p)) (λ e. e ≢ refused.NoMemory → outcome_of (rule.program (rule.start ts)) ≡ Err e) → IsAnswer r text
+unfolding reading
+answer_of (Ok p) text ts e h = subst (λ (us : List Lexeme). outcome_of (rule.program (rule.start us)) ≡ Ok (hlds_of p)) e h
+answer_of (Err f) text ts e h = λ n. subst (λ (us : List Lexeme). outcome_of (rule.program (rule.start us)) ≡ Err f) e (h n)
+
+pub answer_spelled : (r : Result Program Refused) (text : List ℕ) → IsAnswer r text → IfOk r (λ program. g.Spells text (hlds_of program))
+answer_spelled (Ok p) text h = reading_sound text (hlds_of p) h
+answer_spelled (Err e) text h = tt
+
+pub answer_cause : (r : Result Program Refused) (text : List ℕ) → IsAnswer r text → IfErr r (λ refused. HasCause refused text)
+answer_cause (Ok p) text h = tt
+answer_cause (Err (refused.Duplicate line)) text h = reading_repeats text line (h (λ q. absurd (cc)))
+answer_cause (Err (refused.Syntax line)) text h = reading_syntax text line (h (λ q. absurd (cc)))
+answer_cause (Err (refused.Limit line)) text h = reading_limit text line (h (λ q. absurd (cc)))
+answer_cause (Err refused.NoMemory) text h = tt

@@ -1,6 +1,6 @@
 // Goals. They nest, and within each other at most so many are open.
-ghost use Rattle.std.specs.Prelude.{◌≡◌, ◌<◌, OnOk};
-ghost use Rattle.md_hlds.specs.HldsGoal.{goal_of, goals_of};
+ghost use Rattle.std.specs.Prelude.{◌≡◌, ◌<◌, OnOk, Err, IsOkAnd, MatchResult};
+ghost use Rattle.md_hlds.specs.HldsGoal.{At, expr_of, goal_of, goals_of};
 ghost use Rattle.md_reader.specs.Input.{input_of, Reads};
 ghost use Rattle.md_reader.specs.Rules as spec;
 
@@ -13,11 +13,11 @@ use md_token::Kind;
 
 /// Takes a conjunction within which so many goals may be open.
 #[cycle(goals)]
-pub(crate) fn conjunction(input: &mut Input<'_>, room: u32) -> Result<Goal, Refusal>
-    ensures { Reads goal_of (spec.conjunction room (input_of input.old)) result (input_of input.new) }
+pub(crate) fn conjunction(input: &mut Input<'_>, room: u32) -> Result<Box<Goal>, Refusal>
+    ensures { Reads (λ goal. goal_of goal.value) (spec.conjunction room (input_of input.old)) result (input_of input.new) }
 {
     let units = units(input, room)?;
-    Ok(joined(units))
+    Ok(Box::new(input.alloc, joined(units))?)
 }
 
 /// Takes units with commas between them.
@@ -67,23 +67,32 @@ fn unit(input: &mut Input<'_>, room: u32) -> Result<Goal, Refusal>
     ensures { Reads goal_of (spec.unit room (spec.within room) (input_of input.old)) result (input_of input.new) }
 {
     let line = input.token().line;
-    let kind = match input.kind() {
-        Kind::Open => return group(input, room),
-        Kind::Not => return negation(input, room),
-        Kind::Some => return quantification(input, room),
+    match input.kind() {
+        Kind::Open => group(input, room),
+        Kind::Not => negation(input, room),
+        Kind::Some => quantification(input, room),
         Kind::True => {
             input.advance();
-            GoalKind::True
+            at(line, Ok(GoalKind::True))
         }
         Kind::Fail => {
             input.advance();
-            GoalKind::Fail
+            at(line, Ok(GoalKind::Fail))
         }
-        Kind::Variable => relation(input)?,
-        Kind::Call => closure_call(input)?,
-        Kind::Name | Kind::Qualified => call(input)?,
-        _ => return Err(input.refuse()),
-    };
+        Kind::Variable => at(line, relation(input)),
+        Kind::Call => at(line, closure_call(input)),
+        Kind::Name | Kind::Qualified => at(line, call(input)),
+        _ => Err(input.refuse()),
+    }
+}
+
+/// The goal of this line that was read, if one was.
+fn at(line: u32, read: Result<GoalKind, Refusal>) -> Result<Goal, Refusal>
+    ensures { MatchResult read
+        (λ kind. IsOkAnd result (λ goal. goal_of goal ≡ At line (expr_of kind)))
+        (λ refusal. result ≡ Err refusal) }
+{
+    let kind = read?;
     Ok(Goal { line, kind })
 }
 
@@ -94,11 +103,11 @@ fn group(input: &mut Input<'_>, room: u32) -> Result<Goal, Refusal>
     ensures { Reads goal_of (spec.group room (spec.within room) (input_of input.old)) result (input_of input.new) }
 {
     let line = open_goal(input, room)?;
-    let first = inner(input, room)?;
+    let first = part(input, room)?;
     match input.kind() {
         Kind::Close => {
             input.advance();
-            Ok(first)
+            Ok(Box::into_inner(first))
         }
         Kind::Semicolon => disjunction(input, room, line, first),
         Kind::Then => choice(input, room, line, first),
@@ -109,9 +118,14 @@ fn group(input: &mut Input<'_>, room: u32) -> Result<Goal, Refusal>
 /// Takes the other arms of a disjunction, whose parenthesis stands on this line.
 #[tactic(auto, unfolding(crate::specs::Rules::disjunction))]
 #[cycle(goals)]
-fn disjunction(input: &mut Input<'_>, room: u32, line: u32, first: Goal) -> Result<Goal, Refusal>
+fn disjunction(
+    input: &mut Input<'_>,
+    room: u32,
+    line: u32,
+    first: Box<Goal>,
+) -> Result<Goal, Refusal>
     requires { 0 < room }
-    ensures { Reads goal_of (spec.disjunction (spec.within room) line (goal_of first) (input_of input.old)) result (input_of input.new) }
+    ensures { Reads goal_of (spec.disjunction (spec.within room) line (goal_of first.value) (input_of input.old)) result (input_of input.new) }
 {
     input.expect(Kind::Semicolon)?;
     let arms = arms(input, room, first)?;
@@ -123,14 +137,14 @@ fn disjunction(input: &mut Input<'_>, room: u32, line: u32, first: Goal) -> Resu
 
 #[tactic(auto, unfolding(crate::specs::Rules::arms))]
 #[cycle(goals)]
-fn arms(input: &mut Input<'_>, room: u32, first: Goal) -> Result<Vec<Goal>, Refusal>
+fn arms(input: &mut Input<'_>, room: u32, first: Box<Goal>) -> Result<Vec<Goal>, Refusal>
     requires { 0 < room }
-    ensures { Reads (λ arms. goals_of arms.items) (spec.arms (spec.within room) (goal_of first) (input_of input.old)) result (input_of input.new) }
+    ensures { Reads (λ arms. goals_of arms.items) (spec.arms (spec.within room) (goal_of first.value) (input_of input.old)) result (input_of input.new) }
 {
     let mut found = Vec::new(input.alloc);
-    found.push(first)?;
+    found.push(Box::into_inner(first))?;
     for _turn in 0..input.left() {
-        found.push(inner(input, room)?)?;
+        found.push(Box::into_inner(part(input, room)?))?;
         if !input.eat(Kind::Semicolon) {
             input.expect(Kind::Close)?;
             return Ok(found);
@@ -142,11 +156,15 @@ fn arms(input: &mut Input<'_>, room: u32, first: Goal) -> Result<Vec<Goal>, Refu
 /// Takes the then and the else part of an if-then-else, whose parenthesis stands on this line.
 #[tactic(auto, unfolding(crate::specs::Rules::choice))]
 #[cycle(goals)]
-fn choice(input: &mut Input<'_>, room: u32, line: u32, condition: Goal) -> Result<Goal, Refusal>
+fn choice(
+    input: &mut Input<'_>,
+    room: u32,
+    line: u32,
+    condition: Box<Goal>,
+) -> Result<Goal, Refusal>
     requires { 0 < room }
-    ensures { Reads goal_of (spec.choice (spec.within room) line (goal_of condition) (input_of input.old)) result (input_of input.new) }
+    ensures { Reads goal_of (spec.choice (spec.within room) line (goal_of condition.value) (input_of input.old)) result (input_of input.new) }
 {
-    let condition = Box::new(input.alloc, condition)?;
     let (then_part, else_part) = branches(input, room)?;
     input.expect(Kind::Close)?;
     Ok(Goal {
@@ -202,23 +220,13 @@ fn quantification(input: &mut Input<'_>, room: u32) -> Result<Goal, Refusal>
     })
 }
 
-/// Takes the conjunction inside a goal that was opened.
-#[cycle(goals)]
-fn inner(input: &mut Input<'_>, room: u32) -> Result<Goal, Refusal>
-    requires { 0 < room }
-    ensures { Reads goal_of (spec.within room (input_of input.old)) result (input_of input.new) }
-{
-    conjunction(input, room - 1)
-}
-
-/// The same, as a part of that goal.
+/// Takes the conjunction inside a goal that was opened, as a part of it.
 #[cycle(goals)]
 fn part(input: &mut Input<'_>, room: u32) -> Result<Box<Goal>, Refusal>
     requires { 0 < room }
     ensures { Reads (λ goal. goal_of goal.value) (spec.within room (input_of input.old)) result (input_of input.new) }
 {
-    let goal = inner(input, room)?;
-    Ok(Box::new(input.alloc, goal)?)
+    conjunction(input, room - 1)
 }
 
 /// Takes a `(` that opens a goal, and gives its line.

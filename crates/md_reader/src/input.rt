@@ -9,7 +9,6 @@ use crate::scope::Scope;
 use md_base::Name;
 use md_token::{Kind, Token, is_word, same_kind};
 use std::alloc::Global;
-use std::mem;
 
 /// The longest name, in bytes, and the longest list of arguments or variables.
 pub(crate) const MOST: usize = 255;
@@ -206,8 +205,9 @@ impl<'a> Input<'a> {
     pub fn end_clause(&mut self) -> Result<Vec<Name>, Refusal>
         ensures { Reads (λ names. names.items) (spec.end_clause (input_of self.old)) result (input_of self.new) }
     {
-        let scope = mem::replace(&mut self.scope, Scope::new(self.alloc));
-        Ok(scope.to_names(self.alloc)?)
+        let names = self.scope.to_names(self.alloc)?;
+        self.scope = Scope::new(self.alloc);
+        Ok(names)
     }
 
     /// The number of the next call site.

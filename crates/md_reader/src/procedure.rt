@@ -106,15 +106,15 @@ fn take_clause(input: &mut Input<'_>, name: &PredName, arity: usize) -> Result<C
     Ok(Clause {
         line,
         head,
-        body,
+        body: Box::into_inner(body),
         vars,
     })
 }
 
 /// Takes `:-`, a conjunction and the end sign.
 #[tactic(auto, unfolding(crate::specs::Rules::body, crate::specs::Input::input_of))]
-fn body(input: &mut Input<'_>) -> Result<Goal, Refusal>
-    ensures { Reads goal_of (spec.body (input_of input.old)) result (input_of input.new) }
+fn body(input: &mut Input<'_>) -> Result<Box<Goal>, Refusal>
+    ensures { Reads (λ goal. goal_of goal.value) (spec.body (input_of input.old)) result (input_of input.new) }
 {
     input.expect(Kind::Declare)?;
     let body = conjunction(input, MOST_OPEN)?;

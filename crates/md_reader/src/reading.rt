@@ -1,12 +1,14 @@
 // The text of a program to the program.
-ghost use Rattle.std.specs.Prelude.{◌≡◌, ◌<◌, ℕ, IfErr, IfOk, length};
+ghost use Rattle.std.specs.Prelude.{◌≡◌, ◌≢◌, ◌<◌, ℕ, Ok, Err, IfErr, IfOk, MatchResult, length};
 ghost use Rattle.md_token.specs.Token.{lexemes_of};
 ghost use Rattle.md_hlds.specs.Hlds.{Hlds, hlds_of};
 ghost use Rattle.md_reader.specs.Faults.{IsAtFault, IsLimitFault, IsSyntaxFault};
 ghost use Rattle.md_reader.specs.Grammar.{Repeats, Spells};
 ghost use Rattle.md_reader.specs.Input.{input_of};
+ghost use Rattle.md_reader.specs.Rules as rule;
 ghost use Rattle.md_reader.specs.Rules.{start};
-ghost use Rattle.md_reader.specs.Reading.{HasCause, IsAnswer, IsFault, IsRead, IsRefusedAs, refused_of};
+ghost use Rattle.md_reader.specs.Duplicates as seconds;
+ghost use Rattle.md_reader.specs.Reading.{HasCause, IsAnswer, IsFault, IsRead, IsRefusedAs, outcome_of, without_duplicate};
 ghost use Rattle.md_reader.specs.declared.refused.Refused.TheVariants as refusals;
 
 use crate::duplicates::duplicate;
@@ -34,13 +36,29 @@ pub fn read(alloc: Global, text: &[u8]) -> Result<Program, Refused>
     ensures answer { IsAnswer result text.now }
 {
     let tokens = tokens(alloc, text)?;
-    let mut input = start_input(alloc, &tokens);
-    match program(&mut input) {
-        Err(refusal) => Err(refused(refusal)),
-        Ok(program) => match duplicate(alloc, &program)? {
-            None => Ok(program),
-            Some(line) => Err(Refused::Duplicate(line)),
-        },
+    read_tokens(alloc, &tokens)
+}
+
+/// The program that these tokens spell.
+fn read_tokens(alloc: Global, tokens: &[Token<'_>]) -> Result<Program, Refused>
+    ensures { MatchResult result
+        (λ program. outcome_of (rule.program (start (lexemes_of tokens.now))) ≡ Ok (hlds_of program))
+        (λ refused. refused ≢ refusals.NoMemory → outcome_of (rule.program (start (lexemes_of tokens.now))) ≡ Err refused) }
+{
+    let mut input = start_input(alloc, tokens);
+    let program = program(&mut input)?;
+    declared_once(alloc, program)
+}
+
+/// This program, if nothing in it is declared a second time.
+fn declared_once(alloc: Global, program: Program) -> Result<Program, Refused>
+    ensures { MatchResult result
+        (λ once. without_duplicate (hlds_of program) (seconds.duplicate (hlds_of program)) ≡ Ok (hlds_of once))
+        (λ refused. refused ≢ refusals.NoMemory → without_duplicate (hlds_of program) (seconds.duplicate (hlds_of program)) ≡ Err refused) }
+{
+    match duplicate(alloc, &program)? {
+        None => Ok(program),
+        Some(line) => Err(Refused::Duplicate(line)),
     }
 }
 
@@ -58,12 +76,16 @@ fn start_input<'a>(alloc: Global, tokens: &'a [Token<'a>]) -> Input<'a>
     }
 }
 
-fn refused(refusal: Refusal) -> Refused
-    ensures { result ≡ refused_of refusal }
-{
-    match refusal {
-        Refusal::Syntax(place) => Refused::Syntax(place.line),
-        Refusal::Limit(place) => Refused::Limit(place.line),
-        Refusal::NoMemory => Refused::NoMemory,
+impl From<Refusal> for Refused {
+    ghost use Rattle.md_reader.specs.Reading.{refused_of};
+
+    ghost from_gives = { λ refusal refused. refused ≡ refused_of refusal };
+
+    fn from(refusal: Refusal) -> Refused {
+        match refusal {
+            Refusal::Syntax(place) => Refused::Syntax(place.line),
+            Refusal::Limit(place) => Refused::Limit(place.line),
+            Refusal::NoMemory => Refused::NoMemory,
+        }
     }
 }

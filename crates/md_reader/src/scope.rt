@@ -1,7 +1,8 @@
 // The variables of a clause.
-ghost use Rattle.std.specs.Prelude.{◌≡◌, [], OnOk, IfOk};
+ghost use Rattle.std.specs.Prelude.{◌≡◌, [], OnOk, IfOk, map};
 ghost use Rattle.md_reader.specs.Input as spec;
 
+use crate::names::name_of;
 use indexmap::IndexSet;
 use md_base::{Name, NoMemory};
 use std::alloc::Global;
@@ -46,15 +47,7 @@ impl Scope {
     pub fn to_names(&self, alloc: Global) -> Result<Vec<Name>, NoMemory>
         ensures { IfOk result (λ names. names.items ≡ self.now) }
     {
-        let mut names = Vec::new(alloc);
-        for name in self.names.as_slice() {
-            // No token is empty, and none that is kept is too long.
-            let Some(name) = Name::from_bytes(alloc, name)? else {
-                return Err(NoMemory);
-            };
-            names.push(name)?;
-        }
-        Ok(names)
+        names_of(alloc, self.names.as_slice())
     }
 
     /// Adds a name, if it is none of them.
@@ -73,4 +66,15 @@ impl Scope {
         self.names.insert(name)?;
         Ok(())
     }
+}
+
+/// The names of these bytes. No token is empty, and none that is kept is too long.
+fn names_of(alloc: Global, kept: &[Vec<u8>]) -> Result<Vec<Name>, NoMemory>
+    ensures { IfOk result (λ names. names.items ≡ map (λ name. name.items) kept.now) }
+{
+    let mut names = Vec::new(alloc);
+    for name in kept {
+        names.push(name_of(alloc, name)?)?;
+    }
+    Ok(names)
 }

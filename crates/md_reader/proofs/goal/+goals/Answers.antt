@@ -12,55 +12,55 @@ pub units-returns-in_err-unit : goal.units-returns-in_err-unit
 unfolding units_from
 units-returns-in_err-unit t c =
     let e = one_more (λ n. units_from c.args.room (within c.args.room) n (goals_of c.loop-turn.found.items) (input_of c.loop-turn.input)) _ c.loop-turn._turn c.loop-turn-test.true c.loop-turn.invariant in
-    first_of (search rules, grind (arith, common_steps), search (rules, goals_of-append), grind (arith, common_steps, goals_of-append))
+    grind (arith, common_steps)
 
 pub units-returns-then-not-eat : goal.units-returns-then-not-eat
 unfolding units_from
 units-returns-then-not-eat t c =
     let e = one_more (λ n. units_from c.args.room (within c.args.room) n (goals_of c.loop-turn.found.items) (input_of c.loop-turn.input)) _ c.loop-turn._turn c.loop-turn-test.true c.loop-turn.invariant in
-    first_of (search rules, grind (arith, common_steps), search (rules, goals_of-append), grind (arith, common_steps, goals_of-append))
+    grind (arith, common_steps, goals_of-append)
 
 pub units-loop-turn-preserved : goal.units-loop-turn-preserved
 unfolding units_from
 units-loop-turn-preserved t c =
     let e = one_more (λ n. units_from c.args.room (within c.args.room) n (goals_of c.loop-turn.found.items) (input_of c.loop-turn.input)) _ c.loop-turn._turn c.loop-turn-test.true c.loop-turn.invariant in
-    first_of (search rules, grind (arith, common_steps), search (rules, goals_of-append), grind (arith, common_steps, goals_of-append))
+    grind (arith, common_steps, goals_of-append)
 
 pub units-returns : goal.units-returns
 unfolding units_from
 units-returns t c =
     let e = no_more (λ n. units_from c.args.room (within c.args.room) n (goals_of c.loop-turn.found.items) (input_of c.loop-turn.input)) _ c.loop-turn._turn c.loop-turn-test.false c.loop-turn.invariant in
-    first_of (search rules, grind (arith, common_steps), search (rules, goals_of-append), grind (arith, common_steps, goals_of-append))
+    grind (arith, common_steps)
 
-pub arms-returns-in_err-inner : goal.arms-returns-in_err-inner
+pub arms-returns-in_err-part : goal.arms-returns-in_err-part
 unfolding arms_from
-arms-returns-in_err-inner t c =
+arms-returns-in_err-part t c =
     let e = one_more (λ n. arms_from (within c.args.room) n (goals_of c.loop-turn.found.items) (input_of c.loop-turn.input)) _ c.loop-turn._turn c.loop-turn-test.true c.loop-turn.invariant in
-    first_of (search rules, grind (arith, common_steps), search (rules, goals_of-append), grind (arith, common_steps, goals_of-append))
+    grind (arith, common_steps)
 
 pub arms-returns-in_err-expect : goal.arms-returns-in_err-expect
 unfolding arms_from
 arms-returns-in_err-expect t c =
     let e = one_more (λ n. arms_from (within c.args.room) n (goals_of c.loop-turn.found.items) (input_of c.loop-turn.input)) _ c.loop-turn._turn c.loop-turn-test.true c.loop-turn.invariant in
-    first_of (search rules, grind (arith, common_steps), search (rules, goals_of-append), grind (arith, common_steps, goals_of-append))
+    grind (arith, common_steps)
 
 pub arms-returns-then-not-eat : goal.arms-returns-then-not-eat
 unfolding arms_from
 arms-returns-then-not-eat t c =
     let e = one_more (λ n. arms_from (within c.args.room) n (goals_of c.loop-turn.found.items) (input_of c.loop-turn.input)) _ c.loop-turn._turn c.loop-turn-test.true c.loop-turn.invariant in
-    first_of (search rules, grind (arith, common_steps), search (rules, goals_of-append), grind (arith, common_steps, goals_of-append))
+    grind (arith, common_steps, goals_of-append)
 
 pub arms-loop-turn-preserved : goal.arms-loop-turn-preserved
 unfolding arms_from
 arms-loop-turn-preserved t c =
     let e = one_more (λ n. arms_from (within c.args.room) n (goals_of c.loop-turn.found.items) (input_of c.loop-turn.input)) _ c.loop-turn._turn c.loop-turn-test.true c.loop-turn.invariant in
-    first_of (search rules, grind (arith, common_steps), search (rules, goals_of-append), grind (arith, common_steps, goals_of-append))
+    grind (arith, common_steps, goals_of-append)
 
 pub arms-returns : goal.arms-returns
 unfolding arms_from
 arms-returns t c =
     let e = no_more (λ n. arms_from (within c.args.room) n (goals_of c.loop-turn.found.items) (input_of c.loop-turn.input)) _ c.loop-turn._turn c.loop-turn-test.false c.loop-turn.invariant in
-    first_of (search rules, grind (arith, common_steps), search (rules, goals_of-append), grind (arith, common_steps, goals_of-append))
+    grind (arith, common_steps)
 
 pub conjunction-returns : goal.conjunction-returns
 conjunction-returns t c =
@@ -70,12 +70,12 @@ pub conjunction-returns-in_err-units : goal.conjunction-returns-in_err-units
 conjunction-returns-in_err-units t c =
     rw (conjunction_is c.args.room (input_of c.args.input.now)) (first_of (search rules, grind (arith, common_steps)))
 
-pub inner-returns : goal.inner-returns
-inner-returns t c =
+pub part-returns : goal.part-returns
+part-returns t c =
     rw (within_is c.args.room (input_of c.args.input.now) c.requires) c.conjunction.ensures
 
 pub disjunction-returns : goal.disjunction-returns
 unfolding disjunction
 disjunction-returns t c =
     let e = expr_of-Disj c.in_ok-arms.arms in
-    first_of (search rules, grind (arith, common_steps), grind (arith, common_steps, expr_of-Disj))
+    grind (arith, common_steps)

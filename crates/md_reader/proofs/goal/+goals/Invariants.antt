@@ -36,14 +36,11 @@ abbrev pub decreases-arms : goal.decreases-arms
 decreases-arms l = 8 * l.room - 2
 
 abbrev pub decreases-part : goal.decreases-part
-decreases-part l = 8 * l.room - 3
-
-abbrev pub decreases-inner : goal.decreases-inner
-decreases-inner l = 8 * l.room - 4
+decreases-part l = 8 * l.room - 4
 
 -- what is left to be read gives what the whole gives
 abbrev pub invariant-units-loop-turn : goal.invariant-units-loop-turn
 invariant-units-loop-turn l = units l.room (within l.room) (input_of l.fn.input) ≡ units_from l.room (within l.room) (l._turn-end - l._turn) (goals_of l.found.items) (input_of l.input)
 
 abbrev pub invariant-arms-loop-turn : goal.invariant-arms-loop-turn
-invariant-arms-loop-turn l = arms (within l.room) (goal_of l.fn.first) (input_of l.fn.input) ≡ arms_from (within l.room) (l._turn-end - l._turn) (goals_of l.found.items) (input_of l.input)
+invariant-arms-loop-turn l = arms (within l.room) (goal_of l.fn.first.value) (input_of l.fn.input) ≡ arms_from (within l.room) (l._turn-end - l._turn) (goals_of l.found.items) (input_of l.input)

@@ -1,4 +1,4 @@
-use Rattle.std.proofs.Common.{rules, arith}
+use Rattle.std.proofs.Common.{arith}
 use Rattle.std.proofs.lemmas.Grind.{common_steps}
 use Rattle.md_reader.specs.Input.{input_of}
 use Rattle.md_reader.specs.Rules.{declarations_from}
@@ -10,22 +10,22 @@ pub returns-then-sees : goal.returns-then-sees
 unfolding declarations_from
 returns-then-sees c =
     let e = one_more (λ n. declarations_from n (draft_of c.loop-turn.draft) (input_of c.loop-turn.input)) _ c.loop-turn._turn c.loop-turn-test.true c.loop-turn.invariant in
-    first_of (search rules, grind (arith, common_steps))
+    grind (arith, common_steps)
 
 pub returns-in_err-declared : goal.returns-in_err-declared
 unfolding declarations_from
 returns-in_err-declared c =
     let e = one_more (λ n. declarations_from n (draft_of c.loop-turn.draft) (input_of c.loop-turn.input)) _ c.loop-turn._turn c.loop-turn-test.true c.loop-turn.invariant in
-    first_of (search rules, grind (arith, common_steps))
+    grind (arith, common_steps)
 
 pub loop-turn-preserved : goal.loop-turn-preserved
 unfolding declarations_from
 loop-turn-preserved c =
     let e = one_more (λ n. declarations_from n (draft_of c.loop-turn.draft) (input_of c.loop-turn.input)) _ c.loop-turn._turn c.loop-turn-test.true c.loop-turn.invariant in
-    first_of (search rules, grind (arith, common_steps))
+    grind (arith, common_steps)
 
 pub returns : goal.returns
 unfolding declarations_from
 returns c =
     let e = no_more (λ n. declarations_from n (draft_of c.loop-turn.draft) (input_of c.loop-turn.input)) _ c.loop-turn._turn c.loop-turn-test.false c.loop-turn.invariant in
-    first_of (search rules, grind (arith, common_steps))
+    grind (arith, common_steps)
