@@ -6,8 +6,7 @@ ghost use Rattle.md_code.specs.Layout.{begins, table, inner_table, conjunction_t
 ghost use Rattle.md_code.specs.Told.{cells_of};
 
 use crate::code::Entry;
-use crate::extent::{extent_of, sum};
-use crate::step::{begins, place, step_of};
+use crate::step::{begins, end_of, place, step_of};
 use md_base::NoMemory;
 use md_hlds::{Goal, GoalKind};
 use md_modes::Moded;
@@ -93,7 +92,7 @@ fn led_to(
 ) -> Result<Option<u32>, NoMemory>
     ensures { IfOk result (λ place. place ≡ begins (at + goal_size (goal_of goal.now)) (gathered (goals_of others.now)) next) }
 {
-    let end = sum(at, extent_of(goal)?.goals)?;
+    let end = end_of(goal, at)?;
     begins(others, end, next)
 }
 

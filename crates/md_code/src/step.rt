@@ -75,9 +75,23 @@ fn disjunction_step<'a>(
 fn test_step<'a>(condition: &Goal, then: &Goal, first: usize) -> Result<Step<'a>, NoMemory>
     ensures { IfOk result (λ step. step_told step ≡ Tests first (first + goal_size (goal_of condition.now)) (first + goal_size (goal_of condition.now) + goal_size (goal_of then.now))) }
 {
-    let second = sum(first, extent_of(condition)?.goals)?;
-    let third = sum(second, extent_of(then)?.goals)?;
+    let second = end_of(condition, first)?;
+    let third = end_of(then, second)?;
+    test_at(first, second, third)
+}
+
+/// The step of an if-then-else, whose parts have these numbers.
+fn test_at<'a>(first: usize, second: usize, third: usize) -> Result<Step<'a>, NoMemory>
+    ensures { IfOk result (λ step. step_told step ≡ Tests first second third) }
+{
     Ok(Step::If(place(first)?, place(second)?, place(third)?))
+}
+
+/// The number that comes after those of a goal which has this one.
+pub fn end_of(goal: &Goal, number: usize) -> Result<usize, NoMemory>
+    ensures { IfOk result (λ end. end ≡ number + goal_size (goal_of goal.now)) }
+{
+    sum(number, extent_of(goal)?.goals)
 }
 
 /// The place where goals that begin at `first` are begun: where there are none, it goes on with what comes next.
@@ -105,7 +119,7 @@ fn places_of(alloc: Global, goals: &[Goal], first: usize) -> Result<Vec<u32>, No
     let mut at = first;
     for goal in goals {
         found.push(place(at)?)?;
-        at = sum(at, extent_of(goal)?.goals)?;
+        at = end_of(goal, at)?;
     }
     Ok(found)
 }
