@@ -16,3 +16,15 @@ loop-node-preserved c =
     let size = before.each_first in
     let read : c.index.result.now ≡ get_or c.loop-node.first.items (parent j) None = get_or_read c.loop-node.first.items c.above-parent.result c.index.result.now (omega arith) c.index.ensures None ∙ ap (λ (p : ℕ). get_or c.loop-node.first.items p None) is in
     rw (read, is) (threaded_more c.args.nodes parent j c.loop-node.first.items c.loop-node.next.items (omega arith) (omega arith) before)
+
+pub above-x : goal.above-x
+above-x c = ?
+
+pub returns-x : goal.returns-x
+returns-x c = ?
+
+pub loop-node-init : goal.loop-node-init
+loop-node-init c = ?
+
+pub bounds-x : goal.bounds-x
+bounds-x c = ?
