@@ -1,6 +1,7 @@
 // The cliques of a profile, and the link that enters each.
 ghost use Rattle.std.specs.Prelude.{◌≡◌, ◌<◌, ◌^◌, IfOk, IfErr, length};
-ghost use Rattle.md_clique.specs.Entries.{edges_of};
+ghost use Rattle.md_trace.specs.Cliques.{AreCliques};
+ghost use Rattle.md_clique.specs.Entries.{AreEntries, edges_of};
 ghost use Rattle.md_cost.specs.Paths.{ends, EntriesRise};
 ghost use Rattle.md_cost.specs.Sound.{AreSound};
 ghost use Rattle.md_cost.specs.Tree.{IsTree, MayRefuse};
@@ -24,12 +25,34 @@ pub fn find_tree(alloc: Global, nodes: u32, links: &[LinkRow]) -> Result<Tree, E
     ensures rise { IfOk result (λ tree. EntriesRise tree.cliques tree.entries.items links.now) }
     ensures none { IfErr result (λ fault. MayRefuse nodes links.now fault) }
 {
-    let edges = edges_between(alloc, links)?;
-    let cliques = cliques(alloc, nodes, &edges)?;
-    drop(edges);
-    let ends = ends_of_links(alloc, links)?;
-    let entries = entering(alloc, &cliques, &ends)?;
+    let cliques = cliques_of(alloc, nodes, links)?;
+    let entries = entries_of(alloc, nodes, links, &cliques)?;
     Ok(Tree { cliques, entries })
+}
+
+/// The cliques of so many contexts with these links.
+fn cliques_of(alloc: Global, nodes: u32, links: &[LinkRow]) -> Result<Cliques, NoMemory>
+    requires { AreSound nodes links.now }
+    ensures { IfOk result (λ found. AreCliques nodes (edges_of (ends links.now)) found) }
+{
+    let edges = edges_between(alloc, links)?;
+    cliques(alloc, nodes, &edges)
+}
+
+/// The links that enter the cliques of so many contexts.
+fn entries_of(
+    alloc: Global,
+    nodes: u32,
+    links: &[LinkRow],
+    cliques: &Cliques,
+) -> Result<Vec<u32>, EnterFault>
+    requires sound { AreSound nodes links.now }
+    requires cliques { AreCliques nodes (edges_of (ends links.now)) cliques.now }
+    ensures one { IfOk result (λ found. AreEntries cliques.now (ends links.now) found.items) }
+    ensures two { IfErr result (λ fault. MayRefuse nodes links.now fault) }
+{
+    let ends = ends_of_links(alloc, links)?;
+    entering(alloc, cliques, &ends)
 }
 
 /// Where each link starts and ends, but for the root link.

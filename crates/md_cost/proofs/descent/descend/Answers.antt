@@ -1,8 +1,8 @@
-use Rattle.std.proofs.Common.{◌≡◌, ◌-◌, ℕ, suc, get_or, None, ap, ◌∙◌, arith}
+use Rattle.std.proofs.Common.{subst, ◌≡◌, ◌-◌, ℕ, suc, get_or, None, ap, ◌∙◌, arith}
 use Rattle.std.proofs.lemmas.List.{get_or_read}
 use Rattle.md_cost.specs.Paths.{start_of}
 use Rattle.md_cost.specs.Walking.{above}
-use Rattle.md_cost.proofs.ThreadSteps.{Threaded, threaded_more}
+use Rattle.md_cost.proofs.ThreadSteps.{Threaded, threaded_all, threaded_more}
 use Rattle.md_cost.proofs.descent.descend.Goals as goal
 
 pub loop-node-preserved : goal.loop-node-preserved
@@ -16,3 +16,18 @@ loop-node-preserved c =
     let size = before.each_first in
     let read : c.index.result.now ≡ get_or c.loop-node.first.items (parent j) None = get_or_read c.loop-node.first.items c.above-parent.result c.index.result.now (omega arith) c.index.ensures None ∙ ap (λ (p : ℕ). get_or c.loop-node.first.items p None) is in
     rw (read, is) (threaded_more c.args.nodes parent j c.loop-node.first.items c.loop-node.next.items (omega arith) (omega arith) before)
+
+pub returns : goal.returns
+returns c =
+    let parent = above c.args.tree.now.cliques (start_of c.args.links.now c.args.tree.now.entries.items) in
+    let done : c.loop-node.node ≡ 0 = omega arith in
+    threaded_all c.args.nodes parent c.loop-node.first.items c.loop-node.next.items (subst (λ (i : ℕ). Threaded c.args.nodes parent i c.loop-node.first.items c.loop-node.next.items) done c.loop-node.invariant)
+
+pub above-parent-requires-clause-nodes : goal.above-parent-requires-clause-nodes
+above-parent-requires-clause-nodes c = c.requires.nodes
+
+pub above-parent-requires-clause-entries : goal.above-parent-requires-clause-entries
+above-parent-requires-clause-entries c = c.requires.entries
+
+pub above-parent-requires-clause-rise : goal.above-parent-requires-clause-rise
+above-parent-requires-clause-rise c = c.requires.rise

@@ -1,7 +1,10 @@
-use Rattle.std.proofs.Common.{◌≡◌, ◌+◌, ◌<◌, ◌++◌, ◌∷◌, [], All, IfSome, length, take, refl, ◌∙◌}
+use Rattle.std.proofs.Common.{List, replicate, sym, ℕ, ap, subst, arith, ◌≡◌, ◌+◌, ◌<◌, ◌++◌, ◌∷◌, [], All, IfSome, length, take, refl, ◌∙◌}
 use Rattle.std.proofs.lemmas.List.{take_more}
+use Rattle.md_static.specs.Tables.{Static}
+use Rattle.md_cost.specs.SumOf.{zero_sums}
+use Rattle.md_cost.specs.declared.sums.Sums.{Sums}
 use Rattle.md_cost.specs.FileView.{module_at, procedure_at}
-use Rattle.md_cost.proofs.KeySteps.{by_links_room, by_links_more}
+use Rattle.md_cost.proofs.KeySteps.{ByLinks, by_links_none, by_links_all, by_links_room, by_links_more}
 use Rattle.md_cost.proofs.TreeSteps.{callees_there}
 use Rattle.md_cost.proofs.ValidSteps.{all_sites_there, module_below, procedure_there, valid_sound}
 use Rattle.md_cost.proofs.WalkSteps.{key_below}
@@ -49,4 +52,38 @@ loop-link-preserved c =
       procedures = by_links_more (λ r. procedure_at c.args.profile.now r.callee) c.args.profile.now.links (length c.args.profile.now.statics.procs) c.loop-link.link-index c.loop-link.own.procedures.items c.loop-link.invariant.procedures c.link-item.result next c.from_counts.result c.from_counts.ensures.value c.add.new.self.procedures.items (rw c.keys_of_link.ensures.procedures at c.add.ensures.procedures);
       modules = by_links_more (λ r. module_at c.args.profile.now r.callee) c.args.profile.now.links (length c.args.profile.now.statics.modules) c.loop-link.link-index c.loop-link.own.modules.items c.loop-link.invariant.modules c.link-item.result next c.from_counts.result c.from_counts.ensures.value c.add.new.self.modules.items (rw c.keys_of_link.ensures.modules at c.add.ensures.modules);
       sites = by_links_more (λ r. r.site) c.args.profile.now.links (length c.args.profile.now.statics.sites) c.loop-link.link-index c.loop-link.own.sites.items c.loop-link.invariant.sites c.link-item.result next c.from_counts.result c.from_counts.ensures.value c.add.new.self.sites.items (rw c.keys_of_link.ensures.sites at c.add.ensures.sites);
+    }
+
+pub returns-clause-procedures : goal.returns-clause-procedures
+returns-clause-procedures c =
+    let rows = c.args.profile.now.links in
+    let count = length c.args.profile.now.statics.procs in
+    let items : length c.links-link-items.result.now ≡ length rows = ap length c.links-link-items.ensures in
+    let done : c.loop-link.link-index ≡ length rows = omega (arith, items) in
+    by_links_all (λ r. procedure_at c.args.profile.now r.callee) rows count c.loop-link.own.procedures.items (subst (λ (i : ℕ). ByLinks (λ r. procedure_at c.args.profile.now r.callee) rows count i c.loop-link.own.procedures.items) done c.loop-link.invariant.procedures)
+
+pub returns-clause-modules : goal.returns-clause-modules
+returns-clause-modules c =
+    let rows = c.args.profile.now.links in
+    let count = length c.args.profile.now.statics.modules in
+    let items : length c.links-link-items.result.now ≡ length rows = ap length c.links-link-items.ensures in
+    let done : c.loop-link.link-index ≡ length rows = omega (arith, items) in
+    by_links_all (λ r. module_at c.args.profile.now r.callee) rows count c.loop-link.own.modules.items (subst (λ (i : ℕ). ByLinks (λ r. module_at c.args.profile.now r.callee) rows count i c.loop-link.own.modules.items) done c.loop-link.invariant.modules)
+
+pub returns-clause-sites : goal.returns-clause-sites
+returns-clause-sites c =
+    let rows = c.args.profile.now.links in
+    let count = length c.args.profile.now.statics.sites in
+    let items : length c.links-link-items.result.now ≡ length rows = ap length c.links-link-items.ensures in
+    let done : c.loop-link.link-index ≡ length rows = omega (arith, items) in
+    by_links_all (λ r. r.site) rows count c.loop-link.own.sites.items (subst (λ (i : ℕ). ByLinks (λ r. r.site) rows count i c.loop-link.own.sites.items) done c.loop-link.invariant.sites)
+
+pub loop-link-init : goal.loop-link-init
+loop-link-init c =
+    let rows = c.args.profile.now.links in
+    let statics = c.args.profile.now.statics in
+    record {
+      procedures = subst (λ (sums : List Sums). ByLinks (λ r. procedure_at c.args.profile.now r.callee) rows (length statics.procs) 0 sums) (sym (c.in_ok-own.ensures.procedures ∙ ap (λ (s : Static). replicate (length s.procs) zero_sums) c.statics.ensures)) (by_links_none (λ r. procedure_at c.args.profile.now r.callee) rows (length statics.procs));
+      modules = subst (λ (sums : List Sums). ByLinks (λ r. module_at c.args.profile.now r.callee) rows (length statics.modules) 0 sums) (sym (c.in_ok-own.ensures.modules ∙ ap (λ (s : Static). replicate (length s.modules) zero_sums) c.statics.ensures)) (by_links_none (λ r. module_at c.args.profile.now r.callee) rows (length statics.modules));
+      sites = subst (λ (sums : List Sums). ByLinks (λ r. r.site) rows (length statics.sites) 0 sums) (sym (c.in_ok-own.ensures.sites ∙ ap (λ (s : Static). replicate (length s.sites) zero_sums) c.statics.ensures)) (by_links_none (λ r. r.site) rows (length statics.sites));
     }

@@ -32,3 +32,21 @@ returns c =
       sites = finished_with c.args.profile.now c.requires.valid c.args.tree.now.cliques c.args.tree.now.entries.items c.requires.rise c.in_ok-first.field-0.next.items threaded.nexts (site_above c.args.profile.now c.args.tree.now.cliques c.args.tree.now.entries.items) (length c.args.profile.now.statics.sites) (site_there c.args.profile.now c.requires.valid c.args.tree.now.cliques c.args.tree.now.entries.items)
           c.loop-walk.walk.first.items c.loop-walk.walk.sites c.loop-walk.walk.at c.loop-walk.invariant.sites (over.0 ∙ size) over.1;
     }
+
+pub descend-requires-clause-nodes : goal.descend-requires-clause-nodes
+descend-requires-clause-nodes c = ap length c.nodes-size.ensures ∙ sym c.requires.tree.cliques_are.each
+
+pub descend-requires-clause-entries : goal.descend-requires-clause-entries
+descend-requires-clause-entries c = c.requires.tree.entries_are.each
+
+pub descend-requires-clause-rise : goal.descend-requires-clause-rise
+descend-requires-clause-rise c = rw c.links.ensures c.requires.rise
+
+pub step-requires-clause-valid : goal.step-requires-clause-valid
+step-requires-clause-valid c = c.requires.valid
+
+pub step-requires-clause-tree : goal.step-requires-clause-tree
+step-requires-clause-tree c = c.requires.tree
+
+pub step-requires-clause-rise : goal.step-requires-clause-rise
+step-requires-clause-rise c = c.requires.rise

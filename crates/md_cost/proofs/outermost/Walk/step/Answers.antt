@@ -1,4 +1,4 @@
-use Rattle.std.proofs.Common.{◌≡◌, ◌<◌, length, get_or, Some, None, sym, ◌∙◌, arith}
+use Rattle.std.proofs.Common.{ap, ◌≡◌, ◌<◌, length, get_or, Some, None, sym, ◌∙◌, arith}
 use Rattle.std.proofs.lemmas.List.{get_or_read}
 use Rattle.md_cost.specs.Paths.{start_of}
 use Rattle.md_cost.specs.Walking.{above}
@@ -119,3 +119,51 @@ returns-in-None-clause-less c =
     let there : c.args.self.now.at < length c.args.tree.now.cliques = below_top c.args.self.now.at (length c.args.tree.now.cliques) le (λ e. c.requires.more (e, none)) in
     let up : c.leave.new.self.at ≡ above c.args.tree.now.cliques (start_of c.args.profile.now.links c.args.tree.now.entries.items) c.args.self.now.at = c.leave.ensures.at ∙ (rw c.links.ensures at c.above-up.ensures.is) in
     walk_left_less c.args.profile.now c.requires.valid c.args.tree.now.cliques c.args.tree.now.entries.items c.requires.rise c.args.next.now c.requires.nexts c.args.self.now c.requires.stands c.leave.new.self there none up c.leave.ensures.first
+
+pub enter-requires-clause-at : goal.enter-requires-clause-at
+enter-requires-clause-at c =
+    let is = c.requires.stands.procedures in
+    let size = is.each_first in
+    let le = is.at_there in
+    omega (arith, size, le)
+
+pub keys_of-keys-requires-clause-valid : goal.keys_of-keys-requires-clause-valid
+keys_of-keys-requires-clause-valid c = c.requires.valid
+
+pub keys_of-keys-requires-in-None-clause-valid : goal.keys_of-keys-requires-in-None-clause-valid
+keys_of-keys-requires-in-None-clause-valid c = c.requires.valid
+
+pub keys_of-keys-requires-clause-tree : goal.keys_of-keys-requires-clause-tree
+keys_of-keys-requires-clause-tree c = c.requires.tree
+
+pub keys_of-keys-requires-in-None-clause-tree : goal.keys_of-keys-requires-in-None-clause-tree
+keys_of-keys-requires-in-None-clause-tree c = c.requires.tree
+
+pub keys_of-keys-requires-in-None-clause-there : goal.keys_of-keys-requires-in-None-clause-there
+keys_of-keys-requires-in-None-clause-there c =
+    let is = c.requires.stands.procedures in
+    let size = is.each_first in
+    let le = is.at_there in
+    let none : get_or c.args.self.now.first.items c.args.self.now.at None ≡ None = sym (get_or_read c.args.self.now.first.items c.args.self.now.at c.index.result.now (omega arith) c.index.ensures None) ∙ c.in-None.is in
+    let there : c.args.self.now.at < length c.args.tree.now.cliques = below_top c.args.self.now.at (length c.args.tree.now.cliques) le (λ e. c.requires.more (e, none)) in
+    let nodes = c.requires.tree.cliques_are.each in
+    omega (arith, there, nodes)
+
+pub above-up-requires-clause-nodes : goal.above-up-requires-clause-nodes
+above-up-requires-clause-nodes c = ap length c.nodes.ensures ∙ sym c.requires.tree.cliques_are.each
+
+pub above-up-requires-clause-entries : goal.above-up-requires-clause-entries
+above-up-requires-clause-entries c = c.requires.tree.entries_are.each
+
+pub above-up-requires-clause-rise : goal.above-up-requires-clause-rise
+above-up-requires-clause-rise c = rw c.links.ensures c.requires.rise
+
+pub above-up-requires-clause-there : goal.above-up-requires-clause-there
+above-up-requires-clause-there c =
+    let is = c.requires.stands.procedures in
+    let size = is.each_first in
+    let le = is.at_there in
+    let none : get_or c.args.self.now.first.items c.args.self.now.at None ≡ None = sym (get_or_read c.args.self.now.first.items c.args.self.now.at c.index.result.now (omega arith) c.index.ensures None) ∙ c.in-None.is in
+    let there : c.args.self.now.at < length c.args.tree.now.cliques = below_top c.args.self.now.at (length c.args.tree.now.cliques) le (λ e. c.requires.more (e, none)) in
+    let nodes : length c.nodes.result.now ≡ length c.args.tree.now.cliques = ap length c.nodes.ensures ∙ sym c.requires.tree.cliques_are.each in
+    omega (arith, there, nodes)

@@ -1,0 +1,34 @@
+use Rattle.std.proofs.Common.{length, sym, ◌∙◌}
+use Rattle.md_cost.proofs.TreeSteps.{callees_there}
+use Rattle.md_cost.proofs.ValidSteps.{valid_sound}
+use Rattle.md_cost.proofs.costs.context_totals.Goals as goal
+
+pub own_sums-requires-clause-nodes : goal.own_sums-requires-clause-nodes
+own_sums-requires-clause-nodes c = c.requires.nodes ∙ sym c.requires.tree.cliques_are.each
+
+pub own_sums-requires-clause-ends : goal.own_sums-requires-clause-ends
+own_sums-requires-clause-ends c = rw (c.links.ensures, c.requires.tree.cliques_are.each) (callees_there (length c.args.profile.now.nodes) c.args.profile.now.links (valid_sound c.args.profile.now c.requires.valid).links)
+
+pub own_sums-requires-clause-few : goal.own_sums-requires-clause-few
+own_sums-requires-clause-few c = rw c.links.ensures (valid_sound c.args.profile.now c.requires.valid).links.few_links
+
+pub climb-requires-clause-entries : goal.climb-requires-clause-entries
+climb-requires-clause-entries c = rw c.deref.ensures.value c.requires.tree.entries_are.each
+
+pub climb-requires-clause-rise : goal.climb-requires-clause-rise
+climb-requires-clause-rise c = rw (c.deref.ensures.value, c.links-2.ensures) c.requires.rise
+
+pub climb-requires-clause-ends : goal.climb-requires-clause-ends
+climb-requires-clause-ends c = rw (c.links-2.ensures, c.requires.tree.cliques_are.each) (callees_there (length c.args.profile.now.nodes) c.args.profile.now.links (valid_sound c.args.profile.now c.requires.valid).links)
+
+pub climb-requires-clause-few : goal.climb-requires-clause-few
+climb-requires-clause-few c = rw c.links-2.ensures (valid_sound c.args.profile.now c.requires.valid).links.few_links
+
+pub climb-requires-clause-small : goal.climb-requires-clause-small
+climb-requires-clause-small c = rw c.links-2.ensures (rw c.links.ensures at c.in_ok-totals.ensures.small)
+
+pub climb-requires-clause-own : goal.climb-requires-clause-own
+climb-requires-clause-own c = rw (c.deref_mut.ensures.value, c.links-2.ensures) (rw c.links.ensures at c.in_ok-totals.ensures.own)
+
+pub returns-clause-small : goal.returns-clause-small
+returns-clause-small c = rw c.links.ensures at c.in_ok-totals.ensures.small

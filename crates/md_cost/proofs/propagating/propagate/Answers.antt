@@ -1,5 +1,0 @@
-use Rattle.md_cost.proofs.ValidSteps.{valid_sound}
-use Rattle.md_cost.proofs.propagating.propagate.Goals as goal
-
-pub find_tree-requires : goal.find_tree-requires
-find_tree-requires c = rw (c.nodes.ensures, c.links.ensures) (valid_sound c.args.profile c.requires).links
