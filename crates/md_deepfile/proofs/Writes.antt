@@ -136,6 +136,10 @@ pub ok_then : {A E : Type 0} (r : Result A E) (P Q : Type 0) → OnOk r P → (P
 ok_then (Ok x) P Q h so = so h
 ok_then (Err e) P Q h so = tt
 
+pub ok_both : {A E : Type 0} (r : Result A E) (P R Q : Type 0) → OnOk r P → OnOk r R → (P → R → Q) → OnOk r Q
+ok_both (Ok x) P R Q h k so = so h k
+ok_both (Err e) P R Q h k so = tt
+
 pub ok_unless_err : {A E : Type 0} (r : Result A E) (P : Type 0) → is_err r ≡ false → OnOk r P → P
 ok_unless_err (Ok x) P good h = h
 ok_unless_err (Err e) P good h = absurd (false≢true (sym good))
