@@ -242,3 +242,14 @@ closes_from_part trail s class old new each shut others = record {
       let e : get_or (drop s trail) i 0 ≡ get_or trail (s + i) 0 = get_or-drop s trail i 0 in
       rw e (none (s + i) (omega arith) (omega arith)));
 }
+
+-- the nodes of the rest of the trail are there
+pub closed_there : (links : List (ℕ × ℕ)) (k : Kept) (s : ℕ) → Stands links k → (i : ℕ) → i < length (drop s k.trail) → get_or (drop s k.trail) i 0 < length k.states
+closed_there links k s stands i low =
+    let n : length (drop s k.trail) ≡ length k.trail - s = length-drop s k.trail in
+    let e : get_or (drop s k.trail) i 0 ≡ get_or k.trail (s + i) 0 = get_or-drop s k.trail i 0 in
+    let stood : state_of k.states (get_or k.trail (s + i) 0) ≡ Open (s + i) = stands.trail.placed (s + i) (omega (arith, n, low)) in
+    rw e (elim (cases_lt (get_or k.trail (s + i) 0) (length k.states)) [
+      | inl there ↦ there
+      | inr past ↦ absurd (let new = get_or_past k.states (get_or k.trail (s + i) 0) New past in cc (stood, new))
+    ])

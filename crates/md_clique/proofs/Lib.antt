@@ -1,6 +1,7 @@
 pub mod Walks
 pub mod Threading
 pub mod Parts
+pub mod Beginning
 pub mod Enter
 pub mod Join
 pub mod Pass

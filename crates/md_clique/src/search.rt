@@ -65,10 +65,25 @@ pub struct Search {
 }
 
 impl Search {
-    ghost use Rattle.std.specs.Prelude.{◌≡◌, ◌<◌, ◌≢◌, ℕ, length, IfOk, OnOk};
+    ghost use Rattle.std.specs.Prelude.{◌≡◌, ◌<◌, ◌≢◌, ℕ, [], length, replicate, IfOk, OnOk};
     ghost use Rattle.md_clique.specs.Links.{AreWithin, AreThreaded};
     ghost use Rattle.md_clique.specs.Search.{Stands, May, MayEnter, MayJoin, MayPass, MaySkip, MayClose, NoneRenewed, state_of};
     ghost use Rattle.md_clique.specs.Kept.{kept, work};
+
+    /// A search that has entered none of these many nodes.
+    fn new(alloc: Global, nodes: u32, last: Vec<usize>) -> Result<Search, NoMemory>
+        ensures { IfOk result (λ search. kept search ≡ record { left = last.items; trail = []; first = []; pending = []; states = replicate nodes State.New; count = 0 }) }
+    {
+        let size = nodes as usize;
+        Ok(Search {
+            left: last,
+            trail: Vec::with_capacity(alloc, size)?,
+            first: Vec::with_capacity(alloc, size)?,
+            pending: Vec::with_capacity(alloc, size)?,
+            states: vec![in alloc; State::New; size]?,
+            count: 0,
+        })
+    }
 
     /// What to do next: looks at one link of the last part, if one is left.
     fn next_move(&self, links: &[(u32, u32)]) -> Move
@@ -223,6 +238,45 @@ impl Search {
         }
         Ok(())
     }
+
+    /// Closes all nodes.
+    fn explore_all(
+        &mut self,
+        links: &[(u32, u32)],
+        before: &[usize],
+        nodes: u32,
+    ) -> Result<(), NoMemory>
+        requires within { AreWithin links.now nodes }
+        requires threaded { AreThreaded links.now before.now }
+        requires nodes { length self.old.states.items ≡ nodes }
+        requires stands { Stands links.now (kept self.old) }
+        requires none_open { length self.old.trail.items ≡ 0 }
+        ensures nodes { OnOk result (length self.new.states.items ≡ nodes) }
+        ensures stands { OnOk result (Stands links.now (kept self.new)) }
+        ensures none_open { OnOk result (length self.new.trail.items ≡ 0) }
+        ensures seen { OnOk result ((v : ℕ) → v < nodes → state_of self.new.states.items v ≢ State.New) }
+    {
+        for root in 0..nodes {
+            self.explore(links, before, root)?;
+        }
+        Ok(())
+    }
+
+    /// The classes that were closed.
+    fn into_classes(self) -> Classes
+        ensures states { result.states.items ≡ self.states.items }
+        ensures count { result.count ≡ self.count }
+    {
+        let Search {
+            left: _,
+            trail: _,
+            first: _,
+            pending: _,
+            states,
+            count,
+        } = self;
+        Classes { states, count }
+    }
 }
 
 /// Closes these nodes as one class.
@@ -249,25 +303,7 @@ pub fn find_classes(alloc: Global, nodes: u32, links: &[(u32, u32)]) -> Result<C
     ensures { IfOk result (λ classes. AreClasses links.now nodes classes.states.items classes.count) }
 {
     let Threads { before, last } = thread_links(alloc, nodes, links)?;
-    let size = nodes as usize;
-    let mut search = Search {
-        left: last,
-        trail: Vec::with_capacity(alloc, size)?,
-        first: Vec::with_capacity(alloc, size)?,
-        pending: Vec::with_capacity(alloc, size)?,
-        states: vec![in alloc; State::New; size]?,
-        count: 0,
-    };
-    for root in 0..nodes {
-        search.explore(links, &before, root)?;
-    }
-    let Search {
-        left: _,
-        trail: _,
-        first: _,
-        pending: _,
-        states,
-        count,
-    } = search;
-    Ok(Classes { states, count })
+    let mut search = Search::new(alloc, nodes, last)?;
+    search.explore_all(links, &before, nodes)?;
+    Ok(search.into_classes())
 }

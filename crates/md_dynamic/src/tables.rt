@@ -1,5 +1,5 @@
 // Contexts and links by number, and one active context per procedure.
-ghost use Rattle.std.specs.Prelude.{ℕ, ◌≡◌, ◌<◌, ◌≤◌, ◌+◌, length, take, drop, slice_get, replicate, IfOk, Some};
+ghost use Rattle.std.specs.Prelude.{ℕ, ◌≡◌, ◌<◌, ◌≤◌, ◌+◌, length, take, drop, slice_get, replicate, vec_capacity, IfOk, OnOk, Some};
 ghost use Rattle.md_static.specs.Sites.{sites_of};
 ghost use Rattle.md_dynamic.specs.Links.{link_row, root_row};
 
@@ -260,13 +260,11 @@ impl Tables {
         let kind = self.site(site).kind;
         let own = self.own_count(callee);
         let link = CsdId::new(self.links.len() as u32);
-        let end = PdId::new(self.nodes.len() as u32);
         let first = self.slots.len();
         let key = CalleeKey { node, site, callee };
-        self.links.reserve(1)?;
-        self.nodes.reserve(1)?;
-        self.firsts.reserve(1)?;
-        self.slots.reserve(own as usize)?;
+        let (links, nodes) = (&mut self.links, &mut self.nodes);
+        take_room(links, nodes, &mut self.firsts, &mut self.slots, own)?;
+        let end = PdId::new(self.nodes.len() as u32);
         steps.tick();
         steps.tick();
         enter(&mut self.slots, &mut self.callees, kind, place, key, link)?;
@@ -296,6 +294,30 @@ impl Tables {
         let own_place = site.number() - self.spans[proc.number() as usize].first;
         self.firsts[node.number() as usize] + own_place as usize
     }
+}
+
+/// Takes room for a link and for a context that has so many slots.
+fn take_room(
+    links: &mut Vec<LinkRow>,
+    nodes: &mut Vec<ProcId>,
+    firsts: &mut Vec<usize>,
+    slots: &mut Vec<Slot>,
+    own: u32,
+) -> Result<(), NoMemory>
+    ensures links { links.new.items ≡ links.old.items }
+    ensures nodes { nodes.new.items ≡ nodes.old.items }
+    ensures firsts { firsts.new.items ≡ firsts.old.items }
+    ensures slots { slots.new.items ≡ slots.old.items }
+    ensures link_room { OnOk result (length links.new.items < vec_capacity links.new) }
+    ensures node_room { OnOk result (length nodes.new.items < vec_capacity nodes.new) }
+    ensures first_room { OnOk result (length firsts.new.items < vec_capacity firsts.new) }
+    ensures slot_room { OnOk result (length slots.new.items + own ≤ vec_capacity slots.new) }
+{
+    links.reserve(1)?;
+    nodes.reserve(1)?;
+    firsts.reserve(1)?;
+    slots.reserve(own as usize)?;
+    Ok(())
 }
 
 /// The root link before the run.

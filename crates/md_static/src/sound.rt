@@ -175,11 +175,7 @@ fn names_differ(alloc: Global, names: &[Name]) -> Result<bool, NoMemory>
 fn name_keys<'a>(alloc: Global, names: &'a [Name]) -> Result<Vec<&'a Name>, NoMemory>
     ensures { IfOk result (λ keys. map (λ key. key.now) keys.items ≡ names.now) }
 {
-    let mut keys = Vec::with_capacity(alloc, names.len())?;
-    for name in names {
-        keys.push(name)?;
-    }
-    Ok(keys)
+    Ok(names.iter().collect(alloc)?)
 }
 
 /// Whether no two procedures of one module have one name.

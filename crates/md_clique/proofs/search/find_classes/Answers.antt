@@ -1,10 +1,16 @@
 use Rattle.std.proofs.Common.{arith}
 use Rattle.md_clique.specs.Kept.{kept}
+use Rattle.md_clique.proofs.Beginning.{begins}
 use Rattle.md_clique.proofs.Classes.{are_classes}
 use Rattle.md_clique.proofs.search.find_classes.Goals as goal
 
+pub explore_all-requires-clause-stands : goal.explore_all-requires-clause-stands
+explore_all-requires-clause-stands c =
+    rw c.in_ok-search.ensures (begins c.args.links.now c.args.nodes c.in_ok-before.field-0.last.items c.in_ok-before.ensures.starts c.in_ok-before.ensures.nodes (omega arith))
+
 pub returns : goal.returns
 returns c =
-    let all = are_classes c.args.links.now (kept c.loop-root.search) c.loop-root.invariant.stands c.loop-root.invariant.none_open
-    (λ v there. c.loop-root.invariant.seen v (let e = c.loop-root.invariant.nodes in omega arith)) in
-    rw c.loop-root.invariant.nodes at all
+    let e = c.in_ok-explore_all.ensures.nodes in
+    let all = are_classes c.args.links.now (kept c.explore_all.new.self) c.in_ok-explore_all.ensures.stands c.in_ok-explore_all.ensures.none_open
+    (λ v there. c.in_ok-explore_all.ensures.seen v (omega (arith, e, there))) in
+    rw (c.into_classes.ensures.states, c.into_classes.ensures.count) (rw e at all)

@@ -2,7 +2,7 @@ use Rattle.std.proofs.Common.{◌≡◌, ◌-◌, length, take, arith}
 use Rattle.std.proofs.lemmas.List.{get_or_read, take_rest, with_items_is}
 use Rattle.md_clique.specs.Search.{last_first}
 use Rattle.md_clique.specs.Kept.{kept}
-use Rattle.md_clique.proofs.Close.{Closes, close_stands, close_works, close_renews, closes_from_part}
+use Rattle.md_clique.proofs.Close.{Closes, close_stands, close_works, close_renews, closes_from_part, closed_there}
 use Rattle.md_clique.proofs.search.Search.close.Goals as goal
 use Rattle.md_clique.proofs.search.Search.close.Goals.{After-index, After-close_nodes}
 
@@ -50,3 +50,10 @@ returns-clause-states c =
     let done = closes (goal.at.returns-clause-states c).After-close_nodes first in
     let written = with_items_is c.args.self.now.states c.close_nodes.new.states (rw c.deref_mut.ensures.len at c.close_nodes.auto.states) in
     rw written (close_renews c.args.links.now (kept c.args.self.now) c.requires.stands c.requires.may c.close_nodes.new.states done)
+
+pub close_nodes-requires : goal.close_nodes-requires
+close_nodes-requires c =
+    let rest = take_rest c.deref.result.now c.index.result.now in
+    let trail = c.deref.ensures.value in
+    let states = c.deref_mut.ensures.value in
+    rw (rest, trail, states) (closed_there c.args.links.now (kept c.args.self.now) c.index.result.now c.requires.stands)

@@ -21,12 +21,12 @@ enter-requires g c =
     let t = c.self.inside in
     let r : Rows = record { statics = t.statics; nodes = t.nodes.items; links = t.links.items; active = t.active.items } in
     let below = place-bound r t.spans.items t.firsts.items t.slots.items t.callees.entries c.self.invariant c.args.self.now c.self.view_is c.args.node c.args.site c.requires.owned c.place-place.result c.place-place.ensures in
-    omega (arith, below, ap length c.in_ok-reserve-4.ensures.items)
+    omega (arith, below, ap length c.in_ok-take_room.ensures.slots)
 
 pub push_empty-requires : goal.push_empty-requires
 push_empty-requires g c =
     let own : c.own_count-own.result ≡ length (sites_of c.args.callee c.args.self.now.statics.sites) = c.own_count-own.ensures in
-    omega (arith, c.in_ok-reserve-4.ensures.ok, c.in_ok-reserve-4.ensures.len, c.in_ok-enter.ensures.len, c.in_ok-enter.ensures.room, c.enter.new.slots.ok.0)
+    omega (arith, c.in_ok-take_room.ensures.slot_room, c.in_ok-enter.ensures.len, c.in_ok-enter.ensures.room, c.take_room.new.slots.ok.0, c.enter.new.slots.ok.0)
 
 pub invariant_of-self-2 : goal.invariant_of-self-2
 invariant_of-self-2 g c =
@@ -34,19 +34,19 @@ invariant_of-self-2 g c =
     let r : Rows = record { statics = t.statics; nodes = t.nodes.items; links = t.links.items; active = t.active.items } in
     let number : c.new-link.result ≡ length t.links.items = omega (arith, c.new-link.ensures, c.len.ensures, t.links.ok.0) in
     let S : List Slot → Type 0 = λ xs. MatchOption (callee_of c.site-kind.result.kind) (c.enter.new.slots.items ≡ xs) (λ d. c.enter.new.slots.items ≡ set xs c.place-place.result (slot_of (Some c.new-link.result))) in
-    let entered = subst S c.in_ok-reserve-4.ensures.items c.in_ok-enter.ensures.slots in
+    let entered = subst S c.in_ok-take_room.ensures.slots c.in_ok-enter.ensures.slots in
     let a = adding r t.spans.items t.firsts.items t.slots.items t.callees.entries c.self.invariant c.args.self.now c.self.view_is c.args.node c.args.site c.requires.owned c.enter.new.slots.items c.enter.new.callees.entries c.args.callee c.place-place.result c.new-link.result
     c.site-kind.result c.requires.fresh c.site-kind.ensures c.place-place.ensures number entered c.in_ok-enter.ensures.callees in
     let few : length t.links.items < 4294967295 = omega (arith, c.requires.room, ap (λ (z : Rows). length z.links) c.self.view_is) in
     let below : c.args.callee < length t.statics.procs =
     omega (arith, callee-there c.args.self.now c.args.site c.args.callee (subst (λ (z : Rows). All (λ (x : Site). IfSome (callee_of x.kind) (λ p. p < length z.statics.procs)) z.statics.sites) c.self.view_is c.self.invariant.sound.callees_there) c.requires.may_lead, ap (λ (z : Rows). length z.statics.procs) c.self.view_is) in
     let own : c.own_count-own.result ≡ length (sites_of c.args.callee t.statics.sites) = c.own_count-own.ensures ∙ ap (λ (z : Rows). length (sites_of c.args.callee z.statics.sites)) (sym c.self.view_is) in
-    let end : c.new-end.result ≡ length t.nodes.items = omega (arith, c.new-end.ensures, c.len-2.ensures, t.nodes.ok.0) in
+    let end : c.new-end.result ≡ length t.nodes.items = omega (arith, c.new-end.ensures, c.len-2.ensures, c.take_room.new.nodes.ok.0, ap length c.in_ok-take_room.ensures.nodes) in
     let first : c.len-first.result ≡ length t.slots.items = omega (arith, c.len-first.ensures, t.slots.ok.0) in
     context-tables t.statics t.spans.items t.nodes.items c.push_reserved.new.self.items t.firsts.items c.push_reserved-2.new.self.items t.slots.items c.enter.new.slots.items c.push_empty.new.slots.items t.callees.entries c.enter.new.callees.entries t.links.items c.push_reserved-3.new.self.items t.active.items
     c.args.node c.args.site c.args.callee c.args.calls c.self.invariant a below
-    (c.push_reserved.ensures.items ∙ ap (λ xs. xs ++ c.args.callee ∷ []) c.in_ok-reserve-2.ensures.items)
-    (c.push_reserved-2.ensures.items ∙ ap (λ xs. xs ++ c.len-first.result ∷ []) c.in_ok-reserve-3.ensures.items ∙ ap (λ n. t.firsts.items ++ n ∷ []) first)
+    (c.push_reserved.ensures.items ∙ ap (λ xs. xs ++ c.args.callee ∷ []) c.in_ok-take_room.ensures.nodes)
+    (c.push_reserved-2.ensures.items ∙ ap (λ xs. xs ++ c.len-first.result ∷ []) c.in_ok-take_room.ensures.firsts ∙ ap (λ n. t.firsts.items ++ n ∷ []) first)
     (c.push_empty.ensures.slots ∙ ap (λ n. c.enter.new.slots.items ++ replicate n (slot_of None)) own)
-    (c.push_reserved-3.ensures.items ∙ ap (λ xs. xs ++ c.row.result ∷ []) c.in_ok-reserve.ensures.items ∙ ap (λ (x : LinkRow). t.links.items ++ x ∷ []) (c.row.ensures ∙ ap (λ n. link_row c.args.node c.args.site n c.args.calls) end))
+    (c.push_reserved-3.ensures.items ∙ ap (λ xs. xs ++ c.row.result ∷ []) c.in_ok-take_room.ensures.links ∙ ap (λ (x : LinkRow). t.links.items ++ x ∷ []) (c.row.ensures ∙ ap (λ n. link_row c.args.node c.args.site n c.args.calls) end))
     few
