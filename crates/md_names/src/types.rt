@@ -33,10 +33,7 @@ fn type_names<'a>(alloc: Global, program: &'a Program) -> Result<IndexSet<&'a [u
 }
 
 /// The names of the functors of a program.
-fn functor_names<'a>(
-    alloc: Global,
-    program: &'a Program,
-) -> Result<IndexSet<&'a [u8]>, NoMemory>
+fn functor_names<'a>(alloc: Global, program: &'a Program) -> Result<IndexSet<&'a [u8]>, NoMemory>
     ensures { IfOk result (λ names. AreFunctorNames names (type_defs_of program.now.types.items)) }
 {
     let mut names = IndexSet::new(alloc);

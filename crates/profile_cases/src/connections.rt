@@ -1,9 +1,9 @@
 // Responses, and connections in memory that are served.
 use crate::lines::{add_debug, add_line, add_shown, failing, most};
 use cases::Case;
-use md_memory::MemLink;
 use md_cost::Loaded;
 use md_http::{reply, serve_link};
+use md_memory::MemLink;
 use std::alloc::{AllocError, Global};
 use std::str;
 

@@ -3,10 +3,10 @@ ghost use Rattle.std.specs.Prelude.{◌<◌, length};
 
 use crate::lines::{add_debug, add_line, add_shown, add_text, failing, most};
 use cases::Case;
-use md_memory::MemStore;
 use md_deepfile::{DecodeFault, Kind, decode, encode, load};
 use md_dump::{DumpFault, dump, undump};
 use md_feedback::{Feedback, read_feedback, write_feedback};
+use md_memory::MemStore;
 use std::alloc::{AllocError, Global};
 
 /// How many of the cuts of a `file` are short at their ends.
