@@ -148,11 +148,7 @@ fn head_variables(input: &mut Input<'_>, more: usize) -> Result<Variables, Refus
 }
 
 /// Takes a variable that is none of those seen, which it joins, and the sign after it.
-fn next_variable(
-    input: &mut Input<'_>,
-    seen: &mut Vec<u32>,
-    after: Kind,
-) -> Result<(), Refusal>
+fn next_variable(input: &mut Input<'_>, seen: &mut Vec<u32>, after: Kind) -> Result<(), Refusal>
     ensures { Reads (λ _. seen.new.items) (parsing.and_then (parsing.variable seen.old.items (input_of input.old)) (λ x j. parsing.and_then (parsing.expect after j) (λ _ k. Ok (seen.old.items ++ x ∷ [], k)))) result (input_of input.new) }
 {
     let variable = input.variable(seen)?;
