@@ -16,6 +16,7 @@ pub mod FillsTokens
 pub mod FillsTurns
 pub mod FillsTypes
 pub mod Goals
+pub mod Heads
 pub mod Lists
 pub mod Seconds
 pub mod Sound

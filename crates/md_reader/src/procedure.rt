@@ -1,7 +1,8 @@
 // Predicates: a declaration, and the one clause after it.
-ghost use Rattle.std.specs.Prelude.{◌≡◌, [], length};
+ghost use Rattle.std.specs.Prelude.{◌≡◌, [], ◌∷◌, ◌++◌, length, Ok};
 ghost use Rattle.md_hlds.specs.Hlds.{args_of, procedure_of};
 ghost use Rattle.md_hlds.specs.HldsGoal.{goal_of};
+ghost use Rattle.md_reader.specs.Input as parsing;
 ghost use Rattle.md_reader.specs.Input.{input_of, Reads};
 ghost use Rattle.md_reader.specs.Rules as spec;
 ghost use Rattle.md_reader.specs.Views.{declaration_of, clause_of};
@@ -140,12 +141,18 @@ fn head_variables(input: &mut Input<'_>, more: usize) -> Result<Variables, Refus
 {
     let mut seen = Vec::new(input.alloc);
     for _turn in 0..more {
-        let variable = input.variable(&seen)?;
-        seen.push(variable)?;
-        input.expect(Kind::Comma)?;
+        next_variable(input, &mut seen, Kind::Comma)?;
     }
-    let variable = input.variable(&seen)?;
-    seen.push(variable)?;
-    input.expect(Kind::Close)?;
+    next_variable(input, &mut seen, Kind::Close)?;
     Ok(Variables::from_vec(seen))
+}
+
+/// Takes a variable that is none of those seen, which it joins, and the sign after it.
+fn next_variable(input: &mut Input<'_>, seen: &mut Vec<u32>, after: Kind) -> Result<(), Refusal>
+    ensures { Reads (λ _. seen.new.items) (parsing.and_then (parsing.variable seen.old.items (input_of input.old)) (λ x j. parsing.and_then (parsing.expect after j) (λ _ k. Ok (seen.old.items ++ x ∷ [], k)))) result (input_of input.new) }
+{
+    let variable = input.variable(seen)?;
+    seen.push(variable)?;
+    input.expect(after)?;
+    Ok(())
 }

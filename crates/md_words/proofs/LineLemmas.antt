@@ -1,5 +1,8 @@
 -- The command line as clap is given it, and as clap builds it.
-use Rattle.std.proofs.Common.{◌≡◌, refl, []}
+use Rattle.std.proofs.Common.{◌≡◌, refl, [], Option}
+use Rattle.std.specs.Prelude.{option_map, slice_get, unwrap_or}
+use Rattle.clap.specs.Walk.{Rule}
+use Rattle.md_words.specs.Parts.{Text}
 use Rattle.clap.specs.Simple.{App, built, new_app, with_rule}
 use Rattle.clap.specs.Faults.{is_simple_and_free}
 use Rattle.std.proofs.Common.{true, sym, ap, ◌∙◌, ◌+◌, ◌<◌, ℕ, suc, length, drop, drop-cons, arith}
@@ -8,7 +11,7 @@ use Rattle.clap.specs.Simple.{with_subcommand, is_simple}
 use Rattle.md_words.specs.declared.tool.Tool.{Tool}
 use Rattle.md_words.specs.declared.tool.Tool.TheVariants as tool
 use Rattle.md_words.specs.Tools.{name_of, usage_of, tools}
-use Rattle.md_words.specs.Lines.{line_of, options_of, subcommand_of, with_rules, with_tools, words_arg}
+use Rattle.md_words.specs.Lines.{flag_arg, line_of, options_of, subcommand_of, valued_arg, with_rules, with_tools, words_arg}
 use Rattle.md_words.proofs.Apps.{built_app}
 
 -- a command with its options and words
@@ -25,6 +28,29 @@ tool_app tool.Dump = refl
 tool_app tool.Undump = refl
 tool_app tool.Cover = refl
 tool_app tool.Sum = refl
+
+-- a command with an option more, where there is one
+abbrev pub with_any : (Text → Rule) → App → Option Text → App
+with_any rule app name = unwrap_or (option_map (λ n. with_rule app (rule n)) name) app
+
+options_at : (t : Tool) (app : App) → with_any flag_arg (with_any valued_arg (with_any valued_arg app (slice_get (usage_of t).valued 0)) (slice_get (usage_of t).valued 1)) (slice_get (usage_of t).flags 0) ≡ with_rules app (options_of (usage_of t))
+options_at tool.Check app = refl
+options_at tool.Run app = refl
+options_at tool.Report app = refl
+options_at tool.Page app = refl
+options_at tool.Serve app = refl
+options_at tool.Gen app = refl
+options_at tool.Migrate app = refl
+options_at tool.Feedback app = refl
+options_at tool.Dump app = refl
+options_at tool.Undump app = refl
+options_at tool.Cover app = refl
+options_at tool.Sum app = refl
+
+-- the options of a command, one after the other
+pub options_more : (t : Tool) (app : App) (a b c : Option Text) → a ≡ slice_get (usage_of t).valued 0 → b ≡ slice_get (usage_of t).valued 1 → c ≡ slice_get (usage_of t).flags 0
+    → with_any flag_arg (with_any valued_arg (with_any valued_arg app a) b) c ≡ with_rules app (options_of (usage_of t))
+options_more t app a b c is_first is_second is_flag = rw (is_first, is_second, is_flag) (options_at t app)
 
 -- what clap makes of it
 pub line_built : built (line_of tools) ≡ built_app tools

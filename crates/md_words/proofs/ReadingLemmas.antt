@@ -6,7 +6,7 @@ use Rattle.std.specs.Borrow.{Bor}
 use Rattle.std.specs.declared.alloc.Global.{Global}
 use Rattle.std.proofs.lemmas.Str.{IsUtf8-string_bytes, is_utf8-from_IsUtf8}
 use Rattle.clap.specs.Walk.{Row, nothing_held, walk}
-use Rattle.clap.specs.Simple.{App, HasMatchesOf, subcommand_of, subcommand_rows_of}
+use Rattle.clap.specs.Simple.{HasMatchesOf, subcommand_of, subcommand_rows_of}
 use Rattle.clap.specs.Faults.{built_fault, fault_of}
 use Rattle.clap.specs.Matches.{subcommand_name_of}
 use Rattle.clap.specs.Simple.{entered, names_of, subcommand_rows}
@@ -17,7 +17,7 @@ use Rattle.std.specs.Box.{box_value}
 use Rattle.clap.specs.declared.parser.matches.ArgMatches.{ArgMatches}
 use Rattle.md_words.specs.declared.tool.Tool.{Tool}
 use Rattle.md_words.specs.declared.tool.Tool.TheVariants as tool
-use Rattle.md_words.specs.Parts.{Text, Part, Front, are_right, is_flag, parts_from, takes_value}
+use Rattle.md_words.specs.Parts.{Text, Part, Front, are_right, parts_from}
 use Rattle.md_words.specs.Tools.{name_of, tool_named, tools, usage_of}
 use Rattle.md_words.specs.Lines.{line_of}
 use Rattle.md_words.specs.Reading.{IsReading, IsReadingOf}

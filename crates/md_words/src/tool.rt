@@ -1,6 +1,6 @@
 // The commands, by their names.
 ghost use Rattle.std.specs.Prelude.{◌≡◌};
-ghost use Rattle.md_words.specs.Tools.{name_of, named_in, tools, later_tools, tool_named};
+ghost use Rattle.md_words.specs.Tools.{name_of, tools, tool_named};
 
 /// A command, by what it is for.
 #[derive(Clone, Copy, PartialEq, Eq)]
@@ -39,44 +39,34 @@ pub fn name_of<'a>(tool: Tool) -> &'a str
     }
 }
 
+/// All commands.
+fn all_tools() -> [Tool; 12]
+    ensures { result ≡ tools }
+{
+    [
+        Tool::Check,
+        Tool::Run,
+        Tool::Report,
+        Tool::Page,
+        Tool::Serve,
+        Tool::Gen,
+        Tool::Migrate,
+        Tool::Feedback,
+        Tool::Dump,
+        Tool::Undump,
+        Tool::Cover,
+        Tool::Sum,
+    ]
+}
+
 /// The command of this name, where there is one.
 pub fn tool_named(name: &str) -> Option<Tool>
     ensures { result ≡ tool_named name.now }
 {
-    if name == "check" {
-        Some(Tool::Check)
-    } else if name == "run" {
-        Some(Tool::Run)
-    } else if name == "report" {
-        Some(Tool::Report)
-    } else if name == "page" {
-        Some(Tool::Page)
-    } else if name == "serve" {
-        Some(Tool::Serve)
-    } else if name == "gen" {
-        Some(Tool::Gen)
-    } else if name == "migrate" {
-        Some(Tool::Migrate)
-    } else {
-        later_tool_named(name)
+    for tool in &all_tools() {
+        if name == name_of(*tool) {
+            return Some(*tool);
+        }
     }
-}
-
-/// The same of the commands that look further into a profile.
-fn later_tool_named(name: &str) -> Option<Tool>
-    ensures { result ≡ named_in later_tools name.now }
-{
-    if name == "feedback" {
-        Some(Tool::Feedback)
-    } else if name == "dump" {
-        Some(Tool::Dump)
-    } else if name == "undump" {
-        Some(Tool::Undump)
-    } else if name == "cover" {
-        Some(Tool::Cover)
-    } else if name == "sum" {
-        Some(Tool::Sum)
-    } else {
-        None
-    }
+    None
 }

@@ -1,5 +1,5 @@
 // The command line as clap reads it.
-ghost use Rattle.std.specs.Prelude.{◌≡◌, IfOk, [], ◌∷◌};
+ghost use Rattle.std.specs.Prelude.{◌≡◌, IfOk, [], ◌∷◌, option_map, slice_get, unwrap_or};
 ghost use Rattle.clap.specs.Simple.{App, new_app, with_rule};
 ghost use Rattle.md_words.specs.Tools.{name_of, usage_of, tools};
 ghost use Rattle.md_words.specs.Lines.{IsApp, bare_line, flag_arg, line_of, options_of, subcommand_of, valued_arg, with_rules};
@@ -65,48 +65,92 @@ fn with_options<'a>(
 ) -> Result<Command<'a>, AllocError>
     ensures { (app : App) → IsApp app command.entry → IfOk result (IsApp (with_rules app (options_of (usage_of tool)))) }
 {
+    let first = with_value(alloc, command, first_value(tool))?;
+    let second = with_value(alloc, first, second_value(tool))?;
+    with_flag(alloc, second, flag(tool))
+}
+
+/// The first option of a command that takes a value.
+fn first_value<'a>(tool: Tool) -> Option<&'a str>
+    ensures { option_map (λ name. name.now) result ≡ slice_get (usage_of tool).valued 0 }
+{
     match tool {
-        Tool::Check => with_flag(alloc, command, "print"),
-        Tool::Gen => with_flag(alloc, command, "summary"),
-        Tool::Report | Tool::Cover => with_value(alloc, command, "steps"),
-        Tool::Run => with_values(alloc, command, "steps", "profile"),
-        Tool::Feedback => with_values(alloc, command, "steps", "least"),
-        Tool::Serve => with_values(alloc, command, "port", "requests"),
-        Tool::Page | Tool::Migrate | Tool::Dump | Tool::Undump | Tool::Sum => Ok(command),
+        Tool::Run | Tool::Report | Tool::Feedback | Tool::Cover => Some("steps"),
+        Tool::Serve => Some("port"),
+        Tool::Check
+        | Tool::Gen
+        | Tool::Page
+        | Tool::Migrate
+        | Tool::Dump
+        | Tool::Undump
+        | Tool::Sum => None,
     }
 }
 
-/// A command with two options more that take a value.
-fn with_values<'a>(
-    alloc: Global,
-    command: Command<'a>,
-    first: &'a str,
-    second: &'a str,
-) -> Result<Command<'a>, AllocError>
-    ensures { (app : App) → IsApp app command.entry → IfOk result (IsApp (with_rule (with_rule app (valued_arg first.entry.now)) (valued_arg second.entry.now))) }
+/// The second option of a command that takes a value.
+fn second_value<'a>(tool: Tool) -> Option<&'a str>
+    ensures { option_map (λ name. name.now) result ≡ slice_get (usage_of tool).valued 1 }
 {
-    let command = with_value(alloc, command, first)?;
-    with_value(alloc, command, second)
+    match tool {
+        Tool::Run => Some("profile"),
+        Tool::Feedback => Some("least"),
+        Tool::Serve => Some("requests"),
+        Tool::Check
+        | Tool::Report
+        | Tool::Page
+        | Tool::Gen
+        | Tool::Migrate
+        | Tool::Dump
+        | Tool::Undump
+        | Tool::Cover
+        | Tool::Sum => None,
+    }
 }
 
-/// A command with an option more that takes a value.
+/// The option of a command that takes no value.
+fn flag<'a>(tool: Tool) -> Option<&'a str>
+    ensures { option_map (λ name. name.now) result ≡ slice_get (usage_of tool).flags 0 }
+{
+    match tool {
+        Tool::Check => Some("print"),
+        Tool::Gen => Some("summary"),
+        Tool::Run
+        | Tool::Report
+        | Tool::Page
+        | Tool::Serve
+        | Tool::Migrate
+        | Tool::Feedback
+        | Tool::Dump
+        | Tool::Undump
+        | Tool::Cover
+        | Tool::Sum => None,
+    }
+}
+
+/// A command with an option more that takes a value, if there is one.
 fn with_value<'a>(
     alloc: Global,
     command: Command<'a>,
-    name: &'a str,
+    name: Option<&'a str>,
 ) -> Result<Command<'a>, AllocError>
-    ensures { (app : App) → IsApp app command.entry → IfOk result (IsApp (with_rule app (valued_arg name.entry.now))) }
+    ensures { (app : App) → IsApp app command.entry → IfOk result (IsApp (unwrap_or (option_map (λ n. with_rule app (valued_arg n)) (option_map (λ n. n.now) name.entry)) app)) }
 {
-    command.arg(Arg::new(alloc, name).long(name))
+    match name {
+        None => Ok(command),
+        Some(name) => command.arg(Arg::new(alloc, name).long(name)),
+    }
 }
 
-/// A command with an option more that takes none.
+/// A command with an option more that takes none, if there is one.
 fn with_flag<'a>(
     alloc: Global,
     command: Command<'a>,
-    name: &'a str,
+    name: Option<&'a str>,
 ) -> Result<Command<'a>, AllocError>
-    ensures { (app : App) → IsApp app command.entry → IfOk result (IsApp (with_rule app (flag_arg name.entry.now))) }
+    ensures { (app : App) → IsApp app command.entry → IfOk result (IsApp (unwrap_or (option_map (λ n. with_rule app (flag_arg n)) (option_map (λ n. n.now) name.entry)) app)) }
 {
-    command.arg(Arg::new(alloc, name).long(name).action(ArgAction::SetTrue))
+    match name {
+        None => Ok(command),
+        Some(name) => command.arg(Arg::new(alloc, name).long(name).action(ArgAction::SetTrue)),
+    }
 }

@@ -1,3 +1,5 @@
+use Rattle.std.proofs.Common.{arith}
+use Rattle.std.proofs.lemmas.Grind.{common_steps}
 use Rattle.std.proofs.Common.{ℕ, List, Option, sym, subst}
 use Rattle.md_base.specs.Streams.{Stream}
 use Rattle.md_http.specs.Served.{IsDue, ends}
@@ -19,3 +21,27 @@ returns-in-Ok-clause-served g c = λ v is.
     served_of v before now c.deref.result.now c.answer_link.result
     (subst (λ (told : Option Stream). IsDue v (g.C.Source.stream old) told c.deref.result.now) (sym left.0) due)
     (written_since c.deref.result.now before now _ _ c.answer_link.result kept.0 kept.1 written.whole written.part written.fault written.read)
+
+pub returns-in-Err-Device-clause-reads : goal.returns-in-Err-Device-clause-reads
+returns-in-Err-Device-clause-reads g c = grind (arith, common_steps)
+
+pub returns-in-Err-Device-clause-served : goal.returns-in-Err-Device-clause-served
+returns-in-Err-Device-clause-served g c = grind (arith, common_steps)
+
+pub returns-in-Err-Device-clause-writes : goal.returns-in-Err-Device-clause-writes
+returns-in-Err-Device-clause-writes g c = grind (arith, common_steps)
+
+pub returns-in-Err-NoMemory-clause-reads : goal.returns-in-Err-NoMemory-clause-reads
+returns-in-Err-NoMemory-clause-reads g c = grind (arith, common_steps)
+
+pub returns-in-Err-NoMemory-clause-served : goal.returns-in-Err-NoMemory-clause-served
+returns-in-Err-NoMemory-clause-served g c = grind (arith, common_steps)
+
+pub returns-in-Err-NoMemory-clause-writes : goal.returns-in-Err-NoMemory-clause-writes
+returns-in-Err-NoMemory-clause-writes g c = grind (arith, common_steps)
+
+pub returns-in-Ok-clause-reads : goal.returns-in-Ok-clause-reads
+returns-in-Ok-clause-reads g c = grind (arith, common_steps)
+
+pub returns-in-Ok-clause-writes : goal.returns-in-Ok-clause-writes
+returns-in-Ok-clause-writes g c = grind (arith, common_steps)

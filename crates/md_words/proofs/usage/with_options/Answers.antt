@@ -1,17 +1,10 @@
-use Rattle.std.proofs.Common.{IfOk, sym, subst}
-use Rattle.md_words.specs.declared.tool.Tool.{Tool}
-use Rattle.md_words.specs.Tools.{usage_of}
-use Rattle.md_words.specs.Lines.{IsApp, options_of, with_rules}
+use Rattle.std.proofs.Common.{IfOk, subst}
+use Rattle.clap.specs.Simple.{App}
+use Rattle.md_words.specs.Lines.{IsApp}
+use Rattle.md_words.proofs.LineLemmas.{options_more}
 use Rattle.md_words.proofs.usage.with_options.Goals as goal
 
-pub returns-in-Run : goal.returns-in-Run
-returns-in-Run c app is =
-    subst (λ (t : Tool). IfOk c.with_values.result (IsApp (with_rules app (options_of (usage_of t))))) (sym c.in-Run.is) (c.with_values.ensures app is)
-
-pub returns-in-Serve : goal.returns-in-Serve
-returns-in-Serve c app is =
-    subst (λ (t : Tool). IfOk c.with_values-in-Serve.result (IsApp (with_rules app (options_of (usage_of t))))) (sym c.in-Serve.is) (c.with_values-in-Serve.ensures app is)
-
-pub returns-in-Feedback : goal.returns-in-Feedback
-returns-in-Feedback c app is =
-    subst (λ (t : Tool). IfOk c.with_values-in-Feedback.result (IsApp (with_rules app (options_of (usage_of t))))) (sym c.in-Feedback.is) (c.with_values-in-Feedback.ensures app is)
+pub returns : goal.returns
+returns c app is =
+    subst (λ (a : App). IfOk c.with_flag.result (IsApp a)) (options_more c.args.tool app _ _ _ c.first_value.ensures c.second_value.ensures c.flag.ensures)
+    (c.with_flag.ensures _ (c.in_ok-second.ensures _ (c.in_ok-first.ensures app is)))

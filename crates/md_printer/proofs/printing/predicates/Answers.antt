@@ -1,0 +1,6 @@
+use Rattle.std.proofs.Common.{arith}
+use Rattle.std.proofs.lemmas.Grind.{common_steps}
+use Rattle.md_printer.proofs.printing.predicates.Goals as goal
+
+pub loop-pred-preserved : goal.loop-pred-preserved
+loop-pred-preserved c = grind (arith, common_steps)

@@ -1,0 +1,12 @@
+use Rattle.std.proofs.Common.{arith}
+use Rattle.std.proofs.lemmas.Grind.{common_steps}
+use Rattle.md_printer.specs.Layout.{laid}
+use Rattle.md_printer.proofs.types.type_words.Goals as goal
+
+pub returns-in_ok-further_type_words : goal.returns-in_ok-further_type_words
+unfolding laid
+returns-in_ok-further_type_words c = grind (arith, common_steps)
+
+pub returns-in_default : goal.returns-in_default
+unfolding laid
+returns-in_default c = grind (arith, common_steps)
