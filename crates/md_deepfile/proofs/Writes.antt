@@ -1,7 +1,8 @@
 -- Pieces that go to a file one after the other.
-use Rattle.std.proofs.Common.{◌≡◌, ℕ, ◌+◌, ◌<◌, ◌≤◌, List, [], ◌∷◌, ◌++◌, length, get_or, take, drop, Option, Result, Ok, Err, OnOk, OnErr, Bool, refl, sym, ap, subst, ◌∙◌, append_assoc, arith, inl, inr}
+use Rattle.std.proofs.Common.{◌≡◌, ℕ, ◌+◌, ◌<◌, ◌≤◌, List, [], ◌∷◌, ◌++◌, length, get_or, take, drop, Option, Result, Ok, Err, OnOk, OnErr, is_err, Bool, false, refl, sym, ap, subst, ◌∙◌, append_assoc, arith, inl, inr}
 use Rattle.std.specs.List.{flat_map}
-use Rattle.std.proofs.lemmas.List.{append-nil, take-append-drop, take-take, take_more, take_at, flat_map_more, length-append}
+use Rattle.std.proofs.lemmas.Bool.{false≢true}
+use Rattle.std.proofs.lemmas.List.{append-nil, take_all, take-append-drop, take-take, take_more, take_at, flat_map_more, length-append}
 use Rattle.md_base.specs.Files.{Files, HoldsPart, holding, extended}
 use Rattle.md_base.proofs.Told.{extended-holding, take_add}
 use Rattle.md_static.specs.declared.entry.Proc.{Proc}
@@ -73,6 +74,10 @@ stop_here name p rest q old now buffer after h is = λ before done w.
       parts = sym (append_assoc v.out after rest) ∙ ap (λ (xs : List ℕ). xs ++ rest) v.all ∙ append_assoc done p rest ∙ ap (λ (xs : List ℕ). done ++ xs) is;
     }
 
+-- nothing is written
+pub stops_at_once : (name bytes : List ℕ) (old : Option Files) (buffer : List ℕ) → StopsIn name bytes old buffer old
+stops_at_once name bytes old buffer = stop_here name [] bytes bytes old old buffer buffer (stays_on name old buffer) refl
+
 pub stop_later : (name p x rest q : List ℕ) (old middle now : Option Files) (buffer between : List ℕ) → WritesOn name p old buffer middle between → StopsIn name x middle between now → (p ++ x) ++ rest ≡ q → StopsIn name q old buffer now
 stop_later name p x rest q old middle now buffer between first second is = λ before done w.
     let v = second before (done ++ p) (first before done w) in
@@ -103,6 +108,10 @@ each_more {X} spell i xs x within is =
     ∙ ap (λ (y : X). u32 (length xs) ++ flat_map spell (take i xs ++ y ∷ [])) is
     ∙ ap (λ (ys : List X). u32 (length xs) ++ flat_map spell ys) (sym (take_more xs i x within))
 
+-- all of the list is put
+pub each_all : {X : Type 0} (spell : X → List ℕ) (i : ℕ) (xs : List X) → i ≡ length xs → each_so_far spell i xs ≡ each spell xs
+each_all {X} spell i xs done = ap (λ (ys : List X). u32 (length xs) ++ flat_map spell ys) (take_all i xs (omega (arith, done)))
+
 -- a front of the bytes is a part of them
 pub front_part : (name : List ℕ) (before now : Option Files) (all : List ℕ) → HasFrontOf name before now all → HoldsPart name all before now
 front_part name before now all h =
@@ -126,6 +135,14 @@ begun_written name before now buffer is none = record { out = []; held = is; all
 pub ok_then : {A E : Type 0} (r : Result A E) (P Q : Type 0) → OnOk r P → (P → Q) → OnOk r Q
 ok_then (Ok x) P Q h so = so h
 ok_then (Err e) P Q h so = tt
+
+pub ok_both : {A E : Type 0} (r : Result A E) (P R Q : Type 0) → OnOk r P → OnOk r R → (P → R → Q) → OnOk r Q
+ok_both (Ok x) P R Q h k so = so h k
+ok_both (Err e) P R Q h k so = tt
+
+pub ok_unless_err : {A E : Type 0} (r : Result A E) (P : Type 0) → is_err r ≡ false → OnOk r P → P
+ok_unless_err (Ok x) P good h = h
+ok_unless_err (Err e) P good h = absurd (false≢true (sym good))
 
 pub err_then : {A E : Type 0} (r : Result A E) (P Q : Type 0) → OnErr r P → (P → Q) → OnErr r Q
 err_then (Ok x) P Q h so = tt

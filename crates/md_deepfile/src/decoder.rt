@@ -21,7 +21,7 @@ use std::marker::Model;
 /// the hashing of names and links is: nobody chose them against its hash.
 #[derive(Drop)]
 pub struct Decoder {
-    reader: Reader,
+    reader: Box<Reader>,
     stopped: Option<DecodeFault>,
 }
 
@@ -31,9 +31,9 @@ impl Model for Decoder {
 
     ghost Value = { Decoding };
 
-    ghost view = { λ d. record { stopped = d.stopped; state = state_of d.reader } };
+    ghost view = { λ d. record { stopped = d.stopped; state = state_of d.reader.value } };
 
-    ghost invariant = { λ d. IsOpen d.stopped (state_of d.reader) };
+    ghost invariant = { λ d. IsOpen d.stopped (state_of d.reader.value) };
 }
 
 impl Decoder {
@@ -41,8 +41,9 @@ impl Decoder {
     pub fn new(alloc: Global) -> Result<Decoder, NoMemory>
         ensures { IfOk result (λ decoder. HasTaken decoder []) }
     {
+        let reader = Reader::new(alloc)?;
         Ok(Decoder {
-            reader: Reader::new(alloc)?,
+            reader: Box::new(alloc, reader)?,
             stopped: None,
         })
     }
@@ -96,7 +97,7 @@ impl Decoder {
     fn into_profile(self) -> Profile
         ensures { result ≡ self.state.rows }
     {
-        self.reader.into_profile()
+        Box::into_inner(self.reader).into_profile()
     }
 }
 

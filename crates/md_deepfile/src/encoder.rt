@@ -1,13 +1,14 @@
 // A profile as bytes in memory.
-ghost use Rattle.std.specs.Prelude.{◌≡◌, IfOk};
+ghost use Rattle.std.specs.Prelude.{◌≡◌, ◌++◌, IfOk, OnOk};
 ghost use Rattle.md_dynamic.specs.Valid.{IsValid};
 ghost use Rattle.md_deepfile.specs.Bytes.{file_bytes};
+ghost use Rattle.md_deepfile.specs.Pieces.{table_bytes, row_bytes};
 
 use crate::fields::put_front;
 use crate::spelled::put_each;
 use md_base::NoMemory;
 use md_dynamic::Profile;
-use std::alloc::Global;
+use std::alloc::{AllocError, Global};
 
 /// The file of a profile, in version 2. The profile is valid.
 pub fn encode(alloc: Global, profile: &Profile) -> Result<Vec<u8>, NoMemory>
@@ -15,11 +16,27 @@ pub fn encode(alloc: Global, profile: &Profile) -> Result<Vec<u8>, NoMemory>
     ensures { IfOk result (λ bytes. bytes.items ≡ file_bytes profile.now) }
 {
     let mut out = Vec::new(alloc);
-    put_front(&mut out, profile.finished())?;
-    put_each(&mut out, profile.statics().modules())?;
-    put_each(&mut out, profile.statics().procs())?;
-    put_each(&mut out, profile.statics().sites())?;
-    put_each(&mut out, profile.nodes())?;
-    put_each(&mut out, profile.links())?;
+    put_tables(&mut out, profile)?;
+    put_rows(&mut out, profile)?;
     Ok(out)
+}
+
+/// Puts what stands before the contexts.
+fn put_tables(out: &mut Vec<u8>, profile: &Profile) -> Result<(), AllocError>
+    requires { IsValid profile.now }
+    ensures { OnOk result (out.new.items ≡ out.old.items ++ table_bytes profile.now) }
+{
+    put_front(out, profile.finished())?;
+    put_each(out, profile.statics().modules())?;
+    put_each(out, profile.statics().procs())?;
+    put_each(out, profile.statics().sites())
+}
+
+/// Puts contexts and links.
+fn put_rows(out: &mut Vec<u8>, profile: &Profile) -> Result<(), AllocError>
+    requires { IsValid profile.now }
+    ensures { OnOk result (out.new.items ≡ out.old.items ++ row_bytes profile.now) }
+{
+    put_each(out, profile.nodes())?;
+    put_each(out, profile.links())
 }

@@ -4,7 +4,7 @@ ghost use Rattle.std.specs.Str.{bytes_eq};
 ghost use Rattle.std.specs.List.{list_any};
 ghost use Rattle.md_static.specs.Names.{is_name};
 
-use crate::names::is_program_name;
+use crate::names::program_name;
 use indexmap::IndexSet;
 use md_base::{Name, NoMemory};
 use std::alloc::Global;
@@ -52,13 +52,18 @@ impl Modules {
         ensures added { IfOk result (λ added. added ≡ (is_name bytes.now && not (list_any (bytes_eq bytes.now) self.old))) }
         ensures names { IfOk result (λ added. self.new ≡ (if added then self.old ++ bytes.now ∷ [] else self.old)) }
     {
-        if !is_program_name(bytes) {
-            return Ok(false);
+        match program_name(alloc, bytes)? {
+            Some(name) => self.add_name(alloc, name),
+            None => Ok(false),
         }
-        let Some(name) = Name::from_bytes(alloc, bytes)? else {
-            return Ok(false);
-        };
-        let key = Vec::from_slice(alloc, bytes)?;
+    }
+
+    /// Adds a module of this name, and answers whether none had it before. Otherwise nothing is added.
+    fn add_name(&mut self, alloc: Global, name: Name) -> Result<bool, NoMemory>
+        ensures added { IfOk result (λ added. added ≡ not (list_any (bytes_eq name) self.old)) }
+        ensures names { IfOk result (λ added. self.new ≡ (if added then self.old ++ name ∷ [] else self.old)) }
+    {
+        let key = Vec::from_slice(alloc, name.as_bytes())?;
         self.names.reserve(1)?;
         if !self.keys.insert(key)? {
             return Ok(false);

@@ -1,9 +1,10 @@
-use Rattle.std.proofs.Common.{List, ℕ, [], ◌++◌, ap, ◌∙◌}
+use Rattle.std.proofs.Common.{arith, List, ℕ, [], ◌++◌, ap, ◌∙◌}
 use Rattle.std.proofs.lemmas.List.{append-nil}
 use Rattle.md_dynamic.specs.declared.link.LinkRow.{LinkRow}
 use Rattle.md_deepfile.specs.Bytes.{u32, each, link_bytes}
 use Rattle.md_deepfile.specs.Pieces.{row_bytes}
-use Rattle.md_deepfile.proofs.Writes.{err_then, stop_first, stop_later}
+use Rattle.md_base.proofs.Told.{rose_since}
+use Rattle.md_deepfile.proofs.Writes.{ok_then, err_then, on_same, then_on, stop_first, stop_later}
 use Rattle.md_deepfile.proofs.writing.write_rows.Goals as goal
 
 pub returns-in-Err-clause-stops : goal.returns-in-Err-clause-stops
@@ -20,3 +21,34 @@ returns-clause-stops g c =
     c.args.buffer.now.items c.write_each.new.buffer.items c.in_default.ensures.on stops
     (append-nil (each u32 c.nodes.result.now ++ each (link_bytes 7) c.links.result.now)
     ∙ ap (λ (ns : List ℕ). each u32 ns ++ each (link_bytes 7) c.links.result.now) c.nodes.ensures ∙ ap (λ (ls : List LinkRow). each u32 f.nodes ++ each (link_bytes 7) ls) c.links.ensures))
+
+pub returns-in-Err-clause-write : goal.returns-in-Err-clause-write
+returns-in-Err-clause-write g c = c.in-Err.ensures.write
+
+pub returns-in-Err-clause-later : goal.returns-in-Err-clause-later
+returns-in-Err-clause-later g c = c.in-Err.ensures.later
+
+pub returns-in-Err-clause-reads : goal.returns-in-Err-clause-reads
+returns-in-Err-clause-reads g c = c.in-Err.ensures.reads
+
+pub returns-clause-write : goal.returns-clause-write
+returns-clause-write g c = λ told. rose_since _ _ _ c.in_default.ensures.later (c.write_each-2.ensures.write told)
+
+pub returns-clause-later : goal.returns-clause-later
+returns-clause-later g c = omega (arith, c.in_default.ensures.later, c.write_each-2.ensures.later)
+
+pub returns-clause-reads : goal.returns-clause-reads
+returns-clause-reads g c = c.write_each-2.ensures.reads ∙ c.in_default.ensures.reads
+
+pub returns-clause-on : goal.returns-clause-on
+returns-clause-on g c =
+    let f = c.args.profile.now in
+    let nodes = each u32 c.nodes.result.now in
+    let links = each (link_bytes 7) c.links.result.now in
+    let before = g.S.Store.held c.args.store.now in
+    let between = g.S.Store.held c.write_each.new.store in
+    let now = g.S.Store.held c.write_each-2.new.store in
+    ok_then c.write_each-2.result _ _ c.write_each-2.ensures.on
+    (λ on. on_same c.args.name.now (nodes ++ links) (row_bytes f) before now c.args.buffer.now.items c.write_each-2.new.buffer.items
+    (ap (λ (ns : List ℕ). each u32 ns ++ links) c.nodes.ensures ∙ ap (λ (ls : List LinkRow). each u32 f.nodes ++ each (link_bytes 7) ls) c.links.ensures)
+    (then_on c.args.name.now nodes links before between now c.args.buffer.now.items c.write_each.new.buffer.items c.write_each-2.new.buffer.items c.in_default.ensures.on on))

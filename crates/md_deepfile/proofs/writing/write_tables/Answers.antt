@@ -1,8 +1,9 @@
-use Rattle.std.proofs.Common.{◌++◌, ap, refl, ◌∙◌}
+use Rattle.std.proofs.Common.{arith, ◌++◌, ap, refl, ◌∙◌}
 use Rattle.md_static.specs.Tables.{Static}
 use Rattle.md_deepfile.specs.Bytes.{each, name_bytes, proc_bytes, site_bytes}
 use Rattle.md_deepfile.specs.Pieces.{table_bytes}
-use Rattle.md_deepfile.proofs.Writes.{ok_then, err_then, on_same, stop_same, four_stop1, four_stop2, four_stop3, four_on, front_of, table_same}
+use Rattle.md_base.proofs.Told.{rose_since}
+use Rattle.md_deepfile.proofs.Writes.{ok_then, err_then, on_same, stop_same, four_stop1, four_stop2, four_stop3, four_on, front_of, table_same, stops_at_once}
 use Rattle.md_deepfile.proofs.writing.write_tables.Goals as goal
 
 pub returns-in-Err-write_each-clause-stops : goal.returns-in-Err-write_each-clause-stops
@@ -36,3 +37,33 @@ returns-clause-stops g c =
     (table_same f c.finished.result c.modules.result.now c.procs.result.now c.sites.result.now c.finished.ensures (c.modules.ensures ∙ ap (λ (s : Static). s.modules) c.statics.ensures) (c.procs.ensures ∙ ap (λ (s : Static). s.procs) c.statics-2.ensures) (c.sites.ensures ∙ ap (λ (s : Static). s.sites) c.statics-3.ensures))
     (four_stop3 c.args.name.now (front_of c.finished.result) (each name_bytes c.modules.result.now) (each proc_bytes c.procs.result.now) (each site_bytes c.sites.result.now) (g.S.Store.held c.args.store.now) c.args.buffer.now.items c.put_front.new.out.items c.in_default.ensures (g.S.Store.held c.write_each.new.store) (g.S.Store.held c.write_each-2.new.store) (g.S.Store.held c.write_each-3.new.store) c.write_each.new.buffer.items c.write_each-2.new.buffer.items
     c.in_default-write_each.ensures.on c.in_default-write_each-2.ensures.on stops))
+
+pub returns-in-Err-clause-stops : goal.returns-in-Err-clause-stops
+returns-in-Err-clause-stops g c = stops_at_once c.args.name.now (table_bytes c.args.profile.now) (g.S.Store.held c.args.store.now) c.args.buffer.now.items
+
+pub returns-in-Err-write_each-clause-write : goal.returns-in-Err-write_each-clause-write
+returns-in-Err-write_each-clause-write g c = c.in-Err-write_each.ensures.write
+
+pub returns-in-Err-write_each-clause-later : goal.returns-in-Err-write_each-clause-later
+returns-in-Err-write_each-clause-later g c = c.in-Err-write_each.ensures.later
+
+pub returns-in-Err-write_each-clause-reads : goal.returns-in-Err-write_each-clause-reads
+returns-in-Err-write_each-clause-reads g c = c.in-Err-write_each.ensures.reads
+
+pub returns-in-Err-write_each-2-clause-write : goal.returns-in-Err-write_each-2-clause-write
+returns-in-Err-write_each-2-clause-write g c = λ told. rose_since _ _ _ c.in_default-write_each.ensures.later (c.in-Err-write_each-2.ensures.write told)
+
+pub returns-in-Err-write_each-2-clause-later : goal.returns-in-Err-write_each-2-clause-later
+returns-in-Err-write_each-2-clause-later g c = omega (arith, c.in_default-write_each.ensures.later, c.in-Err-write_each-2.ensures.later)
+
+pub returns-in-Err-write_each-2-clause-reads : goal.returns-in-Err-write_each-2-clause-reads
+returns-in-Err-write_each-2-clause-reads g c = c.in-Err-write_each-2.ensures.reads ∙ c.in_default-write_each.ensures.reads
+
+pub returns-clause-write : goal.returns-clause-write
+returns-clause-write g c = λ told. rose_since _ _ _ (omega (arith, c.in_default-write_each.ensures.later, c.in_default-write_each-2.ensures.later)) (c.write_each-3.ensures.write told)
+
+pub returns-clause-later : goal.returns-clause-later
+returns-clause-later g c = omega (arith, c.in_default-write_each.ensures.later, c.in_default-write_each-2.ensures.later, c.write_each-3.ensures.later)
+
+pub returns-clause-reads : goal.returns-clause-reads
+returns-clause-reads g c = c.write_each-3.ensures.reads ∙ c.in_default-write_each-2.ensures.reads ∙ c.in_default-write_each.ensures.reads
