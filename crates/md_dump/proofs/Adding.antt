@@ -1,8 +1,10 @@
 -- Sums over files, one file after the other.
-use Rattle.std.proofs.Common.{◌≡◌, ℕ, ◌+◌, ◌*◌, ◌<◌, ◌≤◌, ◌^◌, Bool, List, [], ◌∷◌, ◌++◌, length, take, get_or, map, Option, None, Some, refl, sym, ap, subst, ◌∙◌, arith}
+use Rattle.std.proofs.Common.{◌≡◌, ℕ, ◌+◌, ◌*◌, ◌<◌, ◌≤◌, ◌^◌, Bool, List, [], ◌∷◌, ◌++◌, length, take, get_or, map, Option, None, Some, refl, sym, ap, subst, ◌∙◌, arith, zero, suc}
 use Rattle.std.proofs.Math.Seq.{take-length}
-use Rattle.std.proofs.lemmas.List.{map-append}
-use Rattle.std.specs.List.{list_any, All, AllByRecursion}
+use Rattle.std.proofs.lemmas.List.{map-append, length-append}
+use Rattle.std.specs.List.{list_any, All, AllByRecursion, slice_get}
+use Rattle.std.specs.Prelude.{IfSome, option_map}
+use Rattle.std.proofs.lemmas.Option.{same_Some, slice_get-get_or}
 use Rattle.std.proofs.lemmas.List.Elements.{recursion_from_All}
 use Rattle.md_base.specs.declared.measure.Measure.{Measure}
 use Rattle.md_trace.specs.Context.{same_option}
@@ -15,7 +17,10 @@ use Rattle.md_cost.specs.View.{View, OfProcedure}
 use Rattle.md_cost.specs.declared.sums.Sums.{Sums}
 use Rattle.md_cost.proofs.Measures.{each_measure}
 use Rattle.md_cost.proofs.OwnSteps.{part_le}
-use Rattle.md_dump.specs.Sums.{AreViews, HaveViews, plus, sum_all, IsSmall}
+use Rattle.md_static.specs.declared.entry.Proc.{Proc}
+use Rattle.md_static.specs.Tables.{Static}
+use Rattle.md_dump.specs.declared.summing.ProcSum.{ProcSum}
+use Rattle.md_dump.specs.Sums.{AreOfOne, AreProcSums, AreViews, HaveViews, IsProcSum, plus, sum_all, IsSmall}
 
 -- the greatest sum of a file: 2 ^ 25 links, each with a count of 32 bits
 abbrev pub most : ℕ
@@ -125,3 +130,37 @@ views_from (f ∷ fs) small = let t = views_from fs small.1 in (small.0.view ∷
 
 pub have_views : (files : List LoadedRows) → All IsSmall files → HaveViews files
 have_views files small = views_from files (recursion_from_All IsSmall files small)
+
+-- what holds of each element by its place holds of one more
+holds_push : {X : Type 0} (P : ℕ → X → Type 0) (xs : List X) (x : X) → ((k : ℕ) → IfSome (slice_get xs k) (P k)) → P (length xs) x → (k : ℕ) → IfSome (slice_get (xs ++ x ∷ []) k) (P k)
+holds_push {X} P [] x before this zero = this
+holds_push {X} P [] x before this (suc k) = tt
+holds_push {X} P (y ∷ ys) x before this zero = before zero
+holds_push {X} P (y ∷ ys) x before this (suc k) = holds_push (λ i. P (suc i)) ys x (λ i. before (suc i)) this k
+
+-- one more row, of the next procedure
+pub sums_more : (files : List LoadedRows) (rows more : List ProcSum) (row : ProcSum) (id : ℕ) → more ≡ rows ++ row ∷ [] → length rows ≡ id → ((k : ℕ) → IfSome (slice_get rows k) (IsProcSum files k))
+    → IsProcSum files id row → (length more ≡ id + 1) × ((k : ℕ) → IfSome (slice_get more k) (IsProcSum files k))
+sums_more files rows more row id is size before this = (
+  ap length is ∙ length-append rows (row ∷ []) ∙ ap (λ (n : ℕ). n + 1) size,
+  λ k. subst (λ (xs : List ProcSum). IfSome (slice_get xs k) (IsProcSum files k)) (sym is) (holds_push (IsProcSum files) rows row before (subst (λ (i : ℕ). IsProcSum files i row) (sym size) this) k),
+)
+
+module _ (files : List LoadedRows) (some : 0 < length files) (first d : LoadedRows) (is : first ≡ get_or files 0 d) (procs : List Proc) (are : procs ≡ first.profile.statics.procs) where
+  first_at : slice_get files 0 ≡ Some first
+  first_at = slice_get-get_or files 0 d some ∙ ap (λ (f : LoadedRows). Some f) (sym is)
+
+  -- each file has as many procedures as the first one
+  pub procs_there : AreOfOne files → (id : ℕ) → id < length procs → All (λ f. id < length f.profile.statics.procs) files
+  procs_there one id below = λ k e lt.
+      let at : slice_get files k ≡ Some (get_or files k e) = slice_get-get_or files k e lt in
+      let told : Some (get_or files k e).profile.statics ≡ Some first.profile.statics = sym (ap (option_map (λ (f : LoadedRows). f.profile.statics)) at) ∙ one k lt ∙ ap (option_map (λ (f : LoadedRows). f.profile.statics)) first_at in
+      let same : (get_or files k e).profile.statics ≡ first.profile.statics = same_Some _ _ told in
+      subst (λ (s : Static). id < length s.procs) (sym same) (subst (λ (ps : List Proc). id < length ps) are below)
+
+  -- the rows of all procedures
+  pub sums_all : (rows : List ProcSum) → length rows ≡ length procs → ((k : ℕ) → IfSome (slice_get rows k) (IsProcSum files k)) → AreProcSums files rows
+  sums_all rows size sums = record {
+    each = ap (λ (n : ℕ). Some n) (size ∙ ap length are) ∙ sym (ap (λ (o : Option LoadedRows). option_map (λ (s : Static). length s.procs) (option_map (λ (f : LoadedRows). f.profile.statics) o)) first_at);
+    are = sums;
+  }

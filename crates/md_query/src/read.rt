@@ -1,5 +1,6 @@
 // Which path and pairs are a query.
-ghost use Rattle.std.specs.Prelude.{◌≡◌, Some, None, true, codes, IfOk, IfErr, IsOk, Err};
+ghost use Rattle.std.specs.Prelude.{◌≡◌, ◌||◌, [], Some, None, true, codes, IfOk, IfErr, IsOk, Err};
+ghost use Rattle.std.specs.Str.{bytes_eq};
 ghost use Rattle.md_query.specs.declared.query.QueryFault.TheVariants as fault;
 ghost use Rattle.md_query.specs.Asked.{query_of, takes_pairs, asks_module, clique_of, top_of, proc_of, module_of};
 ghost use Rattle.md_query.specs.Pair.{ArePlain, value_of, id_in, measure_in, count_in};
@@ -34,7 +35,7 @@ fn found(alloc: Global, path: &[u8], pairs: &[u8]) -> Result<Option<Query>, NoMe
     ensures memory { IfErr result (λ _. takes_pairs path.now ≡ true) }
     ensures plain { IfErr result (λ _. ArePlain pairs.now → asks_module path.now ≡ true) }
 {
-    if path.is_empty() || path == b"menu".as_slice() {
+    if is_menu(path) {
         Ok(Some(Query::Menu))
     } else if path == b"root".as_slice() {
         Ok(Some(Query::Root))
@@ -53,6 +54,13 @@ fn found(alloc: Global, path: &[u8], pairs: &[u8]) -> Result<Option<Query>, NoMe
     } else {
         Ok(None)
     }
+}
+
+/// Whether a path is that of the menu.
+fn is_menu(path: &[u8]) -> bool
+    ensures { result ≡ (bytes_eq path.now [] || bytes_eq path.now (codes "menu")) }
+{
+    path.is_empty() || path == b"menu".as_slice()
 }
 
 /// The query for a clique, by its pairs.

@@ -1,5 +1,5 @@
 -- Words that are added one after the other.
-use Rattle.std.proofs.Common.{◌≡◌, ◌++◌, ℕ, List, append_assoc}
+use Rattle.std.proofs.Common.{◌≡◌, ◌++◌, ℕ, List, Ok, Err, append_assoc, ap, sym, ◌∙◌}
 use Rattle.std.specs.Prelude.{Result, OnOk}
 use Rattle.std.proofs.lemmas.Result.{on_ok_weaker}
 
@@ -15,3 +15,8 @@ four-added r o a b c d x y z w p q s = on_ok_weaker r (λ t. let e : (((o ++ a) 
 pub five-added : {T E : Type 0} (r : Result T E) (o a b c d e x y z w u : List ℕ) → x ≡ o ++ a → y ≡ x ++ b → z ≡ y ++ c → w ≡ z ++ d → OnOk r (u ≡ w ++ e) → OnOk r (u ≡ o ++ (a ++ (b ++ (c ++ (d ++ e)))))
 five-added r o a b c d e x y z w u p q s t =
     on_ok_weaker r (λ k. let f : ((((o ++ a) ++ b) ++ c) ++ d) ++ e ≡ o ++ (a ++ (b ++ (c ++ (d ++ e)))) = simp append_assoc in cc)
+
+-- one text behind another, where the second may fail
+pub words_added : {T E : Type 0} (r : Result T E) (old middle now a b words : List ℕ) → middle ≡ old ++ a → OnOk r (now ≡ middle ++ b) → words ≡ a ++ b → OnOk r (now ≡ old ++ words)
+words_added (Ok x) old middle now a b words first second is = second ∙ ap (λ (xs : List ℕ). xs ++ b) first ∙ append_assoc old a b ∙ ap (λ (xs : List ℕ). old ++ xs) (sym is)
+words_added (Err e) old middle now a b words first second is = tt
