@@ -1,4 +1,5 @@
 use Rattle.std.proofs.Common.{get_or, None, sym, ◌∙◌, arith}
+use Rattle.std.proofs.lemmas.Grind.{common_steps}
 use Rattle.std.proofs.lemmas.List.{get_or_read}
 use Rattle.md_clique.specs.declared.entries.Entry.TheVariants.{Nothing}
 use Rattle.md_clique.proofs.Naming.{lt_clique_count}
@@ -41,3 +42,9 @@ loop-place-preserved c =
           let inside = rw is at (sym c.starts_outside.ensures ∙ w.if-starts_outside.false) in
           rw w.found-is (first_two_inside c.args.cliques.now c.args.links.now c.loop-place.place c.loop-place.found.items c.loop-place.invariant c.loop-place-test.true inside))
     ]
+
+pub returns-clause-each : goal.returns-clause-each
+returns-clause-each c = grind (arith, common_steps)
+
+pub returns-clause-two : goal.returns-clause-two
+returns-clause-two c = grind (arith, common_steps)

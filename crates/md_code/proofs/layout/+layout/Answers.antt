@@ -1,4 +1,5 @@
 use Rattle.std.proofs.Common.{◌≡◌, ◌∙◌, ◌+◌, ◌++◌, sym, ap, subst, arith, List, length, OnOk}
+use Rattle.std.proofs.lemmas.Grind.{common_steps}
 use Rattle.md_hlds.specs.declared.goal.Goal.{Goal}
 use Rattle.md_hlds.specs.Hlds.{hlds_of}
 use Rattle.md_hlds.specs.HldsGoal.{goal_of, goal_size, goals_of, gathered}
@@ -59,3 +60,51 @@ lay_conjunction-loop-number-preserved t c =
     (omega arith) c.index-goals-number.is end'
     (c.in_ok-then.ensures ∙ ap (λ (gs : List Goal). begins end (gathered (goals_of gs)) c.args.next) (what_is_left (c.loop-number.number + 1) c.args.goals.now))
     c.in_ok-lay.ensures
+
+pub lay_arms-returns : goal.lay_arms-returns
+lay_arms-returns t c = grind (arith, common_steps)
+
+pub lay_conjunction-offset_bounds-goals-number-in-loop-number : goal.lay_conjunction-offset_bounds-goals-number-in-loop-number
+lay_conjunction-offset_bounds-goals-number-in-loop-number t c = grind (arith, common_steps)
+
+pub lay_conjunction-returns : goal.lay_conjunction-returns
+lay_conjunction-returns t c = grind (arith, common_steps)
+
+pub lay_inner-returns-in-Not : goal.lay_inner-returns-in-Not
+lay_inner-returns-in-Not t c = grind (arith, common_steps)
+
+pub lay_inner-returns-in-Some : goal.lay_inner-returns-in-Some
+lay_inner-returns-in-Some t c = grind (arith, common_steps)
+
+pub lay_inner-returns-in-True : goal.lay_inner-returns-in-True
+lay_inner-returns-in-True t c = grind (arith, common_steps)
+
+pub lay_inner-returns-in-True-10 : goal.lay_inner-returns-in-True-10
+lay_inner-returns-in-True-10 t c = grind (arith, common_steps)
+
+pub lay_inner-returns-in-True-11 : goal.lay_inner-returns-in-True-11
+lay_inner-returns-in-True-11 t c = grind (arith, common_steps)
+
+pub lay_inner-returns-in-True-2 : goal.lay_inner-returns-in-True-2
+lay_inner-returns-in-True-2 t c = grind (arith, common_steps)
+
+pub lay_inner-returns-in-True-3 : goal.lay_inner-returns-in-True-3
+lay_inner-returns-in-True-3 t c = grind (arith, common_steps)
+
+pub lay_inner-returns-in-True-4 : goal.lay_inner-returns-in-True-4
+lay_inner-returns-in-True-4 t c = grind (arith, common_steps)
+
+pub lay_inner-returns-in-True-5 : goal.lay_inner-returns-in-True-5
+lay_inner-returns-in-True-5 t c = grind (arith, common_steps)
+
+pub lay_inner-returns-in-True-6 : goal.lay_inner-returns-in-True-6
+lay_inner-returns-in-True-6 t c = grind (arith, common_steps)
+
+pub lay_inner-returns-in-True-7 : goal.lay_inner-returns-in-True-7
+lay_inner-returns-in-True-7 t c = grind (arith, common_steps)
+
+pub lay_inner-returns-in-True-8 : goal.lay_inner-returns-in-True-8
+lay_inner-returns-in-True-8 t c = grind (arith, common_steps)
+
+pub lay_inner-returns-in-True-9 : goal.lay_inner-returns-in-True-9
+lay_inner-returns-in-True-9 t c = grind (arith, common_steps)

@@ -1,4 +1,5 @@
 use Rattle.std.proofs.Common.{◌≡◌, ◌∙◌, ◌+◌, sym, ap, subst, arith, suc, ℕ, List, IfOk}
+use Rattle.std.proofs.lemmas.Grind.{common_steps}
 use Rattle.md_hlds.specs.declared.goal.Goal.{Goal}
 use Rattle.md_hlds.specs.Hlds.{hlds_of}
 use Rattle.md_hlds.specs.HldsGoal.{goal_of, goal_size, goals_of, gathered}
@@ -34,3 +35,18 @@ returns-in-If c =
     (ap (λ (n : ℕ). Tests n (n + goal_size (goal_of c.deref.result.now)) (n + goal_size (goal_of c.deref.result.now) + goal_size (goal_of c.deref-in-If.result.now))) inner
     ∙ sym (planned-If (hlds_of c.args.moded.now) c.args.number c.args.next c.args.kind.now c.in-If.condition c.in-If.then c.in-If.field-2 c.deref.result.now c.deref-in-If.result.now c.in-If.is c.deref.ensures c.deref-in-If.ensures))
     c.test_step.ensures
+
+pub returns-in-Call : goal.returns-in-Call
+returns-in-Call c = grind (arith, common_steps)
+
+pub returns-in-HoCall : goal.returns-in-HoCall
+returns-in-HoCall c = grind (arith, common_steps)
+
+pub returns-in-True : goal.returns-in-True
+returns-in-True c = grind (arith, common_steps)
+
+pub returns-in_ok-place-in-Not : goal.returns-in_ok-place-in-Not
+returns-in_ok-place-in-Not c = grind (arith, common_steps)
+
+pub returns-in_ok-place-in-Some : goal.returns-in_ok-place-in-Some
+returns-in_ok-place-in-Some c = grind (arith, common_steps)

@@ -1,4 +1,5 @@
-use Rattle.std.proofs.Common.{length, sym, ◌∙◌}
+use Rattle.std.proofs.Common.{length, sym, ◌∙◌, arith}
+use Rattle.std.proofs.lemmas.Grind.{common_steps}
 use Rattle.md_cost.proofs.TreeSteps.{callees_there}
 use Rattle.md_cost.proofs.ValidSteps.{valid_sound}
 use Rattle.md_cost.proofs.costs.context_totals.Goals as goal
@@ -32,3 +33,6 @@ climb-requires-clause-own c = rw (c.deref_mut.ensures.value, c.links-2.ensures) 
 
 pub returns-clause-small : goal.returns-clause-small
 returns-clause-small c = rw c.links.ensures at c.in_ok-totals.ensures.small
+
+pub returns-clause-totals : goal.returns-clause-totals
+returns-clause-totals c = grind (arith, common_steps)

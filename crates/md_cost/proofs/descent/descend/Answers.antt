@@ -1,4 +1,5 @@
 use Rattle.std.proofs.Common.{subst, ◌≡◌, ◌-◌, ℕ, suc, get_or, None, ap, ◌∙◌, arith}
+use Rattle.std.proofs.lemmas.Grind.{common_steps}
 use Rattle.std.proofs.lemmas.List.{get_or_read}
 use Rattle.md_cost.specs.Paths.{start_of}
 use Rattle.md_cost.specs.Walking.{above}
@@ -31,3 +32,9 @@ above-parent-requires-clause-entries c = c.requires.entries
 
 pub above-parent-requires-clause-rise : goal.above-parent-requires-clause-rise
 above-parent-requires-clause-rise c = c.requires.rise
+
+pub index_mut-requires-in-loop-node : goal.index_mut-requires-in-loop-node
+index_mut-requires-in-loop-node c = grind (arith, common_steps)
+
+pub overflow_cast-parent-in-loop-node : goal.overflow_cast-parent-in-loop-node
+overflow_cast-parent-in-loop-node c = grind (arith, common_steps)

@@ -1,4 +1,5 @@
 use Rattle.std.proofs.Common.{◌≡◌, ℕ, ◌<◌, length, get_or, Some, refl, ap, ◌∙◌, arith}
+use Rattle.std.proofs.lemmas.Grind.{common_steps}
 use Rattle.std.specs.List.{slice_get}
 use Rattle.std.proofs.lemmas.List.{get_or_read}
 use Rattle.std.proofs.lemmas.Option.{slice_get_read}
@@ -22,3 +23,18 @@ returns c =
     let end = c.loop-place.auto.place-end in
     let done : c.loop-place.place ≡ length c.args.links.now = omega arith in
     threaded_all c.args.links.now c.args.nodes c.loop-place.last.items c.loop-place.before.items (rw done at c.loop-place.invariant)
+
+pub loop-place-init : goal.loop-place-init
+loop-place-init c = grind (arith, common_steps)
+
+pub loop-place-smaller : goal.loop-place-smaller
+loop-place-smaller c = grind (arith, common_steps)
+
+pub returns-in_err-before : goal.returns-in_err-before
+returns-in_err-before c = grind (arith, common_steps)
+
+pub returns-in_err-last : goal.returns-in_err-last
+returns-in_err-last c = grind (arith, common_steps)
+
+pub returns-in_err-push : goal.returns-in_err-push
+returns-in_err-push c = grind (arith, common_steps)

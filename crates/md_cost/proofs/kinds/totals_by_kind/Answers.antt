@@ -1,4 +1,5 @@
 use Rattle.std.proofs.Common.{◌≡◌, ◌<◌, All, length, arith}
+use Rattle.std.proofs.lemmas.Grind.{common_steps}
 use Rattle.md_cost.specs.FileView.{module_at, procedure_at, site_above}
 use Rattle.md_cost.specs.Walking.{marked}
 use Rattle.md_cost.proofs.KeySteps.{grouped_more}
@@ -63,3 +64,36 @@ loop-place-preserved c =
       sites = grouped_more (marked (site_above c.args.profile.now c.args.tree.now.cliques c.args.tree.now.entries.items) c.args.outermost.now.sites.items) c.args.totals.now (length c.args.profile.now.statics.sites) c.loop-place.place c.loop-place.sums.sites.items c.loop-place.invariant.sites c.add.new.self.sites.items
           (rw (c.marks.ensures.sites, c.keys_of.ensures.sites) at c.add.ensures.sites);
     }
+
+pub loop-place-init : goal.loop-place-init
+loop-place-init c = grind (arith, common_steps)
+
+pub loop-place-smaller : goal.loop-place-smaller
+loop-place-smaller c = grind (arith, common_steps)
+
+pub marks-requires-clause-modules : goal.marks-requires-clause-modules
+marks-requires-clause-modules c = grind (arith, common_steps)
+
+pub marks-requires-clause-procedures : goal.marks-requires-clause-procedures
+marks-requires-clause-procedures c = grind (arith, common_steps)
+
+pub marks-requires-clause-sites : goal.marks-requires-clause-sites
+marks-requires-clause-sites c = grind (arith, common_steps)
+
+pub returns-in_err-sums-clause-modules : goal.returns-in_err-sums-clause-modules
+returns-in_err-sums-clause-modules c = grind (arith, common_steps)
+
+pub returns-in_err-sums-clause-procedures : goal.returns-in_err-sums-clause-procedures
+returns-in_err-sums-clause-procedures c = grind (arith, common_steps)
+
+pub returns-in_err-sums-clause-sites : goal.returns-in_err-sums-clause-sites
+returns-in_err-sums-clause-sites c = grind (arith, common_steps)
+
+pub keys_of-requires-clause-there : goal.keys_of-requires-clause-there
+keys_of-requires-clause-there c = grind (arith, common_steps)
+
+pub keys_of-requires-clause-tree : goal.keys_of-requires-clause-tree
+keys_of-requires-clause-tree c = grind (arith, common_steps)
+
+pub keys_of-requires-clause-valid : goal.keys_of-requires-clause-valid
+keys_of-requires-clause-valid c = grind (arith, common_steps)

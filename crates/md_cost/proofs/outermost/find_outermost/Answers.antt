@@ -1,4 +1,5 @@
-use Rattle.std.proofs.Common.{◌≡◌, length, refl, sym, ap, ◌∙◌}
+use Rattle.std.proofs.Common.{◌≡◌, length, refl, sym, ap, ◌∙◌, arith}
+use Rattle.std.proofs.lemmas.Grind.{common_steps}
 use Rattle.md_cost.specs.FileView.{module_at, procedure_at, site_above}
 use Rattle.md_cost.specs.Paths.{start_of}
 use Rattle.md_cost.specs.Walking.{AreThreaded, above}
@@ -50,3 +51,6 @@ step-requires-clause-tree c = c.requires.tree
 
 pub step-requires-clause-rise : goal.step-requires-clause-rise
 step-requires-clause-rise c = c.requires.rise
+
+pub loop-walk-preserved : goal.loop-walk-preserved
+loop-walk-preserved c = grind (arith, common_steps)

@@ -1,4 +1,5 @@
 use Rattle.std.proofs.Common.{◌≡◌, ℕ, ◌+◌, ◌<◌, ◌++◌, ◌∷◌, [], length, take, get_or, refl, ap, ◌∙◌, arith}
+use Rattle.std.proofs.lemmas.Grind.{common_steps}
 use Rattle.std.proofs.lemmas.List.{get_or_read, take_more}
 use Rattle.md_cost.specs.SumOf.{zero_sums}
 use Rattle.md_cost.proofs.OwnSteps.{owning_none, owning_more, owning_all, room_of_node}
@@ -44,3 +45,6 @@ pub returns-clause-small : goal.returns-clause-small
 returns-clause-small c =
     let done : c.loop-link.link-index ≡ length c.args.links.now = omega arith in
     (owning_all c.args.cliques.now c.args.links.now c.loop-link.sums.items (rw done at c.loop-link.invariant)).1
+
+pub overflow_cast-node-in-loop-link : goal.overflow_cast-node-in-loop-link
+overflow_cast-node-in-loop-link c = grind (arith, common_steps)

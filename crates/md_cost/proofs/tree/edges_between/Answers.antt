@@ -1,4 +1,5 @@
-use Rattle.std.proofs.Common.{◌≡◌, ℕ, ◌+◌, ◌++◌, ◌∷◌, [], List, take, Some, None, refl, ◌∙◌}
+use Rattle.std.proofs.Common.{◌≡◌, ℕ, ◌+◌, ◌++◌, ◌∷◌, [], List, take, Some, None, refl, ◌∙◌, arith}
+use Rattle.std.proofs.lemmas.Grind.{common_steps}
 use Rattle.std.proofs.lemmas.List.{take_more}
 use Rattle.md_dynamic.specs.declared.link.LinkRow.{LinkRow}
 use Rattle.md_clique.specs.Entries.{edges_of}
@@ -22,3 +23,6 @@ loop-link-preserved c =
       | in_default w ↦ (let more = with_none (take c.loop-link.link-index c.args.links.now) c.link-item.result w.in_default.is in
           rw (w.edges-is, c.loop-link.invariant, next, more) refl)
     ]
+
+pub returns : goal.returns
+returns c = grind (arith, common_steps)

@@ -1,4 +1,5 @@
 use Rattle.std.proofs.Common.{◌≡◌, ◌∙◌, ◌+◌, ◌++◌, sym, ap, subst, arith, ℕ, List, map, drop, IfOk}
+use Rattle.std.proofs.lemmas.Grind.{common_steps}
 use Rattle.md_hlds.specs.Hlds.{hlds_of}
 use Rattle.md_hlds.specs.HldsGoal.{GoalExpr, goal_of, goals_of, gathered, goals_size, parts_size}
 use Rattle.md_det.specs.Findings.{program_findings}
@@ -95,3 +96,81 @@ add_disjunction-loop-arm-preserved t c =
         ),
       ),
     )
+
+pub add_kind-returns-in-Some-clause-equations : goal.add_kind-returns-in-Some-clause-equations
+add_kind-returns-in-Some-clause-equations t c = grind (arith, common_steps)
+
+pub add_kind-returns-in-Some-clause-next : goal.add_kind-returns-in-Some-clause-next
+add_kind-returns-in-Some-clause-next t c = grind (arith, common_steps)
+
+pub add_kind-returns-in-Call-clause-equations : goal.add_kind-returns-in-Call-clause-equations
+add_kind-returns-in-Call-clause-equations t c = grind (arith, common_steps)
+
+pub add_kind-returns-in-Call-clause-next : goal.add_kind-returns-in-Call-clause-next
+add_kind-returns-in-Call-clause-next t c = grind (arith, common_steps)
+
+pub add_goal-returns-clause-equations : goal.add_goal-returns-clause-equations
+add_goal-returns-clause-equations t c = grind (arith, common_steps)
+
+pub add_goal-returns-clause-next : goal.add_goal-returns-clause-next
+add_goal-returns-clause-next t c = grind (arith, common_steps)
+
+pub add_kind-returns-in_ok-add_count-in-Fail-clause-equations : goal.add_kind-returns-in_ok-add_count-in-Fail-clause-equations
+add_kind-returns-in_ok-add_count-in-Fail-clause-equations t c = grind (arith, common_steps)
+
+pub add_kind-returns-in_ok-add_count-in-Fail-clause-next : goal.add_kind-returns-in_ok-add_count-in-Fail-clause-next
+add_kind-returns-in_ok-add_count-in-Fail-clause-next t c = grind (arith, common_steps)
+
+pub add_kind-returns-in-True-clause-equations : goal.add_kind-returns-in-True-clause-equations
+add_kind-returns-in-True-clause-equations t c = grind (arith, common_steps)
+
+pub add_kind-returns-in-True-clause-next : goal.add_kind-returns-in-True-clause-next
+add_kind-returns-in-True-clause-next t c = grind (arith, common_steps)
+
+pub add_not-returns-clause-equations : goal.add_not-returns-clause-equations
+add_not-returns-clause-equations t c = grind (arith, common_steps)
+
+pub add_not-returns-clause-next : goal.add_not-returns-clause-next
+add_not-returns-clause-next t c = grind (arith, common_steps)
+
+pub add_disjunction-returns-clause-equations : goal.add_disjunction-returns-clause-equations
+add_disjunction-returns-clause-equations t c = grind (arith, common_steps)
+
+pub add_disjunction-returns-clause-next : goal.add_disjunction-returns-clause-next
+add_disjunction-returns-clause-next t c = grind (arith, common_steps)
+
+pub add_conjunction-returns-clause-equations : goal.add_conjunction-returns-clause-equations
+add_conjunction-returns-clause-equations t c = grind (arith, common_steps)
+
+pub add_conjunction-returns-clause-next : goal.add_conjunction-returns-clause-next
+add_conjunction-returns-clause-next t c = grind (arith, common_steps)
+
+pub add_kind-returns-in_ok-add_count-in-Error-2-clause-equations : goal.add_kind-returns-in_ok-add_count-in-Error-2-clause-equations
+add_kind-returns-in_ok-add_count-in-Error-2-clause-equations t c = grind (arith, common_steps)
+
+pub add_kind-returns-in_ok-add_count-in-Error-2-clause-next : goal.add_kind-returns-in_ok-add_count-in-Error-2-clause-next
+add_kind-returns-in_ok-add_count-in-Error-2-clause-next t c = grind (arith, common_steps)
+
+pub add_kind-returns-in-Not-clause-equations : goal.add_kind-returns-in-Not-clause-equations
+add_kind-returns-in-Not-clause-equations t c = grind (arith, common_steps)
+
+pub add_kind-returns-in-Not-clause-next : goal.add_kind-returns-in-Not-clause-next
+add_kind-returns-in-Not-clause-next t c = grind (arith, common_steps)
+
+pub add_some-returns-clause-equations : goal.add_some-returns-clause-equations
+add_some-returns-clause-equations t c = grind (arith, common_steps)
+
+pub add_some-returns-clause-next : goal.add_some-returns-clause-next
+add_some-returns-clause-next t c = grind (arith, common_steps)
+
+pub add_entered-returns-clause-next : goal.add_entered-returns-clause-next
+add_entered-returns-clause-next t c = grind (arith, common_steps)
+
+pub add_kind-returns-in-HoCall-clause-equations : goal.add_kind-returns-in-HoCall-clause-equations
+add_kind-returns-in-HoCall-clause-equations t c = grind (arith, common_steps)
+
+pub add_kind-returns-in-HoCall-clause-next : goal.add_kind-returns-in-HoCall-clause-next
+add_kind-returns-in-HoCall-clause-next t c = grind (arith, common_steps)
+
+pub add_kind-returns-in_ok-add_both-in-If-2-clause-next : goal.add_kind-returns-in_ok-add_both-in-If-2-clause-next
+add_kind-returns-in_ok-add_both-in-If-2-clause-next t c = grind (arith, common_steps)

@@ -1,4 +1,5 @@
-use Rattle.std.proofs.Common.{◌≡◌, ◌∙◌, sym, ap, subst, Some, map, length, List, slice_get}
+use Rattle.std.proofs.Common.{◌≡◌, ◌∙◌, sym, ap, subst, Some, map, length, List, slice_get, arith}
+use Rattle.std.proofs.lemmas.Grind.{common_steps}
 use Rattle.md_hlds.specs.declared.program.Program.{Program}
 use Rattle.md_hlds.specs.HldsGoal.{goal_of, goal_size}
 use Rattle.md_hlds.specs.Hlds.{hlds_of, procedure_of, procedures_of}
@@ -48,3 +49,24 @@ returns-clause-coverage c = λ budget q same there counted.
     let accepted = c.requires.accepted in
     coverage-of s budget f q c.args.id goals c.from_parts-2.result same c.from_parts-2.ensures
     (coverage-told s budget f v q t goals (λ ended. turns_of_runs_solve accepted.0 s budget accepted.1 accepted.2 accepted.3 counted.small ended) view c.profile.ensures.valid few counted there gives solved told)
+
+pub returns-then-not-gives_turns-clause-missing : goal.returns-then-not-gives_turns-clause-missing
+returns-then-not-gives_turns-clause-missing c = grind (arith, common_steps)
+
+pub returns-then-not-gives_turns-clause-no_such_procedure : goal.returns-then-not-gives_turns-clause-no_such_procedure
+returns-then-not-gives_turns-clause-no_such_procedure c = grind (arith, common_steps)
+
+pub returns-clause-missing : goal.returns-clause-missing
+returns-clause-missing c = grind (arith, common_steps)
+
+pub returns-clause-no_such_procedure : goal.returns-clause-no_such_procedure
+returns-clause-no_such_procedure c = grind (arith, common_steps)
+
+pub returns-in_default-clause-coverage : goal.returns-in_default-clause-coverage
+returns-in_default-clause-coverage c = grind (arith, common_steps)
+
+pub returns-in_default-clause-found : goal.returns-in_default-clause-found
+returns-in_default-clause-found c = grind (arith, common_steps)
+
+pub returns-in_default-clause-missing : goal.returns-in_default-clause-missing
+returns-in_default-clause-missing c = grind (arith, common_steps)

@@ -1,4 +1,5 @@
 use Rattle.std.proofs.Common.{◌≡◌, ◌∙◌, ◌+◌, ◌++◌, sym, ap, subst, arith, List, drop, length, OnOk}
+use Rattle.std.proofs.lemmas.Grind.{common_steps}
 use Rattle.md_hlds.specs.HldsGoal.{GoalExpr, goal_of, goals_of, gathered}
 use Rattle.md_cover.specs.declared.coverage.GoalCount.{GoalCount}
 use Rattle.md_cover.specs.Rows.{expr_rows}
@@ -31,3 +32,45 @@ add_inner-returns-in_ok-add_rows-in-If-2 t c =
     ∙ ap (λ (x : GoalExpr). c.args.rows.now.items ++ expr_rows (length c.args.rows.now.items) c.args.depth x)
     (sym (if-is c.args.kind.now c.in-If.condition c.in-If.then c.in-If.otherwise c.deref.result.now c.deref-in-If.result.now c.deref-in-If-2.result.now c.in-If.is c.deref.ensures c.deref-in-If.ensures c.deref-in-If-2.ensures)))
     c.add_rows-in-If-2.ensures
+
+pub add_each-returns : goal.add_each-returns
+add_each-returns t c = grind (arith, common_steps)
+
+pub add_inner-returns-in-Not : goal.add_inner-returns-in-Not
+add_inner-returns-in-Not t c = grind (arith, common_steps)
+
+pub add_inner-returns-in-Some : goal.add_inner-returns-in-Some
+add_inner-returns-in-Some t c = grind (arith, common_steps)
+
+pub add_inner-returns-in-True : goal.add_inner-returns-in-True
+add_inner-returns-in-True t c = grind (arith, common_steps)
+
+pub add_inner-returns-in-True-2 : goal.add_inner-returns-in-True-2
+add_inner-returns-in-True-2 t c = grind (arith, common_steps)
+
+pub add_inner-returns-in-True-3 : goal.add_inner-returns-in-True-3
+add_inner-returns-in-True-3 t c = grind (arith, common_steps)
+
+pub add_inner-returns-in-True-4 : goal.add_inner-returns-in-True-4
+add_inner-returns-in-True-4 t c = grind (arith, common_steps)
+
+pub add_inner-returns-in-True-5 : goal.add_inner-returns-in-True-5
+add_inner-returns-in-True-5 t c = grind (arith, common_steps)
+
+pub add_inner-returns-in-True-6 : goal.add_inner-returns-in-True-6
+add_inner-returns-in-True-6 t c = grind (arith, common_steps)
+
+pub add_inner-returns-in-True-7 : goal.add_inner-returns-in-True-7
+add_inner-returns-in-True-7 t c = grind (arith, common_steps)
+
+pub add_inner-returns-in-True-8 : goal.add_inner-returns-in-True-8
+add_inner-returns-in-True-8 t c = grind (arith, common_steps)
+
+pub add_inner-returns-in-True-9 : goal.add_inner-returns-in-True-9
+add_inner-returns-in-True-9 t c = grind (arith, common_steps)
+
+pub add_rows-returns : goal.add_rows-returns
+add_rows-returns t c = grind (arith, common_steps)
+
+pub add_rows-returns-then-len-ge4294967295 : goal.add_rows-returns-then-len-ge4294967295
+add_rows-returns-then-len-ge4294967295 t c = grind (arith, common_steps)

@@ -1,4 +1,5 @@
 use Rattle.std.proofs.Common.{◌∙◌, Option, refl, subst, arith}
+use Rattle.std.proofs.lemmas.Grind.{common_steps}
 use Rattle.md_base.specs.Files.{Files, GivesFrom}
 use Rattle.md_deepfile.proofs.Loaded.{fed_more, fed_end, fed_longer, store_fault}
 use Rattle.md_deepfile.proofs.loading.read_on.Goals as goal
@@ -61,3 +62,21 @@ returns-then-count-max-clause-fault g c =
     let buf = c.read_some.new.buf in
     let gives : GivesFrom told c.args.name.now c.pieces.at c.in-Ok.count buf = subst (λ (held : Option Files). GivesFrom held c.args.name.now c.pieces.at c.in-Ok.count buf) c.pieces.invariant.kept c.in-Ok.ensures.bytes in
     fed_longer told c.args.name.now c.pieces.at c.in-Ok.count c.args.max buf c.pieces.decoder c.pieces.invariant.fed gives (omega (arith, c.in-Ok.ensures.within)) (omega (arith, c.if-count-max.true, c.pieces.invariant.within))
+
+pub returns-then-count-eq0-clause-fault : goal.returns-then-count-eq0-clause-fault
+returns-then-count-eq0-clause-fault g c = grind (arith, common_steps)
+
+pub returns-then-count-eq0-clause-read : goal.returns-then-count-eq0-clause-read
+returns-then-count-eq0-clause-read g c = grind (arith, common_steps)
+
+pub returns-in-Err-clause-read : goal.returns-in-Err-clause-read
+returns-in-Err-clause-read g c = grind (arith, common_steps)
+
+pub returns-in-Err-clause-whole : goal.returns-in-Err-clause-whole
+returns-in-Err-clause-whole g c = grind (arith, common_steps)
+
+pub returns-then-count-max-clause-read : goal.returns-then-count-max-clause-read
+returns-then-count-max-clause-read g c = grind (arith, common_steps)
+
+pub returns-then-count-max-clause-whole : goal.returns-then-count-max-clause-whole
+returns-then-count-max-clause-whole g c = grind (arith, common_steps)

@@ -1,4 +1,5 @@
 use Rattle.std.proofs.Common.{◌-◌, ◌∙◌, arith}
+use Rattle.std.proofs.lemmas.Grind.{common_steps}
 use Rattle.md_base.proofs.Told.{piece_within}
 use Rattle.md_deepfile.proofs.Writes.{appended_on}
 use Rattle.md_deepfile.proofs.writing.append_all.Goals as goal
@@ -15,3 +16,18 @@ loop-done-preserved g c =
       later = omega (arith, before.later, part.later);
       reads = part.reads ∙ before.reads;
     }
+
+pub returns-clause-later : goal.returns-clause-later
+returns-clause-later g c = grind (arith, common_steps)
+
+pub returns-clause-part : goal.returns-clause-part
+returns-clause-part g c = grind (arith, common_steps)
+
+pub returns-clause-reads : goal.returns-clause-reads
+returns-clause-reads g c = grind (arith, common_steps)
+
+pub returns-clause-whole : goal.returns-clause-whole
+returns-clause-whole g c = grind (arith, common_steps)
+
+pub returns-clause-write : goal.returns-clause-write
+returns-clause-write g c = grind (arith, common_steps)

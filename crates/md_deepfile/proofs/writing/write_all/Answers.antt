@@ -1,4 +1,5 @@
 use Rattle.std.proofs.Common.{ℕ, List, subst, arith, [], ◌++◌, ◌∙◌}
+use Rattle.std.proofs.lemmas.Grind.{common_steps}
 use Rattle.std.proofs.lemmas.List.{append-nil}
 use Rattle.md_deepfile.specs.Bytes.{file_bytes}
 use Rattle.md_deepfile.specs.Pieces.{WritesOn, table_bytes, row_bytes}
@@ -68,3 +69,9 @@ returns-clause-on g c =
     (then_on name (tables ++ rows) [] before (g.S.Store.held c.write_rows.new.store) now put c.write_rows.new.buffer.items c.empty.new.buffer.items
     (then_on name tables rows before (g.S.Store.held c.write_tables.new.store) (g.S.Store.held c.write_rows.new.store) put c.write_tables.new.buffer.items c.write_rows.new.buffer.items c.in_default.ensures.on c.in_default-write_rows.ensures.on)
     on)))
+
+pub returns-in-Err-clause-on : goal.returns-in-Err-clause-on
+returns-in-Err-clause-on g c = grind (arith, common_steps)
+
+pub returns-in-Err-write_rows-clause-on : goal.returns-in-Err-write_rows-clause-on
+returns-in-Err-write_rows-clause-on g c = grind (arith, common_steps)

@@ -1,4 +1,5 @@
 use Rattle.std.proofs.Common.{◌∙◌, ◌≡◌, ◌++◌, ℕ, List, length, sym, ap, refl, arith}
+use Rattle.std.proofs.lemmas.Grind.{common_steps}
 use Rattle.std.proofs.lemmas.List.{append-nil}
 use Rattle.md_base.proofs.Told.{rose_since}
 use Rattle.md_deepfile.specs.Bytes.{u32, each}
@@ -47,3 +48,30 @@ returns-clause-on g c =
     let done : c.loop-thing.thing-index ≡ length c.args.things.now = omega arith in
     on_same c.args.name.now (each_so_far g.T.Spelled.bytes c.loop-thing.thing-index c.args.things.now) (each g.T.Spelled.bytes c.args.things.now) (g.S.Store.held c.args.store.now) (g.S.Store.held c.loop-thing.store) c.args.buffer.now.items c.loop-thing.buffer.items
     (each_all g.T.Spelled.bytes c.loop-thing.thing-index c.args.things.now done) c.loop-thing.invariant.so_far
+
+pub returns-clause-later : goal.returns-clause-later
+returns-clause-later g c = grind (arith, common_steps)
+
+pub returns-clause-reads : goal.returns-clause-reads
+returns-clause-reads g c = grind (arith, common_steps)
+
+pub returns-clause-stops : goal.returns-clause-stops
+returns-clause-stops g c = grind (arith, common_steps)
+
+pub returns-clause-write : goal.returns-clause-write
+returns-clause-write g c = grind (arith, common_steps)
+
+pub returns-then-is_err-clause-later : goal.returns-then-is_err-clause-later
+returns-then-is_err-clause-later g c = grind (arith, common_steps)
+
+pub returns-then-is_err-clause-on : goal.returns-then-is_err-clause-on
+returns-then-is_err-clause-on g c = grind (arith, common_steps)
+
+pub returns-then-is_err-clause-reads : goal.returns-then-is_err-clause-reads
+returns-then-is_err-clause-reads g c = grind (arith, common_steps)
+
+pub returns-then-is_err-clause-write : goal.returns-then-is_err-clause-write
+returns-then-is_err-clause-write g c = grind (arith, common_steps)
+
+pub returns-in-Err-clause-on : goal.returns-in-Err-clause-on
+returns-in-Err-clause-on g c = grind (arith, common_steps)

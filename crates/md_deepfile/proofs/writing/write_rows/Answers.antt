@@ -1,4 +1,5 @@
 use Rattle.std.proofs.Common.{arith, List, ℕ, [], ◌++◌, ap, ◌∙◌}
+use Rattle.std.proofs.lemmas.Grind.{common_steps}
 use Rattle.std.proofs.lemmas.List.{append-nil}
 use Rattle.md_dynamic.specs.declared.link.LinkRow.{LinkRow}
 use Rattle.md_deepfile.specs.Bytes.{u32, each, link_bytes}
@@ -52,3 +53,6 @@ returns-clause-on g c =
     (λ on. on_same c.args.name.now (nodes ++ links) (row_bytes f) before now c.args.buffer.now.items c.write_each-2.new.buffer.items
     (ap (λ (ns : List ℕ). each u32 ns ++ links) c.nodes.ensures ∙ ap (λ (ls : List LinkRow). each u32 f.nodes ++ each (link_bytes 7) ls) c.links.ensures)
     (then_on c.args.name.now nodes links before between now c.args.buffer.now.items c.write_each.new.buffer.items c.write_each-2.new.buffer.items c.in_default.ensures.on on))
+
+pub returns-in-Err-clause-on : goal.returns-in-Err-clause-on
+returns-in-Err-clause-on g c = grind (arith, common_steps)

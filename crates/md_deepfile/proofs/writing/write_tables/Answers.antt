@@ -1,4 +1,5 @@
 use Rattle.std.proofs.Common.{arith, ◌++◌, ap, refl, ◌∙◌}
+use Rattle.std.proofs.lemmas.Grind.{common_steps}
 use Rattle.md_static.specs.Tables.{Static}
 use Rattle.md_deepfile.specs.Bytes.{each, name_bytes, proc_bytes, site_bytes}
 use Rattle.md_deepfile.specs.Pieces.{table_bytes}
@@ -67,3 +68,21 @@ returns-clause-later g c = omega (arith, c.in_default-write_each.ensures.later, 
 
 pub returns-clause-reads : goal.returns-clause-reads
 returns-clause-reads g c = c.write_each-3.ensures.reads ∙ c.in_default-write_each-2.ensures.reads ∙ c.in_default-write_each.ensures.reads
+
+pub returns-in-Err-write_each-2-clause-on : goal.returns-in-Err-write_each-2-clause-on
+returns-in-Err-write_each-2-clause-on g c = grind (arith, common_steps)
+
+pub returns-in-Err-write_each-clause-on : goal.returns-in-Err-write_each-clause-on
+returns-in-Err-write_each-clause-on g c = grind (arith, common_steps)
+
+pub returns-in-Err-clause-later : goal.returns-in-Err-clause-later
+returns-in-Err-clause-later g c = grind (arith, common_steps)
+
+pub returns-in-Err-clause-on : goal.returns-in-Err-clause-on
+returns-in-Err-clause-on g c = grind (arith, common_steps)
+
+pub returns-in-Err-clause-reads : goal.returns-in-Err-clause-reads
+returns-in-Err-clause-reads g c = grind (arith, common_steps)
+
+pub returns-in-Err-clause-write : goal.returns-in-Err-clause-write
+returns-in-Err-clause-write g c = grind (arith, common_steps)

@@ -1,4 +1,5 @@
 use Rattle.std.proofs.Common.{◌≡◌, ◌∙◌, ◌+◌, suc, refl, arith, add-one, ◌||◌, length, drop}
+use Rattle.std.proofs.lemmas.Grind.{common_steps}
 use Rattle.md_hlds.specs.HldsGoal.{gathered, goals_of, expr_of}
 use Rattle.md_det.specs.Judge.{condition_fault, judge_expr}
 use Rattle.md_det.specs.Told.{reading_in, found_told, found_onto}
@@ -77,3 +78,12 @@ judge-index_mut-requires t c =
     let lt = still_within c.args.findings.now.items c.push.new.self.items c.judge_kind.new.findings.items _ c.in_ok-found.found.switch c.in_ok-found.found.pair c.in_ok-found.found.fault
     _ c.len-place.result c.in_ok-push.ensures.items c.in_ok-found.ensures (omega (arith, c.len-place.ensures, c.args.findings.now.ok)) in
     omega (arith, lt, c.judge_kind.new.findings.ok)
+
+pub judge-returns-then-place-ge-MOST_GOALS : goal.judge-returns-then-place-ge-MOST_GOALS
+judge-returns-then-place-ge-MOST_GOALS t c = grind (arith, common_steps)
+
+pub judge_kind-returns-in_ok-judged-in-Not : goal.judge_kind-returns-in_ok-judged-in-Not
+judge_kind-returns-in_ok-judged-in-Not t c = grind (arith, common_steps)
+
+pub judge_kind-returns-in_ok-judged-in-Some : goal.judge_kind-returns-in_ok-judged-in-Some
+judge_kind-returns-in_ok-judged-in-Some t c = grind (arith, common_steps)

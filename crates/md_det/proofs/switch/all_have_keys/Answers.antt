@@ -1,4 +1,5 @@
 use Rattle.std.proofs.Common.{◌≡◌, ◌∙◌, ◌+◌, sym, ap, arith, List, drop, false, true, ◌&&◌}
+use Rattle.std.proofs.lemmas.Grind.{common_steps}
 use Rattle.md_hlds.specs.Switch.{Key, has_key}
 use Rattle.md_hlds.specs.Hlds.{HldsFunctor, hlds_functor_of, hlds_functors_of}
 use Rattle.md_switch.specs.declared.key.Key.TheVariants.{Functor}
@@ -31,3 +32,12 @@ loop-functor-preserved c =
     c.loop-functor.invariant
     ∙ (ap (λ (fs : List HldsFunctor). all_have_keys ks fs) (constructs-step c.args.functors.now i f (omega arith) c.functor-item.is)
     ∙ (ap (λ b. b && all_have_keys ks (hlds_functors_of (drop (i + 1) c.args.functors.now))) has))
+
+pub loop-functor-init : goal.loop-functor-init
+loop-functor-init c = grind (arith, common_steps)
+
+pub loop-functor-smaller : goal.loop-functor-smaller
+loop-functor-smaller c = grind (arith, common_steps)
+
+pub returns : goal.returns
+returns c = grind (arith, common_steps)

@@ -1,4 +1,5 @@
 use Rattle.std.proofs.Common.{◌∙◌, ap, sym, arith, List}
+use Rattle.std.proofs.lemmas.Grind.{common_steps}
 use Rattle.md_hlds.specs.declared.goal.Goal.{Goal}
 use Rattle.md_hlds.specs.HldsGoal.{expr_of, goals_of, gathered}
 use Rattle.md_hlds.proofs.Bridge.{expr_of-Conj, expr_of-Disj}
@@ -30,3 +31,39 @@ some_has_error-returns-then-has_error t c =
 
 pub some_has_error-returns : goal.some_has_error-returns
 some_has_error-returns t c = sym (c.loop-goal.invariant ∙ error-none c.args.goals.now c.loop-goal.goal-index (omega arith))
+
+pub has_error-returns-else-has_error-2 : goal.has_error-returns-else-has_error-2
+has_error-returns-else-has_error-2 t c = grind (arith, common_steps)
+
+pub has_error-returns-in-Error : goal.has_error-returns-in-Error
+has_error-returns-in-Error t c = grind (arith, common_steps)
+
+pub has_error-returns-in-Not : goal.has_error-returns-in-Not
+has_error-returns-in-Not t c = grind (arith, common_steps)
+
+pub has_error-returns-in-True : goal.has_error-returns-in-True
+has_error-returns-in-True t c = grind (arith, common_steps)
+
+pub has_error-returns-in-True-3 : goal.has_error-returns-in-True-3
+has_error-returns-in-True-3 t c = grind (arith, common_steps)
+
+pub has_error-returns-in-True-4 : goal.has_error-returns-in-True-4
+has_error-returns-in-True-4 t c = grind (arith, common_steps)
+
+pub has_error-returns-in-True-5 : goal.has_error-returns-in-True-5
+has_error-returns-in-True-5 t c = grind (arith, common_steps)
+
+pub has_error-returns-in-True-6 : goal.has_error-returns-in-True-6
+has_error-returns-in-True-6 t c = grind (arith, common_steps)
+
+pub has_error-returns-in-True-7 : goal.has_error-returns-in-True-7
+has_error-returns-in-True-7 t c = grind (arith, common_steps)
+
+pub has_error-returns-in-True-8 : goal.has_error-returns-in-True-8
+has_error-returns-in-True-8 t c = grind (arith, common_steps)
+
+pub has_error-returns-in-True-9 : goal.has_error-returns-in-True-9
+has_error-returns-in-True-9 t c = grind (arith, common_steps)
+
+pub has_error-returns-then-has_error-2 : goal.has_error-returns-then-has_error-2
+has_error-returns-then-has_error-2 t c = grind (arith, common_steps)

@@ -1,4 +1,5 @@
-use Rattle.std.proofs.Common.{sym, ◌∙◌}
+use Rattle.std.proofs.Common.{sym, ◌∙◌, arith}
+use Rattle.std.proofs.lemmas.Grind.{common_steps}
 use Rattle.std.proofs.lemmas.Result.{err_from_is_err_and}
 use Rattle.md_dump.specs.Lines.{finished_due}
 use Rattle.md_dump.proofs.Steps.{finished_yes, finished_no, finished_neither}
@@ -25,3 +26,21 @@ returns-clause-fault c =
     let test = rw c.as_slice.ensures at c.eq.ensures in
     let second = rw c.as_slice-2.ensures at c.eq-2.ensures in
     rw c.fault.ensures (λ next. c.in_ok-line.ensures.line (finished_due next) ∙ finished_neither next c.in_ok-line.line.now c.next.new.self (sym test ∙ c.if-eq.false) (sym second ∙ c.if-eq-2.false))
+
+pub returns-clause-finished : goal.returns-clause-finished
+returns-clause-finished c = grind (arith, common_steps)
+
+pub returns-clause-short : goal.returns-clause-short
+returns-clause-short c = grind (arith, common_steps)
+
+pub returns-then-eq-2-clause-fault : goal.returns-then-eq-2-clause-fault
+returns-then-eq-2-clause-fault c = grind (arith, common_steps)
+
+pub returns-then-eq-2-clause-short : goal.returns-then-eq-2-clause-short
+returns-then-eq-2-clause-short c = grind (arith, common_steps)
+
+pub returns-then-eq-clause-fault : goal.returns-then-eq-clause-fault
+returns-then-eq-clause-fault c = grind (arith, common_steps)
+
+pub returns-then-eq-clause-short : goal.returns-then-eq-clause-short
+returns-then-eq-clause-short c = grind (arith, common_steps)

@@ -1,4 +1,5 @@
-use Rattle.std.proofs.Common.{ap, ◌∙◌}
+use Rattle.std.proofs.Common.{ap, ◌∙◌, arith}
+use Rattle.std.proofs.lemmas.Grind.{common_steps}
 use Rattle.std.proofs.lemmas.Result.{err_from_is_err_and}
 use Rattle.md_dump.specs.Due.{Due}
 use Rattle.md_dump.specs.Grown.{rows_of}
@@ -24,3 +25,9 @@ returns-else-branch-clause-follows c =
     (λ next. c.in_ok-line.ensures.line (thing_due c.args.section (rows_of c.args.rows.now) next)
     ∙ ap (λ (due : Due). read_on due c.next.new.self) (c.in_ok-add.ensures next)
     ∙ broken c.in_ok-add.field-0 (next (rows_of c.add.new.self)) c.next.new.self c.if-branch.false)
+
+pub returns-then-branch-clause-short : goal.returns-then-branch-clause-short
+returns-then-branch-clause-short c = grind (arith, common_steps)
+
+pub returns-else-branch-clause-short : goal.returns-else-branch-clause-short
+returns-else-branch-clause-short c = grind (arith, common_steps)

@@ -1,4 +1,5 @@
-use Rattle.std.proofs.Common.{◌∙◌, subst, sym}
+use Rattle.std.proofs.Common.{◌∙◌, subst, sym, arith}
+use Rattle.std.proofs.lemmas.Grind.{common_steps}
 use Rattle.std.proofs.lemmas.Result.{err_from_is_err_and, on_ok_weaker, IfErr-weaker}
 use Rattle.md_dump.specs.Due.{done}
 use Rattle.md_dump.specs.Follows.{IsFault}
@@ -24,3 +25,9 @@ returns-clause-fault c =
     IfErr-weaker c.all_reached.result _ _
     (λ fault told. subst (IsFault fault) (sym (c.in_ok-read_sections.ensures.follows done ∙ c.in_ok-end.ensures.end (rows_of c.read_sections.new.rows))) told)
     c.all_reached.ensures.orphan
+
+pub returns-in_err-read_sections-clause-rows : goal.returns-in_err-read_sections-clause-rows
+returns-in_err-read_sections-clause-rows c = grind (arith, common_steps)
+
+pub returns-in_err-end-clause-rows : goal.returns-in_err-end-clause-rows
+returns-in_err-end-clause-rows c = grind (arith, common_steps)

@@ -1,4 +1,5 @@
-use Rattle.std.proofs.Common.{◌∙◌, subst, sym}
+use Rattle.std.proofs.Common.{◌∙◌, subst, sym, arith}
+use Rattle.std.proofs.lemmas.Grind.{common_steps}
 use Rattle.std.proofs.lemmas.Result.{err_from_is_err_and}
 use Rattle.md_dump.specs.Follows.{IsFault}
 use Rattle.md_dump.specs.Grown.{rows_of}
@@ -26,3 +27,12 @@ loop-preserved c = (
 
 pub returns-clause-follows : goal.returns-clause-follows
 returns-clause-follows c = λ next. c.loop.invariant.0 next ∙ last_member c.args.section (rows_of c.loop.rows) next c.loop.lines c.in_ok-count.count c.loop.counter c.loop-test.false
+
+pub loop-init : goal.loop-init
+loop-init c = grind (arith, common_steps)
+
+pub loop-smaller : goal.loop-smaller
+loop-smaller c = grind (arith, common_steps)
+
+pub returns-clause-short : goal.returns-clause-short
+returns-clause-short c = grind (arith, common_steps)

@@ -1,4 +1,5 @@
-use Rattle.std.proofs.Common.{codes, sym, ◌∙◌}
+use Rattle.std.proofs.Common.{codes, sym, ◌∙◌, arith}
+use Rattle.std.proofs.lemmas.Grind.{common_steps}
 use Rattle.std.specs.Str.{bytes_eq}
 use Rattle.std.proofs.lemmas.Result.{err_from_is_err_and}
 use Rattle.md_dump.specs.Lines.{title_due}
@@ -19,3 +20,15 @@ pub returns-else-eq-clause-fault : goal.returns-else-eq-clause-fault
 returns-else-eq-clause-fault c =
     let test = rw c.as_slice.ensures at c.eq.ensures in
     rw c.fault.ensures (λ next. c.in_ok-line.ensures.line (title_due next) ∙ broken (bytes_eq c.in_ok-line.line.now (codes "mdprof dump 2")) next c.next.new.self (sym test ∙ c.if-eq.false))
+
+pub returns-then-eq-clause-fault : goal.returns-then-eq-clause-fault
+returns-then-eq-clause-fault c = grind (arith, common_steps)
+
+pub returns-then-eq-clause-short : goal.returns-then-eq-clause-short
+returns-then-eq-clause-short c = grind (arith, common_steps)
+
+pub returns-else-eq-clause-short : goal.returns-else-eq-clause-short
+returns-else-eq-clause-short c = grind (arith, common_steps)
+
+pub returns-else-eq-clause-title : goal.returns-else-eq-clause-title
+returns-else-eq-clause-title c = grind (arith, common_steps)

@@ -1,4 +1,5 @@
 use Rattle.std.proofs.Common.{◌≡◌, ◌<◌, ℕ, length, ap, sym, subst, ◌∙◌, arith}
+use Rattle.std.proofs.lemmas.Grind.{common_steps}
 use Rattle.md_static.specs.Tables.{Static}
 use Rattle.md_dynamic.specs.Profile.{ProfileRows}
 use Rattle.md_dump.specs.Sums.{IsProcSum}
@@ -32,3 +33,21 @@ returns-clause-sums c =
     let done : c.loop-id.id ≡ length c.procs-count.result.now = omega arith in
     sums_all c.args.files.now c.requires.some c.index-files-0.result c.index-files-0.result c.index-files-0.is c.procs-count.result.now (c.procs-count.ensures ∙ ap (λ (s : Static). s.procs) c.statics.ensures ∙ ap (λ (p : ProfileRows). p.statics.procs) c.profile.ensures.profile)
     c.loop-id.rows.items (c.loop-id.invariant.0 ∙ done) c.loop-id.invariant.1
+
+pub returns-clause-fault : goal.returns-clause-fault
+returns-clause-fault c = grind (arith, common_steps)
+
+pub returns-clause-one : goal.returns-clause-one
+returns-clause-one c = grind (arith, common_steps)
+
+pub returns-in-Some-clause-fault : goal.returns-in-Some-clause-fault
+returns-in-Some-clause-fault c = grind (arith, common_steps)
+
+pub returns-in-Some-clause-one : goal.returns-in-Some-clause-one
+returns-in-Some-clause-one c = grind (arith, common_steps)
+
+pub returns-in-Some-clause-sums : goal.returns-in-Some-clause-sums
+returns-in-Some-clause-sums c = grind (arith, common_steps)
+
+pub returns-in-Some-clause-views : goal.returns-in-Some-clause-views
+returns-in-Some-clause-views c = grind (arith, common_steps)

@@ -1,4 +1,5 @@
 use Rattle.std.proofs.Common.{◌+◌, ◌<◌, ◌∙◌, arith}
+use Rattle.std.proofs.lemmas.Grind.{common_steps}
 use Rattle.std.proofs.lemmas.List.{length-set}
 use Rattle.md_static.specs.declared.entry.Site.{Site}
 use Rattle.md_dynamic.proofs.SpanSteps.{all-read, counts-more, counts-fit}
@@ -21,3 +22,9 @@ loop-site-preserved c =
       each = length-set xs c.number.result (c.index_mut.result.now + 1) ∙ c.loop-site.invariant.each;
       right = counts-more c.args.procs c.loop-site.site-index c.index_mut.result.now c.number.result c.args.sites.now xs x c.loop-site.invariant.each c.loop-site-test.true c.site-item.is c.number.ensures (omega (arith, owner, c.number.ensures)) c.index_mut.ensures.value c.loop-site.invariant.right;
     }
+
+pub returns-clause-each : goal.returns-clause-each
+returns-clause-each c = grind (arith, common_steps)
+
+pub returns-clause-right : goal.returns-clause-right
+returns-clause-right c = grind (arith, common_steps)

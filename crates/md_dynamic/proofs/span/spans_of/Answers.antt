@@ -1,4 +1,5 @@
 use Rattle.std.proofs.Common.{◌+◌, ◌≡◌, ◌<◌, length, get_or, sym, ◌∙◌, ap, arith}
+use Rattle.std.proofs.lemmas.Grind.{common_steps}
 use Rattle.std.proofs.lemmas.Option.{get_or_from_slice_get}
 use Rattle.std.proofs.lemmas.List.{length-append}
 use Rattle.md_static.specs.Sites.{sites_of}
@@ -34,3 +35,6 @@ loop-count-preserved c =
       each = ap length c.in_ok-push.ensures.items ∙ length-append c.loop-count.spans.items _ ∙ ap (λ k. k + 1) c.loop-count.invariant.each;
       right = spans-more c.args.sites.now i c.loop-count.first (get_or c.deref-count-items.result.now i 0) c.loop-count.spans.items c.push.new.self.items c.loop-count.invariant.each c.loop-count.invariant.before n c.in_ok-push.ensures.items c.loop-count.invariant.right;
     }
+
+pub returns : goal.returns
+returns c = grind (arith, common_steps)

@@ -1,4 +1,5 @@
 use Rattle.std.proofs.Common.{arith, ◌≡◌, ◌<◌, length}
+use Rattle.std.proofs.lemmas.Grind.{common_steps}
 use Rattle.md_feedback.proofs.LineLemmas.{not_empty, no_first, no_second, no_a, no_b, tests_pass}
 use Rattle.md_feedback.proofs.line.pair_of.Goals as goal
 use Rattle.md_feedback.proofs.line.pair_of.Goals.{else-is_empty-via-then-is_empty+then-proc-lt-MOST+then-first-second+else-second-lt-MOST, else-is_empty-via-then-is_empty+then-proc-lt-MOST+else-first-second, else-is_empty-via-then-is_empty+else-proc-lt-MOST, else-is_empty-via-else-is_empty}
@@ -38,3 +39,9 @@ returns-else-is_empty c p l =
       | else-is_empty-via-then-is_empty+else-proc-lt-MOST w ↦ absurd (omega (arith, passes.1, w.if-proc-lt-MOST.false))
       | else-is_empty-via-else-is_empty w ↦ absurd (not_empty _ c.is_empty.result passes.0 c.is_empty.ensures w.if-is_empty.false)
     ]
+
+pub returns-in_err-proc : goal.returns-in_err-proc
+returns-in_err-proc c = grind (arith, common_steps)
+
+pub returns-then-second-lt-MOST : goal.returns-then-second-lt-MOST
+returns-then-second-lt-MOST c = grind (arith, common_steps)

@@ -1,4 +1,5 @@
 use Rattle.std.proofs.Common.{arith, ◌≡◌, ◌∙◌, ◌+◌, ◌++◌, ap, sym, subst, List, ℕ, drop, IfOk, OnOk}
+use Rattle.std.proofs.lemmas.Grind.{common_steps}
 use Rattle.md_hlds.specs.declared.goal.Goal.{Goal}
 use Rattle.md_hlds.specs.HldsGoal.{also, goals_of, gathered, numbered_from, goals_size, goal_size, goal_of}
 use Rattle.md_feedback.specs.declared.pairs.Pair.{Pair}
@@ -69,3 +70,102 @@ add_arms-loop-arm-preserved t c =
       arm-step (reading_in c.args.search.now) c.loop-arm.number c.in_ok-number.number ps rest p (c.args.pairs.now ++ arm_pairs (reading_in c.args.search.now) c.args.first (gathered (goals_of gs)))
           c.loop-arm.pairs c.add_goal.new.pairs step at c.in_ok-number.ensures.pairs inv.1,
     )
+
+pub add_goal-returns-in-True-2-clause-next : goal.add_goal-returns-in-True-2-clause-next
+add_goal-returns-in-True-2-clause-next t c = grind (arith, common_steps)
+
+pub add_goal-returns-in-True-2-clause-pairs : goal.add_goal-returns-in-True-2-clause-pairs
+add_goal-returns-in-True-2-clause-pairs t c = grind (arith, common_steps)
+
+pub add_goal-returns-in-True-9-clause-next : goal.add_goal-returns-in-True-9-clause-next
+add_goal-returns-in-True-9-clause-next t c = grind (arith, common_steps)
+
+pub add_goal-returns-in-True-9-clause-pairs : goal.add_goal-returns-in-True-9-clause-pairs
+add_goal-returns-in-True-9-clause-pairs t c = grind (arith, common_steps)
+
+pub add_goal-returns-in-Some-clause-next : goal.add_goal-returns-in-Some-clause-next
+add_goal-returns-in-Some-clause-next t c = grind (arith, common_steps)
+
+pub add_goal-returns-in-Some-clause-pairs : goal.add_goal-returns-in-Some-clause-pairs
+add_goal-returns-in-Some-clause-pairs t c = grind (arith, common_steps)
+
+pub add_arms-returns-clause-next : goal.add_arms-returns-clause-next
+add_arms-returns-clause-next t c = grind (arith, common_steps)
+
+pub add_arms-returns-clause-pairs : goal.add_arms-returns-clause-pairs
+add_arms-returns-clause-pairs t c = grind (arith, common_steps)
+
+pub add_goal-returns-in-True-11-clause-next : goal.add_goal-returns-in-True-11-clause-next
+add_goal-returns-in-True-11-clause-next t c = grind (arith, common_steps)
+
+pub add_goal-returns-in-True-11-clause-pairs : goal.add_goal-returns-in-True-11-clause-pairs
+add_goal-returns-in-True-11-clause-pairs t c = grind (arith, common_steps)
+
+pub add_goal-returns-in-True-4-clause-next : goal.add_goal-returns-in-True-4-clause-next
+add_goal-returns-in-True-4-clause-next t c = grind (arith, common_steps)
+
+pub add_goal-returns-in-True-4-clause-pairs : goal.add_goal-returns-in-True-4-clause-pairs
+add_goal-returns-in-True-4-clause-pairs t c = grind (arith, common_steps)
+
+pub add_goal-returns-in-True-clause-next : goal.add_goal-returns-in-True-clause-next
+add_goal-returns-in-True-clause-next t c = grind (arith, common_steps)
+
+pub add_goal-returns-in-True-clause-pairs : goal.add_goal-returns-in-True-clause-pairs
+add_goal-returns-in-True-clause-pairs t c = grind (arith, common_steps)
+
+pub add_goal-returns-in-True-5-clause-next : goal.add_goal-returns-in-True-5-clause-next
+add_goal-returns-in-True-5-clause-next t c = grind (arith, common_steps)
+
+pub add_goal-returns-in-True-5-clause-pairs : goal.add_goal-returns-in-True-5-clause-pairs
+add_goal-returns-in-True-5-clause-pairs t c = grind (arith, common_steps)
+
+pub add_goal-returns-in-True-10-clause-next : goal.add_goal-returns-in-True-10-clause-next
+add_goal-returns-in-True-10-clause-next t c = grind (arith, common_steps)
+
+pub add_goal-returns-in-True-10-clause-pairs : goal.add_goal-returns-in-True-10-clause-pairs
+add_goal-returns-in-True-10-clause-pairs t c = grind (arith, common_steps)
+
+pub add_goal-returns-in-True-7-clause-next : goal.add_goal-returns-in-True-7-clause-next
+add_goal-returns-in-True-7-clause-next t c = grind (arith, common_steps)
+
+pub add_goal-returns-in-True-7-clause-pairs : goal.add_goal-returns-in-True-7-clause-pairs
+add_goal-returns-in-True-7-clause-pairs t c = grind (arith, common_steps)
+
+pub add_goal-returns-in-True-6-clause-next : goal.add_goal-returns-in-True-6-clause-next
+add_goal-returns-in-True-6-clause-next t c = grind (arith, common_steps)
+
+pub add_goal-returns-in-True-6-clause-pairs : goal.add_goal-returns-in-True-6-clause-pairs
+add_goal-returns-in-True-6-clause-pairs t c = grind (arith, common_steps)
+
+pub add_goal-returns-in_ok-third-in-If-clause-next : goal.add_goal-returns-in_ok-third-in-If-clause-next
+add_goal-returns-in_ok-third-in-If-clause-next t c = grind (arith, common_steps)
+
+pub add_goal-returns-in_ok-third-in-If-clause-pairs : goal.add_goal-returns-in_ok-third-in-If-clause-pairs
+add_goal-returns-in_ok-third-in-If-clause-pairs t c = grind (arith, common_steps)
+
+pub add_conjunction-offset_bounds-goals-place-in-loop-place : goal.add_conjunction-offset_bounds-goals-place-in-loop-place
+add_conjunction-offset_bounds-goals-place-in-loop-place t c = grind (arith, common_steps)
+
+pub add_goal-returns-in-True-3-clause-next : goal.add_goal-returns-in-True-3-clause-next
+add_goal-returns-in-True-3-clause-next t c = grind (arith, common_steps)
+
+pub add_goal-returns-in-True-3-clause-pairs : goal.add_goal-returns-in-True-3-clause-pairs
+add_goal-returns-in-True-3-clause-pairs t c = grind (arith, common_steps)
+
+pub add_goal-returns-in-True-8-clause-next : goal.add_goal-returns-in-True-8-clause-next
+add_goal-returns-in-True-8-clause-next t c = grind (arith, common_steps)
+
+pub add_goal-returns-in-True-8-clause-pairs : goal.add_goal-returns-in-True-8-clause-pairs
+add_goal-returns-in-True-8-clause-pairs t c = grind (arith, common_steps)
+
+pub add_conjunction-returns-clause-next : goal.add_conjunction-returns-clause-next
+add_conjunction-returns-clause-next t c = grind (arith, common_steps)
+
+pub add_conjunction-returns-clause-pairs : goal.add_conjunction-returns-clause-pairs
+add_conjunction-returns-clause-pairs t c = grind (arith, common_steps)
+
+pub add_goal-returns-in-Not-clause-next : goal.add_goal-returns-in-Not-clause-next
+add_goal-returns-in-Not-clause-next t c = grind (arith, common_steps)
+
+pub add_goal-returns-in-Not-clause-pairs : goal.add_goal-returns-in-Not-clause-pairs
+add_goal-returns-in-Not-clause-pairs t c = grind (arith, common_steps)

@@ -1,4 +1,5 @@
 use Rattle.std.proofs.Common.{arith, refl, subst, List, ℕ, Bool}
+use Rattle.std.proofs.lemmas.Grind.{common_steps}
 use Rattle.md_feedback.specs.Search.{reading_in, binds_in, Marks}
 use Rattle.md_feedback.proofs.Parts.{marked_at_first, partners_go_on}
 use Rattle.md_feedback.proofs.search.add_partners.Goals as goal
@@ -15,3 +16,6 @@ loop-goal-preserved c =
     partners_go_on r (c.args.first.0, c.args.first.1) c.args.behind.now c.loop-goal.goal-index c.loop-goal.place c.in_ok-place.place c.in_ok-goal_size.field-0 c.goal-item.result
     c.loop-goal.bound.items c.add_partner.new.bound.items _ c.loop-goal.pairs c.add_partner.new.pairs (omega arith) c.goal-item.is c.in_ok-goal_size.ensures c.in_ok-place.ensures
     c.in_ok-add_partner.ensures c.loop-goal.invariant
+
+pub returns : goal.returns
+returns c = grind (arith, common_steps)

@@ -1,4 +1,5 @@
 use Rattle.std.proofs.Common.{◌∙◌, arith, ap, sym, add-one}
+use Rattle.std.proofs.lemmas.Grind.{common_steps}
 use Rattle.md_hlds.specs.HldsGoal.{goal_of, site_lines}
 use Rattle.md_hlds.proofs.SiteLemmas.{lines_of, finds_along, expr_lines-Conj, expr_lines-Disj, expr_lines-If, third_of_three, found_at, length-lines_more}
 use Rattle.md_hlds.proofs.sites.+sites.Goals as goal
@@ -33,3 +34,15 @@ pub find_in_all-loop-goal-preserved : goal.find_in_all-loop-goal-preserved
 find_in_all-loop-goal-preserved t c =
     rw add-one
     (omega (arith, length-lines_more c.args.goals.now c.loop-goal.goal-index c.goal-item.result (omega arith) c.goal-item.is, c.in_default.ensures))
+
+pub find_in_all-returns : goal.find_in_all-returns
+find_in_all-returns t c = grind (arith, common_steps)
+
+pub find_site-returns-else-before-eq0 : goal.find_site-returns-else-before-eq0
+find_site-returns-else-before-eq0 t c = grind (arith, common_steps)
+
+pub find_site-returns-in-Not : goal.find_site-returns-in-Not
+find_site-returns-in-Not t c = grind (arith, common_steps)
+
+pub find_site-returns-then-before-eq0 : goal.find_site-returns-then-before-eq0
+find_site-returns-then-before-eq0 t c = grind (arith, common_steps)

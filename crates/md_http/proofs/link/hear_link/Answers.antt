@@ -83,3 +83,12 @@ returns-in_err-bytes-clause-later g c = grind (arith, common_steps)
 
 pub returns-in_err-bytes-clause-beside : goal.returns-in_err-bytes-clause-beside
 returns-in_err-bytes-clause-beside g c = grind (arith, common_steps)
+
+pub returns-clause-fault : goal.returns-clause-fault
+returns-clause-fault g c = grind (arith, common_steps)
+
+pub returns-clause-some : goal.returns-clause-some
+returns-clause-some g c = grind (arith, common_steps)
+
+pub returns-clause-waits : goal.returns-clause-waits
+returns-clause-waits g c = grind (arith, common_steps)

@@ -1,4 +1,5 @@
 use Rattle.std.proofs.Common.{◌∙◌, arith}
+use Rattle.std.proofs.lemmas.Grind.{common_steps}
 use Rattle.md_http.proofs.Readings.{reads_more}
 use Rattle.md_http.proofs.reading.listen.Goals as goal
 
@@ -12,3 +13,42 @@ loop-link-preserved g c =
       later = omega (arith, before.later, more.cause.later);
       beside = more.beside ∙ before.beside;
     }
+
+pub returns-then-more-eq0-clause-beside : goal.returns-then-more-eq0-clause-beside
+returns-then-more-eq0-clause-beside g c = grind (arith, common_steps)
+
+pub returns-then-more-eq0-clause-fault : goal.returns-then-more-eq0-clause-fault
+returns-then-more-eq0-clause-fault g c = grind (arith, common_steps)
+
+pub returns-then-more-eq0-clause-heard : goal.returns-then-more-eq0-clause-heard
+returns-then-more-eq0-clause-heard g c = grind (arith, common_steps)
+
+pub returns-then-more-eq0-clause-later : goal.returns-then-more-eq0-clause-later
+returns-then-more-eq0-clause-later g c = grind (arith, common_steps)
+
+pub returns-then-more-eq0-clause-waits : goal.returns-then-more-eq0-clause-waits
+returns-then-more-eq0-clause-waits g c = grind (arith, common_steps)
+
+pub returns-then-more-eq0-clause-within : goal.returns-then-more-eq0-clause-within
+returns-then-more-eq0-clause-within g c = grind (arith, common_steps)
+
+pub returns-clause-beside : goal.returns-clause-beside
+returns-clause-beside g c = grind (arith, common_steps)
+
+pub returns-clause-fault : goal.returns-clause-fault
+returns-clause-fault g c = grind (arith, common_steps)
+
+pub returns-clause-heard : goal.returns-clause-heard
+returns-clause-heard g c = grind (arith, common_steps)
+
+pub returns-clause-later : goal.returns-clause-later
+returns-clause-later g c = grind (arith, common_steps)
+
+pub returns-clause-waits : goal.returns-clause-waits
+returns-clause-waits g c = grind (arith, common_steps)
+
+pub returns-clause-within : goal.returns-clause-within
+returns-clause-within g c = grind (arith, common_steps)
+
+pub slice_bounds-is_waiting-end-in-loop-link : goal.slice_bounds-is_waiting-end-in-loop-link
+slice_bounds-is_waiting-end-in-loop-link g c = grind (arith, common_steps)

@@ -81,3 +81,12 @@ returns-in-Err-clause-memory g c = grind (arith, common_steps)
 
 pub returns-in-Err-clause-stays : goal.returns-in-Err-clause-stays
 returns-in-Err-clause-stays g c = grind (arith, common_steps)
+
+pub serve_one-requires-clause-bound : goal.serve_one-requires-clause-bound
+serve_one-requires-clause-bound g c = grind (arith, common_steps)
+
+pub serve_one-requires-clause-reads : goal.serve_one-requires-clause-reads
+serve_one-requires-clause-reads g c = grind (arith, common_steps)
+
+pub serve_one-requires-clause-writes : goal.serve_one-requires-clause-writes
+serve_one-requires-clause-writes g c = grind (arith, common_steps)

@@ -1,4 +1,5 @@
 use Rattle.std.proofs.Common.{refl, arith, List}
+use Rattle.std.proofs.lemmas.Grind.{common_steps}
 use Rattle.md_hlds.specs.declared.types.Ty.{Ty}
 use Rattle.md_hlds.specs.declared.types.Mode.{Mode}
 use Rattle.md_hlds.specs.Hlds.{args_of, gathered_types}
@@ -9,3 +10,15 @@ use Rattle.md_inst.proofs.closure.+have_same_types.Goals as goal
 
 pub returns-in-len1-up-b : goal.returns-in-len1-up-b
 returns-in-len1-up-b t c = only_second (λ (a b : List (Ty × Mode)). same_sorts (gathered_types (types_of (args_of a))) (gathered_types (types_of (args_of b)))) (λ y ys. refl) c.args.a.now c.args.b.now (omega arith) (omega arith)
+
+pub returns-in-empty-b : goal.returns-in-empty-b
+returns-in-empty-b t c = grind (arith, common_steps)
+
+pub returns-in-empty-b-2 : goal.returns-in-empty-b-2
+returns-in-empty-b-2 t c = grind (arith, common_steps)
+
+pub returns-then-same_plain : goal.returns-then-same_plain
+returns-then-same_plain t c = grind (arith, common_steps)
+
+pub returns-else-same_plain : goal.returns-else-same_plain
+returns-else-same_plain t c = grind (arith, common_steps)

@@ -1,4 +1,5 @@
 use Rattle.std.proofs.Common.{arith, sym, ap, ◌≡◌, ◌∙◌, ◌<◌, false, length}
+use Rattle.std.proofs.lemmas.Grind.{common_steps}
 use Rattle.md_hlds.specs.Hlds.{args_of, procedure_of}
 use Rattle.md_inst.specs.Instantiation.{known_at, is_bound}
 use Rattle.md_inst.specs.Kinds.{inst_map_of}
@@ -18,3 +19,9 @@ returns c =
     closed c.capture.result (inst_map_of c.capture.new.insts.items) c.args.line c.args.x (procedure_of c.args.pred.now) c.args.places.now
     (inst_map_of c.args.insts.now.items) few unbound
     (rw (← args_of_take, ← args_of_drop, ← c.as_slice-args.ensures.value, ← c.split_at.ensures.front, ← c.split_at.ensures.back) c.capture.ensures)
+
+pub returns-then-places-arity : goal.returns-then-places-arity
+returns-then-places-arity c = grind (arith, common_steps)
+
+pub returns-then-is_bound : goal.returns-then-is_bound
+returns-then-is_bound c = grind (arith, common_steps)

@@ -1,4 +1,5 @@
-use Rattle.std.proofs.Common.{rules, ◌≡◌, refl, ap, ◌∙◌, sym, ◌-◌, slice_get, Some, None}
+use Rattle.std.proofs.Common.{rules, ◌≡◌, refl, ap, ◌∙◌, sym, ◌-◌, slice_get, Some, None, arith}
+use Rattle.std.proofs.lemmas.Grind.{common_steps}
 use Rattle.std.proofs.lemmas.Option.{slice_get-get_or}
 use Rattle.md_hlds.specs.Hlds.{hlds_of, procedure_called}
 use Rattle.md_hlds.specs.Run.{main_name}
@@ -91,3 +92,9 @@ returns-clause-front g c =
 
 pub returns-clause-alike : goal.returns-clause-alike
 returns-clause-alike g c = g.met.S.PortSink.alike_on c.args.sink.now c.call.new.self c.run_on.new.sink c.call.ensures.alike c.run_on.ensures.alike
+
+pub returns-in_default-clause-alike : goal.returns-in_default-clause-alike
+returns-in_default-clause-alike g c = grind (arith, common_steps)
+
+pub returns-in_default-clause-front : goal.returns-in_default-clause-front
+returns-in_default-clause-front g c = grind (arith, common_steps)

@@ -1,4 +1,5 @@
-use Rattle.std.proofs.Common.{ap, ◌∙◌, sym, ℕ, List, Option}
+use Rattle.std.proofs.Common.{ap, ◌∙◌, sym, ℕ, List, Option, arith}
+use Rattle.std.proofs.lemmas.Grind.{common_steps}
 use Rattle.md_code.specs.Layout as layout
 use Rattle.md_code.specs.Told.{step_told}
 use Rattle.md_value.specs.Values.{env_of}
@@ -23,3 +24,21 @@ returns-in_ok-found-in-HoCall c =
     ∙ (ap (λ (n : ℕ). layout.Applies n c.in-HoCall.closure c.in-HoCall.arguments.now) (sym c.number-in-HoCall.ensures)
     ∙ ap (λ (ys : List ℕ). layout.Applies c.number-in-HoCall.result c.in-HoCall.closure ys) (sym c.as_slice-in-HoCall.ensures)))
     (λ s n g nothing at. c.in_ok-found-in-HoCall.ensures s n c.in-HoCall.closure g c.args.entry.now.next (env_of c.args.slots.now) at c.value_at-value.ensures))
+
+pub returns-in-Conj : goal.returns-in-Conj
+returns-in-Conj c = grind (arith, common_steps)
+
+pub returns-in-Disj : goal.returns-in-Disj
+returns-in-Disj c = grind (arith, common_steps)
+
+pub returns-in-If : goal.returns-in-If
+returns-in-If c = grind (arith, common_steps)
+
+pub returns-in-Not : goal.returns-in-Not
+returns-in-Not c = grind (arith, common_steps)
+
+pub returns-in-Simple : goal.returns-in-Simple
+returns-in-Simple c = grind (arith, common_steps)
+
+pub returns-in-Some : goal.returns-in-Some
+returns-in-Some c = grind (arith, common_steps)

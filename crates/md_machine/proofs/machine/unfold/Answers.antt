@@ -1,4 +1,5 @@
-use Rattle.std.proofs.Common.{ap, ◌∙◌, sym}
+use Rattle.std.proofs.Common.{ap, ◌∙◌, sym, arith}
+use Rattle.std.proofs.lemmas.Grind.{common_steps}
 use Rattle.md_code.specs.Told.{step_told}
 use Rattle.md_switch.specs.Keys.{shape_told}
 use Rattle.md_code.specs.Layout.{Chooses}
@@ -25,3 +26,9 @@ returns-in-Not g c = unfolds_ok c.args.entry.now.step c.args.entry.now.next c.ar
 
 pub returns-in-Some : goal.returns-in-Some
 returns-in-Some g c = unfolds_ok c.args.entry.now.step c.args.entry.now.next c.args.frame c.args.callers c.args.left (stack_of c.args.waits.now) (stack_of c.quantified.new.waits) c.quantified.result _ c.requires (ap step_told c.in-Some.is) c.quantified.ensures
+
+pub returns : goal.returns
+returns g c = grind (arith, common_steps)
+
+pub returns-in-Call : goal.returns-in-Call
+returns-in-Call g c = grind (arith, common_steps)

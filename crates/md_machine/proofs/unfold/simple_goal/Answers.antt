@@ -1,4 +1,5 @@
-use Rattle.std.proofs.Common.{refl, ap, ◌∙◌}
+use Rattle.std.proofs.Common.{refl, ap, ◌∙◌, arith}
+use Rattle.std.proofs.lemmas.Grind.{common_steps}
 use Rattle.std.specs.Vec.{with_items}
 use Rattle.md_hlds.specs.HldsGoal.{expr_of}
 use Rattle.md_hlds.specs.Value.{Env}
@@ -35,3 +36,9 @@ pub returns : goal.returns
 returns g c waits =
     simply_heavy (expr_of c.args.kind.now) c.args.named c.args.next c.args.frame c.args.callers c.args.left
     c.deref_mut.result.now c.simple.new.slots c.in_ok-outcome.outcome waits c.requires c.in_ok-outcome.ensures c.deref_mut.ensures.value c.in-TooHeavy.is
+
+pub returns-in_err-outcome : goal.returns-in_err-outcome
+returns-in_err-outcome g c = grind (arith, common_steps)
+
+pub returns-in_err-under-in-Throws : goal.returns-in_err-under-in-Throws
+returns-in_err-under-in-Throws g c = grind (arith, common_steps)

@@ -1,4 +1,5 @@
-use Rattle.std.proofs.Common.{◌∙◌, ap, [], ◌∷◌, ◌++◌, add-one}
+use Rattle.std.proofs.Common.{◌∙◌, ap, [], ◌∷◌, ◌++◌, add-one, arith}
+use Rattle.std.proofs.lemmas.Grind.{common_steps}
 use Rattle.md_inst.specs.declared.inst.Inst.TheVariants.{Free}
 use Rattle.md_inst.specs.Instantiation.{free}
 use Rattle.md_inst.specs.Kinds.{inst_map_of}
@@ -12,3 +13,6 @@ loop-turn-preserved c =
     ∙ (inst_map_of-append c.loop-turn.insts.items (Free ∷ [])
     ∙ (ap (λ s. s ++ free ∷ []) c.loop-turn.invariant
     ∙ nothing_known-more c.loop-turn._turn)))
+
+pub returns : goal.returns
+returns c = grind (arith, common_steps)

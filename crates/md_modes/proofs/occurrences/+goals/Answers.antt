@@ -1,4 +1,5 @@
 use Rattle.std.proofs.Common.{arith, ◌∙◌, ap, sym}
+use Rattle.std.proofs.lemmas.Grind.{common_steps}
 use Rattle.md_modes.proofs.Listed.{listed_along, listed-loop, listed-end, goals_variables, goals_variables-Conj, goals_variables-Disj}
 use Rattle.md_modes.proofs.occurrences.+goals.Goals as goal
 
@@ -21,3 +22,12 @@ add_goals-loop-goal-preserved t c =
 
 pub add_goals-returns : goal.add_goals-returns
 add_goals-returns t c = listed-end c.loop-goal.vars.items _ c.args.goals.now c.loop-goal.goal-index (omega arith) c.loop-goal.invariant
+
+pub add_goal-returns-in_ok-add_goal-in-If-2 : goal.add_goal-returns-in_ok-add_goal-in-If-2
+add_goal-returns-in_ok-add_goal-in-If-2 t c = grind (arith, common_steps)
+
+pub add_goal-returns-in-Not : goal.add_goal-returns-in-Not
+add_goal-returns-in-Not t c = grind (arith, common_steps)
+
+pub add_goal-returns-in_ok-extend_from_slice-in-Some : goal.add_goal-returns-in_ok-extend_from_slice-in-Some
+add_goal-returns-in_ok-extend_from_slice-in-Some t c = grind (arith, common_steps)

@@ -1,4 +1,5 @@
-use Rattle.std.proofs.Common.{◌-◌, length, take, drop}
+use Rattle.std.proofs.Common.{◌-◌, length, take, drop, arith}
+use Rattle.std.proofs.lemmas.Grind.{common_steps}
 use Rattle.md_hlds.specs.Hlds.{hlds_of}
 use Rattle.md_plain.specs.Goals.{numbereds_of}
 use Rattle.md_plain.proofs.AdvanceLemmas.{after_failure, after_throw, after_return, goes_by, front_rest}
@@ -24,3 +25,12 @@ returns-in-len1-up c =
     goes_by (hlds_of c.args.program.now) c.args.left c.args.state c.in-Goes.frame c.in-Goes.callers c.first-item.result
     (numbereds_of (take (length c.in-Goes.frame.goals.now - 1) (drop 1 c.in-Goes.frame.goals.now))) c.at_goal.result c.in-Goes.is
     (front_rest c.in-Goes.frame.goals.now c.first-item.result _ c.in-len1-up.len_at_least c.first-item.is) c.at_goal.ensures
+
+pub returns-in_err-retried-in-Fails : goal.returns-in_err-retried-in-Fails
+returns-in_err-retried-in-Fails c = grind (arith, common_steps)
+
+pub returns-in_err-returned-in-empty : goal.returns-in_err-returned-in-empty
+returns-in_err-returned-in-empty c = grind (arith, common_steps)
+
+pub returns-in_err-unwound-in-Throws : goal.returns-in_err-unwound-in-Throws
+returns-in_err-unwound-in-Throws c = grind (arith, common_steps)

@@ -1,4 +1,5 @@
 use Rattle.std.proofs.Common.{arith, ◌≡◌, ◌∙◌, ◌+◌, ◌++◌, ap, sym, subst, List, ℕ, IfOk, OnOk}
+use Rattle.std.proofs.lemmas.Grind.{common_steps}
 use Rattle.md_hlds.specs.declared.goal.Goal.{Goal}
 use Rattle.md_hlds.specs.HldsGoal.{goals_of, gathered, goals_size, goal_size, goal_of}
 use Rattle.md_hlds.specs.Hlds.{hlds_of}
@@ -38,3 +39,90 @@ add_sites-returns-in-Disj-clause-sites t c =
     ∙ (ap (λ (gs : List Goal). read_goals s c.args.owner (c.args.number + 1) (gathered (goals_of gs))) c.as_slice-in-Disj.ensures.value
     ∙ sym (read-Disj s c.args.owner c.args.goal.now.line c.args.number c.args.goal.now.kind c.in-Disj.arms c.in-Disj.is)))
     c.add_all-in-Disj.ensures.sites
+
+pub add_sites-returns-in-True-clause-next : goal.add_sites-returns-in-True-clause-next
+add_sites-returns-in-True-clause-next t c = grind (arith, common_steps)
+
+pub add_sites-returns-in-True-clause-sites : goal.add_sites-returns-in-True-clause-sites
+add_sites-returns-in-True-clause-sites t c = grind (arith, common_steps)
+
+pub add_sites-returns-in-True-5-clause-next : goal.add_sites-returns-in-True-5-clause-next
+add_sites-returns-in-True-5-clause-next t c = grind (arith, common_steps)
+
+pub add_sites-returns-in-True-5-clause-sites : goal.add_sites-returns-in-True-5-clause-sites
+add_sites-returns-in-True-5-clause-sites t c = grind (arith, common_steps)
+
+pub add_sites-returns-in-True-4-clause-next : goal.add_sites-returns-in-True-4-clause-next
+add_sites-returns-in-True-4-clause-next t c = grind (arith, common_steps)
+
+pub add_sites-returns-in-True-4-clause-sites : goal.add_sites-returns-in-True-4-clause-sites
+add_sites-returns-in-True-4-clause-sites t c = grind (arith, common_steps)
+
+pub add_sites-returns-in_ok-third-in-If-clause-next : goal.add_sites-returns-in_ok-third-in-If-clause-next
+add_sites-returns-in_ok-third-in-If-clause-next t c = grind (arith, common_steps)
+
+pub add_sites-returns-in_ok-third-in-If-clause-sites : goal.add_sites-returns-in_ok-third-in-If-clause-sites
+add_sites-returns-in_ok-third-in-If-clause-sites t c = grind (arith, common_steps)
+
+pub add_sites-returns-in-True-3-clause-next : goal.add_sites-returns-in-True-3-clause-next
+add_sites-returns-in-True-3-clause-next t c = grind (arith, common_steps)
+
+pub add_sites-returns-in-True-3-clause-sites : goal.add_sites-returns-in-True-3-clause-sites
+add_sites-returns-in-True-3-clause-sites t c = grind (arith, common_steps)
+
+pub add_sites-returns-in-True-6-clause-next : goal.add_sites-returns-in-True-6-clause-next
+add_sites-returns-in-True-6-clause-next t c = grind (arith, common_steps)
+
+pub add_sites-returns-in-True-6-clause-sites : goal.add_sites-returns-in-True-6-clause-sites
+add_sites-returns-in-True-6-clause-sites t c = grind (arith, common_steps)
+
+pub add_all-loop-goal-preserved : goal.add_all-loop-goal-preserved
+add_all-loop-goal-preserved t c = grind (arith, common_steps)
+
+pub add_sites-returns-in-Some-clause-next : goal.add_sites-returns-in-Some-clause-next
+add_sites-returns-in-Some-clause-next t c = grind (arith, common_steps)
+
+pub add_sites-returns-in-Some-clause-sites : goal.add_sites-returns-in-Some-clause-sites
+add_sites-returns-in-Some-clause-sites t c = grind (arith, common_steps)
+
+pub add_sites-returns-in-True-7-clause-next : goal.add_sites-returns-in-True-7-clause-next
+add_sites-returns-in-True-7-clause-next t c = grind (arith, common_steps)
+
+pub add_sites-returns-in-True-7-clause-sites : goal.add_sites-returns-in-True-7-clause-sites
+add_sites-returns-in-True-7-clause-sites t c = grind (arith, common_steps)
+
+pub add_sites-returns-in-True-8-clause-next : goal.add_sites-returns-in-True-8-clause-next
+add_sites-returns-in-True-8-clause-next t c = grind (arith, common_steps)
+
+pub add_sites-returns-in-True-8-clause-sites : goal.add_sites-returns-in-True-8-clause-sites
+add_sites-returns-in-True-8-clause-sites t c = grind (arith, common_steps)
+
+pub add_sites-returns-in_ok-add_site-in-Call-clause-next : goal.add_sites-returns-in_ok-add_site-in-Call-clause-next
+add_sites-returns-in_ok-add_site-in-Call-clause-next t c = grind (arith, common_steps)
+
+pub add_sites-returns-in_ok-add_site-in-Call-clause-sites : goal.add_sites-returns-in_ok-add_site-in-Call-clause-sites
+add_sites-returns-in_ok-add_site-in-Call-clause-sites t c = grind (arith, common_steps)
+
+pub add_sites-returns-in-True-2-clause-next : goal.add_sites-returns-in-True-2-clause-next
+add_sites-returns-in-True-2-clause-next t c = grind (arith, common_steps)
+
+pub add_sites-returns-in-True-2-clause-sites : goal.add_sites-returns-in-True-2-clause-sites
+add_sites-returns-in-True-2-clause-sites t c = grind (arith, common_steps)
+
+pub add_sites-returns-in-Not-clause-next : goal.add_sites-returns-in-Not-clause-next
+add_sites-returns-in-Not-clause-next t c = grind (arith, common_steps)
+
+pub add_sites-returns-in-Not-clause-sites : goal.add_sites-returns-in-Not-clause-sites
+add_sites-returns-in-Not-clause-sites t c = grind (arith, common_steps)
+
+pub add_all-returns-clause-next : goal.add_all-returns-clause-next
+add_all-returns-clause-next t c = grind (arith, common_steps)
+
+pub add_all-returns-clause-sites : goal.add_all-returns-clause-sites
+add_all-returns-clause-sites t c = grind (arith, common_steps)
+
+pub add_sites-returns-in-True-9-clause-next : goal.add_sites-returns-in-True-9-clause-next
+add_sites-returns-in-True-9-clause-next t c = grind (arith, common_steps)
+
+pub add_sites-returns-in-True-9-clause-sites : goal.add_sites-returns-in-True-9-clause-sites
+add_sites-returns-in-True-9-clause-sites t c = grind (arith, common_steps)

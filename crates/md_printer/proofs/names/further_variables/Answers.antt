@@ -6,3 +6,7 @@ use Rattle.md_printer.proofs.names.further_variables.Goals as goal
 pub loop-place-preserved : goal.loop-place-preserved
 unfolding laid
 loop-place-preserved c = grind (arith, common_steps)
+
+pub returns : goal.returns
+unfolding laid
+returns c = grind (arith, common_steps)

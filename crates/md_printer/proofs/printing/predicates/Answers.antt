@@ -4,3 +4,6 @@ use Rattle.md_printer.proofs.printing.predicates.Goals as goal
 
 pub loop-pred-preserved : goal.loop-pred-preserved
 loop-pred-preserved c = grind (arith, common_steps)
+
+pub returns : goal.returns
+returns c = grind (arith, common_steps)

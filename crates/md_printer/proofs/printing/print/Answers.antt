@@ -20,3 +20,7 @@ returns-clause-no_other c =
     let program = hlds_of c.args.program.now in
     let e : c.predicates.new.text.items ≡ printed program = first_of (search rules, grind (arith, common_steps)) in
     (λ q k h. no_other program q k (subst (λ (t : List ℕ). Spells t k) e h))
+
+pub returns-clause-printed : goal.returns-clause-printed
+unfolding printed
+returns-clause-printed c = grind (arith, common_steps)

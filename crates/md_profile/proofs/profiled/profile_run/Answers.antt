@@ -1,4 +1,5 @@
-use Rattle.std.proofs.Common.{◌≡◌, ◌∙◌, ◌<◌, sym, ap, subst, [], length}
+use Rattle.std.proofs.Common.{◌≡◌, ◌∙◌, ◌<◌, sym, ap, subst, [], length, arith}
+use Rattle.std.proofs.lemmas.Grind.{common_steps}
 use Rattle.md_hlds.specs.declared.program.Program.{Program}
 use Rattle.md_hlds.specs.Hlds.{hlds_of}
 use Rattle.md_events.specs.History.{history}
@@ -32,3 +33,15 @@ returns c = record {
       (c.into_profile-profile.ensures.exact (events.site_table (hlds_of c.args.checked.now)) (history (run (hlds_of c.args.checked.now) c.args.budget)) c.in_ok-ran.ensures.whole);
   valid = c.into_profile-profile.ensures.valid (events.site_table (hlds_of c.args.checked.now)) (history (run (hlds_of c.args.checked.now) c.args.budget)) c.in_ok-ran.ensures.whole;
 }
+
+pub new-requires-clause-sound : goal.new-requires-clause-sound
+new-requires-clause-sound c = grind (arith, common_steps)
+
+pub interpret-requires-clause-bounds : goal.interpret-requires-clause-bounds
+interpret-requires-clause-bounds c = grind (arith, common_steps)
+
+pub returns-in_err-recorder : goal.returns-in_err-recorder
+returns-in_err-recorder c = grind (arith, common_steps)
+
+pub returns-in_err-tables : goal.returns-in_err-tables
+returns-in_err-tables c = grind (arith, common_steps)

@@ -1,4 +1,5 @@
 use Rattle.std.proofs.Common.{◌≡◌, ◌++◌, ◌∷◌, [], ℕ, List, get_or, map, None, ap, ◌∙◌, subst, arith}
+use Rattle.std.proofs.lemmas.Grind.{common_steps}
 use Rattle.std.proofs.lemmas.List.{get_or_read, append_assoc}
 use Rattle.std.proofs.lemmas.Result.{on_ok_weaker}
 use Rattle.md_clique.specs.Members.{Follows}
@@ -20,3 +21,12 @@ returns c = λ v is.
     let first : c.push.new.self.items ≡ old ++ context_row v c.args.node ∷ [] = c.in_ok-push.ensures.items ∙ ap (λ (r : Row). old ++ r ∷ []) (c.context_row.ensures v is ∙ ap (context_row v) c.new.ensures) in
     on_ok_weaker c.push_links.result (λ e. e ∙ ap (λ (rs : List Row). rs ++ map (link_row v) (links_from v c.args.node)) first ∙ append_assoc old (context_row v c.args.node ∷ []) (map (link_row v) (links_from v c.args.node)))
     (c.push_links.ensures v (links_from v c.args.node) is (rw (c.deref.ensures.value, read) listed))
+
+pub returns-in_err-push : goal.returns-in_err-push
+returns-in_err-push c = grind (arith, common_steps)
+
+pub push_links-requires-clause-each : goal.push_links-requires-clause-each
+push_links-requires-clause-each c = grind (arith, common_steps)
+
+pub push_links-requires-clause-rising : goal.push_links-requires-clause-rising
+push_links-requires-clause-rising c = grind (arith, common_steps)

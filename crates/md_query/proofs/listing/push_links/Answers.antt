@@ -1,4 +1,5 @@
-use Rattle.std.proofs.Common.{◌≡◌, ◌++◌, ◌∷◌, [], List, get_or, None, sym, ap, ◌∙◌, subst}
+use Rattle.std.proofs.Common.{◌≡◌, ◌++◌, ◌∷◌, [], List, get_or, None, sym, ap, ◌∙◌, subst, arith}
+use Rattle.std.proofs.lemmas.Grind.{common_steps}
 use Rattle.md_query.specs.PageOf.{link_row}
 use Rattle.md_query.specs.declared.row.Row.{Row}
 use Rattle.md_query.proofs.ListSteps.{RowsGoOn, rows_more, rows_all}
@@ -15,3 +16,9 @@ loop-at-preserved c = record {
 
 pub returns : goal.returns
 returns c = λ v links is follows. rows_all (link_row v) c.args.next.now c.args.head c.args.rows.now.items c.loop-at.rows.items (rw c.in_default.is at (c.loop-at.invariant.goes_on v is)) links follows
+
+pub loop-at-init : goal.loop-at-init
+loop-at-init c = grind (arith, common_steps)
+
+pub returns-in_err-push : goal.returns-in_err-push
+returns-in_err-push c = grind (arith, common_steps)

@@ -1,4 +1,5 @@
 use Rattle.std.proofs.Common.{◌<◌, ◌+◌, eqb, take, ap, arith}
+use Rattle.std.proofs.lemmas.Grind.{common_steps}
 use Rattle.std.proofs.lemmas.List.{get_or_read, length-take-le}
 use Rattle.md_static.specs.declared.entry.Proc.{Proc}
 use Rattle.md_query.proofs.ListSteps.{places_le, sizes_more}
@@ -27,3 +28,9 @@ loop-proc-preserved c =
     let each = c.loop-proc.invariant.each in
     let read = get_or_read c.loop-proc.sizes.items k c.index.result.now (omega arith) c.index.ensures 0 in
     rw (← c.proc-item.is) at (sizes_more (λ (p : Proc). p.module) c.args.count c.args.procs.now i c.proc-item.result c.loop-proc.sizes.items (c.index.result.now + 1) lt (rw (← c.proc-item.is) below) (rw (← c.proc-item.is) (ap (λ n. n + 1) read)) c.loop-proc.invariant)
+
+pub returns-clause-each : goal.returns-clause-each
+returns-clause-each c = grind (arith, common_steps)
+
+pub returns-clause-sizes : goal.returns-clause-sizes
+returns-clause-sizes c = grind (arith, common_steps)

@@ -1,4 +1,5 @@
 use Rattle.std.proofs.Common.{◌≡◌, ℕ, ◌+◌, ◌<◌, List, ◌++◌, ◌∷◌, [], eqb, length, get_or, take, Option, Some, None, refl, sym, ap, ◌∙◌, arith}
+use Rattle.std.proofs.lemmas.Grind.{common_steps}
 use Rattle.std.specs.Prelude.{IfSome, All}
 use Rattle.std.specs.List.{flat_map}
 use Rattle.std.proofs.lemmas.List.{take_more, take_all, flat_map_more}
@@ -45,3 +46,27 @@ returns c = λ v is.
     let members = c.members-node-items.result.now in
     c.from_parts.ensures
     ∙ ap (λ (rs : List Row). page_with (title.Clique c.args.id) rs) (c.loop-node.invariant v is ∙ ap (λ (ids : List ℕ). entered_row v c.args.id ∷ row.Total (total_of v (OfClique c.args.id)) ∷ flat_map (context_rows v) ids) (take_all c.loop-node.node-index members (omega arith) ∙ c.members-node-items.ensures.view v is))
+
+pub push_context-requires-clause-threads : goal.push_context-requires-clause-threads
+push_context-requires-clause-threads c = grind (arith, common_steps)
+
+pub thread_links-requires-clause-few : goal.thread_links-requires-clause-few
+thread_links-requires-clause-few c = grind (arith, common_steps)
+
+pub loop-node-init : goal.loop-node-init
+loop-node-init c = grind (arith, common_steps)
+
+pub loop-node-smaller : goal.loop-node-smaller
+loop-node-smaller c = grind (arith, common_steps)
+
+pub returns-in_err-push : goal.returns-in_err-push
+returns-in_err-push c = grind (arith, common_steps)
+
+pub returns-in_err-push-2 : goal.returns-in_err-push-2
+returns-in_err-push-2 c = grind (arith, common_steps)
+
+pub returns-in_err-push_context : goal.returns-in_err-push_context
+returns-in_err-push_context c = grind (arith, common_steps)
+
+pub returns-in_err-threads : goal.returns-in_err-threads
+returns-in_err-threads c = grind (arith, common_steps)

@@ -1,4 +1,5 @@
-use Rattle.std.proofs.Common.{ℕ, eqb}
+use Rattle.std.proofs.Common.{ℕ, eqb, arith}
+use Rattle.std.proofs.lemmas.Grind.{common_steps}
 use Rattle.md_static.specs.declared.entry.Site.{Site}
 use Rattle.md_query.proofs.ListSteps.{places_there}
 use Rattle.md_query.proofs.pages.proc_page.Goals as goal
@@ -9,3 +10,21 @@ push_contexts-requires c = rw (c.deref.ensures.value, c.in_ok-nodes.ensures, c.n
 pub push_sites-requires : goal.push_sites-requires
 push_sites-requires c =
     rw (c.deref-2.ensures.value, c.in_ok-sites.ensures, c.sites.ensures, c.statics.ensures, c.profile-profile.ensures.profile) (places_there (λ (s : Site). eqb s.owner c.args.id) c.args.loaded.now.profile.statics.sites)
+
+pub returns-in_err-nodes : goal.returns-in_err-nodes
+returns-in_err-nodes c = grind (arith, common_steps)
+
+pub returns-in_err-push : goal.returns-in_err-push
+returns-in_err-push c = grind (arith, common_steps)
+
+pub returns-in_err-push-2 : goal.returns-in_err-push-2
+returns-in_err-push-2 c = grind (arith, common_steps)
+
+pub returns-in_err-push_contexts : goal.returns-in_err-push_contexts
+returns-in_err-push_contexts c = grind (arith, common_steps)
+
+pub returns-in_err-push_sites : goal.returns-in_err-push_sites
+returns-in_err-push_sites c = grind (arith, common_steps)
+
+pub returns-in_err-sites : goal.returns-in_err-sites
+returns-in_err-sites c = grind (arith, common_steps)

@@ -1,4 +1,5 @@
-use Rattle.std.proofs.Common.{◌≡◌, ◌∙◌, ℕ, List, ◌∷◌, All, ap, subst, sym, rules}
+use Rattle.std.proofs.Common.{◌≡◌, ◌∙◌, ℕ, List, ◌∷◌, All, ap, subst, sym, rules, arith}
+use Rattle.std.proofs.lemmas.Grind.{common_steps}
 use Rattle.std.proofs.lemmas.List.Elements.{All-head, All-tail}
 use Rattle.form_urlencoded.specs.Parse.{raw_pairs_left}
 use Rattle.md_query.specs.Pair.{first_value, IsPlainPair}
@@ -24,3 +25,27 @@ loop-key-preserved-else-eq c = (tt, tt, search rules, λ plain. plain_rest c.in-
 
 pub loop-key-preserved : goal.loop-key-preserved
 loop-key-preserved c = (tt, tt, search rules, λ plain. plain_rest c.in-Some.ensures.steps (c.loop-key.invariant.3 plain))
+
+pub loop-key-preserved-else-eq-derived : goal.loop-key-preserved-else-eq-derived
+loop-key-preserved-else-eq-derived c = grind (arith, common_steps)
+
+pub loop-key-smaller-else-eq : goal.loop-key-smaller-else-eq
+loop-key-smaller-else-eq c = grind (arith, common_steps)
+
+pub loop-key-preserved-derived : goal.loop-key-preserved-derived
+loop-key-preserved-derived c = grind (arith, common_steps)
+
+pub returns-clause-plain : goal.returns-clause-plain
+returns-clause-plain c = grind (arith, common_steps)
+
+pub returns-clause-value : goal.returns-clause-value
+returns-clause-value c = grind (arith, common_steps)
+
+pub loop-key-init-derived : goal.loop-key-init-derived
+loop-key-init-derived c = grind (arith, common_steps)
+
+pub returns-then-eq-clause-plain : goal.returns-then-eq-clause-plain
+returns-then-eq-clause-plain c = grind (arith, common_steps)
+
+pub returns-then-eq-clause-value : goal.returns-then-eq-clause-value
+returns-then-eq-clause-value c = grind (arith, common_steps)

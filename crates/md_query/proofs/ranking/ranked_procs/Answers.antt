@@ -1,4 +1,5 @@
 use Rattle.std.proofs.Common.{ℕ, List, length, map, ap, ◌∙◌, arith}
+use Rattle.std.proofs.lemmas.Grind.{common_steps}
 use Rattle.std.specs.List.{range_with_len}
 use Rattle.std.specs.declared.cmp.Reverse.{Reverse}
 use Rattle.std.proofs.lemmas.List.{take_all}
@@ -16,3 +17,6 @@ returns c = record {
       c.loop-pair.invariant ∙ ap (λ (xs : List (Reverse ℕ × ℕ)). map (λ (x : Reverse ℕ × ℕ). x.1) xs) (take_all c.loop-pair.pair-index c.deref-pair-items.result.now (omega arith) ∙ c.deref-pair-items.ensures.value)
       ∙ ranked_from (count_in_proc v c.args.by) (range_with_len 0 n) counted sorted c.in_ok-counted.ensures.ids (c.in_ok-counted.ensures.counts v is) c.sort_unstable.ensures.permutation c.sort_unstable.ensures.sorted;
 }
+
+pub loop-pair-preserved : goal.loop-pair-preserved
+loop-pair-preserved c = grind (arith, common_steps)

@@ -40,3 +40,12 @@ unfolding modes_from
 returns c =
     let e = no_more (λ n. modes_from n c.loop-turn.found.items (input_of c.loop-turn.input)) _ c.loop-turn._turn c.loop-turn-test.false c.loop-turn.invariant in
     grind (arith, common_steps)
+
+pub loop-turn-init : goal.loop-turn-init
+loop-turn-init c = grind (arith, common_steps)
+
+pub returns-in_err-push : goal.returns-in_err-push
+returns-in_err-push c = grind (arith, common_steps)
+
+pub loop-turn-smaller : goal.loop-turn-smaller
+loop-turn-smaller c = grind (arith, common_steps)

@@ -29,3 +29,9 @@ returns c =
     let e = no_more (λ n. head_from n c.loop-turn.seen.items (input_of c.loop-turn.input)) _ c.loop-turn._turn c.loop-turn-test.false c.loop-turn.invariant in
     let step = last_head c.loop-turn.seen.items (input_of c.loop-turn.input) in
     grind (arith, common_steps)
+
+pub loop-turn-init : goal.loop-turn-init
+loop-turn-init c = grind (arith, common_steps)
+
+pub loop-turn-smaller : goal.loop-turn-smaller
+loop-turn-smaller c = grind (arith, common_steps)

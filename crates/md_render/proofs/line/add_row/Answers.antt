@@ -1,4 +1,5 @@
-use Rattle.std.proofs.Common.{ap}
+use Rattle.std.proofs.Common.{ap, arith}
+use Rattle.std.proofs.lemmas.Grind.{common_steps}
 use Rattle.md_render.specs.Kept.{names_in}
 use Rattle.md_render.specs.Lines.{row_words}
 use Rattle.md_render.proofs.Chains.{words_added}
@@ -31,3 +32,21 @@ returns-in_ok-add_leaving-in-Leaving c =
 pub returns-in_ok-add_inside-in-Inside : goal.returns-in_ok-add_inside-in-Inside
 returns-in_ok-add_inside-in-Inside c =
     words_added c.add_own-in-Inside.result c.args.out.now.items c.add_inside.new.out.items c.add_own-in-Inside.new.out.items _ _ (row_words c.args.form (names_in c.args.loaded.now) c.args.row.now) c.in_ok-add_inside-in-Inside.ensures c.add_own-in-Inside.ensures (ap (row_words c.args.form (names_in c.args.loaded.now)) c.in-Inside.is)
+
+pub returns-in-Finished : goal.returns-in-Finished
+returns-in-Finished c = grind (arith, common_steps)
+
+pub returns-in-Main : goal.returns-in-Main
+returns-in-Main c = grind (arith, common_steps)
+
+pub returns-in_ok-add-in-Number : goal.returns-in_ok-add-in-Number
+returns-in_ok-add-in-Number c = grind (arith, common_steps)
+
+pub returns-in_ok-add_module_size-in-Module : goal.returns-in_ok-add_module_size-in-Module
+returns-in_ok-add_module_size-in-Module c = grind (arith, common_steps)
+
+pub returns-in_ok-add_named-in-Proc : goal.returns-in_ok-add_named-in-Proc
+returns-in_ok-add_named-in-Proc c = grind (arith, common_steps)
+
+pub returns-in_ok-add_site-in-Site : goal.returns-in_ok-add_site-in-Site
+returns-in_ok-add_site-in-Site c = grind (arith, common_steps)

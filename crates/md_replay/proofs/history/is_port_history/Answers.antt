@@ -1,4 +1,5 @@
-use Rattle.std.proofs.Common.{◌∙◌, List, [], None, reverse, take, refl, sym, subst}
+use Rattle.std.proofs.Common.{◌∙◌, List, [], None, reverse, take, refl, sym, subst, arith}
+use Rattle.std.proofs.lemmas.Grind.{common_steps}
 use Rattle.std.proofs.lemmas.Bool.{false≢true}
 use Rattle.md_static.specs.Tables.{site_table}
 use Rattle.md_replay.specs.declared.history.Row.{Row}
@@ -25,3 +26,9 @@ returns-then-not-may_follow c =
           let may = next-follows t c.args.events.now n c.event-item.result c.loop-event-test.true c.event-item.is history in
           absurd (false≢true (sym c.if-not-may_follow.true ∙ (c.may_follow.ensures h c.loop-event.invariant.history c.loop-event.invariant.so_far).1 may)),
     )
+
+pub loop-event-preserved : goal.loop-event-preserved
+loop-event-preserved c = grind (arith, common_steps)
+
+pub returns : goal.returns
+returns c = grind (arith, common_steps)

@@ -1,4 +1,5 @@
-use Rattle.std.proofs.Common.{List, reverse, ◌∙◌, subst}
+use Rattle.std.proofs.Common.{List, reverse, ◌∙◌, subst, arith}
+use Rattle.std.proofs.lemmas.Grind.{common_steps}
 use Rattle.md_static.specs.Tables.{site_table}
 use Rattle.md_trace.specs.declared.event.Event.{Event}
 use Rattle.md_record.specs.Kept.{Stands}
@@ -17,3 +18,6 @@ returns c =
       record { tables = exact.tables ∙ c.replay.ensures.alike ∙ c.in_ok-recorder.ensures.statics; contexts_are = exact.contexts_are; links_are = exact.links_are; finished_is = exact.finished_is },
       c.into_profile.ensures.valid t (reverse events) stands,
     )
+
+pub returns-then-not-branch : goal.returns-then-not-branch
+returns-then-not-branch c = grind (arith, common_steps)

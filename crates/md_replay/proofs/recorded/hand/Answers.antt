@@ -1,4 +1,5 @@
 use Rattle.std.proofs.Common.{◌<◌, ◌∙◌, [], ◌∷◌, ◌++◌, length, refl, sym, ap, subst, arith}
+use Rattle.std.proofs.lemmas.Grind.{common_steps}
 use Rattle.md_trace.specs.declared.event.Event.{Event}
 use Rattle.md_trace.specs.declared.event.Event.TheVariants.{Call, Exit, Redo, Fail, Excp}
 use Rattle.md_trace.specs.PortHistory.{MayFollow}
@@ -158,3 +159,42 @@ returns-in_ok-call-in-Call-clause-ok g c = λ t h st may.
       marked = marks-more B t h next (λ m a b. g.met.S.PortSink.stays m t h next a (is, follows) b) c.args.marks.now.items c.push_reserved.new.self.items c.in_ok-call-in-Call.field-0
           (c.push_reserved.ensures.items ∙ ap (λ xs. xs ++ c.in_ok-call-in-Call.field-0 ∷ []) c.in_ok-reserve-in-Call.ensures.items) refl (c.in_ok-call-in-Call.ensures.marked t h st.sink follows) st.marked;
     })
+
+pub returns-in-Fail-clause-alike : goal.returns-in-Fail-clause-alike
+returns-in-Fail-clause-alike g c = grind (arith, common_steps)
+
+pub returns-in-Fail-clause-err : goal.returns-in-Fail-clause-err
+returns-in-Fail-clause-err g c = grind (arith, common_steps)
+
+pub returns-in-Excp-clause-alike : goal.returns-in-Excp-clause-alike
+returns-in-Excp-clause-alike g c = grind (arith, common_steps)
+
+pub returns-in-Excp-clause-err : goal.returns-in-Excp-clause-err
+returns-in-Excp-clause-err g c = grind (arith, common_steps)
+
+pub returns-in_ok-call-in-Call-clause-alike : goal.returns-in_ok-call-in-Call-clause-alike
+returns-in_ok-call-in-Call-clause-alike g c = grind (arith, common_steps)
+
+pub returns-in_ok-call-in-Call-clause-err : goal.returns-in_ok-call-in-Call-clause-err
+returns-in_ok-call-in-Call-clause-err g c = grind (arith, common_steps)
+
+pub returns-in-Alloc-clause-alike : goal.returns-in-Alloc-clause-alike
+returns-in-Alloc-clause-alike g c = grind (arith, common_steps)
+
+pub returns-in-Alloc-clause-err : goal.returns-in-Alloc-clause-err
+returns-in-Alloc-clause-err g c = grind (arith, common_steps)
+
+pub returns-in-Alloc-clause-ok : goal.returns-in-Alloc-clause-ok
+returns-in-Alloc-clause-ok g c = grind (arith, common_steps)
+
+pub returns-in-Exit-clause-alike : goal.returns-in-Exit-clause-alike
+returns-in-Exit-clause-alike g c = grind (arith, common_steps)
+
+pub returns-in-Exit-clause-err : goal.returns-in-Exit-clause-err
+returns-in-Exit-clause-err g c = grind (arith, common_steps)
+
+pub returns-in-Redo-clause-alike : goal.returns-in-Redo-clause-alike
+returns-in-Redo-clause-alike g c = grind (arith, common_steps)
+
+pub returns-in-Redo-clause-err : goal.returns-in-Redo-clause-err
+returns-in-Redo-clause-err g c = grind (arith, common_steps)

@@ -1,4 +1,5 @@
 use Rattle.std.proofs.Common.{◌≡◌, ◌∙◌, ◌+◌, sym, ap, arith, List, ◌∷◌, [], ◌++◌, drop, true, Option, ℕ}
+use Rattle.std.proofs.lemmas.Grind.{common_steps}
 use Rattle.md_hlds.specs.Hlds.{hlds_of}
 use Rattle.md_hlds.specs.HldsGoal.{goals_of, gathered}
 use Rattle.md_hlds.specs.Switch.{Key, prepend_key, has_key, if_different, all_different}
@@ -46,3 +47,15 @@ loop-arm-preserved c =
       small = c.in_ok-number.ensures.more;
       different = ap all_different new ∙ different_more had k c.loop-arm.invariant.different (sym (any_told c.in-Some.key c.loop-arm.keys.keys) ∙ unknown);
     }
+
+pub returns : goal.returns
+returns c = grind (arith, common_steps)
+
+pub returns-in_default : goal.returns-in_default
+returns-in_default c = grind (arith, common_steps)
+
+pub returns-then-tested-var : goal.returns-then-tested-var
+returns-then-tested-var c = grind (arith, common_steps)
+
+pub same-keys-in-loop-arm : goal.same-keys-in-loop-arm
+same-keys-in-loop-arm c = grind (arith, common_steps)

@@ -1,6 +1,7 @@
 use Rattle.std.proofs.Common.{◌≡◌, ◌+◌, ◌≤◌, get_or, length, arith}
+use Rattle.std.proofs.lemmas.Grind.{common_steps}
 use Rattle.std.proofs.lemmas.List.{map-append}
-use Rattle.md_token.specs.Token.{lexemes_of, lexeme_of, line_past}
+use Rattle.md_token.specs.Token.{lexemes_of, lexeme_of, line_past, tokens_of}
 use Rattle.md_token.specs.declared.scan.Prefix.TheVariants as prefix
 use Rattle.md_token.proofs.Scans.{past_gap, past_piece}
 use Rattle.md_token.proofs.scan.scanned.Goals as goal
@@ -34,3 +35,35 @@ loop-rest-preserved c =
           let n : length c.split_at-in-Piece.result.1.now + (c.in-Piece.more + 1) ≡ length rest = c.split_at-in-Piece.ensures.back_len in
           omega (arith, c.loop-rest.invariant.line);
     }
+
+pub loop-rest-init : goal.loop-rest-init
+unfolding tokens_of
+loop-rest-init c = grind (arith, common_steps)
+
+pub loop-rest-smaller : goal.loop-rest-smaller
+unfolding tokens_of
+loop-rest-smaller c = grind (arith, common_steps)
+
+pub loop-rest-smaller-in-Gap : goal.loop-rest-smaller-in-Gap
+unfolding tokens_of
+loop-rest-smaller-in-Gap c = grind (arith, common_steps)
+
+pub returns : goal.returns
+unfolding tokens_of
+returns c = grind (arith, common_steps)
+
+pub returns-in-Unknown : goal.returns-in-Unknown
+unfolding tokens_of
+returns-in-Unknown c = grind (arith, common_steps)
+
+pub returns-in_err-push : goal.returns-in_err-push
+unfolding tokens_of
+returns-in_err-push c = grind (arith, common_steps)
+
+pub returns-in_err-push-in-Piece : goal.returns-in_err-push-in-Piece
+unfolding tokens_of
+returns-in_err-push-in-Piece c = grind (arith, common_steps)
+
+pub returns-in_err-push-in-Unknown : goal.returns-in_err-push-in-Unknown
+unfolding tokens_of
+returns-in_err-push-in-Unknown c = grind (arith, common_steps)

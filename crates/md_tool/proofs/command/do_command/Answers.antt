@@ -1,4 +1,5 @@
 use Rattle.std.proofs.Common.{sym, subst, Some, arith}
+use Rattle.std.proofs.lemmas.Grind.{common_steps}
 use Rattle.md_base.specs.Outside.{Rose}
 use Rattle.md_query.specs.Told.{asked}
 use Rattle.md_words.specs.declared.command.Command.{Command}
@@ -95,3 +96,63 @@ returns-in-Sum-clause-ends g c =
     (Rose (g.O.Sink.write_faults c.args.out.now) (g.O.Sink.write_faults c.do_sum.new.out))
     (Rose (g.E.Sink.write_faults c.args.err.now) (g.E.Sink.write_faults c.do_sum.new.err))
     (Rose (g.N.Net.faults c.args.net.now) (g.N.Net.faults c.args.net.now)) c.do_sum.result ends.0 ends.2 c.do_sum.ensures.kept ends.3)
+
+pub returns-in-Gen-clause-net : goal.returns-in-Gen-clause-net
+returns-in-Gen-clause-net g c = grind (arith, common_steps)
+
+pub returns-in-Undump-clause-ends : goal.returns-in-Undump-clause-ends
+returns-in-Undump-clause-ends g c = grind (arith, common_steps)
+
+pub returns-in-Undump-clause-net : goal.returns-in-Undump-clause-net
+returns-in-Undump-clause-net g c = grind (arith, common_steps)
+
+pub returns-in-Run-clause-ends : goal.returns-in-Run-clause-ends
+returns-in-Run-clause-ends g c = grind (arith, common_steps)
+
+pub returns-in-Run-clause-net : goal.returns-in-Run-clause-net
+returns-in-Run-clause-net g c = grind (arith, common_steps)
+
+pub returns-in-Feedback-clause-ends : goal.returns-in-Feedback-clause-ends
+returns-in-Feedback-clause-ends g c = grind (arith, common_steps)
+
+pub returns-in-Feedback-clause-net : goal.returns-in-Feedback-clause-net
+returns-in-Feedback-clause-net g c = grind (arith, common_steps)
+
+pub returns-in-Page-clause-ends : goal.returns-in-Page-clause-ends
+returns-in-Page-clause-ends g c = grind (arith, common_steps)
+
+pub returns-in-Page-clause-net : goal.returns-in-Page-clause-net
+returns-in-Page-clause-net g c = grind (arith, common_steps)
+
+pub returns-in-Serve-clause-ends : goal.returns-in-Serve-clause-ends
+returns-in-Serve-clause-ends g c = grind (arith, common_steps)
+
+pub returns-in-Serve-clause-net : goal.returns-in-Serve-clause-net
+returns-in-Serve-clause-net g c = grind (arith, common_steps)
+
+pub returns-in-Sum-clause-net : goal.returns-in-Sum-clause-net
+returns-in-Sum-clause-net g c = grind (arith, common_steps)
+
+pub returns-in-Dump-clause-ends : goal.returns-in-Dump-clause-ends
+returns-in-Dump-clause-ends g c = grind (arith, common_steps)
+
+pub returns-in-Dump-clause-net : goal.returns-in-Dump-clause-net
+returns-in-Dump-clause-net g c = grind (arith, common_steps)
+
+pub returns-in-Check-clause-ends : goal.returns-in-Check-clause-ends
+returns-in-Check-clause-ends g c = grind (arith, common_steps)
+
+pub returns-in-Check-clause-net : goal.returns-in-Check-clause-net
+returns-in-Check-clause-net g c = grind (arith, common_steps)
+
+pub returns-in-Report-clause-net : goal.returns-in-Report-clause-net
+returns-in-Report-clause-net g c = grind (arith, common_steps)
+
+pub returns-in-Cover-clause-net : goal.returns-in-Cover-clause-net
+returns-in-Cover-clause-net g c = grind (arith, common_steps)
+
+pub returns-in-Migrate-clause-ends : goal.returns-in-Migrate-clause-ends
+returns-in-Migrate-clause-ends g c = grind (arith, common_steps)
+
+pub returns-in-Migrate-clause-net : goal.returns-in-Migrate-clause-net
+returns-in-Migrate-clause-net g c = grind (arith, common_steps)

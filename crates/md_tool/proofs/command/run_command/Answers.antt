@@ -1,4 +1,5 @@
-use Rattle.std.proofs.Common.{sym, ap, ◌∙◌}
+use Rattle.std.proofs.Common.{sym, ap, ◌∙◌, arith}
+use Rattle.std.proofs.lemmas.Grind.{common_steps}
 use Rattle.md_base.specs.Outside.{Rose}
 use Rattle.md_words.specs.Form.{words_of, form}
 use Rattle.md_words.specs.Told.{command_told}
@@ -23,3 +24,15 @@ returns-in-Ok-None-clause-ends g c =
     (Rose (g.E.Sink.write_faults c.args.err.now) (g.E.Sink.write_faults c.tell-in-Ok-None.new.err))
     (Rose (g.N.Net.faults c.args.net.now) (g.N.Net.faults c.args.net.now)) c.tell-in-Ok-None.result
     (sym c.in-Ok-None.ensures.form ∙ ap command_told c.in-Ok-None.field-0-is) c.tell-in-Ok-None.ensures.told
+
+pub returns-in-Ok-Some-clause-ends : goal.returns-in-Ok-Some-clause-ends
+returns-in-Ok-Some-clause-ends g c = grind (arith, common_steps)
+
+pub returns-in-Ok-Some-clause-net : goal.returns-in-Ok-Some-clause-net
+returns-in-Ok-Some-clause-net g c = grind (arith, common_steps)
+
+pub returns-in-Ok-None-clause-net : goal.returns-in-Ok-None-clause-net
+returns-in-Ok-None-clause-net g c = grind (arith, common_steps)
+
+pub returns-in-Err-clause-net : goal.returns-in-Err-clause-net
+returns-in-Err-clause-net g c = grind (arith, common_steps)

@@ -1,4 +1,5 @@
-use Rattle.std.proofs.Common.{◌∙◌, ap}
+use Rattle.std.proofs.Common.{◌∙◌, ap, arith}
+use Rattle.std.proofs.lemmas.Grind.{common_steps}
 use Rattle.std.specs.Prelude.{Err}
 use Rattle.md_base.specs.declared.files.WriteFault.{WriteFault}
 use Rattle.md_base.specs.Outside.{Rose}
@@ -26,3 +27,15 @@ returns-clause-told g c =
     told_short c.args.fault.now c.args.file.now c.deref.result.now (g.E.Sink.held c.args.err.now) (g.E.Sink.held c.write_whole.new.sink)
     (Rose (g.E.Sink.write_faults c.args.err.now) (g.E.Sink.write_faults c.write_whole.new.sink)) c.status-in-Err-NoMemory.result
     (c.deref.ensures.value ∙ c.in-Ok.ensures) c.status-in-Err-NoMemory.ensures c.in-Err-NoMemory.ensures.part
+
+pub returns-clause-later : goal.returns-clause-later
+returns-clause-later g c = grind (arith, common_steps)
+
+pub returns-in-Ok-write_whole-clause-later : goal.returns-in-Ok-write_whole-clause-later
+returns-in-Ok-write_whole-clause-later g c = grind (arith, common_steps)
+
+pub returns-in-Err-Write-clause-later : goal.returns-in-Err-Write-clause-later
+returns-in-Err-Write-clause-later g c = grind (arith, common_steps)
+
+pub returns-in_default-clause-later : goal.returns-in_default-clause-later
+returns-in_default-clause-later g c = grind (arith, common_steps)

@@ -1,4 +1,5 @@
-use Rattle.std.proofs.Common.{◌∙◌, ◌≤◌, sym, subst, length, List, ℕ}
+use Rattle.std.proofs.Common.{◌∙◌, ◌≤◌, sym, subst, length, List, ℕ, arith}
+use Rattle.std.proofs.lemmas.Grind.{common_steps}
 use Rattle.md_base.specs.Outside.{Rose}
 use Rattle.md_tool.proofs.GenLemmas.{text_written}
 use Rattle.md_tool.proofs.GenShort.{gen_short}
@@ -12,3 +13,18 @@ pub returns : goal.returns
 returns g c =
     text_written c.args.n c.args.summary (g.O.Sink.held c.args.out.now) (g.O.Sink.held c.write.new.out) (Rose (g.O.Sink.write_faults c.args.out.now) (g.O.Sink.write_faults c.write.new.out))
     c.write.result c.if-summary.false (rw (c.deref-else-summary.ensures.value, c.in-Ok.ensures) at c.write.ensures.ends)
+
+pub summarize-requires-clause-text : goal.summarize-requires-clause-text
+summarize-requires-clause-text g c = grind (arith, common_steps)
+
+pub returns-in_default : goal.returns-in_default
+returns-in_default g c = grind (arith, common_steps)
+
+pub returns-then-summary : goal.returns-then-summary
+returns-then-summary g c = grind (arith, common_steps)
+
+pub gen_text-requires-clause-few : goal.gen_text-requires-clause-few
+gen_text-requires-clause-few g c = grind (arith, common_steps)
+
+pub gen_text-requires-clause-some : goal.gen_text-requires-clause-some
+gen_text-requires-clause-some g c = grind (arith, common_steps)

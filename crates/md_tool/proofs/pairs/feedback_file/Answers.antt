@@ -2,6 +2,8 @@ use Rattle.md_base.specs.Outside.{Rose}
 use Rattle.md_tool.specs.Candidates.{IsFeedbackOfRun}
 use Rattle.md_tool.proofs.KeepLemmas.{ran_accepted}
 use Rattle.md_tool.proofs.pairs.feedback_file.Goals as goal
+use Rattle.std.proofs.Common.{arith}
+use Rattle.std.proofs.lemmas.Grind.{common_steps}
 
 pub returns : goal.returns
 returns g c =
@@ -13,3 +15,15 @@ returns g c =
     (Rose (g.O.Sink.write_faults c.args.out.now) (g.O.Sink.write_faults c.keep_text.new.out))
     c.keep_text.result c.in_ok-text.ensures.read p.accepted
     (rw (c.in_ok-text.ensures.kept, c.in_ok-text.ensures.writes) at (c.keep_text.ensures.ends p.accepted.program c.args.steps c.args.least p.is_run p.is_due))
+
+pub pair_text-requires-clause-least : goal.pair_text-requires-clause-least
+pair_text-requires-clause-least g c = grind (arith, common_steps)
+
+pub pair_text-requires-clause-short : goal.pair_text-requires-clause-short
+pair_text-requires-clause-short g c = grind (arith, common_steps)
+
+pub returns-in_err-paired : goal.returns-in_err-paired
+returns-in_err-paired g c = grind (arith, common_steps)
+
+pub returns-in_err-text : goal.returns-in_err-text
+returns-in_err-text g c = grind (arith, common_steps)

@@ -3,6 +3,8 @@ use Rattle.md_query.specs.Told.{asked}
 use Rattle.md_tool.specs.Reported.{IsPageOfRun, HasNoPageOfRun}
 use Rattle.md_tool.proofs.ReportLemmas.{reported}
 use Rattle.md_tool.proofs.report.report_file.Goals as goal
+use Rattle.std.proofs.Common.{arith}
+use Rattle.std.proofs.lemmas.Grind.{common_steps}
 
 pub returns-clause-ends : goal.returns-clause-ends
 returns-clause-ends g c =
@@ -13,3 +15,9 @@ returns-clause-ends g c =
     (Rose (g.O.Sink.write_faults c.args.out.now) (g.O.Sink.write_faults c.show.new.out))
     (Rose (g.E.Sink.write_faults c.args.err.now) (g.E.Sink.write_faults c.show.new.err))
     c.show.result c.in_ok-text.ensures.read p.accepted (c.show.ensures.ends p.accepted.program c.args.steps p.bounds p.is_profiled)
+
+pub returns-clause-kept : goal.returns-clause-kept
+returns-clause-kept g c = grind (arith, common_steps)
+
+pub returns-clause-later : goal.returns-clause-later
+returns-clause-later g c = grind (arith, common_steps)

@@ -1,6 +1,8 @@
 use Rattle.md_base.specs.Outside.{Rose}
 use Rattle.md_tool.proofs.ServeLemmas.{served_after}
 use Rattle.md_tool.proofs.serve.serve_file.Goals as goal
+use Rattle.std.proofs.Common.{arith}
+use Rattle.std.proofs.lemmas.Grind.{common_steps}
 
 pub returns-clause-ends : goal.returns-clause-ends
 returns-clause-ends g c =
@@ -9,3 +11,12 @@ returns-clause-ends g c =
     (Rose (g.O.Sink.write_faults c.args.out.now) (g.O.Sink.write_faults c.serve_loaded.new.out))
     (Rose (g.N.Net.faults c.args.net.now) (g.N.Net.faults c.serve_loaded.new.net))
     c.serve_loaded.result (c.serve_loaded.ensures (g.S.Store.held c.args.store.now) c.args.name.now c.in_ok-loaded.ensures.loaded)
+
+pub returns-in_err-loaded-clause-ends : goal.returns-in_err-loaded-clause-ends
+returns-in_err-loaded-clause-ends g c = grind (arith, common_steps)
+
+pub returns-in_err-loaded-clause-kept : goal.returns-in_err-loaded-clause-kept
+returns-in_err-loaded-clause-kept g c = grind (arith, common_steps)
+
+pub returns-clause-kept : goal.returns-clause-kept
+returns-clause-kept g c = grind (arith, common_steps)

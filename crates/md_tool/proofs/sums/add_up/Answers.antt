@@ -1,4 +1,5 @@
 use Rattle.std.proofs.Common.{◌∙◌, [], ap, arith}
+use Rattle.std.proofs.lemmas.Grind.{common_steps}
 use Rattle.md_dynamic.specs.Profile.{ProfileRows}
 use Rattle.md_words.specs.Told.{texts}
 use Rattle.md_tool.proofs.SizeLemmas.{few_links}
@@ -35,3 +36,9 @@ pub returns-in-Err-Differ : goal.returns-in-Err-Differ
 returns-in-Err-Differ c held loaded =
     let first = rw c.in-Err-Differ.field-0-is at c.in-Err-Differ.ensures.fault in
     rw (c.in-Err-Differ.field-0-is) (of_another held c.args.names.now c.args.files.now c.in-Err-Differ.place (record { ref_ptr = (0, 0); now = [] }) loaded first)
+
+pub returns : goal.returns
+returns c = grind (arith, common_steps)
+
+pub returns-in-Ok : goal.returns-in-Ok
+returns-in-Ok c = grind (arith, common_steps)

@@ -1,4 +1,5 @@
 use Rattle.std.proofs.Common.{◌∙◌, ℕ, List, [], take, arith}
+use Rattle.std.proofs.lemmas.Grind.{common_steps}
 use Rattle.std.specs.Borrow.{Bor}
 use Rattle.std.specs.Prelude.{slice_index_or}
 use Rattle.md_base.specs.Outside.{Rose}
@@ -26,3 +27,12 @@ loop-name-preserved g c = record {
   kept = c.load_next.ensures.kept ∙ c.loop-name.invariant.kept;
   later = omega (arith, c.loop-name.invariant.later, c.load_next.ensures.later);
 }
+
+pub returns-in-Err-clause-kept : goal.returns-in-Err-clause-kept
+returns-in-Err-clause-kept g c = grind (arith, common_steps)
+
+pub returns-clause-kept : goal.returns-clause-kept
+returns-clause-kept g c = grind (arith, common_steps)
+
+pub returns-clause-loaded : goal.returns-clause-loaded
+returns-clause-loaded g c = grind (arith, common_steps)

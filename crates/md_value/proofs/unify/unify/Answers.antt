@@ -1,4 +1,5 @@
-use Rattle.std.proofs.Common.{sym, subst}
+use Rattle.std.proofs.Common.{sym, subst, arith}
+use Rattle.std.proofs.lemmas.Grind.{common_steps}
 use Rattle.std.proofs.lemmas.Result.{IfOk-weaker}
 use Rattle.md_hlds.specs.Simple as simple
 use Rattle.md_value.specs.Outcomes.{Does}
@@ -26,3 +27,12 @@ returns-in-Predicate c =
 pub returns-in-Nothing : goal.returns-in-Nothing
 returns-in-Nothing c s named =
     sym (nothing_unified s (env_of c.args.slots.now) c.args.x c.args.term.now c.in-Name.name c.in-Name.variables c.args.named c.in-Name.is c.in-Nothing.is named)
+
+pub returns-in-Int : goal.returns-in-Int
+returns-in-Int c = grind (arith, common_steps)
+
+pub returns-in-Str : goal.returns-in-Str
+returns-in-Str c = grind (arith, common_steps)
+
+pub returns-in-Var : goal.returns-in-Var
+returns-in-Var c = grind (arith, common_steps)

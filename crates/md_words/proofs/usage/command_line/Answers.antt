@@ -1,4 +1,5 @@
-use Rattle.std.proofs.Common.{◌∙◌, ◌||◌, ap, ap₂, drop, ◌+◌}
+use Rattle.std.proofs.Common.{◌∙◌, ◌||◌, ap, ap₂, drop, ◌+◌, arith}
+use Rattle.std.proofs.lemmas.Grind.{common_steps}
 use Rattle.clap.specs.Words.{App, app_of, with_subcommand}
 use Rattle.md_words.specs.Tools.{tools}
 use Rattle.md_words.specs.Lines.{with_tools}
@@ -14,3 +15,6 @@ loop-tool-preserved c =
           ∙ tools_more (app_of c.loop-tool.line) c.loop-tool.tool-index _ c.loop-tool-test.true c.loop-tool.invariant.shape;
       globals = added.globals ∙ ap₂ (λ a b. a || b) c.loop-tool.invariant.globals sub.globals;
     }
+
+pub returns : goal.returns
+returns c = grind (arith, common_steps)

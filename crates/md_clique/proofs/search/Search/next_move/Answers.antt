@@ -1,4 +1,5 @@
 use Rattle.std.proofs.Common.{◌≡◌, ◌-◌, ◌<◌, length, Some, arith}
+use Rattle.std.proofs.lemmas.Grind.{common_steps}
 use Rattle.std.specs.List.{slice_get}
 use Rattle.std.proofs.lemmas.List.{get_or_read}
 use Rattle.md_clique.specs.declared.search.State.TheVariants.{New, Open, Closed}
@@ -65,3 +66,9 @@ returns-in-Closed c =
     let a = (goal.at.returns-in-Closed c).After-index-left in
     may_pass_closed c.args.links.now (kept c.args.self.now) c.requires.stands c.index-node.result.now (c.index-left.result.now - 1) (look a c.if-left-eq0.false) c.in-Closed.field-0
     (state_read c.args.links.now c.args.self.now.states.items c.requires.within (c.index-left.result.now - 1) (there a c.if-left-eq0.false) c.index.result.now c.index.ensures (Closed c.in-Closed.field-0) c.in-Closed.is)
+
+pub returns-in_default : goal.returns-in_default
+returns-in_default c = grind (arith, common_steps)
+
+pub returns-then-left-eq0 : goal.returns-then-left-eq0
+returns-then-left-eq0 c = grind (arith, common_steps)

@@ -1,4 +1,5 @@
-use Rattle.std.proofs.Common.{◌≡◌, true, not, Some, rules}
+use Rattle.std.proofs.Common.{◌≡◌, true, not, Some, rules, arith}
+use Rattle.std.proofs.lemmas.Grind.{common_steps}
 use Rattle.std.specs.Prelude.{slice_get}
 use Rattle.std.specs.List.{list_any}
 use Rattle.std.proofs.lemmas.Option.{slice_get_read}
@@ -33,3 +34,12 @@ pub returns-else-caller-callee-clause-added : goal.returns-else-caller-callee-cl
 returns-else-caller-callee-clause-added c =
     let at : slice_get c.self.inside.nodes.items c.args.callee ≡ Some c.number-proc.result = search (rules, slice_get_read) in
     fresh_is c.self.inside.nodes.items c.self.inside.links.items c.self.inside.keys.keys c.self.inside.reached.items c.args.caller c.args.site c.args.callee c.number-proc.result c.in_ok-insert.field-0 true c.args.self.now c.self.invariant at c.self.view_is c.if-not-branch.false c.in_ok-insert.ensures.added
+
+pub returns-then-caller-callee-clause-links : goal.returns-then-caller-callee-clause-links
+returns-then-caller-callee-clause-links c = grind (arith, common_steps)
+
+pub returns-then-not-branch-clause-links : goal.returns-then-not-branch-clause-links
+returns-then-not-branch-clause-links c = grind (arith, common_steps)
+
+pub returns-else-caller-callee-clause-links : goal.returns-else-caller-callee-clause-links
+returns-else-caller-callee-clause-links c = grind (arith, common_steps)

@@ -1,4 +1,5 @@
-use Rattle.std.proofs.Common.{◌≡◌, ℕ, ◌∙◌, sym, ap, refl, true, false, Vec, List, Bool, not}
+use Rattle.std.proofs.Common.{◌≡◌, ℕ, ◌∙◌, sym, ap, refl, true, false, Vec, List, Bool, not, arith}
+use Rattle.std.proofs.lemmas.Grind.{common_steps}
 use Rattle.std.specs.Str.{bytes_eq}
 use Rattle.std.specs.List.{list_any}
 use Rattle.std.specs.declared.alloc.Global.{Global}
@@ -20,3 +21,9 @@ pub returns-clause-added : goal.returns-clause-added
 returns-clause-added c =
     told_of c.in_ok-key.key.items c.args.name c.self.inside.names.items c.args.self.now c.in_ok-insert.field-0 true (c.in_ok-key.ensures.items ∙ c.as_bytes.ensures.bytes) c.self.view_is c.if-not-branch.false
     (told_by_keys (λ (k : Vec ℕ Global). k.items) (bytes_eq c.in_ok-key.key.items) c.self.inside.keys.keys c.self.inside.names.items true c.in_ok-insert.field-0 c.self.invariant refl c.in_ok-insert.ensures.added)
+
+pub returns-clause-names : goal.returns-clause-names
+returns-clause-names c = grind (arith, common_steps)
+
+pub returns-then-not-branch-clause-names : goal.returns-then-not-branch-clause-names
+returns-then-not-branch-clause-names c = grind (arith, common_steps)

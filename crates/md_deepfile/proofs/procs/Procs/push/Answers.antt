@@ -1,4 +1,5 @@
-use Rattle.std.proofs.Common.{◌≡◌, ℕ, ◌∙◌, ap, true, false, not, ◌&&◌, ◌==◌, Vec, List, map, rules}
+use Rattle.std.proofs.Common.{◌≡◌, ℕ, ◌∙◌, ap, true, false, not, ◌&&◌, ◌==◌, Vec, List, map, rules, arith}
+use Rattle.std.proofs.lemmas.Grind.{common_steps}
 use Rattle.std.specs.Str.{bytes_eq}
 use Rattle.std.specs.List.{list_any}
 use Rattle.std.specs.declared.alloc.Global.{Global}
@@ -25,3 +26,6 @@ invariant_of-self-2 c =
     c.self.inside.keys.keys c.insert.new.self.keys c.self.inside.procs.items c.push.new.self.items (c.args.home, c.in_ok-from_slice.field-0) (proc_of c.args.home c.args.bytes.now c.args.arity)
     c.self.invariant (none_has c.args.home name c.args.bytes.now c.self.inside.procs.items c.args.self.now c.in_ok-from_slice.ensures.items c.self.view_is c.requires)
     c.in_ok-insert.ensures.keys (search rules) (ap (λ (x : List ℕ). (c.args.home, x)) c.in_ok-from_slice.ensures.items)
+
+pub returns : goal.returns
+returns c = grind (arith, common_steps)

@@ -1,4 +1,5 @@
-use Rattle.std.proofs.Common.{◌+◌, subst, sym, refl}
+use Rattle.std.proofs.Common.{◌+◌, subst, sym, refl, arith}
+use Rattle.std.proofs.lemmas.Grind.{common_steps}
 use Rattle.md_deepfile.specs.Fields.{flag_told}
 use Rattle.md_deepfile.specs.State.{state_of, form_at, width, FollowsByte, IsReadyPart}
 use Rattle.md_deepfile.specs.declared.part.Part.{Part}
@@ -29,3 +30,30 @@ pub returns-in-Name-clause-follows : goal.returns-in-Name-clause-follows
 returns-in-Name-clause-follows c =
     let s = state_of c.args.self.now in
     subst (λ (p : Part). FollowsByte (form_at p s) c.args.next s.at (state_of c.name_byte.new.self) c.name_byte.result) (sym c.in-Name.is) (name_follows c.in-Name.which s c.args.next (state_of c.name_byte.new.self) c.name_byte.result (subst (λ (p : Part). IsReadyPart p s) c.in-Name.is c.requires.part) c.name_byte.ensures.follows)
+
+pub returns-in-Name-clause-ready : goal.returns-in-Name-clause-ready
+returns-in-Name-clause-ready c = grind (arith, common_steps)
+
+pub returns-in-Length-clause-ready : goal.returns-in-Length-clause-ready
+returns-in-Length-clause-ready c = grind (arith, common_steps)
+
+pub returns-in-Magic-clause-ready : goal.returns-in-Magic-clause-ready
+returns-in-Magic-clause-ready c = grind (arith, common_steps)
+
+pub returns-in-Number-clause-ready : goal.returns-in-Number-clause-ready
+returns-in-Number-clause-ready c = grind (arith, common_steps)
+
+pub returns-in-Arity-clause-follows : goal.returns-in-Arity-clause-follows
+returns-in-Arity-clause-follows c = grind (arith, common_steps)
+
+pub returns-in-Arity-clause-ready : goal.returns-in-Arity-clause-ready
+returns-in-Arity-clause-ready c = grind (arith, common_steps)
+
+pub returns-in-End-clause-follows : goal.returns-in-End-clause-follows
+returns-in-End-clause-follows c = grind (arith, common_steps)
+
+pub returns-in-End-clause-ready : goal.returns-in-End-clause-ready
+returns-in-End-clause-ready c = grind (arith, common_steps)
+
+pub returns-in-Flag-clause-ready : goal.returns-in-Flag-clause-ready
+returns-in-Flag-clause-ready c = grind (arith, common_steps)

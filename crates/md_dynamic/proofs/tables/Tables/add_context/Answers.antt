@@ -1,4 +1,5 @@
 use Rattle.std.proofs.Common.{ℕ, All, IfSome, List, ◌<◌, ◌≡◌, ◌≤◌, ◌+◌, ◌++◌, ◌∷◌, [], None, Some, MatchOption, replicate, length, set, slice_get, sym, ap, subst, ◌∙◌, arith}
+use Rattle.std.proofs.lemmas.Grind.{common_steps}
 use Rattle.md_static.specs.declared.entry.Site.{Site}
 use Rattle.md_static.specs.Tables.{callee_of}
 use Rattle.md_static.specs.Sites.{sites_of}
@@ -50,3 +51,21 @@ invariant_of-self-2 g c =
     (c.push_empty.ensures.slots ∙ ap (λ n. c.enter.new.slots.items ++ replicate n (slot_of None)) own)
     (c.push_reserved-3.ensures.items ∙ ap (λ xs. xs ++ c.row.result ∷ []) c.in_ok-take_room.ensures.links ∙ ap (λ (x : LinkRow). t.links.items ++ x ∷ []) (c.row.ensures ∙ ap (λ n. link_row c.args.node c.args.site n c.args.calls) end))
     few
+
+pub returns-clause-ok : goal.returns-clause-ok
+returns-clause-ok g c = grind (arith, common_steps)
+
+pub returns-clause-err : goal.returns-clause-err
+returns-clause-err g c = grind (arith, common_steps)
+
+pub returns-clause-statics : goal.returns-clause-statics
+returns-clause-statics g c = grind (arith, common_steps)
+
+pub returns-clause-cost : goal.returns-clause-cost
+returns-clause-cost g c = grind (arith, common_steps)
+
+pub returns-clause-cost_refused : goal.returns-clause-cost_refused
+returns-clause-cost_refused g c = grind (arith, common_steps)
+
+pub returns-clause-forward : goal.returns-clause-forward
+returns-clause-forward g c = grind (arith, common_steps)

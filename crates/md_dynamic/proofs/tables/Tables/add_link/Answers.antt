@@ -1,4 +1,5 @@
 use Rattle.std.proofs.Common.{ℕ, ◌<◌, ◌≡◌, ◌++◌, ◌∷◌, [], Some, length, slice_get, sym, ap, ◌∙◌, arith}
+use Rattle.std.proofs.lemmas.Grind.{common_steps}
 use Rattle.md_dynamic.specs.declared.link.LinkRow.{LinkRow}
 use Rattle.md_dynamic.specs.Rows.{Rows}
 use Rattle.md_dynamic.proofs.Growth.{place-bound, adding, link-tables}
@@ -23,3 +24,21 @@ invariant_of-self-2 g c =
     c.self.invariant a end
     (c.push_reserved.ensures.items ∙ ap (λ xs. xs ++ c.row.result ∷ []) c.in_ok-reserve.ensures.items ∙ ap (λ (x : LinkRow). t.links.items ++ x ∷ []) c.row.ensures)
     few
+
+pub returns-clause-ok : goal.returns-clause-ok
+returns-clause-ok g c = grind (arith, common_steps)
+
+pub returns-clause-err : goal.returns-clause-err
+returns-clause-err g c = grind (arith, common_steps)
+
+pub returns-clause-statics : goal.returns-clause-statics
+returns-clause-statics g c = grind (arith, common_steps)
+
+pub returns-clause-cost : goal.returns-clause-cost
+returns-clause-cost g c = grind (arith, common_steps)
+
+pub returns-clause-cost_refused : goal.returns-clause-cost_refused
+returns-clause-cost_refused g c = grind (arith, common_steps)
+
+pub returns-clause-forward : goal.returns-clause-forward
+returns-clause-forward g c = grind (arith, common_steps)

@@ -1,4 +1,5 @@
-use Rattle.std.proofs.Common.{ℕ, List, ◌≡◌, ◌∷◌, [], None, length, replicate, refl, ap, ◌∙◌, subst}
+use Rattle.std.proofs.Common.{ℕ, List, ◌≡◌, ◌∷◌, [], None, length, replicate, refl, ap, ◌∙◌, subst, arith}
+use Rattle.std.proofs.lemmas.Grind.{common_steps}
 use Rattle.md_static.specs.declared.entry.Site.{Site}
 use Rattle.md_dynamic.specs.Links.{root_row}
 use Rattle.md_dynamic.specs.Slots.{slot_of}
@@ -18,3 +19,6 @@ invariant_of-result c =
     let root : c.in_ok-links.links.items ≡ root_row ∷ [] = c.in_ok-links.ensures.items ∙ ap (λ r. r ∷ []) c.root_link.ensures in
     first-tables s spans c.args.main c.index.result.now.count c.number.result c.index.result.now c.in_ok-nodes.nodes.items c.in_ok-firsts.firsts.items c.in_ok-slots.slots.items c.new.result.entries c.in_ok-links.links.items c.in_ok-active.active.items
     c.requires.sound right c.requires.main_there c.number.ensures c.index.ensures refl c.in_ok-nodes.ensures.items c.in_ok-firsts.ensures.items slots c.new.ensures.empty root active
+
+pub returns : goal.returns
+returns c = grind (arith, common_steps)

@@ -1,4 +1,5 @@
 use Rattle.std.proofs.Common.{◌≡◌, length, ap, arith}
+use Rattle.std.proofs.lemmas.Grind.{common_steps}
 use Rattle.md_heap.specs.declared.row.Row.{Row}
 use Rattle.md_heap.specs.declared.value.Value.TheVariants.{Cell}
 use Rattle.md_heap.specs.Layout.{cells_of}
@@ -52,3 +53,6 @@ returns-clause-stays c =
     let is = built t.rows.items c.reserve.new.self.items c.push_reserved.new.self.items t.parts.items c.extend_from_slice.new.self.items c.args.parts.now c.args.self.now row
     c.self.invariant c.self.view_is c.in_ok-reserve.ensures.items c.push_reserved.ensures.items c.in_ok-extend_from_slice.ensures.items first c.requires.there in
     old-stays (cells_of c.push_reserved.new.self.items c.extend_from_slice.new.self.items) c.args.self.now (record { head = c.args.head; parts = c.args.parts.now }) is.cells
+
+pub returns-clause-err : goal.returns-clause-err
+returns-clause-err c = grind (arith, common_steps)

@@ -1,4 +1,5 @@
-use Rattle.std.proofs.Common.{Some}
+use Rattle.std.proofs.Common.{Some, arith}
+use Rattle.std.proofs.lemmas.Grind.{common_steps}
 use Rattle.std.proofs.lemmas.List.Elements.{All-pop}
 use Rattle.md_heap.specs.Pending.{IsFrame}
 use Rattle.md_heap.proofs.Frames.{next-more, next-last, part-there}
@@ -33,3 +34,15 @@ returns-else-frame-clause-step c =
       part-there h f.first f.place c.part_at-v.result c.part_at-v.ensures.older is.1.first_there c.part_at-v.ensures.value,
       part-there h f.second f.place c.part_at-w.result c.part_at-w.ensures.older is.1.second_there c.part_at-w.ensures.value,
     )
+
+pub returns-else-frame-clause-frames : goal.returns-else-frame-clause-frames
+returns-else-frame-clause-frames c = grind (arith, common_steps)
+
+pub returns-in_default-clause-frames : goal.returns-in_default-clause-frames
+returns-in_default-clause-frames c = grind (arith, common_steps)
+
+pub returns-in_default-clause-step : goal.returns-in_default-clause-step
+returns-in_default-clause-step c = grind (arith, common_steps)
+
+pub returns-in_default-clause-sum : goal.returns-in_default-clause-sum
+returns-in_default-clause-sum c = grind (arith, common_steps)

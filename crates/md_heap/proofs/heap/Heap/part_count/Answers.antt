@@ -1,4 +1,5 @@
 use Rattle.std.proofs.Common.{◌+◌, ◌<◌, ◌≤◌, length, arith}
+use Rattle.std.proofs.lemmas.Grind.{common_steps}
 use Rattle.md_heap.proofs.Laid.{cell-read, count-next, count-last}
 use Rattle.md_heap.proofs.heap.Heap.part_count.Goals as goal
 
@@ -37,3 +38,9 @@ returns-else-place-len-clause-value c =
     let last : length t.rows.items ≤ c.args.cell + 1 = omega arith in
     let counted = count-last t.rows.items t.parts.items c.args.self.now c.args.cell c.index.result.now c.self.invariant c.self.view_is c.requires c.index.ensures last in
     omega (arith, counted.0, counted.1)
+
+pub returns-then-place-len-clause-older : goal.returns-then-place-len-clause-older
+returns-then-place-len-clause-older c = grind (arith, common_steps)
+
+pub returns-else-place-len-clause-older : goal.returns-else-place-len-clause-older
+returns-else-place-len-clause-older c = grind (arith, common_steps)

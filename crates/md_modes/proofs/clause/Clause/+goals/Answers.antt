@@ -1,4 +1,5 @@
 use Rattle.std.proofs.Common.{◌≡◌, ◌∙◌, refl, sym, ap, arith, subst, false, true, [], ◌∷◌, ◌++◌, List, length, ◌<◌, Ok, Err, add-one, rules}
+use Rattle.std.proofs.lemmas.Grind.{common_steps}
 use Rattle.std.proofs.lemmas.Result.{err_from_is_err_and}
 use Rattle.md_hlds.specs.HldsGoal.{DisjGoal, goal_of, goals_of, expr_of, gathered}
 use Rattle.md_inst.specs.Instantiation.{InstMap}
@@ -464,3 +465,30 @@ check_arm-returns-clause-local t c = c.in_ok-start.ensures.local
 
 pub check_arm-returns-clause-before : goals.check_arm-returns-clause-before
 check_arm-returns-clause-before t c = c.in_ok-start.ensures.before ∙ rw c.deref.ensures.value refl
+
+pub check_condition-returns-clause-notes : goals.check_condition-returns-clause-notes
+check_condition-returns-clause-notes t c = grind (arith, common_steps)
+
+pub check_inside-returns-then-has_some-clause-notes : goals.check_inside-returns-then-has_some-clause-notes
+check_inside-returns-then-has_some-clause-notes t c = grind (arith, common_steps)
+
+pub check_viewed-returns-clause-reaches : goals.check_viewed-returns-clause-reaches
+check_viewed-returns-clause-reaches t c = grind (arith, common_steps)
+
+pub check_condition-returns-then-binds-clause-notes : goals.check_condition-returns-then-binds-clause-notes
+check_condition-returns-then-binds-clause-notes t c = grind (arith, common_steps)
+
+pub check_arm-returns-clause-notes : goals.check_arm-returns-clause-notes
+check_arm-returns-clause-notes t c = grind (arith, common_steps)
+
+pub check_arm-returns-clause-reaches : goals.check_arm-returns-clause-reaches
+check_arm-returns-clause-reaches t c = grind (arith, common_steps)
+
+pub check_inside-returns-clause-notes : goals.check_inside-returns-clause-notes
+check_inside-returns-clause-notes t c = grind (arith, common_steps)
+
+pub check-returns-clause-notes : goals.check-returns-clause-notes
+check-returns-clause-notes t c = grind (arith, common_steps)
+
+pub check-returns-clause-reaches : goals.check-returns-clause-reaches
+check-returns-clause-reaches t c = grind (arith, common_steps)

@@ -1,4 +1,5 @@
-use Rattle.std.proofs.Common.{◌≡◌, ◌∙◌, sym, false, get_or}
+use Rattle.std.proofs.Common.{◌≡◌, ◌∙◌, sym, false, get_or, arith}
+use Rattle.std.proofs.lemmas.Grind.{common_steps}
 use Rattle.md_modes.specs.Branches.{outside}
 use Rattle.md_modes.proofs.Listed.{some-missed, not-less}
 use Rattle.md_modes.proofs.nonlocals.Nonlocals.has_some.Goals as goal
@@ -9,3 +10,9 @@ loop-place-preserved c all vars counts local =
     let missed : outside all vars x ≡ false =
     not-less _ _ _ _ (sym (counts x) ∙ sym c.count_at.ensures) (sym (c.count_of.ensures vars local)) c.if-count_of-count_at.false in
     some-missed (outside all vars) c.args.places.now c.loop-place.place-index c.loop-place-test.true missed (c.loop-place.invariant all vars counts local)
+
+pub returns-then-count_of-count_at : goal.returns-then-count_of-count_at
+returns-then-count_of-count_at c = grind (arith, common_steps)
+
+pub returns : goal.returns
+returns c = grind (arith, common_steps)

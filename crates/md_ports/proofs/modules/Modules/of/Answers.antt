@@ -1,4 +1,5 @@
-use Rattle.std.proofs.Common.{map, drop}
+use Rattle.std.proofs.Common.{map, drop, arith}
+use Rattle.std.proofs.lemmas.Grind.{common_steps}
 use Rattle.md_hlds.specs.Hlds.{hlds_of, procedures_of}
 use Rattle.md_ports.specs.Modules.{module_of}
 use Rattle.md_ports.proofs.Once.{once_first, few_modules}
@@ -18,3 +19,12 @@ invariant_of-result c = (
       (map (module_of (hlds_of c.args.program.now)) (procedures_of (drop c.loop-pred.pred-index c.args.program.now.preds.items)))
       c.loop-pred.invariant.names c.args.program.now.numbered,
 )
+
+pub add_module-requires-in-loop-pred : goal.add_module-requires-in-loop-pred
+add_module-requires-in-loop-pred c = grind (arith, common_steps)
+
+pub loop-pred-preserved : goal.loop-pred-preserved
+loop-pred-preserved c = grind (arith, common_steps)
+
+pub returns : goal.returns
+returns c = grind (arith, common_steps)

@@ -1,4 +1,5 @@
 use Rattle.std.proofs.Common.{◌+◌, ◌<◌, ◌≤◌, ◌≡◌, [], ◌∷◌, ◌++◌, Some, length, slice_get, sym, ap, ◌∙◌, subst, arith}
+use Rattle.std.proofs.lemmas.Grind.{common_steps}
 use Rattle.md_trace.proofs.Lists.{get-within}
 use Rattle.md_dynamic.specs.Rows.{Rows, Owns, MayLead, IsFresh}
 use Rattle.md_record.specs.Kept.{Kept, Stands}
@@ -153,3 +154,18 @@ returns-in_err-link-clause-needed g c =
     let fresh = subst P rows c.in_err-link.ensures.fresh in
     on-err c.from_residual-in_err-link.result (TakesMemory (Stands k) (Some c.args.site) c.args.callee)
     (λ t h st may at. missing-link t h k c.args.site c.args.callee c.current-node.result st (calling t h k c.args.site c.args.callee c.current-node.result st may c.current-node.ensures) fresh at)
+
+pub returns-clause-as_before : goal.returns-clause-as_before
+returns-clause-as_before g c = grind (arith, common_steps)
+
+pub returns-clause-cost_refused : goal.returns-clause-cost_refused
+returns-clause-cost_refused g c = grind (arith, common_steps)
+
+pub returns-clause-needed : goal.returns-clause-needed
+returns-clause-needed g c = grind (arith, common_steps)
+
+pub returns-clause-refused : goal.returns-clause-refused
+returns-clause-refused g c = grind (arith, common_steps)
+
+pub returns-clause-statics : goal.returns-clause-statics
+returns-clause-statics g c = grind (arith, common_steps)

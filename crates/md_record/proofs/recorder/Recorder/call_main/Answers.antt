@@ -1,4 +1,5 @@
 use Rattle.std.proofs.Common.{ℕ, ◌≤◌, ◌≡◌, [], ◌∷◌, ◌++◌, None, length, slice_get, sym, ap, ◌∙◌, subst, arith}
+use Rattle.std.proofs.lemmas.Grind.{common_steps}
 use Rattle.std.specs.Option.{option_map}
 use Rattle.md_base.specs.declared.measure.Measure.TheVariants.{Calls}
 use Rattle.md_trace.specs.Activation.{activations}
@@ -55,3 +56,21 @@ returns-clause-marked g c = λ t h st may.
     let b = marks-call t h k k2 None c.args.callee 0 c.end_of-end.result None st may s (main-old t h c.args.callee may) in
     let B : ℕ → Type 0 = λ j. BelongsTo c.end_of-end.result j None t (the_call h None c.args.callee ∷ h) (length (activations h)) in
     subst B (sym c.new-root.ensures) b
+
+pub returns-clause-as_before : goal.returns-clause-as_before
+returns-clause-as_before g c = grind (arith, common_steps)
+
+pub returns-clause-cost : goal.returns-clause-cost
+returns-clause-cost g c = grind (arith, common_steps)
+
+pub returns-clause-cost_refused : goal.returns-clause-cost_refused
+returns-clause-cost_refused g c = grind (arith, common_steps)
+
+pub returns-clause-needed : goal.returns-clause-needed
+returns-clause-needed g c = grind (arith, common_steps)
+
+pub returns-clause-refused : goal.returns-clause-refused
+returns-clause-refused g c = grind (arith, common_steps)
+
+pub returns-clause-statics : goal.returns-clause-statics
+returns-clause-statics g c = grind (arith, common_steps)

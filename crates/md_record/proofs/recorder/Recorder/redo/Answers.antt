@@ -1,4 +1,5 @@
 use Rattle.std.proofs.Common.{◌≡◌, [], ◌∷◌, ◌++◌, Some, length, slice_get, sym, ap, ◌∙◌, subst, arith}
+use Rattle.std.proofs.lemmas.Grind.{common_steps}
 use Rattle.md_base.specs.declared.measure.Measure.TheVariants.{Redos}
 use Rattle.md_dynamic.specs.Rows.{Rows}
 use Rattle.md_record.specs.Kept.{Kept}
@@ -61,3 +62,9 @@ returns-clause-taken g c = λ t h a st b may.
     let pushed : c.push_reserved.new.self.items ≡ k0.chain ++ (m.middle, m.top) ∷ [] = c.push_reserved.ensures.items ∙ ap (λ (z : Kept). z.chain ++ (m.middle, m.top) ∷ []) c.self.view_is in
     let room : c.push_reserved.new.self.cap ≡ k0.room = c.push_reserved.ensures.capacity ∙ ap (λ (z : Kept). z.room) c.self.view_is in
     kept-redo t h k0 k2 c.count.new.self a m.top m.middle c.proc_of-proc.result m.old st b at below may counts c.set_active.ensures.value pushed room
+
+pub returns-clause-cost : goal.returns-clause-cost
+returns-clause-cost g c = grind (arith, common_steps)
+
+pub returns-clause-statics : goal.returns-clause-statics
+returns-clause-statics g c = grind (arith, common_steps)

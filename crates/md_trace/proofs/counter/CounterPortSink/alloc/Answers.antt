@@ -1,4 +1,5 @@
 use Rattle.std.proofs.Common.{◌≡◌, Some, unwrap_or, ◌∙◌, ap, arith}
+use Rattle.std.proofs.lemmas.Grind.{common_steps}
 use Rattle.md_trace.specs.Activation.{activations, procedure_of}
 use Rattle.md_trace.specs.PortHistory.{current}
 use Rattle.md_trace.proofs.Histories.{procedure-of-table}
@@ -36,3 +37,9 @@ returns-in_default-clause-taken c = λ t h for may.
     let a = unwrap_or (current h) 0 in
     let top = top-is t h c.args.self.now a for may in
     absurd (cc (top.2, c.in_default.ensures))
+
+pub returns-in_default-clause-alike : goal.returns-in_default-clause-alike
+returns-in_default-clause-alike c = grind (arith, common_steps)
+
+pub returns-in-Some-clause-alike : goal.returns-in-Some-clause-alike
+returns-in-Some-clause-alike c = grind (arith, common_steps)

@@ -1,0 +1,9 @@
+use Rattle.std.proofs.Common.{arith}
+use Rattle.std.proofs.lemmas.Grind.{common_steps}
+use Rattle.md_deepfile.proofs.spelled.put_each.Goals as goal
+
+pub loop-thing-preserved : goal.loop-thing-preserved
+loop-thing-preserved g c = grind (arith, common_steps)
+
+pub returns : goal.returns
+returns g c = grind (arith, common_steps)

@@ -1,0 +1,12 @@
+use Rattle.std.proofs.Common.{arith}
+use Rattle.std.proofs.lemmas.Grind.{common_steps}
+use Rattle.md_modes.proofs.declarations.+check_arguments.Goals as goal
+
+pub returns-in_err-check_argument-in-len1-up : goal.returns-in_err-check_argument-in-len1-up
+returns-in_err-check_argument-in-len1-up t c = grind (arith, common_steps)
+
+pub returns-in-empty : goal.returns-in-empty
+returns-in-empty t c = grind (arith, common_steps)
+
+pub returns-in_ok-check_argument-in-len1-up : goal.returns-in_ok-check_argument-in-len1-up
+returns-in_ok-check_argument-in-len1-up t c = grind (arith, common_steps)

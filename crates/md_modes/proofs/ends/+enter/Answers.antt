@@ -1,0 +1,12 @@
+use Rattle.std.proofs.Common.{arith}
+use Rattle.std.proofs.lemmas.Grind.{common_steps}
+use Rattle.md_modes.proofs.ends.+enter.Goals as goal
+
+pub returns-in-empty : goal.returns-in-empty
+returns-in-empty t c = grind (arith, common_steps)
+
+pub returns-in-empty-places : goal.returns-in-empty-places
+returns-in-empty-places t c = grind (arith, common_steps)
+
+pub returns-in-len1-up-places : goal.returns-in-len1-up-places
+returns-in-len1-up-places t c = grind (arith, common_steps)

@@ -1,0 +1,12 @@
+use Rattle.std.proofs.Common.{arith}
+use Rattle.std.proofs.lemmas.Grind.{common_steps}
+use Rattle.md_printer.specs.Layout.{laid}
+use Rattle.md_printer.proofs.literal.integer.Goals as goal
+
+pub returns : goal.returns
+unfolding laid
+returns c = grind (arith, common_steps)
+
+pub returns-in_err-sign : goal.returns-in_err-sign
+unfolding laid
+returns-in_err-sign c = grind (arith, common_steps)

@@ -1,0 +1,8 @@
+use Rattle.std.proofs.Common.{arith}
+use Rattle.std.proofs.lemmas.Grind.{common_steps}
+use Rattle.md_printer.specs.Layout.{laid}
+use Rattle.md_printer.proofs.simple.closure_call.Goals as goal
+
+pub returns : goal.returns
+unfolding laid
+returns c = grind (arith, common_steps)

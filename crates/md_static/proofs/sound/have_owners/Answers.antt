@@ -1,0 +1,15 @@
+use Rattle.std.proofs.Common.{arith}
+use Rattle.std.proofs.lemmas.Grind.{common_steps}
+use Rattle.md_static.proofs.sound.have_owners.Goals as goal
+
+pub returns : goal.returns
+returns c = grind (arith, common_steps)
+
+pub all-requires-clause-callable : goal.all-requires-clause-callable
+all-requires-clause-callable c = grind (arith, common_steps)
+
+pub all-requires-clause-can : goal.all-requires-clause-can
+all-requires-clause-can c = grind (arith, common_steps)
+
+pub all-requires-clause-finite : goal.all-requires-clause-finite
+all-requires-clause-finite c = grind (arith, common_steps)
