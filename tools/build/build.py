@@ -2,15 +2,16 @@
 """Builds the program mdprof: proves the libraries that it stands on, those that don't wait for each other side by side,
 and then the program. Tells on the error stream at which crate it is.
 
-One run of rt holds all libraries below its crate, so crates that are built side by side are built in copies of the
-sources, in a temporary folder; what comes of a library is copied to the repository and to the other copies.
+It calls the kit's compiler itself, as `rt ci` does: what is built of a library then has its statements without their
+proofs, which the crates above load in a fraction of the time. It stays in the crate's folder out/build, and is built again
+where a source of the crate or of one below has changed.
 """
 
+import hashlib
 import os
 import shutil
 import subprocess
 import sys
-import tempfile
 from concurrent.futures import FIRST_COMPLETED, ThreadPoolExecutor, wait
 
 ROOT = os.path.dirname(os.path.dirname(os.path.dirname(os.path.abspath(__file__))))
@@ -24,32 +25,126 @@ def say(text):
     print(f"mdprof: {text}", file=sys.stderr, flush=True)
 
 
+class Crate:
+    """A crate of the repository: its name, the libraries that it names, and all of the repository's libraries below it."""
+
+    def __init__(self, name, uses):
+        self.name, self.uses, self.below = name, uses, set()
+        self.folder = f"{ROOT}/crates/{name}"
+        self.built = f"{self.folder}/out/build"
+        self.rlib = f"{self.built}/{name}.rlib"
+        self.files = sorted(f"{at}/{it}" for part in SOURCES for at, _, names in os.walk(f"{self.folder}/{part}") for it in names)
+        texts = [read(it) for it in self.files]
+        self.lines = sum(it.count(b"\n") for it in texts)
+        self.sum = hashlib.sha256(repr((uses, [os.path.relpath(it, ROOT) for it in self.files], texts)).encode())
+
+    def words(self, kit, crates, jobs):
+        """The compiler's words for this crate: its root, the libraries that it names and those below, and the kit's logic."""
+        words = ["--crate-name", self.name, "src/main.rt" if self.name == PROGRAM else "src/lib.rt"]
+        for it in ["std", *self.uses]:
+            words += ["--extern", f"{it}={crates[it].rlib if it in crates else f'{kit}/rlibs/{it}.rlib'}"]
+        for it in [f"{kit}/rlibs", *(crates[it].built for it in sorted(self.below))]:
+            words += ["-L", f"dependency={it}"]
+        words += ["--antt-project", f"{kit}/rattle/logic/antt-project.json", "--logic-built", f"{kit}/logic_built"]
+        return [*words, "--jobs", str(jobs)]
+
+    def run(self, *words):
+        """Runs a command in the crate's folder, and tells how it ended where it failed. Returns whether it succeeded."""
+        with open(f"{self.built}/log", "w+", encoding="utf-8", errors="replace") as log:
+            how = {"stdin": subprocess.DEVNULL, "stdout": log, "stderr": subprocess.STDOUT}
+            if not subprocess.run(words, cwd=self.folder, check=False, **how).returncode:
+                return True
+            log.seek(0)
+            sys.stderr.write("".join(log.readlines()[-5:]))
+            say(f"{self.name} can't be built")
+            return False
+
+
+def read(file):
+    with open(file, "rb") as it:
+        return it.read()
+
+
 def needed():
-    """The crates that the program stands on and the program itself, each with those of the repository on which it stands."""
-    stands_on = {}
+    """The crates that the program stands on and the program itself, by name."""
+    uses = {}
     with open(f"{ROOT}/crates.txt", encoding="utf-8") as lines:
         for line in lines:
             name, colon, libraries = line.split("#")[0].partition(":")
             if colon:
-                stands_on[name.strip()] = libraries.split()
-    own = lambda name: [it for it in stands_on[name] if it in stands_on]
-    found, left = {}, [PROGRAM]
+                uses[name.strip()] = libraries.split()
+    crates, left = {}, [PROGRAM]
     while left:
         name = left.pop()
-        if name not in found:
-            found[name] = own(name)
-            left += found[name]
-    return {name: all_below(name, found) for name in found}
+        if name not in crates:
+            crates[name] = Crate(name, uses[name])
+            left += [it for it in uses[name] if it in uses]
+    for it in crates.values():
+        add_below(it, it, crates)
+    return crates
 
 
-def all_below(name, stands_on):
-    below, left = set(), [*stands_on[name]]
-    while left:
-        it = left.pop()
-        if it not in below:
-            below.add(it)
-            left += stands_on[it]
-    return below
+def add_below(to, crate, crates):
+    for name in crate.uses:
+        if name in crates and name not in to.below:
+            to.below.add(name)
+            add_below(to, crates[name], crates)
+
+
+def sums(kit, crates):
+    """For each crate a sum of all that it is built from: the kit, its own sources, and those of the crates below it."""
+    found = {}
+    for crate in crates.values():
+        whole = hashlib.sha256(read(f"{kit}/KIT-ID"))
+        for name in sorted([crate.name, *crate.below]):
+            whole.update(crates[name].sum.digest())
+        found[crate.name] = whole.hexdigest()
+    return found
+
+
+def is_current(crate, sum):
+    """Whether the library is built from these sources."""
+    try:
+        return os.path.isdir(crate.rlib) and read(f"{crate.built}/sum").decode() == sum
+    except OSError:
+        return False
+
+
+def build_library(kit, crates, crate, jobs, sum):
+    """Builds a library. Returns whether it could be built."""
+    shutil.rmtree(crate.built, ignore_errors=True)
+    os.makedirs(crate.built)
+    if not crate.run(f"{kit}/bin/rattle", "build", *crate.words(kit, crates, jobs), "--statements", "-o", crate.rlib):
+        return False
+    with open(f"{crate.built}/sum", "w", encoding="utf-8") as it:
+        it.write(sum)
+    return True
+
+
+def build_program(kit, crates, jobs):
+    """Builds the program over its libraries. Returns whether it could be built."""
+    program = crates[PROGRAM]
+    made, toolchain = f"{program.built}/{PROGRAM}.o", ["--toolchain", f"{kit}/toolchain"]
+    os.makedirs(program.built, exist_ok=True)
+    compiles = ["build", *program.words(kit, crates, jobs), *toolchain, "--backend", "llvm", "-o", made]
+    links = ["--target", "x86_64-unknown-linux-gnu", *toolchain, "-o", f"out/{PROGRAM}", made]
+    links += [f"{kit}/c/libos_c.a", f"{kit}/c/liblibc_c.a"]
+    return program.run(f"{kit}/bin/rattle", *compiles) and program.run(f"{kit}/bin/rattle-link", *links)
+
+
+def lines_behind(crates):
+    """For each crate how many lines the longest chain has that begins with it and goes on with crates that wait for it."""
+    behind = {}
+    for crate in sorted(crates.values(), key=lambda it: -len(it.below)):
+        above = [behind[it.name] for it in crates.values() if crate.name in it.below]
+        behind[crate.name] = crate.lines + max(above, default=0)
+    return behind
+
+
+def share(processors, crate, others):
+    """How many processors a crate gets: its part of the lines of all that could be built beside it."""
+    beside = sum(it.lines for it in others if it.name not in crate.below and crate.name not in it.below and it is not crate)
+    return max(1, -(-processors * crate.lines // (crate.lines + beside)))
 
 
 def places():
@@ -60,122 +155,37 @@ def places():
     return max(1, min(processors, free // MEMORY))
 
 
-def copy_sources(to, crates):
-    """Copies the sources of these crates, and the lines of crates.txt that are theirs."""
-    shutil.copy(f"{ROOT}/HANDLES", f"{to}/HANDLES")
-    with open(f"{ROOT}/crates.txt", encoding="utf-8") as lines, open(f"{to}/crates.txt", "w", encoding="utf-8") as out:
-        out.writelines(line for line in lines if line.partition(":")[0].strip() in crates)
-    for name in crates:
-        for part in SOURCES:
-            if os.path.isdir(f"{ROOT}/crates/{name}/{part}"):
-                shutil.copytree(f"{ROOT}/crates/{name}/{part}", f"{to}/crates/{name}/{part}")
-
-
-def link_or_copy(one, other):
-    try:
-        os.link(one, other)
-    except OSError:
-        shutil.copy2(one, other)
-
-
-def copy_built(name, one, other):
-    """Gives a copy what was built of a library in another one."""
-    built, to = f"{one}/crates/{name}/out/rlib", f"{other}/crates/{name}/out/rlib"
-    if os.path.isdir(built):
-        shutil.rmtree(to, ignore_errors=True)
-        shutil.copytree(built, to, copy_function=link_or_copy)
-
-
-def run(folder, words, log):
-    with open(log, "w", encoding="utf-8") as out:
-        return subprocess.run(words, cwd=folder, stdin=subprocess.DEVNULL, stdout=out, stderr=subprocess.STDOUT, check=False).returncode
-
-
-def tell_end(log):
-    with open(log, encoding="utf-8", errors="replace") as lines:
-        sys.stderr.write("".join(lines.readlines()[-5:]))
-
-
-def build_library(name, below, copy, jobs):
-    """Builds a library in a copy, and gives the repository what came of it. Returns whether it could be built."""
-    for it in (*below, name):
-        if it == name or not os.path.isdir(f"{copy}/crates/{it}/out/rlib"):
-            copy_built(it, ROOT, copy)
-    log = f"{copy}/{name}.log"
-    if run(f"{copy}/crates/{name}", ["rt", "lib", "--jobs", str(jobs)], log):
-        tell_end(log)
-        return False
-    copy_built(name, copy, ROOT)
-    return True
-
-
-def lines_of(name):
-    """How many lines of sources a crate has."""
-    lines = 0
-    for part in SOURCES:
-        for folder, _, names in os.walk(f"{ROOT}/crates/{name}/{part}"):
-            for it in names:
-                with open(f"{folder}/{it}", "rb") as text:
-                    lines += text.read().count(b"\n")
-    return lines
-
-
-def by_chain(libraries):
-    """The libraries, first those that the longest chain of others waits for."""
-    lines = {name: lines_of(name) for name in libraries}
-    behind = dict(lines)
-    for name in sorted(libraries, key=lambda it: -len(libraries[it])):
-        for it in libraries[name]:
-            behind[it] = max(behind[it], lines[it] + behind[name])
-    return {name: libraries[name] for name in sorted(libraries, key=lambda it: -behind[it])}
-
-
-def build_libraries(libraries, copies, total):
-    """Builds each library once those below it are built. Returns whether all could be built."""
-    left, built, running, free = by_chain(libraries), set(), {}, list(copies)
-    with ThreadPoolExecutor(len(copies)) as pool:
+def build_libraries(kit, crates, processors):
+    """Builds each library that isn't current once those below it are. Returns whether all could be built."""
+    sum, behind = sums(kit, crates), lines_behind(crates)
+    left = sorted((it for it in crates.values() if it.name != PROGRAM), key=lambda it: -behind[it.name])
+    anew = [it for it in left if any(not is_current(crates[name], sum[name]) for name in [it.name, *it.below])]
+    built, running, left = {it.name for it in left if it not in anew}, {}, anew
+    with ThreadPoolExecutor(processors) as pool:
         while left or running:
-            ready = [name for name in left if left[name] <= built]
-            for name in ready[: len(free)]:
-                jobs = max(1, len(free) // len(ready)) if len(ready) <= len(free) else 1
-                copy = free.pop()
-                say(f"building {name} ({total - len(left)} of {total})")
-                running[pool.submit(build_library, name, left.pop(name), copy, jobs)] = name, copy
+            for crate in [it for it in left if it.below <= built][: processors - len(running)]:
+                say(f"building {crate.name} ({len(crates) - len(left)} of {len(crates)})")
+                jobs = share(processors, crate, [*left, *running.values()])
+                left.remove(crate)
+                running[pool.submit(build_library, kit, crates, crate, jobs, sum[crate.name])] = crate
             for it in wait(running, return_when=FIRST_COMPLETED).done:
-                name, copy = running.pop(it)
-                free.append(copy)
+                built.add(running.pop(it).name)
                 if not it.result():
-                    say(f"{name} can't be built")
                     return False
-                built.add(name)
-    return True
-
-
-def build(room):
-    crates = needed()
-    libraries = {name: below for name, below in crates.items() if name != PROGRAM}
-    copies = [f"{room}/{number}" for number in range(places())]
-    for copy in copies:
-        os.makedirs(copy)
-        copy_sources(copy, crates)
-    if not build_libraries(libraries, copies, len(crates)):
-        return False
-    say(f"building {PROGRAM} ({len(crates)} of {len(crates)})")
-    log = f"{room}/{PROGRAM}.log"
-    run(f"{ROOT}/crates/{PROGRAM}", ["rt", "run", "--jobs", str(len(copies))], log)
-    if not os.path.isfile(f"{ROOT}/crates/{PROGRAM}/out/{PROGRAM}"):
-        tell_end(log)
-        return False
     return True
 
 
 def main():
-    if not shutil.which("rt"):
+    rt = shutil.which("rt")
+    if not rt:
         say("the command rt isn't on the path")
         return 1
     say("the program is being built and proved, which takes a while the first time")
-    with tempfile.TemporaryDirectory(prefix="mdprof-build-") as room:
-        return 0 if build(room) else 1
+    kit, crates, processors = os.path.dirname(os.path.dirname(os.path.realpath(rt))), needed(), places()
+    if not build_libraries(kit, crates, processors):
+        return 1
+    say(f"building {PROGRAM} ({len(crates)} of {len(crates)})")
+    return 0 if build_program(kit, crates, processors) else 1
 
 
 if __name__ == "__main__":
