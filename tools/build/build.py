@@ -166,9 +166,6 @@ def build_libraries(kit, crates, processors):
             for crate in [it for it in left if it.below <= built][: processors - len(running)]:
                 say(f"building {crate.name} ({len(crates) - len(left)} of {len(crates)})")
                 jobs = share(processors, crate, [*left, *running.values()])
-                if crate is left[0]:
-                    # Nothing that is left has a longer chain of crates that wait for it.
-                    jobs = max(jobs, processors // 2)
                 left.remove(crate)
                 running[pool.submit(build_library, kit, crates, crate, jobs, sum[crate.name])] = crate
             for it in wait(running, return_when=FIRST_COMPLETED).done:
