@@ -4,21 +4,27 @@ and then the program. Tells on the error stream at which crate it is.
 
 It calls the kit's compiler itself, as `rt ci` does: what is built of a library then has its statements without their
 proofs, which the crates above load in a fraction of the time. It stays in the crate's folder out/build, and is built again
-where a source of the crate or of one below has changed.
+where a source of the crate or of one below has changed. In one clone one run builds at a time.
 """
 
+import fcntl
 import hashlib
 import os
+import re
 import shutil
 import subprocess
 import sys
+import time
 from concurrent.futures import FIRST_COMPLETED, ThreadPoolExecutor, wait
 
 ROOT = os.path.dirname(os.path.dirname(os.path.dirname(os.path.abspath(__file__))))
 PROGRAM = "mdprof"
+PLACE = f"{ROOT}/crates/{PROGRAM}/out/{PROGRAM}"
 # What a check takes of memory, in bytes.
 MEMORY = 2_000_000_000
 SOURCES = ("src", "specs", "proofs")
+# Lines of the compiler that say why a crate isn't built.
+CAUSES = re.compile(r"\berror\b|\bnot proved that\b|: not proved$|: no proof$|could not tell")
 
 
 def say(text):
@@ -49,15 +55,16 @@ class Crate:
         return [*words, "--jobs", str(jobs)]
 
     def run(self, *words):
-        """Runs a command in the crate's folder, and tells how it ended where it failed. Returns whether it succeeded."""
+        """Runs a command in the crate's folder, and tells why it failed where it did. Returns whether it succeeded."""
         with open(f"{self.built}/log", "w+", encoding="utf-8", errors="replace") as log:
             how = {"stdin": subprocess.DEVNULL, "stdout": log, "stderr": subprocess.STDOUT}
             if not subprocess.run(words, cwd=self.folder, check=False, **how).returncode:
                 return True
             log.seek(0)
-            sys.stderr.write("".join(log.readlines()[-5:]))
-            say(f"{self.name} can't be built")
-            return False
+            said = log.readlines()
+        sys.stderr.writelines([it for it in said if CAUSES.search(it)][:10] or said[-5:])
+        say(f"{self.name} can't be built; {os.path.relpath(log.name, ROOT)} has all that was said")
+        return False
 
 
 def read(file):
@@ -103,11 +110,16 @@ def sums(kit, crates):
 
 
 def is_current(crate, sum):
-    """Whether the library is built from these sources."""
+    """Whether the library is built from these sources, or the program, and nothing else was put in its place."""
     try:
-        return os.path.isdir(crate.rlib) and read(f"{crate.built}/sum").decode() == sum
+        made = sum_of_program(sum) if crate.name == PROGRAM else os.path.isdir(crate.rlib) and sum
+        return made and read(f"{crate.built}/sum").decode() == made
     except OSError:
         return False
+
+
+def sum_of_program(sum):
+    return f"{sum} {hashlib.sha256(read(PLACE)).hexdigest()}"
 
 
 def build_library(kit, crates, crate, jobs, sum):
@@ -116,20 +128,27 @@ def build_library(kit, crates, crate, jobs, sum):
     os.makedirs(crate.built)
     if not crate.run(f"{kit}/bin/rattle", "build", *crate.words(kit, crates, jobs), "--statements", "-o", crate.rlib):
         return False
-    with open(f"{crate.built}/sum", "w", encoding="utf-8") as it:
-        it.write(sum)
+    write_sum(crate, sum)
     return True
 
 
-def build_program(kit, crates, jobs):
-    """Builds the program over its libraries. Returns whether it could be built."""
+def write_sum(crate, sum):
+    with open(f"{crate.built}/sum", "w", encoding="utf-8") as it:
+        it.write(sum)
+
+
+def build_program(kit, crates, jobs, sum):
+    """Builds the program over its libraries, and puts it in its place once it is whole. Returns whether it could be built."""
     program = crates[PROGRAM]
-    made, toolchain = f"{program.built}/{PROGRAM}.o", ["--toolchain", f"{kit}/toolchain"]
-    os.makedirs(program.built, exist_ok=True)
-    compiles = ["build", *program.words(kit, crates, jobs), *toolchain, "--backend", "llvm", "-o", made]
-    links = ["--target", "x86_64-unknown-linux-gnu", *toolchain, "-o", f"out/{PROGRAM}", made]
+    made, toolchain = f"{program.built}/{PROGRAM}", ["--toolchain", f"{kit}/toolchain"]
+    compiles = ["build", *program.words(kit, crates, jobs), *toolchain, "--backend", "llvm", "-o", f"{made}.o"]
+    links = ["--target", "x86_64-unknown-linux-gnu", *toolchain, "-o", made, f"{made}.o"]
     links += [f"{kit}/c/libos_c.a", f"{kit}/c/liblibc_c.a"]
-    return program.run(f"{kit}/bin/rattle", *compiles) and program.run(f"{kit}/bin/rattle-link", *links)
+    if not (program.run(f"{kit}/bin/rattle", *compiles) and program.run(f"{kit}/bin/rattle-link", *links)):
+        return False
+    os.replace(made, PLACE)
+    write_sum(program, sum_of_program(sum))
+    return True
 
 
 def lines_behind(crates):
@@ -155,9 +174,9 @@ def places():
     return max(1, min(processors, free // MEMORY))
 
 
-def build_libraries(kit, crates, processors):
+def build_libraries(kit, crates, processors, sum):
     """Builds each library that isn't current once those below it are. Returns whether all could be built."""
-    sum, behind = sums(kit, crates), lines_behind(crates)
+    behind = lines_behind(crates)
     left = sorted((it for it in crates.values() if it.name != PROGRAM), key=lambda it: -behind[it.name])
     anew = [it for it in left if any(not is_current(crates[name], sum[name]) for name in [it.name, *it.below])]
     built, running, left = {it.name for it in left if it not in anew}, {}, anew
@@ -175,17 +194,36 @@ def build_libraries(kit, crates, processors):
     return True
 
 
+def build(kit, processors):
+    """Builds what isn't current. Returns whether the program is."""
+    begun, crates = time.time(), needed()
+    sum, program = sums(kit, crates), crates[PROGRAM]
+    if not is_current(program, sum[PROGRAM]):
+        say("the program is being built and proved, which takes a while the first time")
+        if not build_libraries(kit, crates, processors, sum):
+            return False
+        say(f"building {PROGRAM} ({len(crates)} of {len(crates)})")
+        if not build_program(kit, crates, processors, sum[PROGRAM]):
+            return False
+    # A source that was changed since it was read is newer.
+    os.utime(PLACE, (begun, begun))
+    return True
+
+
 def main():
     rt = shutil.which("rt")
     if not rt:
         say("the command rt isn't on the path")
         return 1
-    say("the program is being built and proved, which takes a while the first time")
-    kit, crates, processors = os.path.dirname(os.path.dirname(os.path.realpath(rt))), needed(), places()
-    if not build_libraries(kit, crates, processors):
-        return 1
-    say(f"building {PROGRAM} ({len(crates)} of {len(crates)})")
-    return 0 if build_program(kit, crates, processors) else 1
+    kit, room = os.path.dirname(os.path.dirname(os.path.realpath(rt))), f"{os.path.dirname(PLACE)}/build"
+    os.makedirs(room, exist_ok=True)
+    with open(f"{room}/lock", "w", encoding="utf-8") as lock:
+        try:
+            fcntl.flock(lock, fcntl.LOCK_EX | fcntl.LOCK_NB)
+        except OSError:
+            say("waiting for another run that builds it")
+            fcntl.flock(lock, fcntl.LOCK_EX)
+        return 0 if build(kit, places()) else 1
 
 
 if __name__ == "__main__":
