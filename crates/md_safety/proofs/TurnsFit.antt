@@ -85,17 +85,17 @@ answered good (Deep ∷ xs) k d i h is = absurd (cc is)
 -- ---- the claim
 
 -- a goal of a clause that the mode rules come to and accept, in an environment that fits what is known before it
-record Placed (s : Hlds) (q : ℕ × Procedure) (strict : Bool) (number : ℕ) (p : HldsGoal) (kn : InstMap) (rest : List ℕ) (a : After) (e : Env) : Type 0 where
-  at : slice_get s.procedures q.0 ≡ Some q.1
-  before : Begins s q strict number p kn
-  tidy : IsTidy p
-  accepted : goal (place s q.1 strict) p kn ≡ Ok a
-  room : HasRoom (clause_variables q.1) (variables p) rest
-  fits : Fits s (variables p ++ rest) kn e
-  chosen : IsChosen s (switches_on before) p e
+pub record Placed (s : Hlds) (q : ℕ × Procedure) (strict : Bool) (number : ℕ) (p : HldsGoal) (kn : InstMap) (rest : List ℕ) (a : After) (e : Env) : Type 0 where
+  pub at : slice_get s.procedures q.0 ≡ Some q.1
+  pub before : Begins s q strict number p kn
+  pub tidy : IsTidy p
+  pub accepted : goal (place s q.1 strict) p kn ≡ Ok a
+  pub room : HasRoom (clause_variables q.1) (variables p) rest
+  pub fits : Fits s (variables p ++ rest) kn e
+  pub chosen : IsChosen s (switches_on before) p e
 
 -- the variables of the goals after it, and those of the head, are among those that are still to come
-abbrev AreToCome : ℕ × Procedure → List Numbered → List ℕ → Type 0
+abbrev pub AreToCome : ℕ × Procedure → List Numbered → List ℕ → Type 0
 AreToCome q goals rest = In' (goals_variables goals ++ q.1.head) rest
 
 abbrev GoOn : Hlds → ℕ → ℕ → List Numbered → List (ℕ × ℕ) → List Frame → List ℕ → After → Type 0
@@ -112,7 +112,7 @@ Below s m = (n : ℕ) → n ≤ m → Claim s n
 
 -- ---- variables
 
-after_same : (vs ws us : List ℕ) → In' ws us → In' (vs ++ ws) (vs ++ us)
+pub after_same : (vs ws us : List ℕ) → In' ws us → In' (vs ++ ws) (vs ++ us)
 after_same vs ws us h x there = elim (cases_lt 0 (times x ws)) [
   | inl lt ↦ let g = h x lt in let e = times-append x vs us in omega (arith, g, e)
   | inr ge ↦ let e = times-append x vs ws in let f = times-append x vs us in omega (arith, there, ge, e, f)
@@ -126,7 +126,7 @@ goals_more x n (also p ps) goals =
     let g = times-append x (variables p) (parts_variables ps) in omega (arith, rest, f, g)
 
 -- what is still to come after a part of a conjunction
-come_after : (q : ℕ × Procedure) (n : ℕ) (ps : HldsGoals) (goals : List Numbered) (rest : List ℕ) → AreToCome q goals rest → AreToCome q (numbered_from n ps ++ goals) (parts_variables ps ++ rest)
+pub come_after : (q : ℕ × Procedure) (n : ℕ) (ps : HldsGoals) (goals : List Numbered) (rest : List ℕ) → AreToCome q goals rest → AreToCome q (numbered_from n ps ++ goals) (parts_variables ps ++ rest)
 come_after q n ps goals rest h x there =
     after_same (parts_variables ps) (goals_variables goals ++ q.1.head) rest h x
     (let a = goals_more x n ps goals in
@@ -135,10 +135,10 @@ come_after q n ps goals rest h x there =
     let d = times-append x (goals_variables goals) q.1.head in omega (arith, there, a, b, c, d))
 
 -- within a condition only the head's variables are still to come
-come_inside : (q : ℕ × Procedure) (goals : List Numbered) (vs rest : List ℕ) → AreToCome q goals rest → AreToCome q [] (vs ++ rest)
+pub come_inside : (q : ℕ × Procedure) (goals : List Numbered) (vs rest : List ℕ) → AreToCome q goals rest → AreToCome q [] (vs ++ rest)
 come_inside q goals vs rest h x there = in_right vs rest x (h x (in_right (goals_variables goals) q.1.head x there))
 
-first_fits : (s : Hlds) (q : ℕ × Procedure) (strict : Bool) (number : ℕ) (p : HldsGoal) (kn : InstMap) (rest : List ℕ) (a : After) (e : Env) (goals : List Numbered)
+pub first_fits : (s : Hlds) (q : ℕ × Procedure) (strict : Bool) (number : ℕ) (p : HldsGoal) (kn : InstMap) (rest : List ℕ) (a : After) (e : Env) (goals : List Numbered)
     → Placed s q strict number p kn rest a e → AreToCome q goals rest → FitsAt s e (numbered_goal number p) goals
 first_fits s q strict number p kn rest a e goals placed come = record {
   procedure = q;
@@ -195,7 +195,7 @@ call_fit s proper m below strict l q held others ys rest kn r f goals js k _ c f
     (on n (omega (arith, lt)) (back between d f.env) i refl (back_fits s proper strict l q held others ys rest kn r f.env d c fits results)))
 
 -- what is taken of the call of a name
-named_call : (s : Hlds) (strict : Bool) (l : ℕ) (name : PredName) (o : Option Procedure) (q : ℕ × Procedure) (ys : List ℕ) (kn r : InstMap) (e : Env)
+pub named_call : (s : Hlds) (strict : Bool) (l : ℕ) (name : PredName) (o : Option Procedure) (q : ℕ × Procedure) (ys : List ℕ) (kn r : InstMap) (e : Env)
     → predicate_called s name ≡ o → procedure_called s name ≡ Some q → AreDistinct ys → call_checked strict l ys o kn ≡ Ok r → Fits s ys kn e → IsCall s strict l q no_values q.1.args ys kn r e
 named_call s strict l name None q ys kn r e is there distinct ok fits = absurd (cc ok)
 named_call s strict l name (Some p) q ys kn r e is there distinct ok fits =
@@ -207,7 +207,7 @@ named_call s strict l name (Some p) q ys kn r e is there distinct ok fits =
     (record { at = called_at s name (n.0, p) n.1; captured = refl; args = handed s strict l p.args ys kn r e fits distinct size a.1; size = size; accepted = a.1 })
 
 -- what is taken of the call of a closure
-closure_call : (s : Hlds) (strict : Bool) (l : ℕ) (o : Option Value) (c : ℕ) (held : Values) (q : ℕ × Procedure) (ys : List ℕ) (t : HldsType) (kn r : InstMap) (e : Env)
+pub closure_call : (s : Hlds) (strict : Bool) (l : ℕ) (o : Option Value) (c : ℕ) (held : Values) (q : ℕ × Procedure) (ys : List ℕ) (t : HldsType) (kn r : InstMap) (e : Env)
     → IsApplied s strict l ys o t kn r → o ≡ Some (Closure c held) → nth_procedure s c ≡ Some q → AreDistinct ys → Fits s ys kn e → (others : List (HldsType × Mode)) × IsCall s strict l q held others ys kn r e
 closure_call s strict l o c held q ys t kn r e app is there distinct fits =
     let number : app.number ≡ c = cc (app.is, is) in
@@ -327,16 +327,16 @@ condition_answers s proper m q number c kn rest a f k d i placed is =
     (condition_fine s m (all_below s proper m) (clause_variables q.1) c kn rest a number f.act f.env k placed.tidy placed.accepted placed.room placed.fits) is
 
 -- what is taken of the parts of an if-then-else
-record PlacedIf (s : Hlds) (q : ℕ × Procedure) (strict : Bool) (number l : ℕ) (c t e : HldsGoal) (kn : InstMap) (rest : List ℕ) (a : After) (d : Env) : Type 0 where
-  condition : After
-  then : After
-  else : After
-  asked : Placed s q true (suc number) c kn (variables t ++ rest) condition d
-  wins : (b : Env) → Fits s (variables t ++ rest) condition.known b → Placed s q strict (suc number + goal_size c) t condition.known rest then b
-  loses : Placed s q strict (suc number + goal_size c + goal_size t) e kn rest else d
-  joins : EndsJoin (outside (clause_variables q.1) (variables c ++ (variables t ++ variables e))) a (then ∷ else ∷ [])
+pub record PlacedIf (s : Hlds) (q : ℕ × Procedure) (strict : Bool) (number l : ℕ) (c t e : HldsGoal) (kn : InstMap) (rest : List ℕ) (a : After) (d : Env) : Type 0 where
+  pub condition : After
+  pub then : After
+  pub else : After
+  pub asked : Placed s q true (suc number) c kn (variables t ++ rest) condition d
+  pub wins : (b : Env) → Fits s (variables t ++ rest) condition.known b → Placed s q strict (suc number + goal_size c) t condition.known rest then b
+  pub loses : Placed s q strict (suc number + goal_size c + goal_size t) e kn rest else d
+  pub joins : EndsJoin (outside (clause_variables q.1) (variables c ++ (variables t ++ variables e))) a (then ∷ else ∷ [])
 
-placed_if : (s : Hlds) (q : ℕ × Procedure) (strict : Bool) (number l : ℕ) (c t e : HldsGoal) (kn : InstMap) (rest : List ℕ) (a : After) (d : Env)
+pub placed_if : (s : Hlds) (q : ℕ × Procedure) (strict : Bool) (number l : ℕ) (c t e : HldsGoal) (kn : InstMap) (rest : List ℕ) (a : After) (d : Env)
     → Placed s q strict number (At l (IfGoal c t e)) kn rest a d → PlacedIf s q strict number l c t e kn rest a d
 placed_if s q strict number l c t e kn rest a d placed =
     let o = if_ok (place s q.1 strict) l c t e kn a placed.accepted in
@@ -381,13 +381,13 @@ placed_if s q strict number l c t e kn rest a d placed =
     }
 
 -- what is taken of a negated or a quantified goal: after it is known what was known before it
-record PlacedOnly (s : Hlds) (q : ℕ × Procedure) (number : ℕ) (c : HldsGoal) (kn : InstMap) (rest : List ℕ) (a : After) (d : Env) : Type 0 where
-  inner : After
-  asked : Placed s q true (suc number) c kn rest inner d
-  reach : a.reach ≡ true
-  fits : Fits s rest a.known d
+pub record PlacedOnly (s : Hlds) (q : ℕ × Procedure) (number : ℕ) (c : HldsGoal) (kn : InstMap) (rest : List ℕ) (a : After) (d : Env) : Type 0 where
+  pub inner : After
+  pub asked : Placed s q true (suc number) c kn rest inner d
+  pub reach : a.reach ≡ true
+  pub fits : Fits s rest a.known d
 
-placed_not : (s : Hlds) (q : ℕ × Procedure) (strict : Bool) (number l : ℕ) (c : HldsGoal) (kn : InstMap) (rest : List ℕ) (a : After) (d : Env)
+pub placed_not : (s : Hlds) (q : ℕ × Procedure) (strict : Bool) (number l : ℕ) (c : HldsGoal) (kn : InstMap) (rest : List ℕ) (a : After) (d : Env)
     → Placed s q strict number (At l (NotGoal c)) kn rest a d → PlacedOnly s q number c kn rest a d
 placed_not s q strict number l c kn rest a d placed =
     let o = not_ok (place s q.1 strict) l c kn a placed.accepted in
@@ -399,7 +399,7 @@ placed_not s q strict number l c kn rest a d placed =
       fits = there.1;
     }
 
-placed_some : (s : Hlds) (q : ℕ × Procedure) (strict : Bool) (number l : ℕ) (vs : List ℕ) (c : HldsGoal) (kn : InstMap) (rest : List ℕ) (a : After) (d : Env)
+pub placed_some : (s : Hlds) (q : ℕ × Procedure) (strict : Bool) (number l : ℕ) (vs : List ℕ) (c : HldsGoal) (kn : InstMap) (rest : List ℕ) (a : After) (d : Env)
     → Placed s q strict number (At l (SomeGoal vs c)) kn rest a d → PlacedOnly s q number c kn rest a d
 placed_some s q strict number l vs c kn rest a d placed =
     let o = some_ok (place s q.1 strict) l vs c kn a placed.accepted in
@@ -422,7 +422,7 @@ placed_some s q strict number l vs c kn rest a d placed =
 
 -- ---- any goal
 
-simple_fits : (s : Hlds) (q : ℕ × Procedure) (strict : Bool) (number l : ℕ) (g : Simple) (kn : InstMap) (rest : List ℕ) (a : After) (e d : Env) (extra words : ℕ) (out : Option (List ℕ))
+pub simple_fits : (s : Hlds) (q : ℕ × Procedure) (strict : Bool) (number l : ℕ) (g : Simple) (kn : InstMap) (rest : List ℕ) (a : After) (e d : Env) (extra words : ℕ) (out : Option (List ℕ))
     → Placed s q strict number (At l (SimpleGoal g)) kn rest a e → run.simple s e g ≡ Go d extra words out → (a.reach ≡ true) × Fits s rest a.known d
 simple_fits s q strict number l g kn rest a e d extra words out placed is =
     let o = ok_reached (goes_on g) (rules.simple s strict l g kn) a placed.accepted in

@@ -1,0 +1,2 @@
+//! Laws of the modes at each state of the abstract machine.
+#![tactic(auto)]
