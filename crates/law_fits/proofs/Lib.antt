@@ -1,1 +1,3 @@
 pub mod FastLemmas
+pub mod StateSteps
+pub mod StateTurns

@@ -1,2 +1,9 @@
-//! Laws of the modes at each state of the abstract machine.
+//! Laws of the modes at each state of the abstract machine: what the mode rules know there, and what a simple goal does with
+//! slots that don't tell whether they hold a value.
 #![tactic(auto)]
+
+mod slots;
+mod states;
+
+pub use slots::simple_goals_go_by_slots;
+pub use states::{modes_hold_at_each_state, turns_of_states_fit};
