@@ -1,3 +1,5 @@
 pub mod FastLemmas
 pub mod StateSteps
 pub mod StateTurns
+pub mod ReadLemmas
+pub mod TurnReads

@@ -1,2 +1,4 @@
 pub mod Fast
 pub mod States
+pub mod Reads
+pub mod Handing
