@@ -34,6 +34,9 @@ use Rattle.md_safety.proofs.Safe.{Proper, IsCall, in_left, fits_left}
 use Rattle.md_safety.proofs.RoleLemmas.{unification_met}
 use Rattle.md_safety.proofs.NotedGoals.{noted}
 use Rattle.md_safety.proofs.TurnsFit.{named_call}
+use Rattle.md_hlds.specs.Simple.{simple}
+use Rattle.law_fits.specs.Fast.{told, outcome, fast_simple}
+use Rattle.law_fits.proofs.FastLemmas.{simple_by_slots}
 use Rattle.law_fits.specs.Reads.{is_given, is_valued, args_of_called, args_of_sort, args_of_role, unification_reads, simple_reads, expr_reads, goal_reads, reads_at}
 use Rattle.law_fits.specs.Handing.{HandsNamed, HandsOpen}
 use Rattle.law_fits.proofs.ReadLemmas.{first_or_later, arguments_read, places_read, values_read}
@@ -342,3 +345,19 @@ pub open_reads_noted : (s : Hlds) → Proper s → (e : Env) (g : Numbered) (goa
 open_reads_noted s proper e g goals l site x ys y h is there =
     let a = at_turn s e g goals l (HoCallGoal site x ys) is h in
     opened_read s e g.number x ys y (open_hands s proper e g goals l site x ys h is) there ∙ sym (reads_by s g.number l (HoCallGoal site x ys) (role_at (program_notes s) g.number) y a.found refl)
+
+-- ---- simple goals by slots
+
+told_by : (o : Option Value) (v : Value) → ((w : Value) → o ≡ Some w → v ≡ w) → o ≡ told (is_some o) v
+told_by None v h = refl
+told_by (Some w) v h = ap (λ u. Some u) (sym (h w refl))
+
+pub turn_by_slots : (s : Hlds) (slots : ℕ → Value) (e : Env) (g : Numbered) (goals : List Numbered) (l : ℕ) (t : Simple) → FitsAt s e g goals → g.goal ≡ At l (SimpleGoal t)
+    → ((y : ℕ) → 0 < times y (simple_variables t) → (v : Value) → value_at e y ≡ Some v → slots y ≡ v) → simple s e t ≡ outcome e (fast_simple s (reads_at s g.number) slots t)
+turn_by_slots s slots e g goals l t h is hold =
+    simple_by_slots s (reads_at s g.number) slots t e (at_turn s e g goals l (SimpleGoal t) is h).tidy
+    (λ y there. told_by (value_at e y) (slots y) (λ v is. hold y there v is) ∙ ap (λ b. told b (slots y)) (simple_reads_noted s e g goals l t y h is there))
+
+-- each variable of a goal has what the mode rules know of it
+pub variables_agree : (s : Hlds) (e : Env) (g : Numbered) (goals : List Numbered) (h : FitsAt s e g goals) (y : ℕ) → 0 < times y (variables g.goal) → Agrees s (value_at e y) (known_at h.known y)
+variables_agree s e g goals h y there = h.fits.each y (in_left (variables g.goal) _ y there)
