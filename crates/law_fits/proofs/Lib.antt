@@ -3,3 +3,4 @@ pub mod StateSteps
 pub mod StateTurns
 pub mod ReadLemmas
 pub mod TurnReads
+pub mod LeaveLemmas

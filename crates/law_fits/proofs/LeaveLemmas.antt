@@ -1,0 +1,104 @@
+-- What the checks find says which goals leave choices, and which disjunctions are switches, at each turn that fits.
+use Rattle.std.proofs.Common.{◌≡◌, refl, sym, ap, ◌∙◌, subst, arith, ℕ, zero, suc, ◌+◌, ◌<◌, Bool, true, false, ◌||◌, List, [], ◌∷◌, ◌++◌, length, Option, Some, None, Ok, slice_get}
+use Rattle.md_hlds.specs.HldsGoal.{HldsGoal, At, GoalExpr, SimpleGoal, CallGoal, HoCallGoal, ConjGoal, DisjGoal, IfGoal, NotGoal, SomeGoal, HldsGoals, nothing, also, goal_size, Numbered}
+use Rattle.md_hlds.specs.Hlds.{HldsType, Procedure, Hlds, procedure_called, goal_at}
+use Rattle.md_hlds.specs.Value.{Value, Env, value_at}
+use Rattle.md_hlds.specs.Switch.{Key, switch_shape}
+use Rattle.md_inst.specs.Instantiation.{Instantiation, free, has, InstMap, known_at, times}
+use Rattle.md_modes.specs.Branches.{After}
+use Rattle.md_modes.specs.Goals.{variables, expr_variables, parts_variables, goal, each}
+use Rattle.md_det.specs.declared.finding.Switch.{Switch}
+use Rattle.md_det.specs.Switches.{switch_on_known, switch_with, switch_of, is_whole}
+use Rattle.md_det.specs.Findings.{expr_switch, program_findings, switch_of_finding, switch_at}
+use Rattle.md_safety.specs.Values.{Agrees, Fits}
+use Rattle.md_safety.specs.Known as known
+use Rattle.md_safety.specs.Known.{place, Begins, BeginsParts, BeginsArms, FitsAt}
+use Rattle.md_safety.specs.Unfolding.{expr_in, switch_value}
+use Rattle.md_safety.proofs.Accepted.{each_ok, if_ok}
+use Rattle.md_safety.proofs.Safe.{in_left, fits_left}
+use Rattle.md_safety.proofs.SwitchLemmas.{shape_occurs}
+use Rattle.md_safety.proofs.NotedGoals.{noted}
+use Rattle.md_safety.proofs.FoundGoals.{pairs_are_found}
+use Rattle.law_fits.specs.Leaves.{leaves, expr_leaves, parts_leave, found_leaves, leaves_table, MeetsSwitch}
+
+-- ---- the table at the goals of a clause
+
+pub table_at : (s : Hlds) (q : ℕ × Procedure) (strict : Bool) (n : ℕ) (p : HldsGoal) (kn : InstMap) → slice_get s.procedures q.0 ≡ Some q.1 → Begins s q strict n p kn → leaves_table s n ≡ leaves s n p
+table_at s q strict n p kn at before = ap (λ o. found_leaves s n o) (noted s q strict n p kn at before).goal
+
+-- the table has the parts of a conjunction, the first of which has the number n
+abbrev pub EachInTable : Hlds → ℕ → HldsGoals → Type 0
+EachInTable s n nothing = Unit {0}
+EachInTable s n (also p ps) = (leaves_table s n ≡ leaves s n p) × EachInTable s (n + goal_size p) ps
+
+pub parts_in_table : (s : Hlds) (q : ℕ × Procedure) (strict : Bool) (n : ℕ) (ps : HldsGoals) (kn : InstMap) (a : After) → slice_get s.procedures q.0 ≡ Some q.1 → BeginsParts s q strict n ps kn
+    → each (place s q.1 strict) ps kn ≡ Ok a → EachInTable s n ps
+parts_in_table s q strict n nothing kn a at before ok = tt
+parts_in_table s q strict n (also p ps) kn a at before ok =
+    let o = each_ok (place s q.1 strict) p ps kn a ok in
+    (
+      table_at s q strict n p kn at (known.part strict n p ps kn before),
+      parts_in_table s q strict (n + goal_size p) ps o.first.known o.rest at (known.next_parts strict n p ps kn o.first before o.begins) o.goes_on,
+    )
+
+pub arms_in_table : (s : Hlds) (q : ℕ × Procedure) (strict : Bool) (n : ℕ) (ps : HldsGoals) (kn : InstMap) → slice_get s.procedures q.0 ≡ Some q.1 → BeginsArms s q strict n ps kn → EachInTable s n ps
+arms_in_table s q strict n nothing kn at before = tt
+arms_in_table s q strict n (also p ps) kn at before =
+    (table_at s q strict n p kn at (known.arm strict n p ps kn before), arms_in_table s q strict (n + goal_size p) ps kn at (known.next_arms strict n p ps kn before))
+
+-- what the table has of the parts of a goal
+abbrev pub PartsInTable : Hlds → ℕ → GoalExpr → Type 0
+PartsInTable s n (SimpleGoal g) = Unit {0}
+PartsInTable s n (CallGoal site q ys) = Unit {0}
+PartsInTable s n (HoCallGoal site f ys) = Unit {0}
+PartsInTable s n (ConjGoal ps) = EachInTable s (suc n) ps
+PartsInTable s n (DisjGoal ps) = EachInTable s (suc n) ps
+PartsInTable s n (IfGoal c t e) =
+    (leaves_table s (suc n + goal_size c) ≡ leaves s (suc n + goal_size c) t) × (leaves_table s (suc n + goal_size c + goal_size t) ≡ leaves s (suc n + goal_size c + goal_size t) e)
+PartsInTable s n (NotGoal c) = Unit {0}
+PartsInTable s n (SomeGoal vs c) = Unit {0}
+
+goal_parts : (s : Hlds) (q : ℕ × Procedure) (strict : Bool) (n l : ℕ) (t : GoalExpr) (kn : InstMap) (a : After) → slice_get s.procedures q.0 ≡ Some q.1 → Begins s q strict n (At l t) kn
+    → goal (place s q.1 strict) (At l t) kn ≡ Ok a → PartsInTable s n t
+goal_parts s q strict n l (SimpleGoal g) kn a at before ok = tt
+goal_parts s q strict n l (CallGoal site name ys) kn a at before ok = tt
+goal_parts s q strict n l (HoCallGoal site f ys) kn a at before ok = tt
+goal_parts s q strict n l (ConjGoal ps) kn a at before ok = parts_in_table s q strict (suc n) ps kn a at (known.parts strict n l ps kn before) ok
+goal_parts s q strict n l (DisjGoal ps) kn a at before ok = arms_in_table s q strict (suc n) ps kn at (known.arms strict n l ps kn before)
+goal_parts s q strict n l (IfGoal c t e) kn a at before ok =
+    let o = if_ok (place s q.1 strict) l c t e kn a ok in
+    (
+      table_at s q strict (suc n + goal_size c) t o.condition.known at (known.then strict n l c t e kn o.condition before o.begins),
+      table_at s q strict (suc n + goal_size c + goal_size t) e kn at (known.else strict n l c t e kn before),
+    )
+goal_parts s q strict n l (NotGoal c) kn a at before ok = tt
+goal_parts s q strict n l (SomeGoal vs c) kn a at before ok = tt
+
+-- at a turn the table has the goal and its parts
+pub turn_in_table : (s : Hlds) (e : Env) (g : Numbered) (goals : List Numbered) (l : ℕ) (t : GoalExpr) → FitsAt s e g goals → g.goal ≡ At l t → (leaves_table s g.number ≡ expr_leaves s g.number t) × PartsInTable s g.number t
+turn_in_table s e g goals l t h is = (
+  table_at s h.procedure h.strict g.number (At l t) h.known h.at (subst (λ (p : HldsGoal). Begins s h.procedure h.strict g.number p h.known) is h.before),
+  goal_parts s h.procedure h.strict g.number l t h.known h.after h.at (subst (λ (p : HldsGoal). Begins s h.procedure h.strict g.number p h.known) is h.before)
+      (subst (λ (p : HldsGoal). goal (place s h.procedure.1 h.strict) p h.known ≡ Ok h.after) is h.accepted),
+)
+
+-- ---- switches
+
+met_known : (s : Hlds) (e : Env) (ps : HldsGoals) (x : ℕ) (keys : List Key) (k : Instantiation) (o : Option Value) → switch_shape s ps ≡ Some (x, keys) → value_at e x ≡ o → Agrees s o k → MeetsSwitch s e ps (switch_on_known s x keys k)
+met_known s e ps x keys free None shape at h = ap (λ w. switch_value w e) shape ∙ at
+met_known s e ps x keys free (Some v) shape at h = elim h [ ]
+met_known s e ps x keys (has t used) None shape at h = elim h [ ]
+met_known s e ps x keys (has t used) (Some v) shape at h = (keys, shape, (v, at))
+
+met_shape : (s : Hlds) (e : Env) (ps : HldsGoals) (kn : InstMap) (o : Option (ℕ × List Key)) → switch_shape s ps ≡ o → Fits s (parts_variables ps) kn e → MeetsSwitch s e ps (switch_with s o kn)
+met_shape s e ps kn None shape fits = ap (λ w. switch_value w e) shape
+met_shape s e ps kn (Some w) shape fits =
+    met_known s e ps w.0 w.1 (known_at kn w.0) (value_at e w.0) shape refl (fits.each w.0 (shape_occurs s ps w.0 w.1 shape))
+
+-- the switch that the checks find at the goal's number
+pub switch_met : (s : Hlds) (e : Env) (g : Numbered) (goals : List Numbered) (l : ℕ) (ps : HldsGoals) → FitsAt s e g goals → g.goal ≡ At l (DisjGoal ps) → MeetsSwitch s e ps (switch_at (program_findings s) g.number)
+switch_met s e g goals l ps h is =
+    let found = ap (λ o. switch_of_finding o) (pairs_are_found s h.procedure h.strict g.number g.goal h.known h.at h.before) in
+    let switch : switch_at (program_findings s) g.number ≡ switch_of s ps h.known = found ∙ ap (λ (p : HldsGoal). expr_switch s (expr_in p) h.known) is in
+    let fits : Fits s (parts_variables ps) h.known e = subst (λ (p : HldsGoal). Fits s (variables p) h.known e) is (fits_left s (variables g.goal) _ h.known e h.fits) in
+    subst (λ (w : Option Switch). MeetsSwitch s e ps w) (sym switch) (met_shape s e ps h.known (switch_shape s ps) refl fits)
