@@ -4,3 +4,4 @@ pub mod StateTurns
 pub mod ReadLemmas
 pub mod TurnReads
 pub mod LeaveLemmas
+pub mod Ranges
