@@ -4,4 +4,5 @@ pub mod StateTurns
 pub mod ReadLemmas
 pub mod TurnReads
 pub mod LeaveLemmas
-pub mod Ranges
+pub mod RangeLemmas
+pub mod Places

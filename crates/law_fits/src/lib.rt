@@ -2,10 +2,12 @@
 //! slots that don't tell whether they hold a value.
 #![tactic(auto)]
 
+mod ranges;
 mod slots;
 mod states;
 mod turns;
 
+pub use ranges::variables_are_in_range;
 pub use slots::simple_goals_go_by_slots;
 pub use states::{modes_hold_at_each_state, turns_of_states_fit};
 pub use turns::{calls_hand_over, turns_go_by_slots, turns_read_what_is_noted};
