@@ -1,5 +1,6 @@
 -- What the checks find says which goals leave choices, and which disjunctions are switches, at each turn that fits.
 use Rattle.std.proofs.Common.{◌≡◌, refl, sym, ap, ◌∙◌, subst, arith, ℕ, zero, suc, ◌+◌, ◌<◌, Bool, true, false, ◌||◌, List, [], ◌∷◌, ◌++◌, length, Option, Some, None, Ok, slice_get}
+use Rattle.md_hlds.specs.declared.goal.PredName.{PredName}
 use Rattle.md_hlds.specs.HldsGoal.{HldsGoal, At, GoalExpr, SimpleGoal, CallGoal, HoCallGoal, ConjGoal, DisjGoal, IfGoal, NotGoal, SomeGoal, HldsGoals, nothing, also, goal_size, Numbered}
 use Rattle.md_hlds.specs.Hlds.{HldsType, Procedure, Hlds, procedure_called, goal_at}
 use Rattle.md_hlds.specs.Value.{Value, Env, value_at}
@@ -19,17 +20,13 @@ use Rattle.md_safety.proofs.Safe.{in_left, fits_left}
 use Rattle.md_safety.proofs.SwitchLemmas.{shape_occurs}
 use Rattle.md_safety.proofs.NotedGoals.{noted}
 use Rattle.md_safety.proofs.FoundGoals.{pairs_are_found}
-use Rattle.law_fits.specs.Leaves.{leaves, expr_leaves, parts_leave, found_leaves, leaves_table, MeetsSwitch}
+use Rattle.law_fits.specs.Handing.{HandsOpen}
+use Rattle.law_fits.specs.Leaves.{has_choices, named_leaves, role_leaves, leaves, expr_leaves, parts_leave, found_leaves, leaves_table, EachInTable, PartsInTable, MeetsSwitch}
 
 -- ---- the table at the goals of a clause
 
 pub table_at : (s : Hlds) (q : ℕ × Procedure) (strict : Bool) (n : ℕ) (p : HldsGoal) (kn : InstMap) → slice_get s.procedures q.0 ≡ Some q.1 → Begins s q strict n p kn → leaves_table s n ≡ leaves s n p
 table_at s q strict n p kn at before = ap (λ o. found_leaves s n o) (noted s q strict n p kn at before).goal
-
--- the table has the parts of a conjunction, the first of which has the number n
-abbrev pub EachInTable : Hlds → ℕ → HldsGoals → Type 0
-EachInTable s n nothing = Unit {0}
-EachInTable s n (also p ps) = (leaves_table s n ≡ leaves s n p) × EachInTable s (n + goal_size p) ps
 
 pub parts_in_table : (s : Hlds) (q : ℕ × Procedure) (strict : Bool) (n : ℕ) (ps : HldsGoals) (kn : InstMap) (a : After) → slice_get s.procedures q.0 ≡ Some q.1 → BeginsParts s q strict n ps kn
     → each (place s q.1 strict) ps kn ≡ Ok a → EachInTable s n ps
@@ -45,18 +42,6 @@ pub arms_in_table : (s : Hlds) (q : ℕ × Procedure) (strict : Bool) (n : ℕ) 
 arms_in_table s q strict n nothing kn at before = tt
 arms_in_table s q strict n (also p ps) kn at before =
     (table_at s q strict n p kn at (known.arm strict n p ps kn before), arms_in_table s q strict (n + goal_size p) ps kn at (known.next_arms strict n p ps kn before))
-
--- what the table has of the parts of a goal
-abbrev pub PartsInTable : Hlds → ℕ → GoalExpr → Type 0
-PartsInTable s n (SimpleGoal g) = Unit {0}
-PartsInTable s n (CallGoal site q ys) = Unit {0}
-PartsInTable s n (HoCallGoal site f ys) = Unit {0}
-PartsInTable s n (ConjGoal ps) = EachInTable s (suc n) ps
-PartsInTable s n (DisjGoal ps) = EachInTable s (suc n) ps
-PartsInTable s n (IfGoal c t e) =
-    (leaves_table s (suc n + goal_size c) ≡ leaves s (suc n + goal_size c) t) × (leaves_table s (suc n + goal_size c + goal_size t) ≡ leaves s (suc n + goal_size c + goal_size t) e)
-PartsInTable s n (NotGoal c) = Unit {0}
-PartsInTable s n (SomeGoal vs c) = Unit {0}
 
 goal_parts : (s : Hlds) (q : ℕ × Procedure) (strict : Bool) (n l : ℕ) (t : GoalExpr) (kn : InstMap) (a : After) → slice_get s.procedures q.0 ≡ Some q.1 → Begins s q strict n (At l t) kn
     → goal (place s q.1 strict) (At l t) kn ≡ Ok a → PartsInTable s n t
@@ -102,3 +87,13 @@ switch_met s e g goals l ps h is =
     let switch : switch_at (program_findings s) g.number ≡ switch_of s ps h.known = found ∙ ap (λ (p : HldsGoal). expr_switch s (expr_in p) h.known) is in
     let fits : Fits s (parts_variables ps) h.known e = subst (λ (p : HldsGoal). Fits s (variables p) h.known e) is (fits_left s (variables g.goal) _ h.known e h.fits) in
     subst (λ (w : Option Switch). MeetsSwitch s e ps w) (sym switch) (met_shape s e ps h.known (switch_shape s ps) refl fits)
+
+-- ---- calls
+
+pub named_leaves_as : (s : Hlds) (e : Env) (g : Numbered) (goals : List Numbered) (l site : ℕ) (name : PredName) (ys : List ℕ) (q : ℕ × Procedure) → FitsAt s e g goals → g.goal ≡ At l (CallGoal site name ys) → procedure_called s name ≡ Some q
+    → leaves_table s g.number ≡ has_choices q.1.det
+named_leaves_as s e g goals l site name ys q h is called = (turn_in_table s e g goals l (CallGoal site name ys) h is).0 ∙ ap (λ o. named_leaves o) called
+
+pub open_leaves_as : (s : Hlds) (e : Env) (g : Numbered) (goals : List Numbered) (l site x : ℕ) (ys : List ℕ) → FitsAt s e g goals → g.goal ≡ At l (HoCallGoal site x ys) → (c : HandsOpen s e g.number x ys)
+    → leaves_table s g.number ≡ has_choices c.procedure.det
+open_leaves_as s e g goals l site x ys h is c = (turn_in_table s e g goals l (HoCallGoal site x ys) h is).0 ∙ ap (λ r. role_leaves r) c.noted

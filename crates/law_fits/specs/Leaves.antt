@@ -66,6 +66,23 @@ found_leaves s n (Some p) = leaves s n p
 abbrev pub leaves_table : Hlds → ℕ → Bool
 leaves_table s n = found_leaves s n (goal_at s n)
 
+-- the table has what these goals leave, the first of which has the number n
+abbrev pub EachInTable : Hlds → ℕ → HldsGoals → Type 0
+EachInTable s n nothing = Unit {0}
+EachInTable s n (also p ps) = (leaves_table s n ≡ leaves s n p) × EachInTable s (n + goal_size p) ps
+
+-- the table has what the parts of a goal leave, where its own is made of theirs
+abbrev pub PartsInTable : Hlds → ℕ → GoalExpr → Type 0
+PartsInTable s n (SimpleGoal g) = Unit {0}
+PartsInTable s n (CallGoal site q ys) = Unit {0}
+PartsInTable s n (HoCallGoal site f ys) = Unit {0}
+PartsInTable s n (ConjGoal ps) = EachInTable s (suc n) ps
+PartsInTable s n (DisjGoal ps) = EachInTable s (suc n) ps
+PartsInTable s n (IfGoal c t e) =
+    (leaves_table s (suc n + goal_size c) ≡ leaves s (suc n + goal_size c) t) × (leaves_table s (suc n + goal_size c + goal_size t) ≡ leaves s (suc n + goal_size c + goal_size t) e)
+PartsInTable s n (NotGoal c) = Unit {0}
+PartsInTable s n (SomeGoal vs c) = Unit {0}
+
 -- ---- switches
 
 -- In this environment a disjunction of these arms meets a value of the variable of the switch that it is; or, where it is

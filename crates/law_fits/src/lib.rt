@@ -2,11 +2,13 @@
 //! slots that don't tell whether they hold a value.
 #![tactic(auto)]
 
+mod choices;
 mod ranges;
 mod slots;
 mod states;
 mod turns;
 
+pub use choices::{choices_are_found, switches_meet_a_value};
 pub use ranges::variables_are_in_range;
 pub use slots::simple_goals_go_by_slots;
 pub use states::{modes_hold_at_each_state, turns_of_states_fit};
