@@ -1,6 +1,5 @@
 -- What a simple goal does with slots is what it does in an environment that they tell.
-use Rattle.std.proofs.Common.{◌≡◌, refl, sym, ap, ◌∙◌, inl, inr, arith, ℕ, zero, suc, ◌+◌, ◌<◌, pos, Bool, true, false, ◌&&◌, cond, nat_eq, List, [], ◌∷◌, length, map, Option, Some, None}
-use Rattle.std.proofs.lemmas.Bool.{eq-eqb, cond-true}
+use Rattle.std.proofs.Common.{◌≡◌, refl, ap, ◌∙◌, arith, ℕ, ◌+◌, Bool, true, false, ◌&&◌, cond, nat_eq, List, [], ◌∷◌, length, map, Option, Some, None}
 use Rattle.std.specs.Fmt.{signed_decimal}
 use Rattle.std.specs.Str.{bytes_eq}
 use Rattle.md_hlds.specs.declared.goal.Term.{Term}
@@ -10,14 +9,14 @@ use Rattle.md_hlds.specs.declared.goal.Cmp.{Cmp}
 use Rattle.md_hlds.specs.declared.goal.PredName.{PredName}
 use Rattle.md_hlds.specs.HldsGoal.{Simple, Succeeds, Fails, Unifies, Computes, Compares, WritesInt, WritesText, EndsLine, Raises}
 use Rattle.md_hlds.specs.Hlds.{Hlds, Procedure, procedure_called, is_functor}
-use Rattle.md_hlds.specs.Value.{Value, Number, Literal, Built, Closure, listed_values, gathered_values, value_count, Compared, compared, Env, value_at, values_at, prepend_value, bound}
-use Rattle.md_hlds.specs.Simple.{Outcome, No, answer, unify_values, unify_constant, build, take_compared, take_part, take_apart, same_functor, unify_functor, close, unify_predicate, unify_name, unify, holds, compute, compare, write, write_int, write_text, raise, simple}
+use Rattle.md_hlds.specs.Value.{Value, Number, Literal, Built, Closure, listed_values, value_count, compared, Env, value_at, values_at, prepend_value, bound}
+use Rattle.md_hlds.specs.Simple.{Outcome, No, answer, unify_values, unify_constant, build, take_part, take_apart, same_functor, unify_functor, close, unify_predicate, unify_name, unify, holds, compute, compare, write, write_int, write_text, raise, simple}
 use Rattle.md_inst.specs.Instantiation.{times}
 use Rattle.md_modes.specs.Goals.{simple_variables}
 use Rattle.md_safety.specs.Turns.{AreDistinct, IsTidySimple}
 use Rattle.md_safety.proofs.Environments.{value_at-bound_other}
 use Rattle.md_safety.proofs.Handing.{more_times, first_times}
-use Rattle.law_fits.specs.Fast.{Effect, Puts, Misses, Bursts, Sticks, bind_all, outcome, told, Tells, all_have, tested, fast_variables, fast_constant, fast_build, also_puts, where_equal, fast_part, fast_parts, fast_same, fast_take, fast_functor, fast_close, fast_predicate, fast_name, fast_unify, fast_compute, fast_compare, fast_write, fast_write_int, fast_write_text, fast_raise, fast_simple}
+use Rattle.law_fits.specs.Fast.{Effect, Puts, Misses, Bursts, Sticks, outcome, told, Tells, all_have, tested, fast_variables, fast_constant, fast_build, also_puts, fast_part, fast_parts, fast_same, fast_take, fast_functor, fast_close, fast_predicate, fast_name, fast_unify, fast_compute, fast_compare, fast_write, fast_write_int, fast_write_text, fast_raise, fast_simple}
 
 -- ---- variables
 
@@ -97,8 +96,8 @@ parts_fast bits slots (y ∷ ys) (v ∷ vs) e extra distinct h =
     let rest = tells_rest bits slots y ys e h in
     ap (λ o. take_part (take_apart ys vs) e extra y v o) (tells_first bits slots y ys e h)
     ∙ part_fast e (take_apart ys vs) (λ n. fast_parts bits slots ys vs n) extra y v (bits y) (slots y)
-        (λ n. parts_fast bits slots ys vs e n distinct.1 rest)
-        (parts_fast bits slots ys vs (bound e y v) extra distinct.1 (tells_after bits slots y v ys e distinct.0 rest))
+    (λ n. parts_fast bits slots ys vs e n distinct.1 rest)
+    (parts_fast bits slots ys vs (bound e y v) extra distinct.1 (tells_after bits slots y v ys e distinct.0 rest))
 
 same_fast : (bits : ℕ → Bool) (slots : ℕ → Value) (ys : List ℕ) (parts : List Value) (e : Env) (b : Bool) → AreDistinct ys → Tells bits slots ys e
     → same_functor e ys parts b ≡ outcome e (fast_same bits slots ys parts b)

@@ -1,27 +1,27 @@
 -- What the checks find says which goals leave choices, and which disjunctions are switches, at each turn that fits.
-use Rattle.std.proofs.Common.{◌≡◌, refl, sym, ap, ◌∙◌, subst, arith, ℕ, zero, suc, ◌+◌, ◌<◌, Bool, true, false, ◌||◌, List, [], ◌∷◌, ◌++◌, length, Option, Some, None, Ok, slice_get}
+use Rattle.std.proofs.Common.{◌≡◌, refl, sym, ap, ◌∙◌, subst, ℕ, suc, ◌+◌, Bool, List, Option, Some, None, Ok, slice_get}
 use Rattle.md_hlds.specs.declared.goal.PredName.{PredName}
 use Rattle.md_hlds.specs.HldsGoal.{HldsGoal, At, GoalExpr, SimpleGoal, CallGoal, HoCallGoal, ConjGoal, DisjGoal, IfGoal, NotGoal, SomeGoal, HldsGoals, nothing, also, goal_size, Numbered}
-use Rattle.md_hlds.specs.Hlds.{HldsType, Procedure, Hlds, procedure_called, goal_at}
+use Rattle.md_hlds.specs.Hlds.{Procedure, Hlds, procedure_called}
 use Rattle.md_hlds.specs.Value.{Value, Env, value_at}
 use Rattle.md_hlds.specs.Switch.{Key, switch_shape}
-use Rattle.md_inst.specs.Instantiation.{Instantiation, free, has, InstMap, known_at, times}
+use Rattle.md_inst.specs.Instantiation.{Instantiation, free, has, InstMap, known_at}
 use Rattle.md_modes.specs.Branches.{After}
-use Rattle.md_modes.specs.Goals.{variables, expr_variables, parts_variables, goal, each}
+use Rattle.md_modes.specs.Goals.{variables, parts_variables, goal, each}
 use Rattle.md_det.specs.declared.finding.Switch.{Switch}
-use Rattle.md_det.specs.Switches.{switch_on_known, switch_with, switch_of, is_whole}
+use Rattle.md_det.specs.Switches.{switch_on_known, switch_with, switch_of}
 use Rattle.md_det.specs.Findings.{expr_switch, program_findings, switch_of_finding, switch_at}
 use Rattle.md_safety.specs.Values.{Agrees, Fits}
 use Rattle.md_safety.specs.Known as known
 use Rattle.md_safety.specs.Known.{place, Begins, BeginsParts, BeginsArms, FitsAt}
 use Rattle.md_safety.specs.Unfolding.{expr_in, switch_value}
 use Rattle.md_safety.proofs.Accepted.{each_ok, if_ok}
-use Rattle.md_safety.proofs.Safe.{in_left, fits_left}
+use Rattle.md_safety.proofs.Safe.{fits_left}
 use Rattle.md_safety.proofs.SwitchLemmas.{shape_occurs}
 use Rattle.md_safety.proofs.NotedGoals.{noted}
 use Rattle.md_safety.proofs.FoundGoals.{pairs_are_found}
 use Rattle.law_fits.specs.Handing.{HandsOpen}
-use Rattle.law_fits.specs.Leaves.{has_choices, named_leaves, role_leaves, leaves, expr_leaves, parts_leave, found_leaves, leaves_table, EachInTable, PartsInTable, MeetsSwitch}
+use Rattle.law_fits.specs.Leaves.{has_choices, named_leaves, role_leaves, leaves, expr_leaves, found_leaves, leaves_table, EachInTable, PartsInTable, MeetsSwitch}
 
 -- ---- the table at the goals of a clause
 
@@ -32,8 +32,7 @@ pub parts_in_table : (s : Hlds) (q : ℕ × Procedure) (strict : Bool) (n : ℕ)
     → each (place s q.1 strict) ps kn ≡ Ok a → EachInTable s n ps
 parts_in_table s q strict n nothing kn a at before ok = tt
 parts_in_table s q strict n (also p ps) kn a at before ok =
-    let o = each_ok (place s q.1 strict) p ps kn a ok in
-    (
+    let o = each_ok (place s q.1 strict) p ps kn a ok in (
       table_at s q strict n p kn at (known.part strict n p ps kn before),
       parts_in_table s q strict (n + goal_size p) ps o.first.known o.rest at (known.next_parts strict n p ps kn o.first before o.begins) o.goes_on,
     )
@@ -51,8 +50,7 @@ goal_parts s q strict n l (HoCallGoal site f ys) kn a at before ok = tt
 goal_parts s q strict n l (ConjGoal ps) kn a at before ok = parts_in_table s q strict (suc n) ps kn a at (known.parts strict n l ps kn before) ok
 goal_parts s q strict n l (DisjGoal ps) kn a at before ok = arms_in_table s q strict (suc n) ps kn at (known.arms strict n l ps kn before)
 goal_parts s q strict n l (IfGoal c t e) kn a at before ok =
-    let o = if_ok (place s q.1 strict) l c t e kn a ok in
-    (
+    let o = if_ok (place s q.1 strict) l c t e kn a ok in (
       table_at s q strict (suc n + goal_size c) t o.condition.known at (known.then strict n l c t e kn o.condition before o.begins),
       table_at s q strict (suc n + goal_size c + goal_size t) e kn at (known.else strict n l c t e kn before),
     )

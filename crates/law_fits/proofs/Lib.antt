@@ -6,3 +6,4 @@ pub mod TurnReads
 pub mod LeaveLemmas
 pub mod RangeLemmas
 pub mod Places
+pub mod Worked

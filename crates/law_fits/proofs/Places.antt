@@ -1,16 +1,15 @@
 -- At each place that the mode rules come to, what is known has a place for each of the clause's variables, and the goal's
 -- variables are among the clause's.
-use Rattle.std.proofs.Common.{◌≡◌, refl, sym, ap, ◌∙◌, arith, ℕ, zero, suc, ◌+◌, ◌<◌, ◌≤◌, Bool, true, false, List, [], ◌∷◌, ◌++◌, length, Some, Ok, slice_get}
+use Rattle.std.proofs.Common.{◌≡◌, refl, ap, ◌∙◌, arith, ℕ, zero, suc, ◌<◌, ◌≤◌, Bool, true, false, List, [], ◌∷◌, ◌++◌, length}
 use Rattle.md_hlds.specs.declared.types.Mode.{Mode}
 use Rattle.md_hlds.specs.declared.types.Mode.TheVariants.{In, Out, Di, Uo}
 use Rattle.md_hlds.specs.HldsGoal.{HldsGoal, At, ConjGoal, DisjGoal, IfGoal, NotGoal, SomeGoal, HldsGoals, also, Numbered}
 use Rattle.md_hlds.specs.Hlds.{HldsType, Procedure, Hlds}
 use Rattle.md_hlds.specs.Value.{Env}
 use Rattle.md_reader.specs.Grammar.{Spells}
-use Rattle.md_inst.specs.Instantiation.{has, InstMap, put, nothing_known, times}
-use Rattle.md_modes.specs.Branches.{After}
-use Rattle.md_modes.specs.Goals.{variables, parts_variables, clause_variables, goal}
-use Rattle.md_modes.specs.Modes.{enter, entry_from, entry}
+use Rattle.md_inst.specs.Instantiation.{has, InstMap, nothing_known, times}
+use Rattle.md_modes.specs.Goals.{variables, parts_variables, clause_variables}
+use Rattle.md_modes.specs.Modes.{enter, entry_from}
 use Rattle.md_modes.proofs.Counts.{times-append}
 use Rattle.md_modes.proofs.InstantiationLemmas.{length-put}
 use Rattle.md_safety.specs.Known as known

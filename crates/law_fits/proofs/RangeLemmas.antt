@@ -1,12 +1,12 @@
 -- What the grammar gives of a clause's variables: each is a number below how many names the clause's variables have. As the
 -- tokens are taken the names grow, and each variable that is taken is below how many there are then.
-use Rattle.std.proofs.Common.{◌≡◌, refl, sym, ap, ◌∙◌, subst, inl, inr, arith, ℕ, zero, suc, ◌+◌, ◌<◌, ◌≤◌, ◌⊎◌, ◌==◌, Bool, true, false, not, cond, nat_eq, nat_lt, List, [], ◌∷◌, ◌++◌, length, length-append, Option, Some, None, Ok, slice_get, codes}
+use Rattle.std.proofs.Common.{◌≡◌, refl, sym, ap, ◌∙◌, subst, inl, inr, arith, ℕ, zero, suc, ◌+◌, ◌<◌, ◌≤◌, ◌==◌, Bool, true, false, not, cond, nat_eq, nat_lt, List, [], ◌∷◌, ◌++◌, length, length-append, Option, Some, None, Ok, slice_get, codes}
 use Rattle.std.proofs.lemmas.Bool.{cases_lt, eqb-true, false≢true, eq-eqb}
 use Rattle.std.proofs.lemmas.List.Sums.{prefix_len-le-length}
 use Rattle.std.specs.List.{list_any}
 use Rattle.std.specs.Str.{bytes_eq}
 use Rattle.md_hlds.specs.declared.goal.PredName.{PredName}
-use Rattle.md_hlds.specs.HldsGoal.{Simple, HldsGoal, At, GoalExpr, SimpleGoal, ConjGoal, gathered, Unifies, WritesInt, WritesText, EndsLine, Raises}
+use Rattle.md_hlds.specs.HldsGoal.{HldsGoal, GoalExpr, SimpleGoal, gathered, Unifies, WritesInt, WritesText, EndsLine, Raises}
 use Rattle.md_hlds.specs.declared.goal.Term.{Term as Written}
 use Rattle.md_hlds.specs.Hlds.{Procedure, Hlds}
 use Rattle.md_token.specs.declared.kind.Kind.{Kind}
@@ -17,7 +17,7 @@ use Rattle.md_reader.specs.Rules as rule
 use Rattle.md_reader.specs.Grammar as g
 use Rattle.md_reader.specs.Grammar.{Is, Sign, Listed, last, also, Enclosed, enclosed, Variables, Arguments, Quantified, Operator, Comparison, Term, Relation, Call, ClosureCall, Goal, Units, Conjunction, Arms, Head, PredClause, Declared, Declarations, Program, Spells}
 use Rattle.md_reader.proofs.Steps.{chosen, ok_input, ok_value, past_three}
-use Rattle.md_reader.proofs.Taking.{Taken, signed, expected}
+use Rattle.md_reader.proofs.Taking.{signed, expected}
 use Rattle.md_inst.specs.Instantiation.{times}
 use Rattle.md_modes.specs.Goals.{variables, expr_variables, parts_variables, clause_variables}
 
@@ -329,7 +329,7 @@ clause_range : (q : PredName) (arity : ℕ) (c : rule.Clause) (i j : Input) → 
 unfolding end_clause
 clause_range q arity _ _ _ (g.PredClause.pred_clause xs p vs i j k l m n o is head declare body end vars) =
     let all = adds_then j k n xs (variables p) (head_adds arity xs j k head)
-        (after k l n (variables p) (sign_adds kind.Declare k l declare) (before l m n (variables p) (conjunction_adds l.limits.goals p l m body) (sign_adds kind.End m n end))) in
+    (after k l n (variables p) (sign_adds kind.Declare k l declare) (before l m n (variables p) (conjunction_adds l.limits.goals p l m body) (sign_adds kind.End m n end))) in
     subst (λ (names : List (List ℕ)). EachBelow (length names) (xs ++ variables p)) (ok_value n.vars vs (record n { vars = [] }) o vars) all.below
 
 declared_range : (start l : Hlds) (i j : Input) → Declared start l i j → AllInRange start.procedures → AllInRange l.procedures

@@ -1,16 +1,11 @@
 -- Which variables have values before a goal is what its role and the modes of its arguments say.
-use Rattle.std.proofs.Common.{◌≡◌, refl, sym, ap, ◌∙◌, subst, inl, inr, arith, ℕ, zero, suc, ◌+◌, ◌<◌, ◌≤◌, Bool, true, false, not, cond, nat_eq, List, [], ◌∷◌, ◌++◌, length, Option, Some, None, Ok, is_some, slice_get}
-use Rattle.std.proofs.lemmas.Bool.{eq-eqb, eqb-true, cases_eq, cond-true, cond-false}
+use Rattle.std.proofs.Common.{◌≡◌, refl, sym, ap, ◌∙◌, arith, ℕ, suc, ◌<◌, Bool, true, false, cond, nat_eq, List, [], ◌∷◌, Option, Some, None, is_some}
+use Rattle.std.proofs.lemmas.Bool.{eq-eqb, eqb-true, cond-true, cond-false}
 use Rattle.md_hlds.specs.declared.types.Mode.{Mode}
 use Rattle.md_hlds.specs.declared.types.Mode.TheVariants.{In, Out, Di, Uo}
-use Rattle.md_hlds.specs.declared.goal.Term.{Term}
-use Rattle.md_hlds.specs.declared.goal.Term.TheVariants.{Var, Int, Str, Name}
-use Rattle.md_hlds.specs.declared.goal.PredName.{PredName}
-use Rattle.md_hlds.specs.HldsGoal.{Simple, Succeeds, Fails, Unifies, Computes, Compares, WritesInt, WritesText, EndsLine, Raises, HldsGoal, At, GoalExpr, SimpleGoal, CallGoal, HoCallGoal}
-use Rattle.md_hlds.specs.Hlds.{HldsType, number, text, world, named, closure, listed_types, Procedure, Hlds, procedure_called}
+use Rattle.md_hlds.specs.Hlds.{HldsType, Hlds}
 use Rattle.md_hlds.specs.Value.{Value, Env, value_at, values_at, prepend_value}
-use Rattle.md_inst.specs.Instantiation.{Instantiation, free, has, InstMap, known_at, times}
-use Rattle.md_safety.specs.Values.{HasType, Agrees, Fits}
+use Rattle.md_inst.specs.Instantiation.{times}
 use Rattle.md_safety.specs.Arguments.{IsArgument, AreArguments, taken}
 use Rattle.md_safety.specs.Roles.{valued_places}
 use Rattle.law_fits.specs.Reads.{is_input, is_given, is_among, is_valued}

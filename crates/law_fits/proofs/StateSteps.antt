@@ -1,11 +1,11 @@
 -- The modes hold where main's body begins, and each step that unfolds no goal keeps them.
-use Rattle.std.proofs.Common.{◌≡◌, refl, sym, subst, arith, ℕ, suc, ◌+◌, ◌≤◌, Bool, true, false, List, [], ◌∷◌, ◌++◌, length, Some, None, Ok, slice_get}
-use Rattle.md_hlds.specs.HldsGoal.{Numbered, numbered_goal}
-use Rattle.md_hlds.specs.Hlds.{Procedure, Hlds, procedure_called, body_number}
-use Rattle.md_hlds.specs.Value.{Env, blank}
+use Rattle.std.proofs.Common.{◌≡◌, subst, arith, ℕ, true, false, List, [], ◌∷◌, ◌++◌, Some, None, slice_get}
+use Rattle.md_hlds.specs.HldsGoal.{Numbered}
+use Rattle.md_hlds.specs.Hlds.{Procedure, Hlds, procedure_called}
+use Rattle.md_hlds.specs.Value.{Env}
 use Rattle.md_hlds.specs.Trace.{Frame}
-use Rattle.md_hlds.specs.Run.{main_name, main_env}
-use Rattle.md_steps.specs.State.{Wait, Others, Again, Over, Condition, Negation, Single, Returning, Goes, Fails, Throws, state}
+use Rattle.md_hlds.specs.Run.{main_name}
+use Rattle.md_steps.specs.State.{Wait, Others, Again, Over, Condition, Negation, Single, Returning, Goes, Fails, state}
 use Rattle.md_steps.specs.Steps.{answered, returned, retried, thrown_on, unwound}
 use Rattle.md_steps.specs.Makes.{beginning}
 use Rattle.md_reader.specs.Grammar.{Spells}
@@ -18,15 +18,14 @@ use Rattle.md_safety.proofs.Functors.{called_at}
 use Rattle.md_safety.proofs.Safe.{Proper}
 use Rattle.md_safety.proofs.Whole.{accepted, proper, main_fits}
 use Rattle.md_safety.proofs.OneMain.{one_main}
-use Rattle.law_fits.specs.States.{FitsHere, FitsGoals, FitsAnswer, FitsFrame, FitWaits, FitsState, FitsStep}
+use Rattle.law_fits.specs.States.{FitsAnswer, FitsFrame, FitWaits, FitsState, FitsStep}
 
 -- ---- the beginning
 
 main_begins : (s : Hlds) → Proper s → (m : ℕ × Procedure) → slice_get s.procedures m.0 ≡ Some m.1 → is_main m.1 ≡ true → FitsState s (beginning s m)
 main_begins s proper m at is =
     let p = m.1 in
-    let ok = ok_then (goal (scope_of s p) p.body (entry p)) (λ b. end p b) tt (proper.accepted m.0 p at) in
-    (
+    let ok = ok_then (goal (scope_of s p) p.body (entry p)) (λ b. end p b) tt (proper.accepted m.0 p at) in (
       (
         record {
           procedure = m;

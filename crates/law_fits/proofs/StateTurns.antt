@@ -1,6 +1,6 @@
 -- A turn at a state where the modes hold: a rule applies, and they hold after it. What is known after a goal is taken from the
 -- lemmas about one goal, and what comes after it is there for each environment that fits that.
-use Rattle.std.proofs.Common.{◌≡◌, refl, sym, ap, ◌∙◌, subst, arith, ℕ, zero, suc, ◌+◌, ◌<◌, ◌≤◌, Bool, true, false, cond, nat_eq, List, [], ◌∷◌, ◌++◌, length, Option, Some, None, Ok, slice_get}
+use Rattle.std.proofs.Common.{◌≡◌, refl, sym, ap, ◌∙◌, subst, arith, ℕ, suc, ◌+◌, ◌≤◌, Bool, true, false, cond, List, [], ◌∷◌, ◌++◌, length, Option, Some, None, Ok, slice_get}
 use Rattle.std.proofs.lemmas.Bool.{eq-eqb}
 use Rattle.std.specs.Prelude.{⊤}
 use Rattle.md_hlds.specs.declared.types.Mode.{Mode}
@@ -8,7 +8,7 @@ use Rattle.md_hlds.specs.declared.types.Mode.TheVariants.{In, Out, Di, Uo}
 use Rattle.md_hlds.specs.declared.types.Det.{Det}
 use Rattle.md_hlds.specs.declared.types.Det.TheVariants as det
 use Rattle.md_hlds.specs.declared.goal.PredName.{PredName}
-use Rattle.md_hlds.specs.HldsGoal.{Simple, HldsGoal, At, GoalExpr, SimpleGoal, CallGoal, HoCallGoal, ConjGoal, DisjGoal, IfGoal, NotGoal, SomeGoal, HldsGoals, nothing, also, goal_size, Numbered, numbered_goal, numbered_from}
+use Rattle.md_hlds.specs.HldsGoal.{HldsGoal, At, GoalExpr, SimpleGoal, CallGoal, HoCallGoal, ConjGoal, DisjGoal, IfGoal, NotGoal, SomeGoal, HldsGoals, nothing, also, goal_size, Numbered, numbered_goal, numbered_from}
 use Rattle.md_hlds.specs.Hlds.{HldsType, Procedure, Hlds, procedure_called, nth_procedure, numbered, body_number}
 use Rattle.md_hlds.specs.Value.{Value, Values, no_values, listed_values, Env, value_at}
 use Rattle.md_hlds.specs.Simple as run
@@ -17,7 +17,7 @@ use Rattle.md_hlds.specs.Simple.{Throws as Raised}
 use Rattle.md_hlds.specs.Switch.{Key, switch_shape, arm_for, has_the_key}
 use Rattle.md_hlds.specs.Trace.{Frame, back, pairs_of, without, doing, entered, body_frame}
 use Rattle.md_steps.specs.State.{Wait, Goes, state}
-use Rattle.md_steps.specs.Steps.{goes_simply, tries, takes_arm, switches, chooses, enters, calls_if, calls, applies, unfolds_expr, unfolds}
+use Rattle.md_steps.specs.Steps.{goes_simply, takes_arm, switches, chooses, enters, calls, applies, unfolds_expr, unfolds}
 use Rattle.md_inst.specs.Instantiation.{InstMap, known_at, times}
 use Rattle.md_inst.specs.Named.{predicate_called}
 use Rattle.md_inst.specs.Simple as rules
@@ -30,7 +30,7 @@ use Rattle.md_modes.proofs.Counts.{times-append}
 use Rattle.md_det.specs.Switches.{switch_of, variable_of}
 use Rattle.md_safety.specs.Values.{Fits}
 use Rattle.md_safety.specs.Arguments.{IsArgument, AreArguments, taken, IsResult, AreResults}
-use Rattle.md_safety.specs.Turns.{LeadsTo, AreDistinct, IsTidy, AreTidy}
+use Rattle.md_safety.specs.Turns.{LeadsTo, AreDistinct, AreTidy}
 use Rattle.md_safety.specs.Roles.{HasValue}
 use Rattle.md_safety.specs.Known.{place, Begins, BeginsParts, BeginsArms, body, part, arm, next_parts, next_arms, switches_on, parts_switch_on, arms_switch_on, IsChosen, FitsAt}
 use Rattle.md_safety.specs.Known as known
@@ -38,7 +38,7 @@ use Rattle.md_safety.specs.Unfolding.{switch_value}
 use Rattle.md_safety.proofs.Environments.{fits_fewer}
 use Rattle.md_safety.proofs.Verdicts.{ok_then, ok_is, ok_reached}
 use Rattle.md_safety.proofs.Handing.{more_times, first_times, handed}
-use Rattle.md_safety.proofs.Functors.{predicate_number, called_at}
+use Rattle.md_safety.proofs.Functors.{predicate_number}
 use Rattle.md_safety.proofs.SimpleGoals.{simple_leads}
 use Rattle.md_safety.proofs.Accepted.{each_ok, arms_ok}
 use Rattle.md_safety.proofs.Growing.{arms_later}
@@ -227,8 +227,7 @@ body_job : (s : Hlds) (proper : Proper s) (strict : Bool) (l : ℕ) (q : ℕ × 
     (λ d. GivesBack (pairs_of (without (listed_values held) q.1.head) ys) d e × FitsJob s (back (pairs_of (without (listed_values held) q.1.head) ys) d e) goals pairs js ends)
 body_job s proper strict l q held others ys rest kn r e goals pairs js ends c fits on =
     let p = q.1 in
-    let ok = ok_then (goal (scope_of s p) p.body (entry p)) (λ b. end p b) tt (proper.accepted q.0 p c.at) in
-    (
+    let ok = ok_then (goal (scope_of s p) p.body (entry p)) (λ b. end p b) tt (proper.accepted q.0 p c.at) in (
       here_of s q false (body_number s q.0) p.body (entry p) p.head ok.0 (entered p (listed_values held) ys e) []
           (record {
             at = c.at;
@@ -241,8 +240,7 @@ body_job s proper strict l q held others ys rest kn r e goals pairs js ends c fi
           })
           (λ x there. there),
       λ d reach inner.
-          let results = others_return s held p.args others p.head d c.captured (end_results s p ok.0 d ok.2 reach inner) in
-          (
+          let results = others_return s held p.args others p.head d c.captured (end_results s p ok.0 d ok.2 reach inner) in (
             gives_back s others (without (listed_values held) p.head) ys d e c.args results,
             on (back (pairs_of (without (listed_values held) p.head) ys) d e) refl (back_fits s proper strict l q held others ys rest kn r e d c fits results),
           ),
@@ -308,9 +306,11 @@ expr_fits s proper q strict number l (SimpleGoal g) kn rest a f goals js ws k pl
     let o = ok_reached (goes_on g) (rules.simple s strict l g kn) a placed.accepted in
     simple_unfolds s f goals js ws k (simple_variables g) rest a (goes_on g) (run.simple s f.env g)
     (simple_leads s (simple_variables g ++ rest) strict l g kn a.known f.env placed.tidy placed.fits (in_left (simple_variables g) rest) o.0) o.1 on waits
-expr_fits s proper q strict number l (ConjGoal ps) kn rest a f goals js ws k placed come on waits =
-    (parts_job s q strict (suc number) ps kn rest a f.env goals f.pairs js (λ d. FitsAnswer s ws d) placed.at (known.parts strict number l ps kn placed.before)
-    (first_chosen s (switches_on placed.before) l ps f.env placed.chosen) placed.tidy placed.accepted placed.room placed.fits come on, waits)
+expr_fits s proper q strict number l (ConjGoal ps) kn rest a f goals js ws k placed come on waits = (
+  parts_job s q strict (suc number) ps kn rest a f.env goals f.pairs js (λ d. FitsAnswer s ws d) placed.at (known.parts strict number l ps kn placed.before)
+      (first_chosen s (switches_on placed.before) l ps f.env placed.chosen) placed.tidy placed.accepted placed.room placed.fits come on,
+  waits,
+)
 expr_fits s proper q strict number l (DisjGoal ps) kn rest a f goals js ws k placed come on waits =
     let arms = disjunction_job s q strict number l ps kn rest a f.env goals f.pairs js (λ d. FitsAnswer s ws d) placed come on in
     let at = variable_of (switch_of s ps kn) in
@@ -322,8 +322,7 @@ expr_fits s proper q strict number l (DisjGoal ps) kn rest a f goals js ws k pla
     waits
 expr_fits s proper q strict number l (IfGoal c t e) kn rest a f goals js ws k placed come on waits =
     let o = placed_if s q strict number l c t e kn rest a f.env placed in
-    let inner = variables c ++ (variables t ++ variables e) in
-    (
+    let inner = variables c ++ (variables t ++ variables e) in (
       (
         here_of s q true (suc number) c kn (variables t ++ rest) o.condition f.env [] o.asked (come_inside q goals (variables t) rest come),
         λ d reach inside. job_begins s q strict (suc number + goal_size c) t o.condition.known rest o.then d goals f.pairs js (λ d. FitsAnswer s ws d) (o.wins d inside) come
@@ -336,14 +335,12 @@ expr_fits s proper q strict number l (IfGoal c t e) kn rest a f goals js ws k pl
       ),
     )
 expr_fits s proper q strict number l (NotGoal c) kn rest a f goals js ws k placed come on waits =
-    let o = placed_not s q strict number l c kn rest a f.env placed in
-    (
+    let o = placed_not s q strict number l c kn rest a f.env placed in (
       (here_of s q true (suc number) c kn rest o.inner f.env [] o.asked (come_inside q goals [] rest come), λ d reach inside. tt),
       (on f.env o.reach o.fits, waits),
     )
 expr_fits s proper q strict number l (SomeGoal vs c) kn rest a f goals js ws k placed come on waits =
-    let o = placed_some s q strict number l vs c kn rest a f.env placed in
-    (
+    let o = placed_some s q strict number l vs c kn rest a f.env placed in (
       (here_of s q true (suc number) c kn rest o.inner f.env [] o.asked (come_inside q goals [] rest come), λ d reach inside. on f.env o.reach o.fits),
       waits,
     )

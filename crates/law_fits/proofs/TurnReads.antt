@@ -1,5 +1,5 @@
 -- At a turn that fits, which variables of the goal have values is what the checks note.
-use Rattle.std.proofs.Common.{◌≡◌, refl, sym, ap, ◌∙◌, subst, inl, inr, arith, ℕ, zero, suc, ◌+◌, ◌<◌, ◌⊎◌, Bool, true, false, not, cond, nat_eq, List, [], ◌∷◌, ◌++◌, length, drop, Option, Some, None, Ok, is_some, slice_get}
+use Rattle.std.proofs.Common.{◌≡◌, refl, sym, ap, ◌∙◌, subst, arith, ℕ, suc, ◌+◌, ◌<◌, Bool, true, false, not, cond, nat_eq, List, [], ◌∷◌, length, drop, Option, Some, None, Ok, is_some, slice_get}
 use Rattle.std.proofs.lemmas.Bool.{eqb-true}
 use Rattle.md_hlds.specs.declared.types.Mode.{Mode}
 use Rattle.md_hlds.specs.declared.types.Det.{Det}
@@ -17,27 +17,26 @@ use Rattle.md_inst.specs.Simple as rules
 use Rattle.md_inst.specs.Simple.{goes_on, call_checked, atomic, builtin, arithmetic, comparison, line_end, raised, pairs, types_of, modes_of, left_open, apply_sort, apply_known}
 use Rattle.md_modes.specs.Branches.{After}
 use Rattle.md_modes.specs.Goals.{goal, variables, expr_variables, simple_variables}
-use Rattle.md_modes.specs.Notes.{Role, constructs, closes, takes_apart, assigns, tests, applies, role_of_variables, role_of_term, role_of_name, role_of_unification, role_of_sort, role_of_closure, role_of, program_notes}
+use Rattle.md_modes.specs.Notes.{Role, takes_apart, applies, role_of_variables, role_of_term, role_of_name, role_of_unification, role_of_sort, role_of_closure, role_of, program_notes}
 use Rattle.md_modes.specs.Classes.{role_at}
 use Rattle.md_safety.specs.Values.{HasType, AreHeld, IsClosureOf, Agrees, Fits}
-use Rattle.md_safety.specs.Arguments.{AreArguments, taken}
 use Rattle.md_safety.specs.Turns.{AreDistinct, IsTidy, IsTidySimple, IsTidyExpr}
-use Rattle.md_safety.specs.Roles.{arguments_of, HasValue, HaveValues, valued_places, IsComparable, IsMet}
-use Rattle.md_safety.specs.Known.{place, Begins, FitsAt, IsNoted}
+use Rattle.md_safety.specs.Roles.{arguments_of, HaveValues, IsComparable, IsMet}
+use Rattle.md_safety.specs.Known.{place, FitsAt}
 use Rattle.md_safety.specs.Unfolding.{expr_in}
 use Rattle.md_safety.proofs.Environments.{fits_fewer}
 use Rattle.md_safety.proofs.Verdicts.{ok_where, ok_unless, ok_reached}
 use Rattle.md_safety.proofs.Handing.{In', first_times, more_times, in_first, in_rest, handed}
 use Rattle.md_safety.proofs.Functors.{predicate_number}
-use Rattle.md_safety.proofs.Calls.{IsApplied, type_of, known_applied, without_size}
-use Rattle.md_safety.proofs.Safe.{Proper, IsCall, in_left, fits_left}
+use Rattle.md_safety.proofs.Calls.{without_size}
+use Rattle.md_safety.proofs.Safe.{Proper, in_left, fits_left}
 use Rattle.md_safety.proofs.RoleLemmas.{unification_met}
 use Rattle.md_safety.proofs.NotedGoals.{noted}
 use Rattle.md_safety.proofs.TurnsFit.{named_call}
 use Rattle.md_hlds.specs.Simple.{simple}
 use Rattle.law_fits.specs.Fast.{told, outcome, fast_simple}
 use Rattle.law_fits.proofs.FastLemmas.{simple_by_slots}
-use Rattle.law_fits.specs.Reads.{is_given, is_valued, args_of_called, args_of_sort, args_of_role, unification_reads, simple_reads, expr_reads, goal_reads, reads_at}
+use Rattle.law_fits.specs.Reads.{is_given, is_valued, args_of_called, args_of_sort, args_of_role, unification_reads, simple_reads, expr_reads, reads_at}
 use Rattle.law_fits.specs.Handing.{HandsNamed, HandsOpen}
 use Rattle.law_fits.proofs.ReadLemmas.{first_or_later, arguments_read, places_read, values_read}
 
@@ -212,8 +211,7 @@ types_size (a ∷ args) = ap suc (types_size args)
 apply_open : (strict : Bool) (l : ℕ) (ys : List ℕ) (args : List (HldsType × Mode)) (d : Det) (kn r : InstMap) → apply_sort strict l ys (left_open args d) kn ≡ Ok r
     → (length ys ≡ length args) × (arguments strict l args ys kn ≡ Ok r)
 apply_open strict l ys args d kn r ok =
-    let a = ok_where (nat_eq (length ys) (length (listed_types (gathered_types (types_of args))))) (Arity l) (arguments strict l (pairs (listed_types (gathered_types (types_of args))) (modes_of args)) ys kn) r ok in
-    (
+    let a = ok_where (nat_eq (length ys) (length (listed_types (gathered_types (types_of args))))) (Arity l) (arguments strict l (pairs (listed_types (gathered_types (types_of args))) (modes_of args)) ys kn) r ok in (
       eqb-true (length ys) (length (listed_types (gathered_types (types_of args)))) a.0 ∙ ap (λ (us : List HldsType). length us) (listed_gathered (types_of args)) ∙ types_size args,
       subst (λ (b : List (HldsType × Mode)). arguments strict l b ys kn ≡ Ok r) (open_args args d) a.1,
     )

@@ -1,7 +1,7 @@
 -- What a call hands over: what its variables have before it is by the modes of the procedure.
 use Rattle.std.specs.Prelude.{◌≡◌, ℕ, ◌+◌, List, length, drop, Some, slice_get}
 use Rattle.md_hlds.specs.declared.goal.PredName.{PredName}
-use Rattle.md_hlds.specs.Hlds.{HldsType, Procedure, Hlds, procedure_called}
+use Rattle.md_hlds.specs.Hlds.{Procedure, Hlds, procedure_called}
 use Rattle.md_hlds.specs.Value.{Values, Closure, listed_values, Env, value_at}
 use Rattle.md_modes.specs.Notes.{applies, program_notes}
 use Rattle.md_modes.specs.Classes.{role_at}

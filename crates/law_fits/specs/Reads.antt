@@ -1,10 +1,10 @@
 -- Which variables have values before a goal that is no conjunction and no branch: by its role, which the checks note at its
 -- number, or by the modes of its arguments.
-use Rattle.std.specs.Prelude.{◌≡◌, ◌<◌, ℕ, suc, Bool, true, false, not, List, [], ◌∷◌, Option, Some, None, cond, nat_eq}
+use Rattle.std.specs.Prelude.{ℕ, suc, Bool, true, false, not, List, [], ◌∷◌, Option, Some, None, cond, nat_eq}
 use Rattle.md_hlds.specs.declared.types.Mode.{Mode}
 use Rattle.md_hlds.specs.declared.types.Mode.TheVariants.{In, Out, Di, Uo}
 use Rattle.md_hlds.specs.declared.goal.Term.{Term}
-use Rattle.md_hlds.specs.HldsGoal.{Simple, Succeeds, Fails, Unifies, Computes, Compares, WritesInt, WritesText, EndsLine, Raises, HldsGoal, At, GoalExpr, SimpleGoal, CallGoal, HoCallGoal, ConjGoal, DisjGoal, IfGoal, NotGoal, SomeGoal}
+use Rattle.md_hlds.specs.HldsGoal.{Simple, Succeeds, Fails, Unifies, Computes, Compares, WritesInt, WritesText, EndsLine, Raises, HldsGoal, At, GoalExpr, SimpleGoal, CallGoal, HoCallGoal}
 use Rattle.md_hlds.specs.Hlds.{HldsType, number, text, closure, listed_types, Procedure, Hlds, procedure_called, goal_at}
 use Rattle.md_inst.specs.Simple.{builtin, arithmetic, comparison, line_end, raised, pairs}
 use Rattle.md_modes.specs.Notes.{Role, constructs, closes, takes_apart, assigns, tests, applies, program_notes}
