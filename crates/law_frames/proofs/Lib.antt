@@ -1,2 +1,5 @@
 pub mod Leave
 pub mod FrameRule
+pub mod WayLemmas
+pub mod MoveLemmas
+pub mod Failures
