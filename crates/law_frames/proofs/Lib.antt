@@ -3,3 +3,5 @@ pub mod FrameRule
 pub mod WayLemmas
 pub mod MoveLemmas
 pub mod Failures
+pub mod Cuts
+pub mod Endings
