@@ -5,3 +5,7 @@ pub mod MoveLemmas
 pub mod Failures
 pub mod Cuts
 pub mod Endings
+pub mod Cells
+pub mod Sealing
+pub mod Writing
+pub mod Handing
