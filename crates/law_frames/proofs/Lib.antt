@@ -9,3 +9,5 @@ pub mod Cells
 pub mod Sealing
 pub mod Writing
 pub mod Handing
+pub mod Mixing
+pub mod Ends
