@@ -11,3 +11,4 @@ pub mod Writing
 pub mod Handing
 pub mod Mixing
 pub mod Ends
+pub mod Exits
