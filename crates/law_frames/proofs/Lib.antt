@@ -12,3 +12,4 @@ pub mod Handing
 pub mod Mixing
 pub mod Ends
 pub mod Exits
+pub mod Exceptions
