@@ -13,3 +13,5 @@ pub mod Mixing
 pub mod Ends
 pub mod Exits
 pub mod Exceptions
+pub mod Turning
+pub mod SimpleTurns
