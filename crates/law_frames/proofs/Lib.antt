@@ -15,3 +15,5 @@ pub mod Exits
 pub mod Exceptions
 pub mod Turning
 pub mod SimpleTurns
+pub mod Barring
+pub mod Conditions
