@@ -17,3 +17,6 @@ pub mod Turning
 pub mod SimpleTurns
 pub mod Barring
 pub mod Conditions
+pub mod Disjunctions
+pub mod Entering
+pub mod Calling
