@@ -20,3 +20,6 @@ pub mod Conditions
 pub mod Disjunctions
 pub mod Entering
 pub mod Calling
+pub mod Beginning
+pub mod Runs
+pub mod Folding
