@@ -25,3 +25,4 @@ pub mod Runs
 pub mod Folding
 pub mod Binding
 pub mod Filling
+pub mod AnyTurns
