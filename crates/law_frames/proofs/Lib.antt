@@ -23,3 +23,6 @@ pub mod Calling
 pub mod Beginning
 pub mod Runs
 pub mod Folding
+pub mod Binding
+pub mod Filling
+pub mod AnyTurns
