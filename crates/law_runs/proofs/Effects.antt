@@ -48,7 +48,7 @@ among_times y (x ∷ xs) h = by_value (nat_eq y x) refl (λ more. among_times y 
 -- ---- effects
 
 -- what is written is of these variables
-abbrev AllAmong : List ℕ → List (ℕ × Value) → Type 0
+abbrev pub AllAmong : List ℕ → List (ℕ × Value) → Type 0
 AllAmong vars [] = Unit {0}
 AllAmong vars (b ∷ bs) = IsAmong b.0 vars × AllAmong vars bs
 

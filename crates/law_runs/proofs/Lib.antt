@@ -1,2 +1,4 @@
 pub mod Effects
 pub mod Joining
+pub mod FitTurns
+pub mod FitCalls
