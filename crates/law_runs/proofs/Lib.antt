@@ -2,3 +2,4 @@ pub mod Effects
 pub mod Joining
 pub mod FitTurns
 pub mod FitCalls
+pub mod FitLifts
