@@ -12,8 +12,8 @@ use Rattle.law_frames.specs.Ways.{Leaves}
 use Rattle.law_frames.specs.Stores.{Store, Choice}
 use Rattle.law_frames.specs.Standing.{Doing, Stands}
 use Rattle.law_frames.specs.Moves.{Moves, Unfolds, MovesTo, TurnsTo}
-use Rattle.law_frames.specs.Running.{InRun, visible, Pends, PendRun, IsSeen, Folds, folds_end, defers, charges, shows}
-use Rattle.law_frames.proofs.Runs.{moves_in, unfolds_there}
+use Rattle.law_frames.specs.Running.{InRun, visible, Pends, PendRun, TurnsCharged, IsSeen, Folds, folds_end, defers, charges, shows}
+use Rattle.law_frames.proofs.RunLemmas.{moves_in, unfolds_there}
 
 -- ---- what is seen
 
@@ -225,11 +225,6 @@ turns_silently r to = record { st = to.there; pends = silent_turn r.pends to.by;
 pub moves_silently : {s : Hlds} {lv : Leaves} {b left p : ℕ} {done : Items} {S T : Store} {d e : Doing} {cs ds : List Choice} {k m : ℕ} → (r : PendRun s lv b left p done S d cs k)
     → MovesTo lv r.st [] T e ds m → PendRun s lv b left p done T e ds m
 moves_silently r to = record { st = to.there; pends = silent_steps r.pends to.by; is = to.is }
-
--- what is pending is charged, and a turn with it
-pub record TurnsCharged (s : Hlds) (lv : Leaves) (b left p : ℕ) (done : Items) (a g weight : ℕ) (items : Items) (S : Store) (d : Doing) (cs : List Choice) (k : ℕ) : Type 0 where
-  pub fits : p + weight ≤ left → InRun s lv b (left - (p + weight)) (done ++ (Turn a (Some g) weight ∷ items)) S d cs k
-  pub over : left < p + weight → visible (run s b) ≡ visible done
 
 pub turns_charged : {s : Hlds} {lv : Leaves} {b left p : ℕ} {done : Items} {a g weight : ℕ} {items : Items} {S T : Store} {d e : Doing} {cs ds : List Choice} {k m : ℕ} → (r : PendRun s lv b left p done S d cs k)
     → TurnsTo s lv r.st a g weight items T e ds m → TurnsCharged s lv b left p done a g weight items T e ds m

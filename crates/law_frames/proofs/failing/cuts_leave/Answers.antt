@@ -1,0 +1,5 @@
+use Rattle.law_frames.proofs.Cuts.{trimmed_length}
+use Rattle.law_frames.proofs.failing.cuts_leave.Goals as goal
+
+pub returns : goal.returns
+returns c = trimmed_length
