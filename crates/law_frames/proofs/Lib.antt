@@ -26,3 +26,4 @@ pub mod Folding
 pub mod Binding
 pub mod Filling
 pub mod AnyTurns
+mod Worked

@@ -1,10 +1,10 @@
 // Failures, ends and exceptions of a machine in place. Each law is the contract of a function that does nothing.
-ghost use Rattle.std.specs.Prelude.{◌≡◌, ◌≤◌, ℕ, suc, Bool, true, List, [], ◌∷◌, length};
+ghost use Rattle.std.specs.Prelude.{◌≡◌, ◌≤◌, ◌<◌, ℕ, suc, Bool, true, List, [], ◌∷◌, length};
 ghost use Rattle.md_hlds.specs.HldsGoal.{Numbered};
 ghost use Rattle.md_hlds.specs.Trace.{Exit, Fail, Answer, Frame};
 ghost use Rattle.md_steps.specs.State.{Wait, State};
 ghost use Rattle.law_frames.specs.Ways.{Leaves, Address, pop, port, to, tries, redoes, Way, joins, holds, denies, finds, exits, yields, halts, arm_way};
-ghost use Rattle.law_frames.specs.Stores.{Act, Choice, choice, Store, Perm, Below, AlikeBelow, Same, arms_choices, trimmed};
+ghost use Rattle.law_frames.specs.Stores.{Act, Choice, choice, Store, Perm, Below, AlikeBelow, Same, arms_choices, trimmed, top};
 ghost use Rattle.law_frames.specs.Standing.{Failing, Going, Ending, Runs, Misses, Raises, Stands};
 ghost use Rattle.law_frames.specs.Moves.{MovesTo, Stops, env_of};
 ghost use Rattle.law_frames.specs.After.{PortsTo, RedoesTo, CutsTo, ExitsTo, YieldsTo, LeavesTo};
@@ -56,7 +56,14 @@ pub fn exceptions()
     ensures ends { (lv : Leaves) (S : Store) (cs : List Choice) (k : ℕ) (st : State) → Stands lv S (Raises []) cs k st → Stops st [] }
 {}
 
-/// A stack of choices that is cut to a height has so many.
-pub fn cuts_leave()
+/// A stack of choices that is cut to a height has so many. And what is read lies in frames below a top, which only a call
+/// raises: not a choice, nor what comes back to one, nor an exit, nor a cut.
+pub fn tops_fall()
     ensures so_many { (h : ℕ) (cs : List Choice) → h ≤ length cs → length (trimmed h cs) ≡ h }
+    ensures above { (x : Act) (cs : List Choice) → x.index < top x cs }
+    ensures choices { (x : Act) (c : List Act) (a : Address) (cs : List Choice) → top x (choice x c a ∷ cs) ≡ top x cs }
+    ensures redos { (x y : Act) (c : List Act) (a : Address) (cs : List Choice) → y.index < x.index → top y (choice x c a ∷ cs) ≡ top x cs }
+    ensures pops { (x : Act) (ch : Choice) (cs : List Choice) → top ch.act cs ≤ top x (ch ∷ cs) }
+    ensures exits { (x y : Act) (cs : List Choice) → y.index < x.index → top y cs ≤ top x cs }
+    ensures cuts { (h : ℕ) (x : Act) (cs : List Choice) → top x (trimmed h cs) ≤ top x cs }
 {}

@@ -1,4 +1,4 @@
-use Rattle.law_frames.proofs.Folding.{folds_alike, seen_alike, nothing_pends, silent_turn, silent_steps, nothing_is_pending, turns_silently, moves_silently, turns_charged, charged, refused}
+use Rattle.law_frames.proofs.Folding.{folds_alike, seen_alike, nothing_pends, silent_turn, silent_steps, nothing_is_pending, turns_silently, moves_silently, turns_charged, moves_charged, stops_charged, charged, refused}
 use Rattle.law_frames.proofs.runs.weights_fold.Goals as goal
 
 pub returns-clause-alike : goal.returns-clause-alike
@@ -27,6 +27,12 @@ returns-clause-moves_silently c s lv b left p done S T d e cs ds k m r to = move
 
 pub returns-clause-turns_charged : goal.returns-clause-turns_charged
 returns-clause-turns_charged c s lv b left p done a g weight items S T d e cs ds k m r to = turns_charged r to
+
+pub returns-clause-moves_charged : goal.returns-clause-moves_charged
+returns-clause-moves_charged c s lv b left p done items S T d e cs ds k m r le to = moves_charged r le to
+
+pub returns-clause-stops_charged : goal.returns-clause-stops_charged
+returns-clause-stops_charged c s lv b left p done items S d cs k r le ends = stops_charged r le ends
 
 pub returns-clause-charged : goal.returns-clause-charged
 returns-clause-charged c s lv b left p done S d cs k le r = charged le r
