@@ -203,10 +203,54 @@ with_the_height = with_height store 0 1 0
 begins : InRun program one_leaves 10 9 (with_main main []) begun (Runs (on port (numbered_goal 0 main_goal) end_way) some_act []) [] 1
 begins = in_run_begins refl (omega arith) (begins_cut program main (record { act = refl; first = refl; entered = λ y v has. absurd (true≢false (sym (ap is_some has))) }))
 
--- what the laws make of it
-abbrev ran : Items
-ran = with_main main [] ++ (Turn 0 (Some 0) 1 ∷ []) ++ (Turn 0 (Some 1) 1 ∷ []) ++ [] ++ (Turn 0 (Some 2) 1 ∷ []) ++ [] ++ (Turn 0 (Some 4) 1 ∷ [])
+-- the turns that are made, one after the other
+abbrev done_1 : Items
+done_1 = with_main main [] ++ (Turn 0 (Some 0) 1 ∷ [])
 
-condition_runs : InRun program one_leaves 10 8 (with_main main [] ++ (Turn 0 (Some 0) 1 ∷ [])) with_the_height
-    (Runs (on pop (numbered_goal 1 arms_of) (holds pop true 0 then_part)) some_act []) (choice some_act [] (to else_part) ∷ []) 1
+abbrev done_2 : Items
+done_2 = done_1 ++ (Turn 0 (Some 1) 1 ∷ [])
+
+abbrev done_3 : Items
+done_3 = (done_2 ++ []) ++ (Turn 0 (Some 2) 1 ∷ [])
+
+abbrev done_4 : Items
+done_4 = (done_3 ++ []) ++ (Turn 0 (Some 4) 1 ∷ [])
+
+abbrev holds_way : Way
+holds_way = holds pop true 0 then_part
+
+abbrev else_choice : Choice
+else_choice = choice some_act [] (to else_part)
+
+abbrev second_choice : Choice
+second_choice = choice some_act [] (tries (numbered_goal 3 (goal (SimpleGoal Succeeds))) [] pop holds_way)
+
+-- the condition runs above a choice of the else part
+condition_runs : InRun program one_leaves 10 8 done_1 with_the_height (Runs (on pop (numbered_goal 1 arms_of) holds_way) some_act []) (else_choice ∷ []) 1
 condition_runs = (in_run_turns begins (if_goes program begins.is (λ t. absurd (true≢false (sym t))) (λ t. absurd (true≢false (sym t))))).fits (omega arith)
+
+-- its first arm runs above a choice of the second
+arms_run : InRun program one_leaves 10 7 done_2 with_the_height (Misses (tries (numbered_goal 2 (goal (SimpleGoal Succeeds))) (numbered_goal 3 (goal (SimpleGoal Succeeds)) ∷ []) pop holds_way) some_act []) (else_choice ∷ []) 1
+arms_run = (in_run_turns condition_runs (disjunction_tries program condition_runs.is refl tt)).fits (omega arith)
+
+arm_runs : InRun program one_leaves 10 7 (done_2 ++ []) with_the_height (Runs (on pop (numbered_goal 2 (goal (SimpleGoal Succeeds))) holds_way) some_act []) (second_choice ∷ else_choice ∷ []) 1
+arm_runs = in_run_moves arms_run (after_missing arms_run.is)
+
+-- the condition holds, and both choices are dropped
+arm_holds : InRun program one_leaves 10 6 done_3 with_the_height (Runs holds_way some_act []) (second_choice ∷ else_choice ∷ []) 1
+arm_holds = (in_run_turns arm_runs (simple_goes program arm_runs.is refl 0 0 None [] refl tt tt)).fits (omega arith)
+
+then_runs : InRun program one_leaves 10 6 (done_3 ++ []) with_the_height (Runs then_part some_act []) [] 1
+then_runs = in_run_moves arm_holds (after_holding arm_holds.is).to
+
+-- the then part fails, and so does main
+then_fails : InRun program one_leaves 10 5 done_4 with_the_height (Misses port some_act []) [] 1
+then_fails = (in_run_turns then_runs (simple_fails program then_runs.is 0 refl)).fits (omega arith)
+
+the_run : run program 10 ≡ Turn 0 None 1 ∷ Call 0 None None 0 ∷ Turn 0 (Some 0) 1 ∷ Turn 0 (Some 1) 1 ∷ Turn 0 (Some 2) 1 ∷ Turn 0 (Some 4) 1 ∷ Fail 0 ∷ []
+the_run = in_run_stops then_fails (after_missing then_fails.is)
+
+-- and this is what the definition gives
+the_definition : run program 10 ≡ Turn 0 None 1 ∷ Call 0 None None 0 ∷ Turn 0 (Some 0) 1 ∷ Turn 0 (Some 1) 1 ∷ Turn 0 (Some 2) 1 ∷ Turn 0 (Some 4) 1 ∷ Fail 0 ∷ []
+unfolding run
+the_definition = refl
