@@ -15,7 +15,7 @@ use Rattle.law_frames.specs.Stores.{Act, Choice, Store, Perm, Below, AlikeBelow,
 use Rattle.law_frames.specs.Standing.{Placed, Failing, fails_cut, fails_whole, Going, going, Ending, past_over, exited, yielded, Runs, Stands, runs}
 use Rattle.law_frames.specs.Moves.{Unfolds, TurnsTo, env_of}
 use Rattle.law_frames.specs.Leaving.{has_many}
-use Rattle.law_frames.specs.Calls.{NewFrame, body_of, callee}
+use Rattle.law_frames.specs.Calls.{NewFrame, body_of, callee, IsCallOf, by_name, by_closure}
 use Rattle.law_frames.proofs.Leave.{below_refl, kept_kept, free_from, top_above}
 use Rattle.law_frames.proofs.FrameRule.{placed_kept, failing_kept, ending_kept, alike_refl}
 use Rattle.law_frames.proofs.Ends.{placed_of, failing_of, ending_of}
@@ -187,3 +187,12 @@ closure_call s st x n l site fn ys m held q has is fits = record {
   fits = fits;
   mentions = λ y among. inr among;
 }
+
+calls_at : (s : Hlds) (st : State) (x : Act) (n : ℕ) (g : HldsGoal) (site : ℕ) (q : ℕ × Procedure) (vs : List Value) (ys : List ℕ) → IsCallOf s (env_of st) g site q vs ys → nat_eq (length vs + length ys) (length q.1.head) ≡ true
+    → CallsOf s st x (numbered_goal n g) site q vs ys
+calls_at s st x n g site q vs ys (by_name l _ r _ _ is) fits = plain_call s st x n l site r ys q is (sym (ap (λ m. nat_eq m (length q.1.head)) (zero-add (length ys))) ∙ fits)
+calls_at s st x n g site q vs ys (by_closure l _ f _ m held _ has is) fits = closure_call s st x n l site f ys m held q has is fits
+
+pub calls_of : (s : Hlds) (st : State) (x : Act) (p : Numbered) (site : ℕ) (q : ℕ × Procedure) (vs : List Value) (ys : List ℕ) → IsCallOf s (env_of st) p.goal site q vs ys → nat_eq (length vs + length ys) (length q.1.head) ≡ true
+    → CallsOf s st x p site q vs ys
+calls_of s st x p site q vs ys call fits = calls_at s st x p.number p.goal site q vs ys call fits

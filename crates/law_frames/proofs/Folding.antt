@@ -11,9 +11,9 @@ use Rattle.md_steps.specs.Standing.{StandsIn}
 use Rattle.law_frames.specs.Ways.{Leaves}
 use Rattle.law_frames.specs.Stores.{Store, Choice}
 use Rattle.law_frames.specs.Standing.{Doing, Stands}
-use Rattle.law_frames.specs.Moves.{Moves, Unfolds, MovesTo, TurnsTo}
-use Rattle.law_frames.specs.Running.{InRun, visible, Pends, PendRun, IsSeen, Folds, folds_end, defers, charges, shows}
-use Rattle.law_frames.proofs.Runs.{moves_in, unfolds_there}
+use Rattle.law_frames.specs.Moves.{Moves, Stops, Unfolds, MovesTo, TurnsTo}
+use Rattle.law_frames.specs.Running.{InRun, visible, Pends, PendRun, TurnsCharged, IsSeen, Folds, folds_end, defers, charges, shows}
+use Rattle.law_frames.proofs.RunLemmas.{moves_in, stops_in, unfolds_there}
 
 -- ---- what is seen
 
@@ -226,11 +226,6 @@ pub moves_silently : {s : Hlds} {lv : Leaves} {b left p : ℕ} {done : Items} {S
     → MovesTo lv r.st [] T e ds m → PendRun s lv b left p done T e ds m
 moves_silently r to = record { st = to.there; pends = silent_steps r.pends to.by; is = to.is }
 
--- what is pending is charged, and a turn with it
-pub record TurnsCharged (s : Hlds) (lv : Leaves) (b left p : ℕ) (done : Items) (a g weight : ℕ) (items : Items) (S : Store) (d : Doing) (cs : List Choice) (k : ℕ) : Type 0 where
-  pub fits : p + weight ≤ left → InRun s lv b (left - (p + weight)) (done ++ (Turn a (Some g) weight ∷ items)) S d cs k
-  pub over : left < p + weight → visible (run s b) ≡ visible done
-
 pub turns_charged : {s : Hlds} {lv : Leaves} {b left p : ℕ} {done : Items} {a g weight : ℕ} {items : Items} {S T : Store} {d e : Doing} {cs ds : List Choice} {k m : ℕ} → (r : PendRun s lv b left p done S d cs k)
     → TurnsTo s lv r.st a g weight items T e ds m → TurnsCharged s lv b left p done a g weight items T e ds m
 turns_charged r to = record { fits = λ le. record { st = to.there; stands = turned_now r.pends to.by le; is = to.is }; over = λ lt. turned_over r.pends to.by lt }
@@ -240,3 +235,10 @@ charged le r = record { st = r.st; stands = r.pends.stands le; is = r.is }
 
 pub refused : {s : Hlds} {lv : Leaves} {b left p : ℕ} {done : Items} {S : Store} {d : Doing} {cs : List Choice} {k : ℕ} → left < p → PendRun s lv b left p done S d cs k → visible (run s b) ≡ visible done
 refused lt r = r.pends.over lt
+
+pub moves_charged : {s : Hlds} {lv : Leaves} {b left p : ℕ} {done items : Items} {S T : Store} {d e : Doing} {cs ds : List Choice} {k m : ℕ} → (r : PendRun s lv b left p done S d cs k) → p ≤ left → MovesTo lv r.st items T e ds m
+    → InRun s lv b (left - p) (done ++ items) T e ds m
+moves_charged {done = done} r le to = record { st = to.there; stands = moves_in to.by done (r.pends.stands le); is = to.is }
+
+pub stops_charged : {s : Hlds} {lv : Leaves} {b left p : ℕ} {done items : Items} {S : Store} {d : Doing} {cs : List Choice} {k : ℕ} → (r : PendRun s lv b left p done S d cs k) → p ≤ left → Stops r.st items → run s b ≡ done ++ items
+stops_charged r le ends = stops_in ends (r.pends.stands le)

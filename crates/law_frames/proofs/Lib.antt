@@ -2,7 +2,7 @@ pub mod Leave
 pub mod FrameRule
 pub mod WayLemmas
 pub mod MoveLemmas
-pub mod Failures
+pub mod FailureLemmas
 pub mod Cuts
 pub mod Endings
 pub mod Cells
@@ -12,7 +12,7 @@ pub mod Handing
 pub mod Mixing
 pub mod Ends
 pub mod Exits
-pub mod Exceptions
+pub mod ExceptionLemmas
 pub mod Turning
 pub mod SimpleTurns
 pub mod Barring
@@ -21,8 +21,9 @@ pub mod Disjunctions
 pub mod Entering
 pub mod Calling
 pub mod Beginning
-pub mod Runs
+pub mod RunLemmas
 pub mod Folding
 pub mod Binding
 pub mod Filling
 pub mod AnyTurns
+mod Worked

@@ -16,7 +16,7 @@ use Rattle.law_frames.proofs.Leave.{below_refl, framed_kept, top_above}
 use Rattle.law_frames.proofs.WayLemmas.{kept_narrow, later_from, parts_are_way, parts_goals, parts_reads, parts_later}
 use Rattle.law_frames.proofs.Sealing.{sealed, sealed_below, sealed_alike, sealed_free, Shows, kept_sealed, kept_open, kept_shows}
 use Rattle.law_frames.proofs.Writing.{bind_none, shows_written, written_same}
-use Rattle.law_frames.proofs.Exceptions.{going_raises}
+use Rattle.law_frames.proofs.ExceptionLemmas.{going_raises}
 use Rattle.law_frames.proofs.Turning.{unfolds_to, turns_to, goes_after}
 
 -- ---- a simple goal succeeds
