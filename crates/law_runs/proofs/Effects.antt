@@ -1,5 +1,5 @@
 -- What a simple goal writes by slots: variables of the goal that have no value.
-use Rattle.std.proofs.Common.{◌≡◌, refl, sym, ap, ◌∙◌, inl, inr, arith, ℕ, zero, suc, ◌+◌, ◌<◌, Bool, true, false, ◌&&◌, cond, nat_eq, List, [], ◌∷◌, length, map, Option, Some, None}
+use Rattle.std.proofs.Common.{◌≡◌, refl, sym, ap, ◌∙◌, inl, inr, arith, ℕ, ◌+◌, ◌<◌, Bool, true, false, ◌&&◌, cond, nat_eq, List, [], ◌∷◌, length, map, Option, Some, None}
 use Rattle.std.proofs.lemmas.Bool.{eqb-true}
 use Rattle.std.specs.Fmt.{signed_decimal}
 use Rattle.std.specs.Str.{bytes_eq}
@@ -10,7 +10,7 @@ use Rattle.md_hlds.specs.declared.goal.Cmp.{Cmp}
 use Rattle.md_hlds.specs.declared.goal.PredName.{PredName}
 use Rattle.md_hlds.specs.HldsGoal.{Simple, Succeeds, Fails, Unifies, Computes, Compares, WritesInt, WritesText, EndsLine, Raises}
 use Rattle.md_hlds.specs.Hlds.{Hlds, Procedure, procedure_called, is_functor}
-use Rattle.md_hlds.specs.Value.{Value, Number, Literal, Built, Closure, listed_values, value_count, Compared, compared, Env, value_at, bound}
+use Rattle.md_hlds.specs.Value.{Value, Number, Literal, Built, Closure, listed_values, value_count, compared, Env, value_at, bound}
 use Rattle.md_hlds.specs.Simple.{holds}
 use Rattle.md_inst.specs.Instantiation.{times}
 use Rattle.md_modes.specs.Goals as modes
@@ -19,7 +19,7 @@ use Rattle.md_safety.proofs.Environments.{value_at-bound_other}
 use Rattle.md_safety.proofs.Handing.{more_times, first_times}
 use Rattle.law_frames.specs.Ways.{IsAmong, simple_variables}
 use Rattle.law_frames.specs.Stores.{AreFresh}
-use Rattle.law_fits.specs.Fast.{Effect, Puts, Misses, Bursts, Sticks, told, Tells, all_have, tested, fast_variables, fast_constant, fast_build, also_puts, where_equal, fast_part, fast_parts, fast_same, fast_take, fast_functor, fast_close, fast_predicate, fast_name, fast_unify, fast_compute, fast_compare, fast_write, fast_write_int, fast_write_text, fast_raise, fast_simple}
+use Rattle.law_fits.specs.Fast.{Effect, Puts, Misses, Bursts, Sticks, told, Tells, all_have, tested, fast_variables, fast_constant, fast_build, also_puts, fast_part, fast_parts, fast_same, fast_take, fast_functor, fast_close, fast_predicate, fast_name, fast_unify, fast_compute, fast_compare, fast_write, fast_write_int, fast_write_text, fast_raise, fast_simple}
 
 -- ---- variables
 
