@@ -7,3 +7,4 @@ pub mod LeaveLemmas
 pub mod RangeLemmas
 pub mod Places
 pub mod Worked
+pub mod InstructionLemmas

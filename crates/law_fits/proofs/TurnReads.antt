@@ -269,18 +269,18 @@ known_opens s strict l n x ys (has t used) kn r e (Some v) proper is role distin
 -- ---- turns
 
 -- what is taken of a turn that fits, by the goal's expression
-record At' (s : Hlds) (e : Env) (n l : ℕ) (t : GoalExpr) : Type 0 where
-  q : ℕ × Procedure
-  strict : Bool
-  kn : InstMap
-  after : After
-  tidy : IsTidyExpr t
-  accepted : goal (place s q.1 strict) (At l t) kn ≡ Ok after
-  fits : Fits s (expr_variables t) kn e
-  found : goal_at s n ≡ Some (At l t)
-  role : role_at (program_notes s) n ≡ role_of s t kn
+pub record TurnOf (s : Hlds) (e : Env) (n l : ℕ) (t : GoalExpr) : Type 0 where
+  pub q : ℕ × Procedure
+  pub strict : Bool
+  pub kn : InstMap
+  pub after : After
+  pub tidy : IsTidyExpr t
+  pub accepted : goal (place s q.1 strict) (At l t) kn ≡ Ok after
+  pub fits : Fits s (expr_variables t) kn e
+  pub found : goal_at s n ≡ Some (At l t)
+  pub role : role_at (program_notes s) n ≡ role_of s t kn
 
-at_turn : (s : Hlds) (e : Env) (g : Numbered) (goals : List Numbered) (l : ℕ) (t : GoalExpr) → g.goal ≡ At l t → FitsAt s e g goals → At' s e g.number l t
+pub at_turn : (s : Hlds) (e : Env) (g : Numbered) (goals : List Numbered) (l : ℕ) (t : GoalExpr) → g.goal ≡ At l t → FitsAt s e g goals → TurnOf s e g.number l t
 at_turn s e g goals l t is h =
     let note = noted s h.procedure h.strict g.number g.goal h.known h.at h.before in
     record {
@@ -298,7 +298,7 @@ at_turn s e g goals l t is h =
 reads_by : (s : Hlds) (n l : ℕ) (t : GoalExpr) (r : Option Role) (y : ℕ) → goal_at s n ≡ Some (At l t) → role_at (program_notes s) n ≡ r → reads_at s n y ≡ expr_reads s r t y
 reads_by s n l t r y found role = rw (found, role) refl
 
-simple_turn : (s : Hlds) (e : Env) (n l : ℕ) (g : Simple) (y : ℕ) → At' s e n l (SimpleGoal g) → 0 < times y (simple_variables g) → is_some (value_at e y) ≡ reads_at s n y
+simple_turn : (s : Hlds) (e : Env) (n l : ℕ) (g : Simple) (y : ℕ) → TurnOf s e n l (SimpleGoal g) → 0 < times y (simple_variables g) → is_some (value_at e y) ≡ reads_at s n y
 simple_turn s e n l g y h there =
     let o = ok_reached (goes_on g) (rules.simple s h.strict l g h.kn) h.after h.accepted in
     simple_read s h.strict l g h.kn h.after.known e y h.fits h.tidy o.0 there ∙ sym (reads_by s n l (SimpleGoal g) (role_of s (SimpleGoal g) h.kn) y h.found h.role)
