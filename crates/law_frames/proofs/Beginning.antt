@@ -1,13 +1,12 @@
 -- Main's body begins.
-use Rattle.std.proofs.Common.{◌≡◌, refl, ap, sym, ◌∙◌, subst, arith, ℕ, zero, suc, ◌<◌, ◌≤◌, Bool, true, false, List, [], ◌∷◌, length, Option, Some, None}
-use Rattle.md_hlds.specs.HldsGoal.{Numbered}
+use Rattle.std.proofs.Common.{◌≡◌, refl, ap, sym, subst, arith, ℕ, true, false, [], ◌∷◌, length}
 use Rattle.md_hlds.specs.Hlds.{Hlds, Procedure}
 use Rattle.md_hlds.specs.Value.{Env, blank}
-use Rattle.md_hlds.specs.Run.{main_env, main_frame}
+use Rattle.md_hlds.specs.Run.{main_env}
 use Rattle.md_steps.specs.Makes.{beginning}
-use Rattle.law_frames.specs.Ways.{Leaves, Address, port, Way, on, joins, holds, denies, finds, exits, yields, halts, address, end_of, passes, after, goals_of, IsWay, Later, cut_body, whole_body, main_body}
-use Rattle.law_frames.specs.Stores.{Act, Choice, Store, Cell, Perm, top, Kept}
-use Rattle.law_frames.specs.Standing.{Failing, loses, Going, going, Ending, ended, IsBodyEnd, Runs, Stands, runs}
+use Rattle.law_frames.specs.Ways.{Leaves, port, Way, on, joins, holds, denies, finds, exits, yields, halts, address, end_of, passes, after, goals_of, IsWay, Later, cut_body, whole_body, main_body}
+use Rattle.law_frames.specs.Stores.{Act, Store, Perm, top}
+use Rattle.law_frames.specs.Standing.{loses, going, Ending, ended, IsBodyEnd, Runs, Stands, runs}
 use Rattle.law_frames.specs.Calls.{NewFrame, MainFrame, body_of}
 use Rattle.law_frames.proofs.Leave.{top_above}
 use Rattle.law_frames.proofs.Entering.{entering, entering_free, new_frame_kept}

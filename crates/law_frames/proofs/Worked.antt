@@ -1,17 +1,16 @@
 -- The definitions, computed on small clauses, and a run that the laws make. Each result was worked out by hand: with a
 -- choice left open after a cut, the failure address of another construct, or a redo that comes back to the wrong place it
 -- would be another.
-use Rattle.std.proofs.Common.{◌≡◌, refl, ap, sym, ◌∙◌, arith, ℕ, zero, suc, ◌-◌, ◌<◌, ◌≤◌, pos, Bool, true, false, ◌||◌, nat_eq, is_some, List, [], ◌∷◌, ◌++◌, Option, Some, None, true≢false, inl, inr}
+use Rattle.std.proofs.Common.{◌≡◌, refl, ap, sym, arith, ℕ, pos, Bool, true, false, ◌||◌, nat_eq, is_some, List, [], ◌∷◌, ◌++◌, Some, None, true≢false}
 use Rattle.std.specs.Prelude.{codes}
-use Rattle.md_hlds.specs.declared.types.Det.{Det}
 use Rattle.md_hlds.specs.declared.types.Det.TheVariants.{Failure}
 use Rattle.md_hlds.specs.declared.goal.PredName.{PredName}
-use Rattle.md_hlds.specs.HldsGoal.{HldsGoal, At, GoalExpr, Succeeds, Fails, SimpleGoal, CallGoal, ConjGoal, DisjGoal, IfGoal, NotGoal, SomeGoal, gathered, Numbered, numbered_goal, numbered_from}
+use Rattle.md_hlds.specs.HldsGoal.{HldsGoal, At, GoalExpr, Succeeds, Fails, SimpleGoal, CallGoal, ConjGoal, DisjGoal, IfGoal, gathered, numbered_goal, numbered_from}
 use Rattle.md_hlds.specs.Hlds.{Hlds, Procedure}
-use Rattle.md_hlds.specs.Value.{Value, Number, Env, value_at}
+use Rattle.md_hlds.specs.Value.{Number, value_at}
 use Rattle.md_hlds.specs.Trace.{Turn, Call, Fail, Items, back}
-use Rattle.md_hlds.specs.Run.{run, main_name}
-use Rattle.law_frames.specs.Ways.{Leaves, Address, pop, port, to, tries, redoes, Way, on, joins, holds, denies, finds, exits, yields, parts_way, part_way, condition_way, negation_way, some_way, arms_address, arm_way, cut_body, whole_body, address}
+use Rattle.md_hlds.specs.Run.{run}
+use Rattle.law_frames.specs.Ways.{Leaves, Address, pop, port, to, tries, Way, on, joins, holds, denies, finds, exits, yields, parts_way, part_way, condition_way, negation_way, some_way, arms_address, arm_way, cut_body, whole_body}
 use Rattle.law_frames.specs.Stores.{Act, Choice, choice, Store, arms_choices, trimmed, copy_all, with_height, top, HandsOver, had, handed, none_over}
 use Rattle.law_frames.specs.Standing.{Runs, Misses}
 use Rattle.law_frames.specs.Running.{InRun}
