@@ -200,7 +200,7 @@ abbrev with_the_height : Store
 with_the_height = with_height store 0 1 0
 
 begins : InRun program one_leaves 10 9 (with_main main []) begun (Runs (on port (numbered_goal 0 main_goal) end_way) some_act []) [] 1
-begins = in_run_begins refl (omega arith) (begins_cut program main (record { act = refl; first = refl; entered = λ y v has. absurd (true≢false (sym (ap is_some has))) }))
+begins = in_run_begins refl (omega arith) (begins_cut program main (record { act = refl; bottom = refl; first = refl; entered = λ y v has. absurd (true≢false (sym (ap is_some has))) }))
 
 -- the turns that are made, one after the other
 abbrev done_1 : Items
@@ -247,7 +247,7 @@ then_fails : InRun program one_leaves 10 5 done_4 with_the_height (Misses port s
 then_fails = (in_run_turns then_runs (simple_fails program then_runs.is 0 refl)).fits (omega arith)
 
 the_run : run program 10 ≡ Turn 0 None 1 ∷ Call 0 None None 0 ∷ Turn 0 (Some 0) 1 ∷ Turn 0 (Some 1) 1 ∷ Turn 0 (Some 2) 1 ∷ Turn 0 (Some 4) 1 ∷ Fail 0 ∷ []
-the_run = in_run_stops then_fails (after_missing then_fails.is)
+the_run = in_run_stops then_fails (after_missing then_fails.is).stops
 
 -- and this is what the definition gives
 the_definition : run program 10 ≡ Turn 0 None 1 ∷ Call 0 None None 0 ∷ Turn 0 (Some 0) 1 ∷ Turn 0 (Some 1) 1 ∷ Turn 0 (Some 2) 1 ∷ Turn 0 (Some 4) 1 ∷ Fail 0 ∷ []

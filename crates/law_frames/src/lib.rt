@@ -9,7 +9,8 @@ mod runs;
 mod turns;
 
 pub use failing::{
-    ends_of_bodies, ends_of_conditions, exceptions, failures, frame_rule, tops_fall,
+    callers_are_below, ends_of_bodies, ends_of_conditions, exceptions, failures, frame_rule,
+    tops_fall,
 };
 pub use runs::{machines_run, main_begins, weights_fold};
 pub use turns::{
