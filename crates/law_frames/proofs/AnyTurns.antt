@@ -1,6 +1,6 @@
 -- Every turn: where what is said of choices is right, a turn leads to a state that the machine in place stands at, or no
 -- rule applies.
-use Rattle.std.proofs.Common.{◌≡◌, refl, ap, sym, ◌∙◌, subst, arith, ℕ, zero, suc, ◌+◌, ◌<◌, ◌≤◌, Bool, true, false, nat_eq, List, [], ◌∷◌, ◌++◌, length, Option, Some, None, inl, inr, zero-add}
+use Rattle.std.proofs.Common.{◌≡◌, refl, ap, sym, ◌∙◌, subst, ℕ, suc, ◌+◌, Bool, true, false, nat_eq, List, [], ◌∷◌, length, Option, Some, None, inl, inr, zero-add}
 use Rattle.md_hlds.specs.declared.goal.PredName.{PredName}
 use Rattle.md_hlds.specs.HldsGoal.{Simple, HldsGoal, At, SimpleGoal, CallGoal, HoCallGoal, ConjGoal, DisjGoal, IfGoal, NotGoal, SomeGoal, HldsGoals, Numbered, numbered_goal, numbered_from}
 use Rattle.md_hlds.specs.Hlds.{Hlds, Procedure, procedure_called, nth_procedure}
@@ -11,17 +11,16 @@ use Rattle.md_hlds.specs.Simple as run
 use Rattle.md_hlds.specs.Switch.{Key, switch_shape, arm_for}
 use Rattle.md_hlds.specs.Trace.{Frame, entered, pairs_of, without}
 use Rattle.md_steps.specs.State.{Wait, State}
-use Rattle.md_steps.specs.Steps.{Unfolded, Sticks, calls_if, calls, applies, unfolds}
-use Rattle.law_frames.specs.Ways.{Leaves, Address, Way, on, goals_of, IsAmong, Mentions, some_leaves}
+use Rattle.md_steps.specs.Steps.{Sticks, calls_if, calls, applies, unfolds}
+use Rattle.law_frames.specs.Ways.{Leaves, Address, Way, on, goals_of, IsAmong, some_leaves}
 use Rattle.law_frames.specs.Stores.{Act, Choice, Store, top, HandsOver}
-use Rattle.law_frames.specs.Standing.{Going, Runs, Stands, runs}
-use Rattle.law_frames.specs.Moves.{Unfolds, TurnsTo, env_of, AnyTurn, sticks, turns}
+use Rattle.law_frames.specs.Standing.{Runs, Stands, runs}
+use Rattle.law_frames.specs.Moves.{env_of, AnyTurn, sticks, turns}
 use Rattle.law_frames.specs.Leaving.{has_many, LeavesAsCalled, LeavesAsApplied, LeavesAsTried, LeavesAsSwitched, LeavesRight, AreTried}
 use Rattle.law_frames.specs.Calls.{NewFrame, callee, captured, PassesIn, none_in, passed_in, held_back, frame_written, HandsAsCalled, HandsAsApplied, HandsRight}
 use Rattle.law_frames.proofs.Leave.{top_above}
 use Rattle.law_frames.proofs.Ends.{placed_of}
 use Rattle.law_frames.proofs.Turning.{unfolds_to}
-use Rattle.law_frames.proofs.Sealing.{Shows}
 use Rattle.law_frames.proofs.Binding.{simple_writes}
 use Rattle.law_frames.proofs.Filling.{seconds, frame_filled}
 use Rattle.law_frames.proofs.SimpleTurns.{simple_goes, simple_fails, simple_throws, simple_sticks, slots_are_read, conjunction_goes}
@@ -91,6 +90,7 @@ any_called {lv} {S} {a} {p} {w} {x} {c} {cs} {k} {st} s site q vs ys outs stands
   where
     passes : (ins : List (ℕ × ℕ)) × PassesIn (env_of st) (pairs_of (without vs q.1.head) ys) ins
     passes = passes_any (env_of st) (pairs_of (without vs q.1.head) ys)
+
     by_det : (many : Bool) → has_many q.1.det ≡ many → AnyTurn s lv st x.number p.number
     by_det false many = turns _ _ _ _ _ _ (cut_called s site q vs ys outs stands call many leaves hands (frame_of_call s site q vs ys outs passes.0 stands call passes.1))
     by_det true many = turns _ _ _ _ _ _ (whole_called s site q vs ys outs (length cs) stands call many leaves hands (frame_of_call s site q vs ys outs passes.0 stands call passes.1))
@@ -123,7 +123,7 @@ any_applied {lv} {n = n} {l = l} {site = site} {fn = fn} {ys = ys} {x = x} {st =
     by_number true fits = let out = hands fits in any_called s site q (listed_values held) ys out.0 stands (closure_call s st x n l site fn ys m held q has is fits) leaves out.1
     by_number false fits =
         sticks_at s stands (λ f goals js ws k same. ap (λ e. applies s f goals js ws k site ys (value_at e fn)) same
-          ∙ (ap (applies s f goals js ws k site ys) has ∙ (ap (λ o. calls s f goals js ws k site o (listed_values held) ys) is ∙ ap (calls_if s f goals js ws k site q (listed_values held) ys) fits)))
+        ∙ (ap (applies s f goals js ws k site ys) has ∙ (ap (λ o. calls s f goals js ws k site o (listed_values held) ys) is ∙ ap (calls_if s f goals js ws k site q (listed_values held) ys) fits)))
 
 any_closure : {lv : Leaves} {S : Store} {a : Address} {n l site fn : ℕ} {ys : List ℕ} {w : Way} {x : Act} {c : List Act} {cs : List Choice} {k : ℕ} {st : State} (s : Hlds)
     → Stands lv S (Runs (on a (numbered_goal n (At l (HoCallGoal site fn ys))) w) x c) cs k st → (v : Option Value) → value_at (env_of st) fn ≡ v → LeavesAsApplied s lv n v → HandsAsApplied s (env_of st) v ys → AnyTurn s lv st x.number n

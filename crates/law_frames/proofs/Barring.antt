@@ -1,11 +1,11 @@
 -- The leave while a condition runs: the height that its end cuts to is closed, where it cuts.
-use Rattle.std.proofs.Common.{◌≡◌, refl, ap, sym, ◌∙◌, subst, arith, ℕ, zero, suc, ◌<◌, ◌≤◌, max, Bool, true, false, cond, nat_eq, List, [], ◌∷◌, length, Option, Some, None, true≢false}
+use Rattle.std.proofs.Common.{◌≡◌, refl, ap, sym, ◌∙◌, subst, arith, ℕ, suc, ◌<◌, ◌≤◌, Bool, true, false, cond, nat_eq, List, Option, Some, None, true≢false}
 use Rattle.std.proofs.lemmas.Bool.{eq-eqb, eqb-true}
 use Rattle.md_hlds.specs.Value.{Value, Env, value_at}
 use Rattle.md_hlds.specs.Trace.{Frame}
 use Rattle.md_steps.specs.State.{Wait}
-use Rattle.law_frames.specs.Ways.{Leaves, Address, pop, to, Way, on, after, passes, Reads, Later}
-use Rattle.law_frames.specs.Stores.{Act, Choice, choice, choice_if, Store, with_height_if, Cell, slot, height, header, Perm, Below, AlikeBelow, IsFree, top, Same, Framed, IsKept, Kept, KeepsHeight, heads}
+use Rattle.law_frames.specs.Ways.{Leaves, Address, to, Way, after, passes, Reads, Later}
+use Rattle.law_frames.specs.Stores.{Act, Choice, choice, choice_if, Store, with_height_if, Cell, slot, height, header, Perm, Below, AlikeBelow, IsFree, top, Same, IsKept, Kept, KeepsHeight, heads}
 use Rattle.law_frames.specs.Standing.{Failing, popped, Ending, past_choice}
 use Rattle.law_frames.proofs.Leave.{same_refl, below_refl, top_choice}
 use Rattle.law_frames.proofs.FrameRule.{failing_kept, alike_refl}

@@ -1,16 +1,15 @@
 -- Main's body begins.
-use Rattle.std.proofs.Common.{◌≡◌, refl, ap, sym, ◌∙◌, subst, arith, ℕ, zero, suc, ◌<◌, ◌≤◌, Bool, true, false, List, [], ◌∷◌, length, Option, Some, None}
-use Rattle.md_hlds.specs.HldsGoal.{Numbered}
+use Rattle.std.proofs.Common.{◌≡◌, refl, ap, sym, subst, arith, ℕ, true, false, [], ◌∷◌, length}
 use Rattle.md_hlds.specs.Hlds.{Hlds, Procedure}
 use Rattle.md_hlds.specs.Value.{Env, blank}
-use Rattle.md_hlds.specs.Run.{main_env, main_frame}
+use Rattle.md_hlds.specs.Run.{main_env}
 use Rattle.md_steps.specs.Makes.{beginning}
-use Rattle.law_frames.specs.Ways.{Leaves, Address, port, Way, on, joins, holds, denies, finds, exits, yields, halts, address, end_of, passes, after, goals_of, IsWay, Later, cut_body, whole_body, main_body}
-use Rattle.law_frames.specs.Stores.{Act, Choice, Store, Cell, Perm, top, Kept}
-use Rattle.law_frames.specs.Standing.{Failing, loses, Going, going, Ending, ended, IsBodyEnd, Runs, Stands, runs}
+use Rattle.law_frames.specs.Ways.{Leaves, port, Way, on, joins, holds, denies, finds, exits, yields, halts, address, end_of, passes, after, goals_of, IsWay, Later, cut_body, whole_body, main_body}
+use Rattle.law_frames.specs.Stores.{Act, Store, Perm, top}
+use Rattle.law_frames.specs.Standing.{loses, going, Ending, ended, IsBodyEnd, Runs, Stands, runs}
 use Rattle.law_frames.specs.Calls.{NewFrame, MainFrame, body_of}
 use Rattle.law_frames.proofs.Leave.{top_above}
-use Rattle.law_frames.proofs.Entering.{entering, entering_free, new_frame_kept}
+use Rattle.law_frames.proofs.Entering.{entering, entering_free, new_framed, new_frame_kept}
 
 abbrev all_open : Perm
 all_open i k = true
@@ -80,9 +79,9 @@ begins_on {lv} {S} {x} s m end main meets passing is_end =
       is = sym main.first;
       goals = ap (λ rest. body_of s m ∷ rest) (no_goals end is_end);
       kept = new_frame_kept false all_open (on port (body_of s m) end) (omega arith, all_later _ end is_end) (main_new main);
-      stacked = tt;
+      stacked = (main.bottom, main.first);
       free = entering_free x.index (begun_with m) false all_open (top x []) (top_above x []);
-    }) loses (subst (λ (e : Way). Ending lv S (entering x.index (begun_with m) false all_open) e x [] [] [] [] []) (itself end is_end) (ended is_end)))
+    }) (loses (new_framed false all_open (main_new main)) (main.bottom, main.first)) (subst (λ (e : Way). Ending lv S (entering x.index (begun_with m) false all_open) e x [] [] [] [] []) (itself end is_end) (ended is_end)))
 
 -- with the code of a procedure that is cut, of one that may have more answers, and with code of main's own
 pub begins_cut : {lv : Leaves} {S : Store} {x : Act} (s : Hlds) (m : ℕ × Procedure) → MainFrame m S x → Stands lv S (Runs (cut_body lv (body_of s m)) x []) [] 1 (beginning s m)

@@ -1,11 +1,11 @@
 -- What a simple goal does to an environment: variables of the goal that had no value get values, one after the other.
-use Rattle.std.proofs.Common.{◌≡◌, refl, ap, sym, ◌∙◌, subst, ℕ, zero, suc, ◌+◌, ℤ, Bool, true, false, ◌&&◌, cond, nat_eq, length, List, [], ◌∷◌, Option, Some, None, bytes_eq, inl, inr}
+use Rattle.std.proofs.Common.{◌≡◌, refl, subst, ℕ, ◌+◌, Bool, true, false, ◌&&◌, cond, nat_eq, length, List, [], ◌∷◌, Option, Some, None, bytes_eq, inl, inr}
 use Rattle.md_hlds.specs.declared.goal.Term.{Term}
 use Rattle.md_hlds.specs.declared.goal.Term.TheVariants.{Var, Int, Str, Name}
 use Rattle.md_hlds.specs.declared.goal.Op.{Op}
 use Rattle.md_hlds.specs.declared.goal.Cmp.{Cmp}
 use Rattle.md_hlds.specs.declared.goal.PredName.{PredName}
-use Rattle.md_hlds.specs.HldsGoal.{Simple, Succeeds, Fails, Unifies, Computes, Compares, WritesInt, WritesText, EndsLine, Raises, HldsGoal, At, SimpleGoal}
+use Rattle.md_hlds.specs.HldsGoal.{Simple, Succeeds, Fails, Unifies, Computes, Compares, WritesInt, WritesText, EndsLine, Raises, At, SimpleGoal}
 use Rattle.md_hlds.specs.Hlds.{Hlds, Procedure, procedure_called, is_functor}
 use Rattle.md_hlds.specs.Value.{Value, Number, Literal, Built, Closure, listed_values, value_count, Compared, compared, Env, value_at, values_at, bound}
 use Rattle.md_hlds.specs.Simple.{Outcome, Go, No, Throws, Stop, answer, compare_values, unify_values, unify_constant, build, take_compared, take_part, take_apart, same_functor, unify_functor, close, unify_predicate, unify_name, unify, result_of, compute, compare, write, write_int, write_text, raise, holds}

@@ -1,5 +1,5 @@
 -- Turns of calls: the body of a procedure begins in a new frame.
-use Rattle.std.proofs.Common.{◌≡◌, refl, ap, sym, ◌∙◌, subst, arith, ℕ, zero, suc, ◌+◌, ◌<◌, ◌≤◌, Bool, true, false, nat_eq, List, [], ◌∷◌, ◌++◌, length, Option, Some, None, true≢false, inl, inr, zero-add}
+use Rattle.std.proofs.Common.{◌≡◌, refl, ap, sym, ◌∙◌, subst, arith, ℕ, suc, ◌+◌, ◌<◌, Bool, true, false, nat_eq, List, [], ◌∷◌, length, Some, true≢false, inl, inr, zero-add}
 use Rattle.md_hlds.specs.declared.types.Det.{Det}
 use Rattle.md_hlds.specs.declared.types.Det.TheVariants.{Semidet, Multi, Nondet, Failure}
 use Rattle.md_hlds.specs.declared.types.Det.TheVariants.{Det as One}
@@ -7,19 +7,19 @@ use Rattle.md_hlds.specs.declared.goal.PredName.{PredName}
 use Rattle.md_hlds.specs.HldsGoal.{HldsGoal, At, CallGoal, HoCallGoal, Numbered, numbered_goal}
 use Rattle.md_hlds.specs.Hlds.{Hlds, Procedure, procedure_called, nth_procedure}
 use Rattle.md_hlds.specs.Value.{Value, Values, Closure, listed_values, Env, value_at}
-use Rattle.md_hlds.specs.Trace.{Call, Items, Frame, doing, body_frame, cut_off, call_weight, entered, pairs_of, without}
+use Rattle.md_hlds.specs.Trace.{Call, Frame, doing, body_frame, cut_off, call_weight, entered, pairs_of, without}
 use Rattle.md_steps.specs.State.{Wait, Over, Returning, Goes, State, state}
-use Rattle.md_steps.specs.Steps.{Unfolded, Turns, Sticks, enters, calls_if, calls, applies, unfolds}
-use Rattle.law_frames.specs.Ways.{Leaves, Address, pop, port, Way, on, exits, yields, address, end_of, passes, after, goals_of, cut_body, whole_body, IsAmong, Mentions}
-use Rattle.law_frames.specs.Stores.{Act, Choice, Store, Perm, Below, AlikeBelow, IsFree, IsStacked, top, Same, Framed, Kept, KeepsHeight, HandsOver, none_over, had, handed, AreOfGoal, Hands}
-use Rattle.law_frames.specs.Standing.{Placed, Failing, fails_cut, fails_whole, Going, going, Ending, past_over, exited, yielded, Runs, Stands, runs}
-use Rattle.law_frames.specs.Moves.{Unfolds, TurnsTo, env_of}
+use Rattle.md_steps.specs.Steps.{Turns, enters, calls_if, calls, applies, unfolds}
+use Rattle.law_frames.specs.Ways.{Leaves, Address, Way, on, after, goals_of, cut_body, whole_body, IsAmong, Mentions}
+use Rattle.law_frames.specs.Stores.{Act, Choice, Store, Perm, Below, IsStacked, top, Same, HandsOver, none_over, had, handed, AreOfGoal, Hands}
+use Rattle.law_frames.specs.Standing.{fails_cut, fails_whole, Going, going, past_over, exited, yielded, Runs, Stands, runs}
+use Rattle.law_frames.specs.Moves.{TurnsTo, env_of}
 use Rattle.law_frames.specs.Leaving.{has_many}
 use Rattle.law_frames.specs.Calls.{NewFrame, body_of, callee, IsCallOf, by_name, by_closure}
-use Rattle.law_frames.proofs.Leave.{below_refl, kept_kept, free_from, top_above}
-use Rattle.law_frames.proofs.FrameRule.{placed_kept, failing_kept, ending_kept, alike_refl}
+use Rattle.law_frames.proofs.Leave.{below_refl, kept_kept, top_above}
+use Rattle.law_frames.proofs.FrameRule.{failing_kept, ending_kept, alike_refl}
 use Rattle.law_frames.proofs.Ends.{placed_of, failing_of, ending_of}
-use Rattle.law_frames.proofs.Turning.{unfolds_to, turns_to}
+use Rattle.law_frames.proofs.Turning.{turns_to}
 use Rattle.law_frames.proofs.Entering.{entering, below_frame, entering_below, entering_alike, entering_free, new_frame_same, new_framed, new_frame_kept, new_height}
 
 -- ---- what the exit will copy are variables of the call
@@ -73,7 +73,7 @@ cut_goes : {lv : Leaves} {S T : Store} {W : Perm} {a : Address} {p : Numbered} {
     → NewFrame S T (top x cs) (callee (top x cs) k x q vs ys outs a p w) (entered q.1 vs ys f.env) (length cs)
     → (v : Way) → v ≡ cut_body lv (body_of s q)
     → Going lv T (entering (top x cs) (entered q.1 vs ys f.env) (lv (body_of s q).number) W) v v (callee (top x cs) k x q vs ys outs a p w) (x ∷ c) cs
-      (cut_off (body_frame s k (entered q.1 vs ys f.env) q (pairs_of (without vs q.1.head) ys))) [] (Returning k (pairs_of (without vs q.1.head) ys) (doing f (goals_of w)) js ∷ ws)
+    (cut_off (body_frame s k (entered q.1 vs ys f.env) q (pairs_of (without vs q.1.head) ys))) [] (Returning k (pairs_of (without vs q.1.head) ys) (doing f (goals_of w)) js ∷ ws)
 cut_goes {lv} {S} {T} {W} {a} {p} {w} {x} {c} {cs} {f} {js} {ws} s k q vs ys outs goes none hands mentions new v is =
     let i : ℕ = top x cs in
     let e : Env = entered q.1 vs ys f.env in
@@ -104,7 +104,7 @@ whole_goes : {lv : Leaves} {S T : Store} {W : Perm} {a : Address} {p : Numbered}
     → NewFrame S T (top x cs) (callee (top x cs) k x q vs ys outs a p w) (entered q.1 vs ys f.env) h
     → (v : Way) → v ≡ whole_body lv (body_of s q)
     → Going lv T (entering (top x cs) (entered q.1 vs ys f.env) false W) v v (callee (top x cs) k x q vs ys outs a p w) (x ∷ c) cs
-      (body_frame s k (entered q.1 vs ys f.env) q (pairs_of (without vs q.1.head) ys)) (doing f (goals_of w) ∷ js) (Over k ∷ ws)
+    (body_frame s k (entered q.1 vs ys f.env) q (pairs_of (without vs q.1.head) ys)) (doing f (goals_of w) ∷ js) (Over k ∷ ws)
 whole_goes {lv} {S} {T} {W} {a} {p} {w} {x} {c} {cs} {f} {js} {ws} s k q vs ys outs h goes leaves hands mentions new v is =
     let i : ℕ = top x cs in
     let e : Env = entered q.1 vs ys f.env in
@@ -149,9 +149,9 @@ cut_called {p = p} {w = w} {x = x} s site q vs ys outs (runs {f = f} {js = js} {
     let body : Frame = body_frame s k (entered q.1 vs ys f.env) q pairs in
     turns_to s x p (goals_of w) f js ws k (placed_of goes).is (placed_of goes).goals
     (call.unfolds_so f (goals_of w) js ws k refl
-      ∙ (ap (calls_if s f (goals_of w) js ws k site q vs ys) call.fits
-      ∙ (ap (λ n. Turns (call_weight q.1) (Call k (Some n) (Some site) q.0 ∷ []) (enters q.1.det body (doing f (goals_of w)) js ws k)) (placed_of goes).is
-      ∙ ap (λ st. Turns (call_weight q.1) (Call k (Some x.number) (Some site) q.0 ∷ []) st) (enters_cut q.1.det body (doing f (goals_of w)) js ws k many))))
+    ∙ (ap (calls_if s f (goals_of w) js ws k site q vs ys) call.fits
+    ∙ (ap (λ n. Turns (call_weight q.1) (Call k (Some n) (Some site) q.0 ∷ []) (enters q.1.det body (doing f (goals_of w)) js ws k)) (placed_of goes).is
+    ∙ ap (λ st. Turns (call_weight q.1) (Call k (Some x.number) (Some site) q.0 ∷ []) st) (enters_cut q.1.det body (doing f (goals_of w)) js ws k many))))
     (runs (suc k) (cut_goes s k q vs ys outs goes (leaves ∙ many) hands call.mentions new _ refl))
 
 pub whole_called : {lv : Leaves} {S T : Store} {a : Address} {p : Numbered} {w : Way} {x : Act} {c : List Act} {cs : List Choice} {k : ℕ} {st : State} (s : Hlds) (site : ℕ) (q : ℕ × Procedure) (vs : List Value) (ys : List ℕ) (outs : List (ℕ × ℕ)) (h : ℕ)
@@ -163,9 +163,9 @@ whole_called {p = p} {w = w} {x = x} s site q vs ys outs h (runs {f = f} {js = j
     let body : Frame = body_frame s k (entered q.1 vs ys f.env) q pairs in
     turns_to s x p (goals_of w) f js ws k (placed_of goes).is (placed_of goes).goals
     (call.unfolds_so f (goals_of w) js ws k refl
-      ∙ (ap (calls_if s f (goals_of w) js ws k site q vs ys) call.fits
-      ∙ (ap (λ n. Turns (call_weight q.1) (Call k (Some n) (Some site) q.0 ∷ []) (enters q.1.det body (doing f (goals_of w)) js ws k)) (placed_of goes).is
-      ∙ ap (λ st. Turns (call_weight q.1) (Call k (Some x.number) (Some site) q.0 ∷ []) st) (enters_whole q.1.det body (doing f (goals_of w)) js ws k many))))
+    ∙ (ap (calls_if s f (goals_of w) js ws k site q vs ys) call.fits
+    ∙ (ap (λ n. Turns (call_weight q.1) (Call k (Some n) (Some site) q.0 ∷ []) (enters q.1.det body (doing f (goals_of w)) js ws k)) (placed_of goes).is
+    ∙ ap (λ st. Turns (call_weight q.1) (Call k (Some x.number) (Some site) q.0 ∷ []) st) (enters_whole q.1.det body (doing f (goals_of w)) js ws k many))))
     (runs (suc k) (whole_goes s k q vs ys outs h goes (leaves ∙ many) hands call.mentions new _ refl))
 
 -- ---- a call of a predicate, and one by a closure

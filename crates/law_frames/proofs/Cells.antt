@@ -1,8 +1,8 @@
 -- Writes to cells, and environments that get values.
-use Rattle.std.proofs.Common.{◌≡◌, refl, ap, sym, ◌∙◌, subst, arith, ℕ, zero, suc, ◌<◌, ◌≤◌, Bool, true, false, cond, ◌&&◌, nat_eq, List, [], ◌∷◌, Option, Some, None, is_some, unwrap_or, true≢false}
+use Rattle.std.proofs.Common.{◌≡◌, refl, ap, sym, ◌∙◌, ℕ, zero, suc, Bool, true, false, cond, ◌&&◌, nat_eq, [], ◌∷◌, Some, None, is_some, unwrap_or, true≢false}
 use Rattle.std.proofs.lemmas.Bool.{eq-eqb, eqb-true, eqb-false}
 use Rattle.md_hlds.specs.Value.{Value, Env, value_at, bound}
-use Rattle.law_frames.specs.Stores.{Store, Cell, slot, height, header, Perm, Same, at_place, with_value, with_height}
+use Rattle.law_frames.specs.Stores.{Store, Cell, slot, height, Perm, Same, at_place, with_value, with_height}
 
 -- ---- places
 

@@ -1,14 +1,12 @@
 -- Turns of if-then-elses, negations and quantified goals.
-use Rattle.std.proofs.Common.{◌≡◌, refl, ap, sym, ◌∙◌, subst, arith, ℕ, zero, suc, ◌+◌, ◌<◌, ◌≤◌, Bool, true, false, List, [], ◌∷◌, ◌++◌, length, ◌⊎◌, inl, inr}
+use Rattle.std.proofs.Common.{◌≡◌, refl, ap, sym, ◌∙◌, subst, arith, ℕ, suc, ◌+◌, ◌≤◌, Bool, true, false, List, [], ◌∷◌, length, inl, inr}
 use Rattle.md_hlds.specs.HldsGoal.{HldsGoal, At, IfGoal, NotGoal, SomeGoal, Numbered, numbered_goal, goal_size}
 use Rattle.md_hlds.specs.Hlds.{Hlds}
-use Rattle.md_hlds.specs.Value.{Env}
-use Rattle.md_hlds.specs.Trace.{Items, Frame, doing, alone}
-use Rattle.md_steps.specs.State.{Wait, Condition, Negation, Single, Goes, State, state}
-use Rattle.md_steps.specs.Steps.{Turns}
-use Rattle.law_frames.specs.Ways.{Leaves, Address, to, Way, on, holds, denies, finds, address, end_of, after, goals_of, part_way, condition_way, negation_way, some_way, ends, Mentions, Reads, Later}
-use Rattle.law_frames.specs.Stores.{Act, Choice, choice, choice_if, Store, height, Perm, IsFree, top, Same, Kept, KeepsHeight, heads, with_height_if}
-use Rattle.law_frames.specs.Standing.{Placed, Failing, unfound, otherwise, denied, Going, going, Ending, held, refuted, found, Runs, Stands, runs}
+use Rattle.md_hlds.specs.Trace.{Frame, doing, alone}
+use Rattle.md_steps.specs.State.{Wait, Condition, Negation, Single, State}
+use Rattle.law_frames.specs.Ways.{Leaves, Address, to, Way, on, holds, denies, finds, after, goals_of, part_way, condition_way, negation_way, some_way, ends, Reads, Later}
+use Rattle.law_frames.specs.Stores.{Act, Choice, choice, choice_if, Store, Perm, top, KeepsHeight, heads, with_height_if}
+use Rattle.law_frames.specs.Standing.{Failing, unfound, otherwise, denied, Going, going, Ending, held, refuted, found, Runs, Stands, runs}
 use Rattle.law_frames.specs.Moves.{TurnsTo}
 use Rattle.law_frames.proofs.Leave.{below_refl, top_above, same_refl}
 use Rattle.law_frames.proofs.FrameRule.{failing_kept, going_kept, alike_refl}
@@ -57,7 +55,7 @@ condition_goes : {lv : Leaves} {S : Store} {W : Perm} {a : Address} {w : Way} {x
     → KeepsHeight S (barred_if (lv (suc n)) x.index (suc n) W) x (lv (suc n)) (suc n) (length cs)
     → (v : Way) → v ≡ condition_way lv n (numbered_goal (suc n) c) (part_way lv n a (then_of n c t) w) (part_way lv n a (else_of n c t e) w)
     → Going lv S (barred_if (lv (suc n)) x.index (suc n) W) v v x cc (choice_if (lv (suc n)) (choice x cc (to (part_way lv n a (else_of n c t e) w))) cs)
-      (alone f (numbered_goal (suc n) c)) [] (Condition (doing f (goals_of w)) js (then_of n c t) (else_of n c t e) ∷ ws)
+    (alone f (numbered_goal (suc n) c)) [] (Condition (doing f (goals_of w)) js (then_of n c t) (else_of n c t e) ∷ ws)
 condition_goes {lv} {S} {W} {a} {w} {x} {cc} {cs} {f} {js} {ws} n l c t e then_less else_less goes keeps v is =
     let b : Bool = lv (suc n) in
     let cond' : Numbered = numbered_goal (suc n) c in
@@ -86,8 +84,8 @@ pub if_goes : {lv : Leaves} {S : Store} {a : Address} {n l : ℕ} {c t e : HldsG
     → Stands lv S (Runs (on a (numbered_goal n (At l (IfGoal c t e))) w) x cc) cs k st
     → (lv (suc n + goal_size c) ≡ true → lv n ≡ true) → (lv (suc n + goal_size c + goal_size t) ≡ true → lv n ≡ true)
     → TurnsTo s lv st x.number n 1 [] (with_height_if (lv (suc n)) S x.index (suc n) (length cs))
-      (Runs (condition_way lv n (numbered_goal (suc n) c) (part_way lv n a (numbered_goal (suc n + goal_size c) t) w) (part_way lv n a (numbered_goal (suc n + goal_size c + goal_size t) e) w)) x cc)
-      (choice_if (lv (suc n)) (choice x cc (to (part_way lv n a (numbered_goal (suc n + goal_size c + goal_size t) e) w))) cs) k
+    (Runs (condition_way lv n (numbered_goal (suc n) c) (part_way lv n a (numbered_goal (suc n + goal_size c) t) w) (part_way lv n a (numbered_goal (suc n + goal_size c + goal_size t) e) w)) x cc)
+    (choice_if (lv (suc n)) (choice x cc (to (part_way lv n a (numbered_goal (suc n + goal_size c + goal_size t) e) w))) cs) k
 if_goes {lv} {S} {a} {n} {l} {c} {t} {e} {w} {x} {cc} {cs} s (runs {W = W} {f = f} {js = js} {ws = ws} k goes) then_less else_less =
     turns_to s x (numbered_goal n (At l (IfGoal c t e))) (goals_of w) f js ws k (placed_of goes).is (placed_of goes).goals refl
     (runs k (condition_goes n l c t e then_less else_less (here_kept (lv (suc n)) (length cs) goes) (keeps_height_if (lv (suc n)) W S x (suc n) (length cs)) _ refl))

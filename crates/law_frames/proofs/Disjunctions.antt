@@ -1,15 +1,15 @@
 -- Turns of disjunctions: arms that are tried, and the one arm of a switch.
-use Rattle.std.proofs.Common.{◌≡◌, refl, ap, sym, ◌∙◌, subst, arith, ℕ, zero, suc, ◌+◌, ◌<◌, ◌≤◌, Bool, true, false, ◌||◌, cond, List, [], ◌∷◌, ◌++◌, length, Option, Some, None, is_some, unwrap_or, true≢false, ◌⊎◌, inl, inr}
-use Rattle.md_hlds.specs.HldsGoal.{HldsGoal, At, DisjGoal, HldsGoals, nothing, also, Numbered, numbered_goal, numbered_from, goal_size, goals_size}
+use Rattle.std.proofs.Common.{◌≡◌, refl, ap, sym, ◌∙◌, subst, arith, ℕ, suc, ◌+◌, ◌<◌, ◌≤◌, Bool, true, false, cond, List, [], ◌∷◌, Option, Some, None, is_some, unwrap_or, true≢false, inl, inr}
+use Rattle.md_hlds.specs.HldsGoal.{At, DisjGoal, HldsGoals, nothing, also, Numbered, numbered_goal, numbered_from, goal_size, goals_size}
 use Rattle.md_hlds.specs.Hlds.{Hlds}
 use Rattle.md_hlds.specs.Value.{Value, Env, value_at}
 use Rattle.md_hlds.specs.Switch.{Key, switch_shape, has_the_key, arm_for}
-use Rattle.md_hlds.specs.Trace.{Items, Frame, doing}
-use Rattle.md_steps.specs.State.{Wait, Others, Goes, Fails, State, state}
-use Rattle.md_steps.specs.Steps.{Unfolded, Turns, tries, takes_arm, switches, chooses}
-use Rattle.law_frames.specs.Ways.{Leaves, Address, pop, Way, on, address, end_of, passes, after, goals_of, part_way, arms_address, Mentions, SomeMentions, Reads, Later, some_leaves}
+use Rattle.md_hlds.specs.Trace.{Frame, doing}
+use Rattle.md_steps.specs.State.{Wait, Others, State}
+use Rattle.md_steps.specs.Steps.{tries, takes_arm, switches, chooses}
+use Rattle.law_frames.specs.Ways.{Leaves, Address, pop, Way, on, after, goals_of, part_way, arms_address, Mentions, SomeMentions, some_leaves}
 use Rattle.law_frames.specs.Stores.{Act, Choice, Store, Perm, Kept}
-use Rattle.law_frames.specs.Standing.{Placed, AreKept, Branching, Failing, tried, arms, Going, going, Ending, Runs, Misses, Stands, runs, misses}
+use Rattle.law_frames.specs.Standing.{AreKept, Failing, tried, arms, Going, Runs, Misses, Stands, runs, misses}
 use Rattle.law_frames.specs.Moves.{TurnsTo, env_of}
 use Rattle.law_frames.specs.Leaving.{AreTried}
 use Rattle.law_frames.proofs.Leave.{below_refl}

@@ -1,9 +1,9 @@
 -- The leave in a new frame: the slots of its variables that have values are closed, and so is its head.
-use Rattle.std.proofs.Common.{◌≡◌, refl, ap, sym, ◌∙◌, subst, arith, ℕ, zero, suc, ◌<◌, ◌≤◌, Bool, true, false, cond, not, nat_eq, nat_lt, List, [], ◌∷◌, length, Option, Some, None, is_some, true≢false}
+use Rattle.std.proofs.Common.{◌≡◌, refl, ap, sym, ◌∙◌, subst, arith, ℕ, zero, suc, ◌<◌, ◌≤◌, Bool, true, false, cond, not, nat_eq, nat_lt, Option, Some, None, is_some, true≢false}
 use Rattle.std.proofs.lemmas.Bool.{eq-eqb, eqb-true, le-leb, lt-leb, leb-true, leb-false}
 use Rattle.md_hlds.specs.Value.{Value, Env, value_at}
 use Rattle.law_frames.specs.Ways.{Way, Later}
-use Rattle.law_frames.specs.Stores.{Act, Choice, Store, Cell, slot, height, header, Perm, Below, AlikeBelow, IsFree, top, Same, Framed, IsKept, Kept, KeepsHeight}
+use Rattle.law_frames.specs.Stores.{Act, Store, Cell, slot, height, header, Perm, Below, AlikeBelow, IsFree, Same, Framed, IsKept, Kept, KeepsHeight}
 use Rattle.law_frames.specs.Calls.{NewFrame}
 
 -- whether the body cuts decides whether its height is closed

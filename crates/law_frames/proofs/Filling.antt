@@ -1,12 +1,12 @@
 -- One way to write the frame of a call, and that it is one.
-use Rattle.std.proofs.Common.{◌≡◌, refl, ap, sym, ◌∙◌, subst, arith, ℕ, zero, suc, ◌<◌, ◌≤◌, Bool, true, false, cond, nat_eq, List, [], ◌∷◌, length, Option, Some, None, inl, inr}
+use Rattle.std.proofs.Common.{◌≡◌, refl, ap, sym, ◌∙◌, subst, arith, ℕ, zero, suc, ◌<◌, Bool, true, false, cond, nat_eq, List, [], ◌∷◌, length, Option, None, inl, inr}
 use Rattle.std.proofs.lemmas.Bool.{eq-eqb, eqb-true}
 use Rattle.md_hlds.specs.Hlds.{Procedure}
 use Rattle.md_hlds.specs.Value.{Value, Env, value_at, bound, blank}
 use Rattle.md_hlds.specs.Trace.{back_value, passed, given, entered, pairs_of, without}
-use Rattle.law_frames.specs.Ways.{Leaves, Address, Way, IsAmong}
+use Rattle.law_frames.specs.Ways.{IsAmong}
 use Rattle.law_frames.specs.Stores.{Act, Store, with_value, with_values, with_height, bind_all, at_place}
-use Rattle.law_frames.specs.Calls.{NewFrame, callee, with_act, captured, PassesIn, none_in, passed_in, held_back, copy_in, frame_written}
+use Rattle.law_frames.specs.Calls.{NewFrame, with_act, captured, PassesIn, none_in, passed_in, held_back, copy_in, frame_written}
 use Rattle.law_frames.proofs.Cells.{value_elsewhere, height_here, not_none, same_frame}
 use Rattle.law_frames.proofs.Sealing.{Shows}
 use Rattle.law_frames.proofs.Writing.{shows_bound, shows_written}
@@ -50,7 +50,7 @@ shows_passed i j c apart (passed_in p ps ins v is more) S e caller shows =
     let T : Store = with_value S j p.0 (S.values i p.1) in
     let there : Shows Any T j (back_value p.0 None (value_at c p.1) e)
     = subst (λ (o : Option Value). Shows Any T j (back_value p.0 None o e)) (sym is)
-      (subst (λ (u : Value). Shows Any (with_value S j p.0 u) j (bound e p.0 v)) (sym (caller p.1 v (inl refl) is)) (shows_bound Any S j e p.0 v shows)) in
+    (subst (λ (u : Value). Shows Any (with_value S j p.0 u) j (bound e p.0 v)) (sym (caller p.1 v (inl refl) is)) (shows_bound Any S j e p.0 v shows)) in
     shows_passed i j c apart more T (back_value p.0 None (value_at c p.1) e)
     (caller_same S i j p.0 (S.values i p.1) (λ y. IsAmong y (seconds ps)) c apart (λ y u among is. caller y u (inr among) is)) there
 shows_passed i j c apart (held_back p ps ins none more) S e caller shows =

@@ -1,16 +1,16 @@
 -- Weights that are charged later.
-use Rattle.std.proofs.Common.{◌≡◌, refl, ap, sym, ◌∙◌, subst, arith, ℕ, zero, suc, ◌+◌, ◌-◌, ◌<◌, ◌≤◌, Bool, true, false, nat_le, List, [], ◌∷◌, ◌++◌, Option, Some, None, append_assoc, append-nil}
+use Rattle.std.proofs.Common.{◌≡◌, refl, ap, sym, ◌∙◌, subst, arith, ℕ, ◌+◌, ◌-◌, ◌<◌, ◌≤◌, Bool, true, false, nat_le, List, [], ◌∷◌, ◌++◌, Option, Some, append-nil}
 use Rattle.std.proofs.lemmas.Bool.{leb-true, leb-false}
 use Rattle.md_hlds.specs.Hlds.{Hlds}
 use Rattle.md_hlds.specs.Trace.{Item, Turn, Call, Exit, Redo, Fail, Excp, Alloc, Out, Throw, Answer, Stuck, Deep, Items}
 use Rattle.md_hlds.specs.Run.{run, cut, events, output, is_finished, error}
 use Rattle.md_hlds.proofs.TraceLemmas.{cut_allowed, cut_refused}
 use Rattle.md_steps.specs.State.{State}
-use Rattle.md_steps.specs.Steps.{Unfolded, Turns}
+use Rattle.md_steps.specs.Steps.{Turns}
 use Rattle.md_steps.specs.Standing.{StandsIn}
 use Rattle.law_frames.specs.Ways.{Leaves}
 use Rattle.law_frames.specs.Stores.{Store, Choice}
-use Rattle.law_frames.specs.Standing.{Doing, Stands}
+use Rattle.law_frames.specs.Standing.{Doing}
 use Rattle.law_frames.specs.Moves.{Moves, Stops, Unfolds, MovesTo, TurnsTo}
 use Rattle.law_frames.specs.Running.{InRun, visible, Pends, PendRun, TurnsCharged, IsSeen, Folds, folds_end, defers, charges, shows}
 use Rattle.law_frames.proofs.RunLemmas.{moves_in, stops_in, unfolds_there}

@@ -1,5 +1,5 @@
 -- The leave after a condition: in its own frame as it is now, and elsewhere as it was before.
-use Rattle.std.proofs.Common.{◌≡◌, refl, ap, sym, ◌∙◌, subst, arith, ℕ, suc, ◌<◌, ◌≤◌, Bool, true, false, cond, nat_eq, true≢false}
+use Rattle.std.proofs.Common.{◌≡◌, refl, ap, ◌∙◌, arith, ℕ, ◌<◌, Bool, true, false, cond, nat_eq}
 use Rattle.std.proofs.lemmas.Bool.{eq-eqb, eqb-true}
 use Rattle.law_frames.specs.Stores.{Cell, Perm, Below, AlikeBelow, IsFree}
 

@@ -1,20 +1,20 @@
 -- Turns of simple goals and of conjunctions.
-use Rattle.std.proofs.Common.{◌≡◌, refl, ap, sym, ◌∙◌, subst, arith, ℕ, zero, suc, ◌+◌, ◌<◌, ◌≤◌, Bool, true, false, List, [], ◌∷◌, ◌++◌, length, Option, Some, None, ◌⊎◌, inl, inr}
-use Rattle.md_hlds.specs.HldsGoal.{Simple, HldsGoal, At, SimpleGoal, ConjGoal, HldsGoals, Numbered, numbered_goal, numbered_from, goal_size, goals_size}
+use Rattle.std.proofs.Common.{◌≡◌, refl, ap, sym, ◌∙◌, subst, arith, ℕ, suc, ◌+◌, ◌≤◌, false, List, [], ◌∷◌, ◌++◌, Option, Some, inl, inr}
+use Rattle.md_hlds.specs.HldsGoal.{Simple, At, SimpleGoal, ConjGoal, HldsGoals, Numbered, numbered_goal, goal_size, goals_size}
 use Rattle.md_hlds.specs.Hlds.{Hlds}
 use Rattle.md_hlds.specs.Value.{Value, Env, value_at}
-use Rattle.md_hlds.specs.Simple.{Outcome, Go, No, Stop, simple}
+use Rattle.md_hlds.specs.Simple.{Go, No, Stop, simple}
 use Rattle.md_hlds.specs.Simple.{Throws as Raised}
-use Rattle.md_hlds.specs.Trace.{Throw, Items, Frame, doing, knowing, allocated, written}
-use Rattle.md_steps.specs.State.{Wait, Goes, State, state}
-use Rattle.md_steps.specs.Steps.{Unfolded, Turns, Sticks, goes_simply}
-use Rattle.law_frames.specs.Ways.{Leaves, Address, Way, on, address, end_of, goals_of, after, parts_way, Mentions, SomeMentions, Reads, Later, some_leaves}
-use Rattle.law_frames.specs.Stores.{Act, Choice, Store, slot, Perm, Below, AlikeBelow, IsFree, top, Same, Kept, heads, with_values, bind_all, AreFresh, AreMentioned}
-use Rattle.law_frames.specs.Standing.{Placed, Failing, Going, going, Ending, Doing, Runs, Misses, Raises, Stands, runs, misses, raises}
+use Rattle.md_hlds.specs.Trace.{Throw, knowing, allocated, written}
+use Rattle.md_steps.specs.State.{Goes, State, state}
+use Rattle.md_steps.specs.Steps.{Turns, Sticks, goes_simply}
+use Rattle.law_frames.specs.Ways.{Leaves, Address, Way, on, goals_of, after, parts_way, Mentions, Reads, Later, some_leaves}
+use Rattle.law_frames.specs.Stores.{Act, Choice, Store, Perm, top, Same, Kept, heads, with_values, bind_all, AreFresh, AreMentioned}
+use Rattle.law_frames.specs.Standing.{Failing, going, Ending, Runs, Misses, Raises, Stands, runs, misses, raises}
 use Rattle.law_frames.specs.Moves.{Unfolds, TurnsTo, env_of}
 use Rattle.law_frames.proofs.Leave.{below_refl, framed_kept, top_above}
 use Rattle.law_frames.proofs.WayLemmas.{kept_narrow, later_from, parts_are_way, parts_goals, parts_reads, parts_later}
-use Rattle.law_frames.proofs.Sealing.{sealed, sealed_below, sealed_alike, sealed_free, Shows, kept_sealed, kept_open, kept_shows}
+use Rattle.law_frames.proofs.Sealing.{sealed, sealed_below, sealed_alike, sealed_free, kept_sealed, kept_open, kept_shows}
 use Rattle.law_frames.proofs.Writing.{bind_none, shows_written, written_same}
 use Rattle.law_frames.proofs.ExceptionLemmas.{going_raises}
 use Rattle.law_frames.proofs.Turning.{unfolds_to, turns_to, goes_after}

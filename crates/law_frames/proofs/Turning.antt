@@ -1,19 +1,17 @@
 -- Turns: what is common to them.
-use Rattle.std.proofs.Common.{◌≡◌, refl, ap, sym, ◌∙◌, subst, arith, ℕ, zero, suc, ◌+◌, ◌<◌, ◌≤◌, Bool, true, false, List, [], ◌∷◌, ◌++◌, length, Option, Some, None, inl, inr}
-use Rattle.md_hlds.specs.HldsGoal.{HldsGoal, Numbered, goal_size}
+use Rattle.std.proofs.Common.{◌≡◌, refl, ap, sym, ◌∙◌, subst, arith, ℕ, ◌+◌, ◌<◌, ◌≤◌, true, false, List, ◌∷◌, inl, inr}
+use Rattle.md_hlds.specs.HldsGoal.{Numbered, goal_size}
 use Rattle.md_hlds.specs.Hlds.{Hlds}
-use Rattle.md_hlds.specs.Value.{Env, value_at}
+use Rattle.md_hlds.specs.Value.{Env}
 use Rattle.md_hlds.specs.Trace.{Items, Frame, doing, knowing}
 use Rattle.md_steps.specs.State.{Wait, Goes, State, state}
-use Rattle.md_steps.specs.Steps.{Unfolded, Turns, Sticks, unfolds}
-use Rattle.law_frames.specs.Ways.{Leaves, Address, pop, Way, on, address, end_of, passes, goals_of, after, IsWay, ends, part_way, Mentions, Reads, Later}
-use Rattle.law_frames.specs.Stores.{Act, Choice, Store, slot, Perm, Below, AlikeBelow, IsFree, IsStacked, top, Same, Kept, heads}
-use Rattle.law_frames.specs.Standing.{Placed, Failing, Going, going, Ending, Doing, Runs, Stands, runs}
-use Rattle.law_frames.specs.Moves.{Unfolds, unfolding_of, TurnsTo, env_of}
-use Rattle.law_frames.proofs.Leave.{below_refl}
+use Rattle.md_steps.specs.Steps.{Unfolded, Turns, unfolds}
+use Rattle.law_frames.specs.Ways.{Leaves, Address, Way, on, goals_of, after, ends, part_way, Mentions, Reads, Later}
+use Rattle.law_frames.specs.Stores.{Act, Choice, Store, Perm, Below, AlikeBelow, IsFree, top, Same, Kept, heads}
+use Rattle.law_frames.specs.Standing.{Failing, Going, going, Ending, Doing, Stands}
+use Rattle.law_frames.specs.Moves.{Unfolds, unfolding_of, TurnsTo}
 use Rattle.law_frames.proofs.FrameRule.{failing_kept, ending_kept}
 use Rattle.law_frames.proofs.WayLemmas.{kept_narrow, later_from, part_is_way, ends_end, ends_goals, ends_reads, ends_later}
-use Rattle.law_frames.proofs.Ends.{placed_of, failing_of, ending_of}
 
 -- the turn of a frame at the first of its goals
 pub unfolds_to : (s : Hlds) (x : Act) (p : Numbered) (goals : List Numbered) (f : Frame) (js : List Frame) (ws : List Wait) (k : ℕ) (u : Unfolded) → f.act ≡ x.number → f.goals ≡ p ∷ goals
@@ -48,8 +46,7 @@ pub record IsPart (q p : Numbered) : Type 0 where
 pub kept_part : {S : Store} {W : Perm} {a : Address} {p : Numbered} {w : Way} {x : Act} {e : Env} (b : Address) (q : Numbered) (v : Way) → IsPart q p → ((y : ℕ) → Reads (heads x) v y → Reads (heads x) w y)
     → ((n : ℕ) → Later n w → Later n v) → Kept S W x (on a p w) e → Kept S W x (on b q v) e
 kept_part {a = a} {p = p} {w = w} {x = x} b q v part narrow later kept =
-    kept_narrow (on b q v) kept (λ y reads. part_reads y reads)
-    (
+    kept_narrow (on b q v) kept (λ y reads. part_reads y reads) (
       (let le = kept.ahead.0 in let first = part.first in omega (arith, le, first)),
       later (q.number + goal_size q.goal) (later_from (q.number + goal_size q.goal) (p.number + goal_size p.goal) w part.last kept.ahead.1),
     )

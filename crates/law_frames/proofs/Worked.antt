@@ -1,19 +1,18 @@
 -- The definitions, computed on small clauses, and a run that the laws make. Each result was worked out by hand: with a
 -- choice left open after a cut, the failure address of another construct, or a redo that comes back to the wrong place it
 -- would be another.
-use Rattle.std.proofs.Common.{◌≡◌, refl, ap, sym, ◌∙◌, arith, ℕ, zero, suc, ◌-◌, ◌<◌, ◌≤◌, pos, Bool, true, false, ◌||◌, nat_eq, is_some, List, [], ◌∷◌, ◌++◌, Option, Some, None, true≢false, inl, inr}
+use Rattle.std.proofs.Common.{◌≡◌, refl, ap, sym, arith, ℕ, pos, Bool, true, false, ◌||◌, nat_eq, is_some, List, [], ◌∷◌, ◌++◌, Some, None, true≢false}
 use Rattle.std.specs.Prelude.{codes}
-use Rattle.md_hlds.specs.declared.types.Det.{Det}
-use Rattle.md_hlds.specs.declared.types.Det.TheVariants.{Failure}
+use Rattle.md_hlds.specs.declared.types.Det.TheVariants.{Failure, Nondet}
 use Rattle.md_hlds.specs.declared.goal.PredName.{PredName}
-use Rattle.md_hlds.specs.HldsGoal.{HldsGoal, At, GoalExpr, Succeeds, Fails, SimpleGoal, CallGoal, ConjGoal, DisjGoal, IfGoal, NotGoal, SomeGoal, gathered, Numbered, numbered_goal, numbered_from}
+use Rattle.md_hlds.specs.HldsGoal.{HldsGoal, At, GoalExpr, Succeeds, Fails, SimpleGoal, CallGoal, ConjGoal, DisjGoal, IfGoal, gathered, Numbered, numbered_goal, numbered_from}
 use Rattle.md_hlds.specs.Hlds.{Hlds, Procedure}
-use Rattle.md_hlds.specs.Value.{Value, Number, Env, value_at}
-use Rattle.md_hlds.specs.Trace.{Turn, Call, Fail, Items, back}
-use Rattle.md_hlds.specs.Run.{run, main_name}
-use Rattle.law_frames.specs.Ways.{Leaves, Address, pop, port, to, tries, redoes, Way, on, joins, holds, denies, finds, exits, yields, parts_way, part_way, condition_way, negation_way, some_way, arms_address, arm_way, cut_body, whole_body, address}
+use Rattle.md_hlds.specs.Value.{Number, value_at}
+use Rattle.md_hlds.specs.Trace.{Turn, Call, Exit, Redo, Fail, Items, back}
+use Rattle.md_hlds.specs.Run.{run}
+use Rattle.law_frames.specs.Ways.{Leaves, Address, pop, port, to, tries, redoes, Way, on, joins, holds, denies, finds, exits, yields, parts_way, part_way, condition_way, negation_way, some_way, arms_address, arm_way, cut_body, whole_body}
 use Rattle.law_frames.specs.Stores.{Act, Choice, choice, Store, arms_choices, trimmed, copy_all, with_height, top, HandsOver, had, handed, none_over}
-use Rattle.law_frames.specs.Standing.{Runs, Misses}
+use Rattle.law_frames.specs.Standing.{Doing, Runs, Misses}
 use Rattle.law_frames.specs.Running.{InRun}
 use Rattle.md_steps.specs.Makes.{with_main}
 use Rattle.law_frames.proofs.Beginning.{begins_cut}
@@ -21,8 +20,12 @@ use Rattle.law_frames.proofs.RunLemmas.{in_run_begins, in_run_turns, in_run_move
 use Rattle.law_frames.proofs.Conditions.{if_goes}
 use Rattle.law_frames.proofs.Disjunctions.{disjunction_tries}
 use Rattle.law_frames.proofs.FailureLemmas.{after_missing}
-use Rattle.law_frames.proofs.SimpleTurns.{simple_goes, simple_fails}
-use Rattle.law_frames.proofs.Ends.{after_holding}
+use Rattle.law_frames.proofs.SimpleTurns.{simple_goes, simple_fails, conjunction_goes}
+use Rattle.law_frames.specs.Calls.{none_in, frame_written}
+use Rattle.law_frames.proofs.Calling.{CallsOf, plain_call, whole_called}
+use Rattle.law_frames.proofs.AnyTurns.{frame_of_call}
+use Rattle.law_frames.proofs.Exits.{after_yielding}
+use Rattle.law_frames.proofs.Ends.{after_holding, after_joining}
 
 abbrev goal : GoalExpr → HldsGoal
 goal t = At 0 t
@@ -201,7 +204,7 @@ abbrev with_the_height : Store
 with_the_height = with_height store 0 1 0
 
 begins : InRun program one_leaves 10 9 (with_main main []) begun (Runs (on port (numbered_goal 0 main_goal) end_way) some_act []) [] 1
-begins = in_run_begins refl (omega arith) (begins_cut program main (record { act = refl; first = refl; entered = λ y v has. absurd (true≢false (sym (ap is_some has))) }))
+begins = in_run_begins refl (omega arith) (begins_cut program main (record { act = refl; bottom = refl; first = refl; entered = λ y v has. absurd (true≢false (sym (ap is_some has))) }))
 
 -- the turns that are made, one after the other
 abbrev done_1 : Items
@@ -248,9 +251,184 @@ then_fails : InRun program one_leaves 10 5 done_4 with_the_height (Misses port s
 then_fails = (in_run_turns then_runs (simple_fails program then_runs.is 0 refl)).fits (omega arith)
 
 the_run : run program 10 ≡ Turn 0 None 1 ∷ Call 0 None None 0 ∷ Turn 0 (Some 0) 1 ∷ Turn 0 (Some 1) 1 ∷ Turn 0 (Some 2) 1 ∷ Turn 0 (Some 4) 1 ∷ Fail 0 ∷ []
-the_run = in_run_stops then_fails (after_missing then_fails.is)
+the_run = in_run_stops then_fails (after_missing then_fails.is).stops
 
 -- and this is what the definition gives
 the_definition : run program 10 ≡ Turn 0 None 1 ∷ Call 0 None None 0 ∷ Turn 0 (Some 0) 1 ∷ Turn 0 (Some 1) 1 ∷ Turn 0 (Some 2) 1 ∷ Turn 0 (Some 4) 1 ∷ Fail 0 ∷ []
 unfolding run
 the_definition = refl
+
+-- ---- a run with redos by the laws
+
+-- main :- often, fail.   often :- ( true ; true ).  Each answer of the call is taken back.
+abbrev calls_often : HldsGoal
+calls_often = goal (CallGoal 0 (called (codes "often")) [])
+
+abbrev asking : HldsGoal
+asking = goal (ConjGoal (gathered (calls_often ∷ goal (SimpleGoal Fails) ∷ [])))
+
+abbrev asks : Procedure
+asks = record main_procedure { body = asking }
+
+abbrev answers_twice : Procedure
+answers_twice = record { qualifier = None; name = codes "often"; line = 0; clause_line = 0; args = []; det = Nondet; vars = []; head = []; body = arms_of }
+
+abbrev redo_program : Hlds
+redo_program = record { module_name = codes "m"; module_line = 0; types = []; procedures = asks ∷ answers_twice ∷ [] }
+
+-- the conjunction is goal 0, the call 1 and the failure 2; in the other clause the disjunction is 3, and its arms are 4 and 5
+abbrev redo_leaves : Leaves
+redo_leaves n = nat_eq n 0 || nat_eq n 1 || nat_eq n 3
+
+-- the ways: the failure after the call, the end of the other body, and its arms
+abbrev after_call : Way
+after_call = on pop (numbered_goal 2 (goal (SimpleGoal Fails))) (exits pop true)
+
+abbrev the_call : Numbered
+the_call = numbered_goal 1 calls_often
+
+abbrev arm_4 : Numbered
+arm_4 = numbered_goal 4 (goal (SimpleGoal Succeeds))
+
+abbrev arm_5 : Numbered
+arm_5 = numbered_goal 5 (goal (SimpleGoal Succeeds))
+
+-- the activation of the call, in the frame 1, and the store with it
+abbrev called_act : Act
+called_act = record { index = 1; number = 1; caller = 0; pairs = []; outs = []; no = port; goal = the_call; back = after_call }
+
+abbrev called_store : Store
+called_store = frame_written begun 0 1 called_act 0 [] []
+
+-- the choices: for the second arm, for a redo, and for the end of the second arm
+abbrev arm_choice : Choice
+arm_choice = choice called_act (some_act ∷ []) (tries arm_5 [] port (yields pop))
+
+abbrev redo_choice : Choice
+redo_choice = choice called_act (some_act ∷ []) (redoes pop)
+
+abbrev end_choice : Choice
+end_choice = choice called_act (some_act ∷ []) port
+
+abbrev call_runs : Way → Doing
+call_runs w = Runs w called_act (some_act ∷ [])
+
+abbrev call_misses : Address → Doing
+call_misses a = Misses a called_act (some_act ∷ [])
+
+abbrev items_1 : Items
+items_1 = with_main (0, asks) [] ++ (Turn 0 (Some 0) 1 ∷ [])
+
+abbrev items_2 : Items
+items_2 = items_1 ++ (Turn 0 (Some 1) 1 ∷ Call 1 (Some 0) (Some 0) 1 ∷ [])
+
+abbrev items_3 : Items
+items_3 = items_2 ++ (Turn 1 (Some 3) 1 ∷ [])
+
+abbrev items_4 : Items
+items_4 = (items_3 ++ []) ++ (Turn 1 (Some 4) 1 ∷ [])
+
+abbrev items_5 : Items
+items_5 = (items_4 ++ (Exit 1 ∷ [])) ++ (Turn 0 (Some 2) 1 ∷ [])
+
+abbrev items_6 : Items
+items_6 = (items_5 ++ []) ++ (Redo 1 ∷ [])
+
+abbrev items_7 : Items
+items_7 = ((items_6 ++ []) ++ []) ++ (Turn 1 (Some 5) 1 ∷ [])
+
+abbrev items_8 : Items
+items_8 = ((items_7 ++ []) ++ (Exit 1 ∷ [])) ++ (Turn 0 (Some 2) 1 ∷ [])
+
+abbrev items_9 : Items
+items_9 = (items_8 ++ []) ++ (Redo 1 ∷ [])
+
+abbrev items_10 : Items
+items_10 = (items_9 ++ []) ++ (Fail 1 ∷ [])
+
+abbrev RedoRun : ℕ → Items → Store → Doing → List Choice → ℕ → Type 0
+RedoRun left done S d cs k = InRun redo_program redo_leaves 20 left done S d cs k
+
+-- main's body begins
+redo_begins : RedoRun 18 (with_main (0, asks) []) begun (Runs (on port (numbered_goal 0 asking) (exits pop true)) some_act []) [] 1
+redo_begins = in_run_begins refl (omega arith) (begins_cut redo_program (0, asks) (record { act = refl; bottom = refl; first = refl; entered = λ y v has. absurd (true≢false (sym (ap is_some has))) }))
+
+redo_1 : RedoRun 17 items_1 begun (Runs (on port the_call after_call) some_act []) [] 1
+redo_1 = (in_run_turns redo_begins (conjunction_goes redo_program redo_begins.is refl)).fits (omega arith)
+
+-- the call runs in the frame 1
+redo_call : CallsOf redo_program redo_1.st some_act the_call 0 (1, answers_twice) [] []
+redo_call = plain_call redo_program redo_1.st some_act 1 0 0 (called (codes "often")) [] (1, answers_twice) refl refl
+
+redo_2 : RedoRun 16 items_2 called_store (call_runs (on port (numbered_goal 3 arms_of) (yields pop))) [] 2
+redo_2 = (in_run_turns redo_1 (whole_called redo_program 0 (1, answers_twice) [] [] [] 0 redo_1.is redo_call refl refl none_over (frame_of_call redo_program 0 (1, answers_twice) [] [] [] [] redo_1.is redo_call none_in))).fits (omega arith)
+
+-- its first arm runs above a choice of the second
+redo_3 : RedoRun 15 items_3 called_store (call_misses (tries arm_4 (arm_5 ∷ []) port (yields pop))) [] 2
+redo_3 = (in_run_turns redo_2 (disjunction_tries redo_program redo_2.is refl tt)).fits (omega arith)
+
+redo_4 : RedoRun 15 (items_3 ++ []) called_store (call_runs (on pop arm_4 (yields pop))) (arm_choice ∷ []) 2
+redo_4 = in_run_moves redo_3 (after_missing redo_3.is)
+
+redo_5 : RedoRun 14 items_4 called_store (call_runs (yields pop)) (arm_choice ∷ []) 2
+redo_5 = (in_run_turns redo_4 (simple_goes redo_program redo_4.is refl 0 0 None [] refl tt tt)).fits (omega arith)
+
+-- it exits, and leaves a choice for its redo; main's failure goes there
+redo_6 : RedoRun 14 (items_4 ++ (Exit 1 ∷ [])) called_store (Runs after_call some_act []) (redo_choice ∷ arm_choice ∷ []) 2
+redo_6 = in_run_moves redo_5 (after_yielding redo_5.is).to
+
+redo_7 : RedoRun 13 items_5 called_store (Misses pop some_act []) (redo_choice ∷ arm_choice ∷ []) 2
+redo_7 = (in_run_turns redo_6 (simple_fails redo_program redo_6.is 0 refl)).fits (omega arith)
+
+redo_8 : RedoRun 13 (items_5 ++ []) called_store (call_misses (redoes pop)) (arm_choice ∷ []) 2
+redo_8 = in_run_moves redo_7 (after_missing redo_7.is)
+
+-- the redo comes back to the second arm
+redo_9 : RedoRun 13 items_6 called_store (call_misses pop) (arm_choice ∷ []) 2
+redo_9 = in_run_moves redo_8 (after_missing redo_8.is).to
+
+redo_10 : RedoRun 13 (items_6 ++ []) called_store (call_misses (tries arm_5 [] port (yields pop))) [] 2
+redo_10 = in_run_moves redo_9 (after_missing redo_9.is)
+
+-- which fails to the port, and so leaves a choice that does
+redo_11 : RedoRun 13 ((items_6 ++ []) ++ []) called_store (call_runs (on port arm_5 (joins port (yields pop)))) [] 2
+redo_11 = in_run_moves redo_10 (after_missing redo_10.is)
+
+redo_12 : RedoRun 12 items_7 called_store (call_runs (joins port (yields pop))) [] 2
+redo_12 = (in_run_turns redo_11 (simple_goes redo_program redo_11.is refl 0 0 None [] refl tt tt)).fits (omega arith)
+
+redo_13 : RedoRun 12 (items_7 ++ []) called_store (call_runs (yields pop)) (end_choice ∷ []) 2
+redo_13 = in_run_moves redo_12 (after_joining redo_12.is)
+
+-- it exits again
+redo_14 : RedoRun 12 ((items_7 ++ []) ++ (Exit 1 ∷ [])) called_store (Runs after_call some_act []) (redo_choice ∷ end_choice ∷ []) 2
+redo_14 = in_run_moves redo_13 (after_yielding redo_13.is).to
+
+redo_15 : RedoRun 11 items_8 called_store (Misses pop some_act []) (redo_choice ∷ end_choice ∷ []) 2
+redo_15 = (in_run_turns redo_14 (simple_fails redo_program redo_14.is 0 refl)).fits (omega arith)
+
+redo_16 : RedoRun 11 (items_8 ++ []) called_store (call_misses (redoes pop)) (end_choice ∷ []) 2
+redo_16 = in_run_moves redo_15 (after_missing redo_15.is)
+
+-- and now the redo finds no more: the call fails, and so does main
+redo_17 : RedoRun 11 items_9 called_store (call_misses pop) (end_choice ∷ []) 2
+redo_17 = in_run_moves redo_16 (after_missing redo_16.is).to
+
+redo_18 : RedoRun 11 (items_9 ++ []) called_store (call_misses port) [] 2
+redo_18 = in_run_moves redo_17 (after_missing redo_17.is)
+
+redo_19 : RedoRun 11 items_10 called_store (Misses port some_act []) [] 2
+redo_19 = in_run_moves redo_18 (after_missing redo_18.is).to
+
+abbrev redo_items : Items
+redo_items =
+    Turn 0 None 2 ∷ Call 0 None None 0 ∷ Turn 0 (Some 0) 1 ∷ Turn 0 (Some 1) 1 ∷ Call 1 (Some 0) (Some 0) 1 ∷ Turn 1 (Some 3) 1 ∷ Turn 1 (Some 4) 1 ∷ Exit 1
+    ∷ Turn 0 (Some 2) 1 ∷ Redo 1 ∷ Turn 1 (Some 5) 1 ∷ Exit 1
+    ∷ Turn 0 (Some 2) 1 ∷ Redo 1 ∷ Fail 1 ∷ Fail 0 ∷ []
+
+redo_run : run redo_program 20 ≡ redo_items
+redo_run = in_run_stops redo_19 (after_missing redo_19.is).stops
+
+redo_definition : run redo_program 20 ≡ redo_items
+unfolding run
+redo_definition = refl

@@ -1,5 +1,5 @@
 -- A simple goal writes the slots of variables that had no value.
-use Rattle.std.proofs.Common.{◌≡◌, refl, ap, sym, ◌∙◌, subst, arith, ℕ, zero, suc, ◌<◌, ◌≤◌, Bool, true, false, List, [], ◌∷◌, Option, Some, None}
+use Rattle.std.proofs.Common.{◌≡◌, ap, sym, ◌∙◌, ℕ, true, List, [], ◌∷◌, None}
 use Rattle.md_hlds.specs.HldsGoal.{HldsGoal}
 use Rattle.md_hlds.specs.Value.{Value, Env, value_at, bound}
 use Rattle.law_frames.specs.Ways.{Mentions}

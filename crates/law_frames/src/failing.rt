@@ -4,10 +4,10 @@ ghost use Rattle.md_hlds.specs.HldsGoal.{Numbered};
 ghost use Rattle.md_hlds.specs.Trace.{Exit, Fail, Answer, Frame};
 ghost use Rattle.md_steps.specs.State.{Wait, State};
 ghost use Rattle.law_frames.specs.Ways.{Leaves, Address, pop, port, to, tries, redoes, Way, joins, holds, denies, finds, exits, yields, halts, arm_way};
-ghost use Rattle.law_frames.specs.Stores.{Act, Choice, choice, Store, Perm, Below, AlikeBelow, Same, arms_choices, trimmed, top};
+ghost use Rattle.law_frames.specs.Stores.{Act, Choice, choice, Store, Perm, Below, AlikeBelow, Same, arms_choices, trimmed, top, IsStacked};
 ghost use Rattle.law_frames.specs.Standing.{Failing, Going, Ending, Runs, Misses, Raises, Stands};
 ghost use Rattle.law_frames.specs.Moves.{MovesTo, Stops, env_of};
-ghost use Rattle.law_frames.specs.After.{PortsTo, RedoesTo, CutsTo, ExitsTo, YieldsTo, LeavesTo};
+ghost use Rattle.law_frames.specs.After.{AreCallers, PortsTo, RedoesTo, CutsTo, ExitsTo, YieldsTo, LeavesTo};
 
 /// Whatever is written into open cells, what stands in frames and what waits there is kept; and so it is with less leave
 /// than before, as far as what an end finds in the frames below it goes with the same.
@@ -25,6 +25,7 @@ pub fn failures()
     ensures otherwise { (lv : Leaves) (S : Store) (w : Way) (x : Act) (c : List Act) (cs : List Choice) (k : ℕ) (st : State) → Stands lv S (Misses (to w) x c) cs k st → MovesTo lv st [] S (Runs w x c) cs k }
     ensures fails { (lv : Leaves) (S : Store) (x y : Act) (c : List Act) (cs : List Choice) (k : ℕ) (st : State) → Stands lv S (Misses port x (y ∷ c)) cs k st → PortsTo lv S k x y c cs st }
     ensures main_fails { (lv : Leaves) (S : Store) (x : Act) (cs : List Choice) (k : ℕ) (st : State) → Stands lv S (Misses port x []) cs k st → Stops st (Fail 0 ∷ []) }
+    ensures at_port { (lv : Leaves) (S : Store) (x : Act) (c : List Act) (cs : List Choice) (k : ℕ) (st : State) → Stands lv S (Misses port x c) cs k st → AreCallers S x c }
     ensures tries { (lv : Leaves) (S : Store) (p : Numbered) (ps : List Numbered) (a : Address) (w : Way) (x : Act) (c : List Act) (cs : List Choice) (k : ℕ) (st : State) → Stands lv S (Misses (tries p ps a w) x c) cs k st → MovesTo lv st [] S (Runs (arm_way lv p ps a w) x c) (arms_choices x c ps a w cs) k }
     ensures redoes { (lv : Leaves) (S : Store) (a : Address) (x : Act) (c : List Act) (cs : List Choice) (k : ℕ) (st : State) → Stands lv S (Misses (redoes a) x c) cs k st → RedoesTo lv S k a x c cs st }
 {}
@@ -66,4 +67,10 @@ pub fn tops_fall()
     ensures pops { (x : Act) (ch : Choice) (cs : List Choice) → top ch.act cs ≤ top x (ch ∷ cs) }
     ensures exits { (x y : Act) (cs : List Choice) → y.index < x.index → top y cs ≤ top x cs }
     ensures cuts { (h : ℕ) (x : Act) (cs : List Choice) → top x (trimmed h cs) ≤ top x cs }
+{}
+
+/// An activation in the first frame has no callers, and each other has one, in the frame that its head names, below it.
+pub fn callers_are_below()
+    ensures none { (x : Act) (c : List Act) → IsStacked x c → x.index ≡ 0 → c ≡ [] }
+    ensures some { (x : Act) (c : List Act) → IsStacked x c → (x.index ≡ 0 → ⊥) → (y : Act) × (rest : List Act) × (c ≡ y ∷ rest) × (x.caller ≡ y.index) × (y.index < x.index) × IsStacked y rest }
 {}

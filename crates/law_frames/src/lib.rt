@@ -8,6 +8,12 @@ mod failing;
 mod runs;
 mod turns;
 
-pub use failing::{ends_of_bodies, ends_of_conditions, exceptions, failures, frame_rule, tops_fall};
-pub use runs::{main_begins, machines_run, weights_fold};
-pub use turns::{every_turn, turns_of_calls, turns_of_conditions, turns_of_conjunctions, turns_of_disjunctions, turns_of_simple_goals};
+pub use failing::{
+    callers_are_below, ends_of_bodies, ends_of_conditions, exceptions, failures, frame_rule,
+    tops_fall,
+};
+pub use runs::{machines_run, main_begins, weights_fold};
+pub use turns::{
+    every_turn, turns_of_calls, turns_of_conditions, turns_of_conjunctions, turns_of_disjunctions,
+    turns_of_simple_goals,
+};

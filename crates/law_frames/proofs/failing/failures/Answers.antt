@@ -1,4 +1,4 @@
-use Rattle.law_frames.proofs.FailureLemmas.{after_missing}
+use Rattle.law_frames.proofs.FailureLemmas.{after_missing, at_port}
 use Rattle.law_frames.proofs.failing.failures.Goals as goal
 
 pub returns-clause-pops : goal.returns-clause-pops
@@ -14,10 +14,13 @@ pub returns-clause-fails : goal.returns-clause-fails
 returns-clause-fails c lv S x y d cs k st stands = after_missing stands
 
 pub returns-clause-main_fails : goal.returns-clause-main_fails
-returns-clause-main_fails c lv S x cs k st stands = after_missing stands
+returns-clause-main_fails c lv S x cs k st stands = (after_missing stands).stops
 
 pub returns-clause-tries : goal.returns-clause-tries
 returns-clause-tries c lv S p ps a w x d cs k st stands = after_missing stands
 
 pub returns-clause-redoes : goal.returns-clause-redoes
 returns-clause-redoes c lv S a x d cs k st stands = after_missing stands
+
+pub returns-clause-at_port : goal.returns-clause-at_port
+returns-clause-at_port c lv S x d cs k st stands = at_port stands
