@@ -3,3 +3,4 @@ pub mod Joining
 pub mod FitTurns
 pub mod FitCalls
 pub mod FitLifts
+pub mod Worked

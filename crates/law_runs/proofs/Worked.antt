@@ -1,14 +1,8 @@
 -- What calls copy, and the turn of a switch, computed.
-use Rattle.std.proofs.Common.{◌≡◌, refl, ℕ, Bool, true, false, List, [], ◌∷◌, Option, Some, None}
-use Rattle.std.specs.Prelude.{codes}
+use Rattle.std.proofs.Common.{◌≡◌, refl, List, [], ◌∷◌}
 use Rattle.md_hlds.specs.declared.types.Mode.TheVariants.{In, Out, Di, Uo}
-use Rattle.md_hlds.specs.HldsGoal.{HldsGoal, At, SimpleGoal, Succeeds, HldsGoals, nothing, also, Numbered, numbered_goal}
 use Rattle.md_hlds.specs.Hlds.{HldsType, number, world}
-use Rattle.md_hlds.specs.Value.{Value, Number, Literal}
-use Rattle.md_hlds.specs.Trace.{Turn}
-use Rattle.law_frames.specs.Stores.{Store, Act, Choice}
-use Rattle.law_fits.specs.Fast.{Puts, Bursts, Sticks}
-use Rattle.law_runs.specs.FitRuns.{outs_of, ins_of, keys_in, HoldsValues, HoldsCopies}
+use Rattle.law_runs.specs.FitRuns.{outs_of, ins_of}
 use Rattle.md_hlds.specs.declared.types.Mode.{Mode}
 
 -- p(A::in, B::out, IO0::di, IO::uo)

@@ -4,6 +4,7 @@ ghost use Rattle.md_hlds.specs.HldsGoal.{Simple, HldsGoal, At, SimpleGoal, ConjG
 ghost use Rattle.md_hlds.specs.Hlds.{Hlds};
 ghost use Rattle.md_hlds.specs.Value.{Env};
 ghost use Rattle.md_steps.specs.State.{State};
+ghost use Rattle.md_modes.specs.Goals.{simple_variables};
 ghost use Rattle.md_modes.specs.Modes.{mode_fault};
 ghost use Rattle.md_det.specs.Findings.{program_findings, switch_at};
 ghost use Rattle.md_reader.specs.Grammar.{Spells};
@@ -13,7 +14,7 @@ ghost use Rattle.law_frames.specs.Stores.{Act, Choice, choice, choice_if, Store,
 ghost use Rattle.law_frames.specs.Standing.{Runs, Stands};
 ghost use Rattle.law_frames.specs.Moves.{env_of};
 ghost use Rattle.law_frames.specs.Leaving.{LeavesRight};
-ghost use Rattle.law_fits.specs.Fast.{fast_simple};
+ghost use Rattle.law_fits.specs.Fast.{Hold, fast_simple};
 ghost use Rattle.law_fits.specs.States.{FitsState};
 ghost use Rattle.law_fits.specs.Reads.{reads_at};
 ghost use Rattle.law_fits.specs.Leaves.{leaves_table};
@@ -30,6 +31,12 @@ pub fn choices_are_right()
 /// it writes values and the way goes on, or it fails, or it throws.
 pub fn simple_turns()
     ensures { (bytes : List ℕ) (program : Hlds) → Spells bytes program → mode_fault program ≡ None → (S : Store) (a : Address) (n line : ℕ) (g : Simple) (w : Way) (x : Act) (c : List Act) (cs : List Choice) (k : ℕ) (st : State) → Stands (leaves_table program) S (Runs (on a (numbered_goal n (At line (SimpleGoal g))) w) x c) cs k st → FitsState program st → AfterEffect program st S n a w x c cs k (fast_simple program (reads_at program n) (S.values x.index) g) }
+{}
+
+/// The slots of the frame hold the values of a simple goal's variables that have one: so what the goal does with them, by the
+/// role that the checks note, is what the laws of simple goals say.
+pub fn slots_hold_what_is_read()
+    ensures { (program : Hlds) (S : Store) (a : Address) (n line : ℕ) (g : Simple) (w : Way) (x : Act) (c : List Act) (cs : List Choice) (k : ℕ) (st : State) → Stands (leaves_table program) S (Runs (on a (numbered_goal n (At line (SimpleGoal g))) w) x c) cs k st → Hold (S.values x.index) (simple_variables g) (env_of st) }
 {}
 
 /// A conjunction goes on with its parts, an if-then-else, a negation and a quantified goal with their conditions, above a
