@@ -53,7 +53,7 @@ impl Heap {
         ensures stays { OnOk result ((value : AnyValue) → IsThere (length self.old) value → tree_of self.new value ≡ tree_of self.old value) }
         ensures err { OnErr result (self.new ≡ self.old) }
     {
-        let cell = self.rows.len() as u32;
+        let cell = self.rows.len() as u64;
         let first = self.parts.len();
         self.rows.reserve(1)?;
         self.parts.extend_from_slice(parts)?;
@@ -62,7 +62,7 @@ impl Heap {
     }
 
     /// The head of a cell, which stands for this head with what its parts stand for. Takes no memory.
-    pub fn head(&self, cell: u32) -> u32
+    pub fn head(&self, cell: u64) -> u32
         requires { cell < length self.now }
         ensures value { result ≡ (cell_at self.now cell).head }
         ensures means { tree_of self.now (Value.Cell cell) ≡ Built result (trees_of self.now (cell_at self.now cell).parts) }
@@ -71,7 +71,7 @@ impl Heap {
     }
 
     /// The part of a cell at a place, which is an integer, a literal or an older cell. Takes no memory.
-    pub fn part(&self, cell: u32, place: u32) -> Value
+    pub fn part(&self, cell: u64, place: u32) -> Value
         requires cell_there { cell < length self.now }
         requires place_there { place < length (cell_at self.now cell).parts }
         ensures value { slice_get (cell_at self.now cell).parts place ≡ Some result }
@@ -82,7 +82,7 @@ impl Heap {
     }
 
     /// The part of a cell at a place.
-    pub(crate) fn part_at(&self, cell: u32, place: usize) -> Value
+    pub(crate) fn part_at(&self, cell: u64, place: usize) -> Value
         requires cell_there { cell < length self.now }
         requires place_there { place < length (cell_at self.now cell).parts }
         ensures value { slice_get (cell_at self.now cell).parts place ≡ Some result }
@@ -92,7 +92,7 @@ impl Heap {
     }
 
     /// How many parts a cell has.
-    pub(crate) fn part_count(&self, cell: u32) -> usize
+    pub(crate) fn part_count(&self, cell: u64) -> usize
         requires { cell < length self.now }
         ensures value { result ≡ length (cell_at self.now cell).parts }
         ensures older { AreOlder self.now }

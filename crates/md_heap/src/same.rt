@@ -21,8 +21,8 @@ pub enum Same {
 /// Two cells of as many parts; those from a place on are still to be compared.
 #[derive(Clone, Copy)]
 pub struct Frame {
-    pub first: u32,
-    pub second: u32,
+    pub first: u64,
+    pub second: u64,
     pub place: usize,
     pub count: usize,
 }
@@ -113,7 +113,7 @@ impl Heap {
     }
 
     /// Compares two cells without their parts.
-    fn look_at_cells(&self, m: u32, n: u32) -> Look
+    fn look_at_cells(&self, m: u64, n: u64) -> Look
         requires m_there { m < length self.now }
         requires n_there { n < length self.now }
         ensures sum { compared (tree_of self.now (Value.Cell m)) (tree_of self.now (Value.Cell n)) ≡ look_due self.now result }

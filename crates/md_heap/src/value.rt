@@ -6,7 +6,7 @@ pub enum Value {
     /// An integer.
     Int(i64),
     /// A literal, by its number. Equal literals have equal numbers.
-    Lit(u32),
+    Lit(u64),
     /// A cell of the heap, by its number.
-    Cell(u32),
+    Cell(u64),
 }

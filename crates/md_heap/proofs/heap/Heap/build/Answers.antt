@@ -6,11 +6,6 @@ use Rattle.md_heap.specs.Layout.{cells_of}
 use Rattle.md_heap.proofs.Building.{built, row-count, new-means, old-stays}
 use Rattle.md_heap.proofs.heap.Heap.build.Goals as goal
 
-pub overflow_cast-cell : goal.overflow_cast-cell
-overflow_cast-cell c =
-    let t = c.self.inside in
-    omega (arith, row-count t.rows.items t.parts.items c.args.self.now c.self.view_is, c.requires.room)
-
 pub invariant_of-self-2 : goal.invariant_of-self-2
 invariant_of-self-2 c =
     let t = c.self.inside in

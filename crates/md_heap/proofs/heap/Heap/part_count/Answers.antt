@@ -1,6 +1,7 @@
 use Rattle.std.proofs.Common.{◌+◌, ◌<◌, ◌≤◌, length, arith}
 use Rattle.std.proofs.lemmas.Grind.{common_steps}
 use Rattle.md_heap.proofs.Laid.{cell-read, count-next, count-last}
+use Rattle.md_heap.proofs.Building.{row-count}
 use Rattle.md_heap.proofs.heap.Heap.part_count.Goals as goal
 
 pub index-requires : goal.index-requires
@@ -44,3 +45,8 @@ returns-then-place-len-clause-older c = grind (arith, common_steps)
 
 pub returns-else-place-len-clause-older : goal.returns-else-place-len-clause-older
 returns-else-place-len-clause-older c = grind (arith, common_steps)
+
+pub overflow_add-place : goal.overflow_add-place
+overflow_add-place c =
+    let t = c.self.inside in
+    grind (arith, common_steps, row-count t.rows.items t.parts.items c.args.self.now c.self.view_is, c.requires, t.rows.small, t.rows.ok)

@@ -1,0 +1,4 @@
+pub mod Leaves
+pub mod Tables
+pub mod Blocks
+pub mod Details

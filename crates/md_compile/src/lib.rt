@@ -1,0 +1,2 @@
+//! Compiles a program.
+#![tactic(auto)]
