@@ -2,3 +2,4 @@ pub mod Leaves
 pub mod Tables
 pub mod Blocks
 pub mod Details
+pub mod Facts
