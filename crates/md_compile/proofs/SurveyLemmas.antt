@@ -1,6 +1,7 @@
 -- What is known of goals one after the other, and of the goals within a goal.
-use Rattle.std.proofs.Common.{◌≡◌, refl, ap, ◌∙◌, sym, subst, arith, ℕ, zero, suc, ◌+◌, ◌<◌, ◌≤◌, Bool, true, false, ◌||◌, cond, List, [], ◌∷◌, ◌++◌, length, drop, Vec, Box, Option, Some, None, get_or, slice_get, length-append, append_assoc, append-nil, add_assoc}
-use Rattle.std.specs.Prelude.{slice_set}
+use Rattle.std.proofs.Common.{◌≡◌, refl, ap, ◌∙◌, sym, subst, arith, ℕ, zero, suc, ◌+◌, ◌<◌, ◌≤◌, Bool, true, false, ◌||◌, cond, List, [], ◌∷◌, ◌++◌, length, drop, Vec, Box, Option, Some, None, Result, Ok, Err, OnOk, IfOk, not, get_or, length-append, append_assoc, append-nil, add_assoc}
+use Rattle.std.specs.Prelude.{slice_set, is_some}
+use Rattle.md_det.specs.declared.finding.Switch.{Switch}
 use Rattle.std.specs.declared.alloc.Global.{Global}
 use Rattle.md_hlds.specs.declared.goal.Goal.{Goal}
 use Rattle.md_hlds.specs.declared.goal.GoalKind.{GoalKind, Conj, Disj, If}
@@ -91,15 +92,236 @@ surveyed s olds pushed inner blank own l number t put at e is =
 
 -- ---- goals one after the other
 
+changes-assoc : (i j k : Bool) (x y z : ℕ)
+    → then_change (then_change (change i x) (change j y)) (change k z) ≡ then_change (change i x) (then_change (change j y) (change k z))
+changes-assoc i j false x y z = refl
+changes-assoc i false true x y z = refl
+changes-assoc i true true x y z = let same : x + y + z ≡ x + (y + z) = omega arith in ap (change i) same
+
 then-assoc : (a b c : Change) → then_change (then_change a b) c ≡ then_change a (then_change b c)
-then-assoc a b c = here c.keeps b.keeps
-  where
-    here : (j k : Bool) → cond j (change (cond k (change a.keeps (a.weight + b.weight)) b).keeps ((cond k (change a.keeps (a.weight + b.weight)) b).weight + c.weight)) c
-        ≡ cond (cond j (change b.keeps (b.weight + c.weight)) c).keeps (change a.keeps (a.weight + (cond j (change b.keeps (b.weight + c.weight)) c).weight)) (cond j (change b.keeps (b.weight + c.weight)) c)
-    here j k = ?
+then-assoc a b c = changes-assoc a.keeps b.keeps c.keeps a.weight b.weight c.weight
+
+or-assoc : (a b c : Bool) → ((a || b) || c) ≡ (a || (b || c))
+or-assoc true b c = refl
+or-assoc false b c = refl
 
 both-assoc : (a b c : Fact) → both_facts (both_facts a b) c ≡ both_facts a (both_facts b c)
-both-assoc a b c = ?
+both-assoc a b c =
+    let leave = or-assoc a.leaves b.leaves c.leaves in
+    let heights : a.heights + b.heights + c.heights ≡ a.heights + (b.heights + c.heights) = omega arith in
+    let sites : a.sites + b.sites + c.sites ≡ a.sites + (b.sites + c.sites) = omega arith in
+    let changes = then-assoc a.change b.change c.change in
+    λ i. fact (leave i) (heights i) (sites i) (changes i)
 
 pub parts-also : (s : Hlds) (n : ℕ) (p : HldsGoal) (ps : HldsGoals) → parts_fact s n (also p ps) ≡ both_facts (fact_of s n p) (parts_fact s (n + goal_size p) ps)
 parts-also s n p ps = ap (λ k. fact (parts_fact s n (also p ps)).leaves (parts_fact s n (also p ps)).heights k (parts_fact s n (also p ps)).change) (length-append (site_lines p) (goals_lines ps))
+
+-- one of several goals
+pub facts-next : (s : Hlds) (olds news : List Fact) (gs : List Goal) (i : ℕ) (g : Goal) → i < length gs → g ≡ get_or gs i g
+    → news ≡ olds ++ facts_from s (length olds) (goals_within (goal_of g))
+    → olds ++ facts_from s (length olds) (goals_among (gathered (goals_of (drop i gs)))) ≡ news ++ facts_from s (length news) (goals_among (gathered (goals_of (drop (i + 1) gs))))
+facts-next s olds news gs i g lt is e =
+    let rest = goals_among (gathered (goals_of (drop (i + 1) gs))) in
+    let there : length olds + goal_size (goal_of g) ≡ length news = sym (length-surveyed s olds news (goal_of g) e) in
+    ap (λ ps. olds ++ facts_from s (length olds) (goals_among (gathered ps))) (parts-step gs i g lt is)
+    ∙ (ap (λ fs. olds ++ fs) (facts-goal s (length olds) (goal_of g) rest)
+    ∙ (sym (append_assoc olds (facts_from s (length olds) (goals_within (goal_of g))) _)
+    ∙ (ap (λ fs. fs ++ facts_from s (length olds + goal_size (goal_of g)) rest) (sym e) ∙ ap (λ n. news ++ facts_from s n rest) there)))
+
+pub own-next : (s : Hlds) (olds news : List Fact) (gs : List Goal) (i : ℕ) (g : Goal) (all more own : Fact) → i < length gs → g ≡ get_or gs i g
+    → news ≡ olds ++ facts_from s (length olds) (goals_within (goal_of g)) → own ≡ fact_of s (length olds) (goal_of g) → more ≡ both_facts all own
+    → both_facts more (parts_fact s (length news) (gathered (goals_of (drop (i + 1) gs)))) ≡ both_facts all (parts_fact s (length olds) (gathered (goals_of (drop i gs))))
+own-next s olds news gs i g all more own lt is e owns adds =
+    let rest = gathered (goals_of (drop (i + 1) gs)) in
+    let there : length news ≡ length olds + goal_size (goal_of g) = length-surveyed s olds news (goal_of g) e in
+    ap (λ n. both_facts more (parts_fact s n rest)) there
+    ∙ (ap (λ f. both_facts f (parts_fact s (length olds + goal_size (goal_of g)) rest)) (adds ∙ ap (both_facts all) owns)
+    ∙ (both-assoc all (fact_of s (length olds) (goal_of g)) (parts_fact s (length olds + goal_size (goal_of g)) rest)
+    ∙ ap (both_facts all) (sym (parts-also s (length olds) (goal_of g) rest) ∙ ap (λ ps. parts_fact s (length olds) (gathered ps)) (sym (parts-step gs i g lt is)))))
+
+pub stand-first : (s : Hlds) (n : ℕ) (gs : List Goal) (i : ℕ) (g : Goal) → i < length gs → g ≡ get_or gs i g
+    → Stand s n (goals_among (gathered (goals_of (drop i gs)))) → Stand s n (goals_within (goal_of g)) × Stand s (n + goal_size (goal_of g)) (goals_among (gathered (goals_of (drop (i + 1) gs))))
+stand-first s n gs i g lt is h =
+    stand-goal s n (goal_of g) (goals_among (gathered (goals_of (drop (i + 1) gs)))) (subst (λ ps. Stand s n (goals_among (gathered ps))) (parts-step gs i g lt is) h)
+
+pub stand-next : (s : Hlds) (olds news : List Fact) (gs : List Goal) (i : ℕ) (g : Goal) → i < length gs → g ≡ get_or gs i g
+    → news ≡ olds ++ facts_from s (length olds) (goals_within (goal_of g))
+    → Stand s (length olds) (goals_among (gathered (goals_of (drop i gs)))) → Stand s (length news) (goals_among (gathered (goals_of (drop (i + 1) gs))))
+stand-next s olds news gs i g lt is e h =
+    subst (λ n. Stand s n (goals_among (gathered (goals_of (drop (i + 1) gs))))) (sym (length-surveyed s olds news (goal_of g) e)) (stand-first s (length olds) gs i g lt is h).1
+
+-- ---- the goals of a vector inside a goal
+
+pub below-Conj : (k : GoalKind) (v : Vec Goal Global) (gs : List Goal) → k ≡ Conj v → gs ≡ v.items → goals_below (expr_of k) ≡ goals_among (gathered (goals_of gs))
+below-Conj k v gs is e = ap (λ j. goals_below (expr_of j)) is ∙ (ap goals_below (expr_of-Conj v) ∙ ap (λ hs. goals_among (gathered (goals_of hs))) (sym e))
+
+pub below-Disj : (k : GoalKind) (v : Vec Goal Global) (gs : List Goal) → k ≡ Disj v → gs ≡ v.items → goals_below (expr_of k) ≡ goals_among (gathered (goals_of gs))
+below-Disj k v gs is e = ap (λ j. goals_below (expr_of j)) is ∙ (ap goals_below (expr_of-Disj v) ∙ ap (λ hs. goals_among (gathered (goals_of hs))) (sym e))
+
+pub own-Conj : (s : Hlds) (n m : ℕ) (k : GoalKind) (v : Vec Goal Global) (gs : List Goal) (parts : Fact) → k ≡ Conj v → gs ≡ v.items → m ≡ suc n
+    → parts ≡ parts_fact s m (gathered (goals_of gs))
+    → fact parts.leaves parts.heights parts.sites (then_change (kept_with 1) parts.change) ≡ fact_of s n (At 0 (expr_of k))
+own-Conj s n m k v gs parts is e at p =
+    let same : parts ≡ parts_fact s (suc n) (gathered (goals_of v.items)) = p ∙ (ap (λ i. parts_fact s i (gathered (goals_of gs))) at ∙ ap (λ hs. parts_fact s (suc n) (gathered (goals_of hs))) e) in
+    ap (λ (q : Fact). fact q.leaves q.heights q.sites (then_change (kept_with 1) q.change)) same
+    ∙ sym (ap (λ j. fact_of s n (At 0 (expr_of j))) is ∙ ap (λ t. fact_of s n (At 0 t)) (expr_of-Conj v))
+
+pub own-Disj : (s : Hlds) (n m : ℕ) (k : GoalKind) (v : Vec Goal Global) (gs : List Goal) (parts : Fact) (tried : Bool) → k ≡ Disj v → gs ≡ v.items → m ≡ suc n
+    → parts ≡ parts_fact s m (gathered (goals_of gs)) → tried ≡ is_tried (switch_at (program_findings s) n)
+    → fact (tried || parts.leaves) parts.heights parts.sites (charged_with 0) ≡ fact_of s n (At 0 (expr_of k))
+own-Disj s n m k v gs parts tried is e at p tries =
+    let same : parts ≡ parts_fact s (suc n) (gathered (goals_of v.items)) = p ∙ (ap (λ i. parts_fact s i (gathered (goals_of gs))) at ∙ ap (λ hs. parts_fact s (suc n) (gathered (goals_of hs))) e) in
+    ap (λ (q : Fact). fact (tried || q.leaves) q.heights q.sites (charged_with 0)) same
+    ∙ (ap (λ b. fact (b || (parts_fact s (suc n) (gathered (goals_of v.items))).leaves) (parts_fact s (suc n) (gathered (goals_of v.items))).heights (parts_fact s (suc n) (gathered (goals_of v.items))).sites (charged_with 0)) tries
+    ∙ sym (ap (λ j. fact_of s n (At 0 (expr_of j))) is ∙ ap (λ t. fact_of s n (At 0 t)) (expr_of-Disj v)))
+
+-- ---- an if-then-else
+
+pub expr_of-If : (k : GoalKind) (c t e : Box Goal Global) (x y z : Goal) → k ≡ If c t e → x ≡ c.value → y ≡ t.value → z ≡ e.value
+    → expr_of k ≡ IfGoal (goal_of x) (goal_of y) (goal_of z)
+expr_of-If k c t e x y z is xs ys zs = ap expr_of is ∙ rw (sym xs, sym ys, sym zs) refl
+
+pub record ThreeStand (s : Hlds) (n : ℕ) (x y z : HldsGoal) : Type 0 where
+  pub one : Stand s n (goals_within x)
+  pub two : Stand s (n + goal_size x) (goals_within y)
+  pub three : Stand s (n + goal_size x + goal_size y) (goals_within z)
+
+pub stand-If : (s : Hlds) (n : ℕ) (t : GoalExpr) (x y z : HldsGoal) → t ≡ IfGoal x y z → Stand s n (goals_below t) → ThreeStand s n x y z
+stand-If s n t x y z is h =
+    let one = stand-goal s n x (goals_within y ++ goals_within z) (subst (λ u. Stand s n (goals_below u)) is h) in
+    let two = stand-goal s (n + goal_size x) y (goals_within z) one.1 in
+    record { one = one.0; two = two.0; three = two.1 }
+
+pub facts-If : (s : Hlds) (olds first second third : List Fact) (t : GoalExpr) (x y z : HldsGoal) → t ≡ IfGoal x y z
+    → first ≡ olds ++ facts_from s (length olds) (goals_within x) → second ≡ first ++ facts_from s (length first) (goals_within y)
+    → third ≡ second ++ facts_from s (length second) (goals_within z) → third ≡ olds ++ facts_from s (length olds) (goals_below t)
+facts-If s olds first second third t x y z is one two three =
+    let n = length olds in
+    let m : length first ≡ n + goal_size x = length-surveyed s olds first x one in
+    let l : length second ≡ n + goal_size x + goal_size y = length-surveyed s first second y two ∙ ap (λ i. i + goal_size y) m in
+    let a = facts_from s n (goals_within x) in
+    let b = facts_from s (n + goal_size x) (goals_within y) in
+    let d = facts_from s (n + goal_size x + goal_size y) (goals_within z) in
+    let whole : facts_from s n (goals_below t) ≡ a ++ (b ++ d)
+    = ap (λ u. facts_from s n (goals_below u)) is ∙ (facts-goal s n x (goals_within y ++ goals_within z) ∙ ap (λ fs. a ++ fs) (facts-goal s (n + goal_size x) y (goals_within z))) in
+    three
+    ∙ (ap (λ i. second ++ facts_from s i (goals_within z)) l
+    ∙ (ap (λ fs. fs ++ d) (two ∙ (ap (λ i. first ++ facts_from s i (goals_within y)) m ∙ ap (λ fs. fs ++ b) one))
+    ∙ (append_assoc (olds ++ a) b d ∙ (append_assoc olds a (b ++ d) ∙ ap (λ fs. olds ++ fs) (sym whole)))))
+
+pub own-If : (s : Hlds) (n : ℕ) (olds first second : List Fact) (t : GoalExpr) (x y z : HldsGoal) (a b d : Fact) → t ≡ IfGoal x y z → length olds ≡ suc n
+    → Stand s (length olds) (goals_within x)
+    → first ≡ olds ++ facts_from s (length olds) (goals_within x) → second ≡ first ++ facts_from s (length first) (goals_within y)
+    → a ≡ fact_of s (length olds) x → b ≡ fact_of s (length first) y → d ≡ fact_of s (length second) z
+    → fact (b.leaves || d.leaves) (one_if a.leaves + a.heights + b.heights + d.heights) (a.sites + (b.sites + d.sites)) (charged_with 0) ≡ fact_of s n (At 0 t)
+own-If s n olds first second t x y z a b d is at stands one two as' bs ds =
+    let m : length first ≡ suc n + goal_size x = length-surveyed s olds first x one ∙ ap (λ i. i + goal_size x) at in
+    let l : length second ≡ suc n + goal_size x + goal_size y = length-surveyed s first second y two ∙ ap (λ i. i + goal_size y) m in
+    let a' : a ≡ fact_of s (suc n) x = as' ∙ ap (λ i. fact_of s i x) at in
+    let b' : b ≡ fact_of s (suc n + goal_size x) y = bs ∙ ap (λ i. fact_of s i y) m in
+    let d' : d ≡ fact_of s (suc n + goal_size x + goal_size y) z = ds ∙ ap (λ i. fact_of s i z) l in
+    let there : leaves s (suc n) x ≡ leaves_table s (suc n) = sym (leaves-there s (suc n) x (subst (λ i. Stand s i (goals_within x)) at stands)) in
+    let sites : site_count x + (site_count y + site_count z) ≡ length (site_lines x ++ (site_lines y ++ site_lines z))
+    = sym (length-append (site_lines x) (site_lines y ++ site_lines z) ∙ ap (λ k. site_count x + k) (length-append (site_lines y) (site_lines z))) in
+    let put = λ (p q r : Fact). fact (q.leaves || r.leaves) (one_if p.leaves + p.heights + q.heights + r.heights) (p.sites + (q.sites + r.sites)) (charged_with 0) in
+    (λ i. put (a' i) (b' i) (d' i))
+    ∙ ((λ i. fact (leaves s (suc n + goal_size x) y || leaves s (suc n + goal_size x + goal_size y) z)
+    (one_if (there i) + heights_of s (suc n) x + heights_of s (suc n + goal_size x) y + heights_of s (suc n + goal_size x + goal_size y) z) (sites i) (charged_with 0))
+    ∙ sym (ap (λ u. fact_of s n (At 0 u)) is))
+
+-- a fact that holds whatever comes is one where all goes well
+pub on-ok : {A E P : Type 0} (r : Result A E) → P → OnOk r P
+on-ok (Ok x) p = p
+on-ok (Err e) p = tt
+
+-- ---- what a survey makes
+
+-- these facts are added, and the own is that
+abbrev pub Added : Hlds → (olds news : List Fact) → List HldsGoal → Type 0
+Added s olds news gs = news ≡ olds ++ facts_from s (length olds) gs
+
+pub surveyed-both : (s : Hlds) (olds pushed inner : List Fact) (blank own : Fact) (l place number : ℕ) (t : GoalExpr) → pushed ≡ olds ++ blank ∷ [] → place ≡ length olds → number ≡ length olds
+    → Stand s (length olds) (goals_within (At l t))
+    → (length pushed ≡ suc number → Stand s (length pushed) (goals_below t) → Added s pushed inner (goals_below t) × (own ≡ fact_of s number (At 0 t)))
+    → (slice_set inner place own ≡ olds ++ facts_from s (length olds) (goals_within (At l t))) × (own ≡ fact_of s (length olds) (At l t))
+surveyed-both s olds pushed inner blank own l place number t put there at stand made =
+    let long : length pushed ≡ suc (length olds) = omega (arith, ap length put, length-append olds (blank ∷ [])) in
+    let both = made (omega (arith, long, at)) (subst (λ n. Stand s n (goals_below t)) (sym long) stand.1) in (
+      ap (λ n. slice_set inner n own) (there ∙ sym at) ∙ surveyed s olds pushed inner blank own l number t put at both.0 both.1,
+      own-fact s (length olds) number l t own at both.1,
+    )
+
+-- these goals are left
+abbrev pub Left : Hlds → (firsts olds : List Fact) → (all : Fact) → (whole : Fact) → List Fact → List Goal → Type 0
+Left s firsts olds all whole goes gs =
+    (goes ≡ olds ++ facts_from s (length olds) (goals_among (gathered (goals_of gs))))
+    × (both_facts all (parts_fact s (length olds) (gathered (goals_of gs))) ≡ whole)
+    × Stand s (length olds) (goals_among (gathered (goals_of gs)))
+
+pub all-next : (s : Hlds) (firsts olds news : List Fact) (gs : List Goal) (i : ℕ) (g : Goal) (all more own : Fact) → i < length gs → g ≡ get_or gs i g
+    → Left s firsts olds all (parts_fact s (length firsts) (gathered (goals_of gs))) (firsts ++ facts_from s (length firsts) (goals_among (gathered (goals_of gs)))) (drop i gs)
+    → (Stand s (length olds) (goals_within (goal_of g)) → Added s olds news (goals_within (goal_of g)) × (own ≡ fact_of s (length olds) (goal_of g))) → more ≡ both_facts all own
+    → Left s firsts news more (parts_fact s (length firsts) (gathered (goals_of gs))) (firsts ++ facts_from s (length firsts) (goals_among (gathered (goals_of gs)))) (drop (i + 1) gs)
+all-next s firsts olds news gs i g all more own lt is left made adds =
+    let both = made (stand-first s (length olds) gs i g lt is left.2).0 in (
+      left.0 ∙ facts-next s olds news gs i g lt is both.0,
+      own-next s olds news gs i g all more own lt is both.0 both.1 adds ∙ left.1,
+      stand-next s olds news gs i g lt is both.0 left.2,
+    )
+
+-- what is known where all goes well, by what else is known there
+pub if-ok-map : {A E : Type 0} {P Q : A → Type 0} (r : Result A E) → ((x : A) → P x → Q x) → IfOk r P → IfOk r Q
+if-ok-map (Ok x) f p = f x p
+if-ok-map (Err e) f p = tt
+
+abbrev pub MadeOf : Hlds → (olds news : List Fact) → List Goal → (parts : Fact) → Type 0
+MadeOf s olds news gs parts =
+    Stand s (length olds) (goals_among (gathered (goals_of gs)))
+    → Added s olds news (goals_among (gathered (goals_of gs))) × (parts ≡ parts_fact s (length olds) (gathered (goals_of gs)))
+
+pub both-Conj : (s : Hlds) (n : ℕ) (olds news : List Fact) (k : GoalKind) (v : Vec Goal Global) (gs : List Goal) (parts whole : Fact) → k ≡ Conj v → gs ≡ v.items
+    → MadeOf s olds news gs parts → whole ≡ fact parts.leaves parts.heights parts.sites (then_change (kept_with 1) parts.change)
+    → length olds ≡ suc n → Stand s (length olds) (goals_below (expr_of k))
+    → Added s olds news (goals_below (expr_of k)) × (whole ≡ fact_of s n (At 0 (expr_of k)))
+both-Conj s n olds news k v gs parts whole is e made w at stand =
+    let below = below-Conj k v gs is e in
+    let both = made (subst (λ hs. Stand s (length olds) hs) below stand) in (
+      both.0 ∙ ap (λ hs. olds ++ facts_from s (length olds) hs) (sym below),
+      w ∙ own-Conj s n (length olds) k v gs parts is e at both.1,
+    )
+
+pub both-Disj : (s : Hlds) (n : ℕ) (olds news : List Fact) (k : GoalKind) (v : Vec Goal Global) (gs : List Goal) (parts whole : Fact) (tried : Bool) → k ≡ Disj v → gs ≡ v.items
+    → MadeOf s olds news gs parts → tried ≡ is_tried (switch_at (program_findings s) n) → whole ≡ fact (tried || parts.leaves) parts.heights parts.sites (charged_with 0)
+    → length olds ≡ suc n → Stand s (length olds) (goals_below (expr_of k))
+    → Added s olds news (goals_below (expr_of k)) × (whole ≡ fact_of s n (At 0 (expr_of k)))
+both-Disj s n olds news k v gs parts whole tried is e made tries w at stand =
+    let below = below-Disj k v gs is e in
+    let both = made (subst (λ hs. Stand s (length olds) hs) below stand) in (
+      both.0 ∙ ap (λ hs. olds ++ facts_from s (length olds) hs) (sym below),
+      w ∙ own-Disj s n (length olds) k v gs parts tried is e at both.1 tries,
+    )
+
+abbrev pub MadeFrom : Hlds → (olds news : List Fact) → HldsGoal → (own : Fact) → Type 0
+MadeFrom s olds news p own = Stand s (length olds) (goals_within p) → Added s olds news (goals_within p) × (own ≡ fact_of s (length olds) p)
+
+pub both-If : (s : Hlds) (n : ℕ) (olds first second third : List Fact) (t : GoalExpr) (x y z : HldsGoal) (a b d whole : Fact) → t ≡ IfGoal x y z
+    → MadeFrom s olds first x a → MadeFrom s first second y b → MadeFrom s second third z d
+    → whole ≡ fact (b.leaves || d.leaves) (one_if a.leaves + a.heights + b.heights + d.heights) (a.sites + (b.sites + d.sites)) (charged_with 0)
+    → length olds ≡ suc n → Stand s (length olds) (goals_below t)
+    → Added s olds third (goals_below t) × (whole ≡ fact_of s n (At 0 t))
+both-If s n olds first second third t x y z a b d whole is one two three w at stand =
+    let stands = stand-If s (length olds) t x y z is stand in
+    let p = one stands.one in
+    let m : length olds + goal_size x ≡ length first = sym (length-surveyed s olds first x p.0) in
+    let q = two (subst (λ k. Stand s k (goals_within y)) m stands.two) in
+    let l : length olds + goal_size x + goal_size y ≡ length second = ap (λ k. k + goal_size y) m ∙ sym (length-surveyed s first second y q.0) in
+    let r = three (subst (λ k. Stand s k (goals_within z)) l stands.three) in (
+      facts-If s olds first second third t x y z is p.0 q.0 r.0,
+      w ∙ own-If s n olds first second t x y z a b d is at stands.one p.0 q.0 p.1 q.1 r.1,
+    )
+
+pub is-tried : (b : Bool) (x : Option Switch) → is_some x ≡ not b → b ≡ is_tried x
+is-tried true None e = refl
+is-tried true (Some w) e = absurd (cc)
+is-tried false None e = absurd (cc)
+is-tried false (Some w) e = refl

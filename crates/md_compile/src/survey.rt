@@ -1,5 +1,5 @@
 // What is known of each goal, in text order.
-ghost use Rattle.std.specs.Prelude.{ℕ, ◌≡◌, ◌+◌, ◌++◌, ◌||◌, false, suc, length, IfOk, OnOk};
+ghost use Rattle.std.specs.Prelude.{ℕ, ◌≡◌, ◌≤◌, ◌+◌, ◌++◌, ◌||◌, false, suc, length, IfOk, OnOk};
 ghost use Rattle.md_hlds.specs.Hlds.{Hlds, hlds_of, procedure_called};
 ghost use Rattle.md_hlds.specs.HldsGoal.{HldsGoal, At, HldsGoals, SimpleGoal, CallGoal, HoCallGoal, ConjGoal, DisjGoal, IfGoal, NotGoal, SomeGoal, Simple, goal_of, expr_of, goals_of, gathered, goals_within, goals_below, goals_among};
 ghost use Rattle.md_modes.specs.Notes.{program_notes};
@@ -19,10 +19,10 @@ use md_modes::Class;
 /// Adds what is known of a goal, and of those within it, whose numbers are from the first on that has no place yet.
 #[cycle(survey)]
 pub fn add_facts(source: &Source, facts: &mut Vec<Fact>, goal: &Goal) -> Result<Fact, NoMemory>
-    requires { Stand (hlds_of source.now.checked.now) (length facts.old.items) (goals_within (goal_of goal.now)) }
-    ensures facts { OnOk result (facts.new.items
-        ≡ facts.old.items ++ facts_from (hlds_of source.now.checked.now) (length facts.old.items) (goals_within (goal_of goal.now))) }
-    ensures own { IfOk result (λ fact. fact ≡ fact_of (hlds_of source.now.checked.now) (length facts.old.items) (goal_of goal.now)) }
+    ensures keeps { OnOk result (length facts.old.items ≤ length facts.new.items) }
+    ensures facts { IfOk result (λ fact. Stand (hlds_of source.now.checked.now) (length facts.old.items) (goals_within (goal_of goal.now))
+        → (facts.new.items ≡ facts.old.items ++ facts_from (hlds_of source.now.checked.now) (length facts.old.items) (goals_within (goal_of goal.now)))
+        × (fact ≡ fact_of (hlds_of source.now.checked.now) (length facts.old.items) (goal_of goal.now))) }
 {
     let place = facts.len();
     let number = small(place)?;
@@ -40,15 +40,15 @@ fn add_inner(
     kind: &GoalKind,
     number: u32,
 ) -> Result<Fact, NoMemory>
-    requires next { length facts.old.items ≡ suc number }
-    requires stand { Stand (hlds_of source.now.checked.now) (length facts.old.items) (goals_below (expr_of kind.now)) }
-    ensures facts { OnOk result (facts.new.items
-        ≡ facts.old.items ++ facts_from (hlds_of source.now.checked.now) (length facts.old.items) (goals_below (expr_of kind.now))) }
-    ensures own { IfOk result (λ fact. fact ≡ fact_of (hlds_of source.now.checked.now) number (At 0 (expr_of kind.now))) }
+    ensures keeps { OnOk result (length facts.old.items ≤ length facts.new.items) }
+    ensures facts { IfOk result (λ fact. length facts.old.items ≡ suc number → Stand (hlds_of source.now.checked.now) (length facts.old.items) (goals_below (expr_of kind.now))
+        → (facts.new.items ≡ facts.old.items ++ facts_from (hlds_of source.now.checked.now) (length facts.old.items) (goals_below (expr_of kind.now)))
+        × (fact ≡ fact_of (hlds_of source.now.checked.now) number (At 0 (expr_of kind.now)))) }
 {
     match kind {
         GoalKind::Conj(goals) => {
-            Fact::of_conjunction(add_facts_of_all(source, facts, goals.as_slice())?)
+            let parts = add_facts_of_all(source, facts, goals.as_slice())?;
+            Fact::of_conjunction(parts)
         }
         GoalKind::Disj(arms) => {
             let arms = add_facts_of_all(source, facts, arms.as_slice())?;
@@ -78,10 +78,10 @@ fn add_inner(
 /// Adds what is known of goals one after the other, and of those within them, and tells what is known of them together.
 #[cycle(survey)]
 fn add_facts_of_all(source: &Source, facts: &mut Vec<Fact>, goals: &[Goal]) -> Result<Fact, NoMemory>
-    requires { Stand (hlds_of source.now.checked.now) (length facts.old.items) (goals_among (gathered (goals_of goals.now))) }
-    ensures facts { OnOk result (facts.new.items
-        ≡ facts.old.items ++ facts_from (hlds_of source.now.checked.now) (length facts.old.items) (goals_among (gathered (goals_of goals.now)))) }
-    ensures own { IfOk result (λ fact. fact ≡ parts_fact (hlds_of source.now.checked.now) (length facts.old.items) (gathered (goals_of goals.now))) }
+    ensures keeps { OnOk result (length facts.old.items ≤ length facts.new.items) }
+    ensures facts { IfOk result (λ fact. Stand (hlds_of source.now.checked.now) (length facts.old.items) (goals_among (gathered (goals_of goals.now)))
+        → (facts.new.items ≡ facts.old.items ++ facts_from (hlds_of source.now.checked.now) (length facts.old.items) (goals_among (gathered (goals_of goals.now))))
+        × (fact ≡ parts_fact (hlds_of source.now.checked.now) (length facts.old.items) (gathered (goals_of goals.now)))) }
 {
     let mut all = Fact::NOTHING;
     for goal in goals {
