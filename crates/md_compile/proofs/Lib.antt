@@ -1,1 +1,3 @@
 pub mod SurveyLemmas
+pub mod NumberLemmas
+pub mod LookupLemmas

@@ -2,7 +2,7 @@
 use Rattle.std.specs.Prelude.{ℕ, suc, ◌+◌, ◌≡◌, Bool, true, false, ◌||◌, List, [], ◌∷◌, length, Option, Some, None, cond}
 use Rattle.md_hlds.specs.declared.goal.Term.{Term}
 use Rattle.md_hlds.specs.declared.goal.Term.TheVariants.{Var, Int, Str, Name}
-use Rattle.md_hlds.specs.HldsGoal.{Simple, Succeeds, Unifies, Computes, HldsGoal, At, GoalExpr, SimpleGoal, CallGoal, HoCallGoal, ConjGoal, DisjGoal, IfGoal, NotGoal, SomeGoal, HldsGoals, nothing, also, goal_size, goals_lines, site_count}
+use Rattle.md_hlds.specs.HldsGoal.{Simple, Succeeds, Unifies, Computes, HldsGoal, At, GoalExpr, SimpleGoal, CallGoal, HoCallGoal, ConjGoal, DisjGoal, IfGoal, NotGoal, SomeGoal, HldsGoals, nothing, also, goal_size, goals_below, goals_lines, site_count}
 use Rattle.md_hlds.specs.Hlds.{Procedure, Hlds, clause_goals, goal_at}
 use Rattle.md_hlds.specs.Trace.{call_weight}
 use Rattle.md_modes.specs.Notes.{Role, constructs, assigns, program_notes}
@@ -17,6 +17,12 @@ use Rattle.md_compile.specs.Tables.{heights_of, goals_heights}
 abbrev pub Stand : Hlds → ℕ → List HldsGoal → Type 0
 Stand s n [] = Unit {0}
 Stand s n (g ∷ gs) = (goal_at s n ≡ Some g) × Stand s (suc n) gs
+
+-- the goal of number n is that, with those within it
+pub record Stands (s : Hlds) (n : ℕ) (t : GoalExpr) : Type 0 where
+  pub line : ℕ
+  pub own : goal_at s n ≡ Some (At line t)
+  pub below : Stand s (suc n) (goals_below t)
 
 -- ---- how what is pending changes at a goal
 

@@ -3,3 +3,5 @@ pub mod Tables
 pub mod Blocks
 pub mod Details
 pub mod Facts
+pub mod Numbers
+pub mod Told

@@ -1,8 +1,17 @@
 //! Compiles a program that the checks accept: six instructions and one detail for each of its goals, in text order.
 #![tactic(auto)]
 
+mod block;
 mod callee;
 mod fact;
+mod functors;
+mod literals;
+mod lookups;
 mod number;
+mod place;
+mod simple;
 mod source;
 mod survey;
+mod surveyed;
+mod switch;
+mod tables;

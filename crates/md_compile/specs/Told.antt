@@ -1,0 +1,41 @@
+-- Places of the code as the definitions have them.
+use Rattle.std.specs.Prelude.{Bool, true, false}
+use Rattle.md_hlds.specs.declared.goal.Term.{Term}
+use Rattle.md_hlds.specs.declared.goal.Term.TheVariants.{Var, Int, Str, Name}
+use Rattle.md_compile.specs.declared.place.End as code
+use Rattle.md_compile.specs.declared.place.End.TheVariants as end
+use Rattle.md_compile.specs.declared.place.Trial as code'
+use Rattle.md_compile.specs.declared.place.Trial.TheVariants as trial
+use Rattle.md_compile.specs.declared.place.Place as code''
+use Rattle.md_compile.specs.Blocks.{End, Along, Joining, Holding, Denying, Exiting, Yielding, Trial, NoArm, LastArm, ArmBefore, Place}
+
+abbrev pub end_told : code.End → End
+end_told end.Along = Along
+end_told (end.Joining other next) = Joining other next
+end_told (end.Holding height next) = Holding height next
+end_told (end.Denying height other) = Denying height other
+end_told (end.Exiting procedure height) = Exiting procedure height
+end_told (end.Yielding procedure other) = Yielding procedure other
+
+abbrev pub trial_told : code'.Trial → Trial
+trial_told trial.NoArm = NoArm
+trial_told trial.LastArm = LastArm
+trial_told (trial.ArmBefore other) = ArmBefore other
+
+abbrev pub place_told : code''.Place → Place
+place_told p = record {
+  next = p.next;
+  other = p.other;
+  pending = p.pending;
+  height = p.height;
+  size = p.size;
+  end = end_told p.end;
+  trial = trial_told p.trial;
+}
+
+-- an integer or a literal
+abbrev pub is_plain : Term → Bool
+is_plain (Var y) = false
+is_plain (Int n) = true
+is_plain (Str bytes) = true
+is_plain (Name q ys) = false
