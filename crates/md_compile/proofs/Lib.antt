@@ -1,3 +1,5 @@
 pub mod SurveyLemmas
 pub mod NumberLemmas
 pub mod LookupLemmas
+pub mod BlockLemmas
+pub mod ShapeLemmas

@@ -65,7 +65,7 @@ pub callee-none : (s : Hlds) (cs : List Callee) (q : ℕ) (c : Callee) → cs �
     → (p : Procedure) → slice_get s.procedures q ≡ Some p → c ≡ callee (call_weight p) (body_number s q)
 callee-none s cs q c is e p f = absurd (callee-missing 0 q s.procedures p f (subst (λ ds. slice_get ds q ≡ None) is e))
 
-second : Procedure → Option (ℕ × Procedure) → Option Procedure
+abbrev second : Procedure → Option (ℕ × Procedure) → Option Procedure
 second d None = Some d
 second d (Some x) = Some x.1
 

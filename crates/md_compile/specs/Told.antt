@@ -1,5 +1,6 @@
 -- Places of the code as the definitions have them.
 use Rattle.std.specs.Prelude.{Bool, true, false}
+use Rattle.md_hlds.specs.HldsGoal.{GoalExpr, SimpleGoal}
 use Rattle.md_hlds.specs.declared.goal.Term.{Term}
 use Rattle.md_hlds.specs.declared.goal.Term.TheVariants.{Var, Int, Str, Name}
 use Rattle.md_compile.specs.declared.place.End as code
@@ -39,3 +40,8 @@ is_plain (Var y) = false
 is_plain (Int n) = true
 is_plain (Str bytes) = true
 is_plain (Name q ys) = false
+
+-- a goal with neither parts nor calls
+abbrev pub is_simple : GoalExpr → Bool
+is_simple (SimpleGoal g) = true
+is_simple t = false

@@ -3,6 +3,8 @@
 
 mod block;
 mod callee;
+mod cases;
+mod detail;
 mod fact;
 mod functors;
 mod literals;

@@ -189,7 +189,7 @@ pub struct Branches {
 }
 
 /// The parts of the if-then-else of this number.
-pub fn branches(tables: &Tables, number: u32, at: Place) -> Result<Branches, NoMemory>
+pub fn places_of_test(tables: &Tables, number: u32, at: Place) -> Result<Branches, NoMemory>
     ensures { IfOk result (λ places. (c t : HldsGoal) → goal_at (hlds_of tables.now.source.checked.now) (suc number) ≡ Some c
         → goal_at (hlds_of tables.now.source.checked.now) (suc number + goal_size c) ≡ Some t
         → (place_told places.condition ≡ spec.if_condition (hlds_of tables.now.source.checked.now) number c t (place_told at))

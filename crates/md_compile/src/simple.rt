@@ -1,7 +1,7 @@
 // The instructions of simple goals.
 ghost use Rattle.std.specs.Prelude.{ℕ, ◌≡◌, true, length, List, IfOk};
 ghost use Rattle.md_hlds.specs.Hlds.{Hlds, hlds_of, procedure_called};
-ghost use Rattle.md_hlds.specs.HldsGoal.{Simple, SimpleGoal, expr_of};
+ghost use Rattle.md_hlds.specs.HldsGoal.{expr_of};
 ghost use Rattle.md_modes.specs.Notes.{program_notes};
 ghost use Rattle.md_modes.specs.Classes.{role_at};
 ghost use Rattle.md_compile.specs.Blocks as spec;
@@ -9,7 +9,7 @@ ghost use Rattle.md_hlds.specs.declared.goal.Term.{Term};
 ghost use Rattle.md_hlds.specs.declared.goal.Term.TheVariants.{Var, Name};
 ghost use Rattle.md_hlds.specs.declared.goal.PredName.{PredName};
 ghost use Rattle.md_compile.specs.Tables.{functor_number, third_at};
-ghost use Rattle.md_compile.specs.Told.{place_told, is_plain};
+ghost use Rattle.md_compile.specs.Told.{place_told, is_plain, is_simple};
 
 use crate::block::{UNUSED, alone, instruction};
 use crate::number::{UNWIND, plus, second_at, small, third_at};
@@ -27,7 +27,7 @@ pub fn simple_code(
     number: u32,
     at: Place,
 ) -> Result<[Instruction; 3], NoMemory>
-    ensures { IfOk result (λ code. (g : Simple) → expr_of kind.now ≡ SimpleGoal g → code ≡ spec.simple_code (hlds_of tables.now.source.checked.now) number g (place_told at)) }
+    ensures { IfOk result (λ code. is_simple (expr_of kind.now) ≡ true → code ≡ spec.own_code (hlds_of tables.now.source.checked.now) number (expr_of kind.now) (place_told at)) }
 {
     let weight = plus(at.pending, 1)?;
     match kind {

@@ -51,17 +51,17 @@ pub fn least_functor(tables: &Tables, low: u32, keys: &[Key]) -> u32
 {
     let mut low = low;
     for key in keys {
-        low = least(low, key_functor(tables, *key));
+        low = least(low, key_functor(tables, key));
     }
     low
 }
 
 /// The functor of a key.
-pub fn key_functor(tables: &Tables, key: Key) -> u32
-    ensures { result ≡ spec.key_functor (hlds_of tables.now.source.checked.now) (key_of_code key) }
+pub fn key_functor(tables: &Tables, key: &Key) -> u32
+    ensures { result ≡ spec.key_functor (hlds_of tables.now.source.checked.now) (key_of_code key.now) }
 {
     match key {
-        Key::Functor(name, arity) => tables.functor(name, arity),
+        Key::Functor(name, arity) => tables.functor(*name, *arity),
         Key::Int(_) | Key::Text(_) => 0,
     }
 }
