@@ -1,0 +1,16 @@
+-- What is added to the code that is laid out so far.
+use Rattle.std.specs.Prelude.{ℕ, ◌≡◌, List, ◌++◌, length, map}
+use Rattle.md_hlds.specs.HldsGoal.{HldsGoal, goals_within}
+use Rattle.md_hlds.specs.Hlds.{Hlds}
+use Rattle.md_flat.specs.declared.instruction.Instruction.{Instruction}
+use Rattle.md_compile.specs.declared.output.Output.{Output}
+use Rattle.md_compile.specs.Blocks.{Place, goal_code}
+use Rattle.md_compile.specs.Details.{Detail, detail_told, goal_details}
+
+pub record Adds (old new : Output) (is : List Instruction) (ds : List Detail) : Type 0 where
+  pub instructions : new.instructions.items ≡ old.instructions.items ++ is
+  pub details : map detail_told new.details.items ≡ map detail_told old.details.items ++ ds
+
+-- how many goals are laid out: the number of the next one
+abbrev pub laid : Output → ℕ
+laid o = length o.details.items
