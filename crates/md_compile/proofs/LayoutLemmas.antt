@@ -3,6 +3,7 @@ use Rattle.std.proofs.Common.{◌≡◌, refl, ap, ◌∙◌, sym, subst, arith,
 use Rattle.std.proofs.lemmas.List.{length-drop, take_all, drop_all, length-map, map-append}
 use Rattle.std.specs.declared.alloc.Global.{Global}
 use Rattle.md_hlds.specs.declared.goal.Goal.{Goal}
+use Rattle.md_hlds.specs.declared.goal.GoalKind.{GoalKind, Not}
 use Rattle.md_hlds.specs.HldsGoal.{HldsGoal, At, GoalExpr, SimpleGoal, CallGoal, HoCallGoal, ConjGoal, DisjGoal, IfGoal, NotGoal, SomeGoal, HldsGoals, nothing, also, expr_of, gathered, goal_of, goals_of, goal_size, parts_size, goals_size, goals_within, goals_below, goals_among}
 use Rattle.md_hlds.specs.Hlds.{Hlds, goal_at}
 use Rattle.md_det.specs.declared.finding.Switch.{Switch}
@@ -13,9 +14,9 @@ use Rattle.md_flat.specs.declared.code.Detail as flat
 use Rattle.md_compile.specs.declared.output.Output.{Output}
 use Rattle.md_compile.specs.declared.place.Entry.{Entry}
 use Rattle.md_compile.specs.Leaves.{leaves_table}
-use Rattle.md_compile.specs.Tables.{heights_of}
+use Rattle.md_compile.specs.Tables.{heights_of, try_at}
 use Rattle.md_compile.specs.Facts.{Stand, Stands}
-use Rattle.md_compile.specs.Blocks.{Place, block, other_after, pending_after, goal_code, inner_code, parts_code, arms_code, if_condition, then_place, else_place, negated_place, some_place, conjunct_place, arm_place, pending_behind}
+use Rattle.md_compile.specs.Blocks.{Place, block, other_after, pending_after, goal_code, inner_code, parts_code, arms_code, if_condition, then_place, else_place, negated_place, some_place, conjunct_place, arm_place, pending_behind, arm_trial, arm_other, ArmBefore}
 use Rattle.md_compile.specs.Details.{Detail, detail_told, detail_of, goal_details, inner_details, parts_details, arms_details}
 use Rattle.md_compile.specs.Adds.{Adds, laid}
 use Rattle.md_compile.proofs.SurveyLemmas.{stand-own, stand-first, stand-If}
@@ -237,3 +238,14 @@ inner-If s old a b new number t x y z at pc pt pe is places one two three more s
 
 pub what-is-left : (n : ℕ) (gs : List Goal) → take (length gs - n) (drop n gs) ≡ drop n gs
 what-is-left n gs = take_all (length gs - n) (drop n gs) (omega (arith, length-drop n gs))
+
+pub trial-before : (n m : ℕ) (gs : List Goal) → m ≡ try_at n → 0 < length gs → ArmBefore m ≡ arm_trial n (gathered (goals_of gs))
+trial-before n m [] e h = absurd (omega (arith, h))
+trial-before n m (g ∷ gs) e h = ap ArmBefore e
+
+pub other-before : (other : ℕ) (gs : List Goal) → 0 < length gs → 0 ≡ arm_other (gathered (goals_of gs)) other
+other-before other [] h = absurd (omega (arith, h))
+other-before other (g ∷ gs) h = refl
+
+pub expr-Not : (k : GoalKind) (b : Box Goal Global) (x : Goal) → k ≡ Not b → x ≡ b.value → expr_of k ≡ NotGoal (goal_of x)
+expr-Not k b x is xs = ap expr_of is ∙ rw (sym xs) refl

@@ -3,3 +3,5 @@ pub mod NumberLemmas
 pub mod LookupLemmas
 pub mod BlockLemmas
 pub mod ShapeLemmas
+pub mod DetailLemmas
+pub mod LayoutLemmas

@@ -5,3 +5,4 @@ pub mod Details
 pub mod Facts
 pub mod Numbers
 pub mod Told
+pub mod Adds

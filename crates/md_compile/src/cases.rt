@@ -111,7 +111,7 @@ fn repeated(alloc: Global, target: u32, low: u32, high: u32) -> Result<Vec<u32>,
     ensures { IfOk result (λ targets. targets.items ≡ spec.repeated (suc (high - low)) target) }
 {
     let mut targets = Vec::new(alloc);
-    for _ in 0..high.saturating_sub(low) {
+    for _place in 0..high.saturating_sub(low) {
         targets.push(target)?;
     }
     targets.push(target)?;

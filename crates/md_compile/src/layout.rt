@@ -1,5 +1,5 @@
 // Goals laid out in text order, outer before inner.
-ghost use Rattle.std.specs.Prelude.{◌≡◌, ◌+◌, suc, Some, IfOk, OnOk};
+ghost use Rattle.std.specs.Prelude.{◌≡◌, ◌+◌, suc, Some, None, IfOk, OnOk};
 ghost use Rattle.md_hlds.specs.Hlds.{hlds_of, goal_at};
 ghost use Rattle.md_hlds.specs.HldsGoal.{HldsGoal, expr_of, goal_of, goals_of, gathered, goal_size, goals_within, goals_below, goals_among};
 ghost use Rattle.md_det.specs.Findings.{program_findings, switch_at};
@@ -15,7 +15,7 @@ use crate::block::{add_block, parts_begin};
 use crate::detail::detail_of;
 use crate::number::{POP, plus, small, try_at};
 use crate::output::Output;
-use crate::place::{End, Entry, Place, Trial, branch, negated_place, other_after, places_of_test, some_place};
+use crate::place::{End, Entry, Place, Trial, branch_place, negated_place, other_after, places_of_test, some_place};
 use crate::tables::Tables;
 use md_base::NoMemory;
 use md_hlds::{Goal, GoalKind};
@@ -182,16 +182,40 @@ fn arm_place(
         → place_told place ≡ spec.arm_place (hlds_of tables.now.source.checked.now) number part (part + goal_size g) (gathered (goals_of others.now)) (place_told at) (switch_at (program_findings (hlds_of tables.now.source.checked.now)) number) entry.pending entry.height) }
 {
     match tables.source.checked.switch(number) {
-        None => {
-            let trial = arm_trial(tables.after(part)?, others)?;
-            let other = if others.is_empty() { at.other } else { POP };
-            branch(tables, number, part, at, Entry { other, ..entry }, trial)
-        }
+        None => tried_place(tables, number, part, others, at, entry),
         Some(_) => {
             let other = at.other;
-            branch(tables, number, part, at, Entry { other, ..entry }, Trial::NoArm)
+            branch_place(tables, number, part, at, Entry { other, ..entry }, Trial::NoArm)
         }
     }
+}
+
+/// The arm of a number of its own of the disjunction of this number, which is no switch.
+fn tried_place(
+    tables: &Tables,
+    number: u32,
+    part: u32,
+    others: &[Goal],
+    at: Place,
+    entry: Entry,
+) -> Result<Place, NoMemory>
+    ensures { IfOk result (λ place. (g : HldsGoal) → goal_at (hlds_of tables.now.source.checked.now) part ≡ Some g
+        → place_told place ≡ spec.arm_place (hlds_of tables.now.source.checked.now) number part (part + goal_size g) (gathered (goals_of others.now)) (place_told at) None entry.pending entry.height) }
+{
+    let after = tables.after(part)?;
+    let trial = arm_trial(after, others)?;
+    let other = arm_other(others, at.other);
+    branch_place(tables, number, part, at, Entry { other, ..entry }, trial)
+}
+
+/// Where an arm fails to behind which stand these others.
+fn arm_other(others: &[Goal], other: u32) -> u32
+    ensures { result ≡ spec.arm_other (gathered (goals_of others.now)) other }
+{
+    if others.is_empty() {
+        return other;
+    }
+    POP
 }
 
 /// How an arm is tried behind which stand these others, the first of this number.

@@ -113,7 +113,7 @@ fn joining(part: bool, whole: bool, other: u32, next: u32) -> End
 }
 
 /// A part with a number of its own, one of several, of the goal of this number.
-pub fn branch(
+pub fn branch_place(
     tables: &Tables,
     number: u32,
     part: u32,
@@ -207,13 +207,13 @@ pub fn places_of_test(tables: &Tables, number: u32, at: Place) -> Result<Branche
         pending: fact.change.pending_behind(plus(at.pending, 1)?)?,
         height,
     };
-    let then = branch(tables, number, second, at, met, Trial::NoArm)?;
+    let then = branch_place(tables, number, second, at, met, Trial::NoArm)?;
     let unmet = Entry {
         other: at.other,
         pending: 0,
         height: plus(height, tables.fact(second).heights)?,
     };
-    let otherwise = branch(tables, number, third, at, unmet, Trial::NoArm)?;
+    let otherwise = branch_place(tables, number, third, at, unmet, Trial::NoArm)?;
     Ok(Branches {
         condition,
         then,
