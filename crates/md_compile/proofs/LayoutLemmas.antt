@@ -3,7 +3,7 @@ use Rattle.std.proofs.Common.{◌≡◌, refl, ap, ◌∙◌, sym, subst, arith,
 use Rattle.std.proofs.lemmas.List.{length-drop, take_all, drop_all, length-map, map-append}
 use Rattle.std.specs.declared.alloc.Global.{Global}
 use Rattle.md_hlds.specs.declared.goal.Goal.{Goal}
-use Rattle.md_hlds.specs.declared.goal.GoalKind.{GoalKind, Not}
+use Rattle.md_hlds.specs.declared.goal.GoalKind.{GoalKind, Not, Some as Quantified}
 use Rattle.md_hlds.specs.HldsGoal.{HldsGoal, At, GoalExpr, SimpleGoal, CallGoal, HoCallGoal, ConjGoal, DisjGoal, IfGoal, NotGoal, SomeGoal, HldsGoals, nothing, also, expr_of, gathered, goal_of, goals_of, goal_size, parts_size, goals_size, goals_within, goals_below, goals_among}
 use Rattle.md_hlds.specs.Hlds.{Hlds, goal_at}
 use Rattle.md_det.specs.declared.finding.Switch.{Switch}
@@ -249,3 +249,6 @@ other-before other (g ∷ gs) h = refl
 
 pub expr-Not : (k : GoalKind) (b : Box Goal Global) (x : Goal) → k ≡ Not b → x ≡ b.value → expr_of k ≡ NotGoal (goal_of x)
 expr-Not k b x is xs = ap expr_of is ∙ rw (sym xs) refl
+
+pub expr-Some : (k : GoalKind) (vs : List ℕ) (b : Box Goal Global) (x : Goal) → k ≡ Quantified vs b → x ≡ b.value → expr_of k ≡ SomeGoal vs (goal_of x)
+expr-Some k vs b x is xs = ap expr_of is ∙ rw (sym xs) refl

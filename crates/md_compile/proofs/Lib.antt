@@ -5,3 +5,4 @@ pub mod BlockLemmas
 pub mod ShapeLemmas
 pub mod DetailLemmas
 pub mod LayoutLemmas
+pub mod ProgramLemmas

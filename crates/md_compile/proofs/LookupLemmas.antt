@@ -1,5 +1,5 @@
 -- What is found by numbers, in tables of all goals and all procedures of a program.
-use Rattle.std.proofs.Common.{◌≡◌, refl, ap, ◌∙◌, sym, subst, arith, ℕ, zero, suc, ◌+◌, ◌<◌, ◌≤◌, Bool, true, false, cond, List, [], ◌∷◌, ◌++◌, length, drop, Option, Some, None, slice_get, get_or, length-append, append_assoc, append-nil, drop-cons, add-one}
+use Rattle.std.proofs.Common.{◌≡◌, refl, ap, ◌∙◌, sym, subst, arith, ℕ, zero, suc, ◌+◌, ◌<◌, ◌≤◌, Bool, true, false, cond, List, [], ◌∷◌, ◌++◌, length, drop, Option, Some, None, Result, IfOk, slice_get, get_or, length-append, append_assoc, append-nil, drop-cons, add-one}
 use Rattle.std.proofs.lemmas.List.{drop_all}
 use Rattle.md_hlds.specs.declared.program.Pred.{Pred}
 use Rattle.md_hlds.specs.declared.goal.PredName.{PredName}
@@ -8,11 +8,14 @@ use Rattle.md_hlds.specs.Hlds.{Hlds, Procedure, procedure_of, procedures_of, cla
 use Rattle.md_hlds.specs.Trace.{call_weight}
 use Rattle.md_names.proofs.Standing.{procedure_there, number_of}
 use Rattle.md_switch.proofs.Tells.{length-within}
+use Rattle.md_flat.specs.declared.code.Detail as flat
 use Rattle.md_compile.specs.declared.fact.Fact.{Fact}
+use Rattle.md_compile.specs.Blocks.{Place}
+use Rattle.md_compile.specs.Details.{detail_told, call_detail}
 use Rattle.md_compile.specs.declared.callee.Callee.{Callee}
 use Rattle.md_compile.specs.Leaves.{leaves_table, found_leaves}
 use Rattle.md_compile.specs.Facts.{Stand, fact_of, fact_if, fact_at, facts_from, callee, callees_from}
-use Rattle.md_compile.proofs.SurveyLemmas.{facts-append, length-surveyed, stand-goal, Added}
+use Rattle.md_compile.proofs.SurveyLemmas.{facts-append, length-surveyed, stand-goal, Added, if-ok-map}
 
 -- ---- facts
 
@@ -142,3 +145,11 @@ ahead-end s facts callees ps i olds cs end' left =
       sym (left.goes ∙ (ap (λ qs. olds ++ facts_from s (length olds) (clause_goals qs)) none ∙ append-nil olds)),
       sym (left.calls ∙ (ap (λ qs. cs ++ callees_from (length olds) qs) none ∙ append-nil cs)),
     )
+
+-- a call of the procedure of a name
+pub call-told : (s : Hlds) (name : PredName) (site : ℕ) (ys : List ℕ) (at : Place) (n : ℕ) (k : Pred) {E : Type 0} (r : Result flat.Detail E)
+    → IfOk r (λ d. slice_get s.procedures n ≡ Some (procedure_of k) → detail_told d ≡ call_detail s site ys at (Some (n, procedure_of k)))
+    → procedure_called s name ≡ Some (n, procedure_of k)
+    → IfOk r (λ d. detail_told d ≡ call_detail s site ys at (procedure_called s name))
+call-told s name site ys at n k r h found =
+    if-ok-map r (λ d is. is (called-there s name n (procedure_of k) found) ∙ ap (call_detail s site ys at) (sym found)) h

@@ -1,11 +1,10 @@
 -- What is added to the code that is laid out so far.
-use Rattle.std.specs.Prelude.{ℕ, ◌≡◌, List, ◌++◌, length, map}
-use Rattle.md_hlds.specs.HldsGoal.{HldsGoal, goals_within}
+use Rattle.std.specs.Prelude.{ℕ, ◌≡◌, List, [], ◌++◌, length, map}
 use Rattle.md_hlds.specs.Hlds.{Hlds}
 use Rattle.md_flat.specs.declared.instruction.Instruction.{Instruction}
 use Rattle.md_compile.specs.declared.output.Output.{Output}
-use Rattle.md_compile.specs.Blocks.{Place, goal_code}
-use Rattle.md_compile.specs.Details.{Detail, detail_told, goal_details}
+use Rattle.md_compile.specs.Blocks.{common_code, program_code}
+use Rattle.md_compile.specs.Details.{Detail, detail_told, clauses_details}
 
 pub record Adds (old new : Output) (is : List Instruction) (ds : List Detail) : Type 0 where
   pub instructions : new.instructions.items ≡ old.instructions.items ++ is
@@ -14,3 +13,13 @@ pub record Adds (old new : Output) (is : List Instruction) (ds : List Detail) : 
 -- how many goals are laid out: the number of the next one
 abbrev pub laid : Output → ℕ
 laid o = length o.details.items
+
+-- what each program has is there, and no goal
+pub record IsBegun (o : Output) : Type 0 where
+  pub instructions : o.instructions.items ≡ common_code
+  pub details : o.details.items ≡ []
+
+-- all goals of a program are laid out
+pub record IsWhole (s : Hlds) (o : Output) : Type 0 where
+  pub instructions : o.instructions.items ≡ program_code s
+  pub details : map detail_told o.details.items ≡ clauses_details s 0 s.procedures

@@ -1,5 +1,5 @@
 -- Places of the code as the definitions have them.
-use Rattle.std.specs.Prelude.{Bool, true, false}
+use Rattle.std.specs.Prelude.{ℕ, Bool, true, false}
 use Rattle.md_hlds.specs.HldsGoal.{GoalExpr, SimpleGoal}
 use Rattle.md_hlds.specs.declared.goal.Term.{Term}
 use Rattle.md_hlds.specs.declared.goal.Term.TheVariants.{Var, Int, Str, Name}
@@ -8,7 +8,8 @@ use Rattle.md_compile.specs.declared.place.End.TheVariants as end
 use Rattle.md_compile.specs.declared.place.Trial as code'
 use Rattle.md_compile.specs.declared.place.Trial.TheVariants as trial
 use Rattle.md_compile.specs.declared.place.Place as code''
-use Rattle.md_compile.specs.Blocks.{End, Along, Joining, Holding, Denying, Exiting, Yielding, Trial, NoArm, LastArm, ArmBefore, Place}
+use Rattle.md_compile.specs.Tables.{fail_address}
+use Rattle.md_compile.specs.Blocks.{End, Along, Joining, Holding, Denying, Exiting, Yielding, Trial, NoArm, LastArm, ArmBefore, Place, other_after, height_if}
 
 abbrev pub end_told : code.End → End
 end_told end.Along = Along
@@ -45,3 +46,8 @@ is_plain (Name q ys) = false
 abbrev pub is_simple : GoalExpr → Bool
 is_simple (SimpleGoal g) = true
 is_simple t = false
+
+-- the end of the body of that procedure, which may have more answers or not, and leave a choice or not
+abbrev pub body_end_by : (procedure : ℕ) → (many leaves : Bool) → (variables : ℕ) → End
+body_end_by q true leaves variables = Yielding q (other_after fail_address leaves)
+body_end_by q false leaves variables = Exiting q (height_if leaves variables)

@@ -1,6 +1,6 @@
 // The details of goals.
-ghost use Rattle.std.specs.Prelude.{◌≡◌, ◌++◌, [], ◌∷◌, cond, IfOk, OnOk};
-ghost use Rattle.md_hlds.specs.Hlds.{hlds_of, procedure_called, args_of};
+ghost use Rattle.std.specs.Prelude.{◌≡◌, ◌++◌, [], ◌∷◌, Some, cond, slice_get, IfOk, OnOk};
+ghost use Rattle.md_hlds.specs.Hlds.{hlds_of, procedure_called, procedure_of, args_of};
 ghost use Rattle.md_hlds.specs.HldsGoal.{expr_of};
 ghost use Rattle.md_modes.specs.Notes.{program_notes};
 ghost use Rattle.md_modes.specs.Classes.{role_at};
@@ -16,7 +16,7 @@ use crate::tables::Tables;
 use md_base::{NoMemory, SiteId};
 use md_flat::{Call, Detail, Move};
 use md_heap::Value;
-use md_hlds::{GoalKind, Mode, PredName, Term, Ty};
+use md_hlds::{GoalKind, Mode, Pred, PredName, Term, Ty};
 use md_modes::Class;
 use std::alloc::Global;
 
@@ -209,22 +209,34 @@ fn call_detail(
 ) -> Result<Detail, NoMemory>
     ensures { IfOk result (λ detail. spec.detail_told detail ≡ spec.call_detail (hlds_of tables.now.source.checked.now) site places.now (place_told at) (procedure_called (hlds_of tables.now.source.checked.now) name.now)) }
 {
-    let alloc = tables.alloc;
     match tables.source.names.predicate(name) {
-        None => Ok(plain_detail(alloc)),
-        Some((procedure, pred)) => {
-            let call = Call {
-                site: site.number(),
-                procedure: procedure.number(),
-                entry: head_at(tables.callee(procedure.number()).body)?,
-                size: at.size,
-                next: at.next,
-                other: at.other,
-                is_closure: false,
-            };
-            passed_detail(alloc, pred.args.as_slice(), pred.head.as_slice(), places, call)
-        }
+        None => Ok(plain_detail(tables.alloc)),
+        Some((procedure, pred)) => called_detail(tables, site, procedure.number(), pred, places, at),
     }
+}
+
+/// Of a call of a predicate of this number.
+fn called_detail(
+    tables: &Tables,
+    site: SiteId,
+    procedure: u32,
+    pred: &Pred,
+    places: &[u32],
+    at: Place,
+) -> Result<Detail, NoMemory>
+    ensures { IfOk result (λ detail. slice_get (hlds_of tables.now.source.checked.now).procedures procedure ≡ Some (procedure_of pred.now)
+        → spec.detail_told detail ≡ spec.call_detail (hlds_of tables.now.source.checked.now) site places.now (place_told at) (Some (procedure, procedure_of pred.now))) }
+{
+    let call = Call {
+        site: site.number(),
+        procedure,
+        entry: head_at(tables.callee(procedure).body)?,
+        size: at.size,
+        next: at.next,
+        other: at.other,
+        is_closure: false,
+    };
+    passed_detail(tables.alloc, pred.args.as_slice(), pred.head.as_slice(), places, call)
 }
 
 /// The slots of the caller's variables that go in beside those of the head's, and those that come out.

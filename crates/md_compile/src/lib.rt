@@ -13,9 +13,12 @@ mod lookups;
 mod number;
 mod output;
 mod place;
+mod program;
 mod simple;
 mod source;
 mod survey;
 mod surveyed;
 mod switch;
 mod tables;
+
+pub use program::compile;

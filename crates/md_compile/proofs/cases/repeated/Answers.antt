@@ -5,10 +5,10 @@ use Rattle.md_compile.proofs.cases.repeated.Goals as goal
 
 pub loop-place-preserved : goal.loop-place-preserved
 loop-place-preserved c =
-    let more : suc c.loop-place.place ≡ c.loop-place.place + 1 = omega arith in
-    c.in_ok-push.ensures.items ∙ (ap (λ ts. ts ++ c.args.target ∷ []) c.loop-place.invariant ∙ (repeated-push c.loop-place.place c.args.target ∙ ap (λ n. repeated n c.args.target) more))
+    let more : suc c.loop-place._place ≡ c.loop-place._place + 1 = omega arith in
+    c.in_ok-push.ensures.items ∙ (ap (λ ts. ts ++ c.args.target ∷ []) c.loop-place.invariant ∙ (repeated-push c.loop-place._place c.args.target ∙ ap (λ n. repeated n c.args.target) more))
 
 pub returns : goal.returns
 returns c =
-    let all : c.loop-place.place ≡ c.args.high - c.args.low = omega (arith, c.saturating_sub-place-end.ensures) in
-    c.in_ok-push-2.ensures.items ∙ (ap (λ ts. ts ++ c.args.target ∷ []) c.loop-place.invariant ∙ (repeated-push c.loop-place.place c.args.target ∙ ap (λ n. repeated (suc n) c.args.target) all))
+    let all : c.loop-place._place ≡ c.args.high - c.args.low = omega (arith, c.saturating_sub-place-end.ensures) in
+    c.in_ok-push-2.ensures.items ∙ (ap (λ ts. ts ++ c.args.target ∷ []) c.loop-place.invariant ∙ (repeated-push c.loop-place._place c.args.target ∙ ap (λ n. repeated (suc n) c.args.target) all))

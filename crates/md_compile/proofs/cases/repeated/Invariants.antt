@@ -3,4 +3,4 @@ use Rattle.md_compile.specs.Details.{repeated}
 use Rattle.md_compile.proofs.cases.repeated.Given as goal
 
 abbrev pub invariant-loop-place : goal.invariant-loop-place
-invariant-loop-place l = l.targets.items ≡ repeated l.place l.target
+invariant-loop-place l = l.targets.items ≡ repeated l._place l.target

@@ -9,7 +9,7 @@ use Rattle.md_compile.specs.Told.{place_told}
 use Rattle.md_compile.specs.Adds.{laid}
 use Rattle.md_compile.proofs.SurveyLemmas.{expr_of-If}
 use Rattle.md_compile.proofs.BlockLemmas.{expr-Conj, expr-Disj}
-use Rattle.md_compile.proofs.LayoutLemmas.{on-ok-map, goal-laid, parts-next, parts-end, arms-next, arms-end, entry, inner-Conj, inner-Disj, inner-If, inner-Not, inner-Some, expr-Not, what-is-left}
+use Rattle.md_compile.proofs.LayoutLemmas.{on-ok-map, goal-laid, parts-next, parts-end, arms-next, arms-end, entry, inner-Conj, inner-Disj, inner-If, inner-Not, inner-Some, expr-Not, expr-Some, what-is-left}
 use Rattle.md_compile.proofs.layout.+layout.Goals as goal
 
 pub lay-returns : goal.lay-returns
@@ -97,4 +97,8 @@ lay_inner-returns-in_ok-negated_place-in-Not t c =
     c.lay-in-Not.ensures
 
 pub lay_inner-returns-in_ok-some_place-in-Some : goal.lay_inner-returns-in_ok-some_place-in-Some
-lay_inner-returns-in_ok-some_place-in-Some t c = let a = c.in-Some.is in let b = c.deref-in-Some.ensures in let d = c.in_ok-some_place-in-Some.ensures in ?
+lay_inner-returns-in_ok-some_place-in-Some t c =
+    on-ok-map c.lay-in-Some.result
+    (inner-Some (hlds_of c.args.tables.now.source.checked.now) c.args.output.now c.lay-in-Some.new.output c.args.number (expr_of c.args.kind.now) c.in-Some.field-0 (goal_of c.deref-in-Some.result.now) (place_told c.args.at) (place_told c.in_ok-some_place-in-Some.field-0)
+    (expr-Some c.args.kind.now c.in-Some.field-0 c.in-Some.inner c.deref-in-Some.result.now c.in-Some.is c.deref-in-Some.ensures) c.in_ok-some_place-in-Some.ensures)
+    c.lay-in-Some.ensures

@@ -12,6 +12,6 @@ returns c =
     let s = hlds_of c.args.tables.now.source.checked.now in
     if-ok-map c.branch_place.result
     (λ place is g there. is
-    ∙ (λ i. branch s c.args.number c.args.part (place_told c.args.at) (c.arm_other.ensures i) c.args.entry.pending c.args.entry.height
+    ∙ (λ i. branch s c.args.number c.args.part (place_told c.args.at) (c.arm_other-other.ensures i) c.args.entry.pending c.args.entry.height
     ((c.in_ok-trial.ensures ∙ ap (λ k. arm_trial k (gathered (goals_of c.args.others.now))) (c.in_ok-after.ensures ∙ ap (λ k. c.args.part + size_of k) there)) i)))
     c.branch_place.ensures
