@@ -147,9 +147,10 @@ ahead-end s facts callees ps i olds cs end' left =
     )
 
 -- a call of the procedure of a name
-pub call-told : (s : Hlds) (name : PredName) (site : ℕ) (ys : List ℕ) (at : Place) (n : ℕ) (k : Pred) {E : Type 0} (r : Result flat.Detail E)
+pub call-told : (s : Hlds) (name : PredName) (site : ℕ) (ys : List ℕ) (at : Place) (n : ℕ) (k m : Pred) {E : Type 0} (r : Result flat.Detail E)
     → IfOk r (λ d. slice_get s.procedures n ≡ Some (procedure_of k) → detail_told d ≡ call_detail s site ys at (Some (n, procedure_of k)))
-    → procedure_called s name ≡ Some (n, procedure_of k)
+    → procedure_called s name ≡ Some (n, procedure_of m) → m ≡ k
     → IfOk r (λ d. detail_told d ≡ call_detail s site ys at (procedure_called s name))
-call-told s name site ys at n k r h found =
+call-told s name site ys at n k m r h called same =
+    let found : procedure_called s name ≡ Some (n, procedure_of k) = called ∙ ap (λ (q : Pred). Some (n, procedure_of q)) same in
     if-ok-map r (λ d is. is (called-there s name n (procedure_of k) found) ∙ ap (call_detail s site ys at) (sym found)) h

@@ -41,7 +41,7 @@ pub fn compile(alloc: Global, checked: &Checked) -> Result<Code, NoMemory>
 
 /// The tables of a program.
 fn tables_of<'a>(alloc: Global, source: Source<'a>) -> Result<Tables<'a>, NoMemory>
-    ensures { IfOk result (λ tables. tables.source.checked.now ≡ source.checked.now) }
+    ensures { IfOk result (λ tables. tables.source.checked.now ≡ source.entry.checked.now) }
 {
     let program = source.checked.program();
     let (functors, functor_count) = functors_of(alloc, program)?;

@@ -14,5 +14,4 @@ returns-in-Some c =
     let found : procedure_called s c.args.name.now ≡ Some (c.number.result, p)
     = subst (λ (q : Program). procedure_called (hlds_of q) c.args.name.now ≡ Some (c.in-Some.procedure, p)) c.args.tables.now.source.named c.in-Some.ensures
     ∙ ap (λ (k : ℕ). Some (k, p)) (sym n) in
-    call-told s c.args.name.now c.args.site c.args.places.now (place_told c.args.at) c.number.result _ c.called_detail.result c.called_detail.ensures
-    (found ∙ ap (λ (k : Pred). Some (c.number.result, procedure_of k)) (cc c.in-Some.pred-is))
+    call-told s c.args.name.now c.args.site c.args.places.now (place_told c.args.at) c.number.result _ c.in-Some.pred.now c.called_detail.result c.called_detail.ensures found (cc c.in-Some.pred-is)
