@@ -211,7 +211,7 @@ fn call_detail(
 {
     match tables.source.names.predicate(name) {
         None => Ok(plain_detail(tables.alloc)),
-        Some((procedure, pred)) => called_detail(tables, site, procedure.number(), pred, places, at),
+        Some(found) => called_detail(tables, site, found.0.number(), found.1, places, at),
     }
 }
 
