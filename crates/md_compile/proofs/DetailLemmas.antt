@@ -74,7 +74,7 @@ targets-next s low ts news ks gs i part next d lt lt' stand at sets =
     let stands = stand-goal s part g (goals_among (gathered (goals_of rest))) (subst (λ hs. Stand s part (goals_among (gathered (goals_of hs)))) first.front stand) in
     let size : next ≡ part + goal_size g = at ∙ ap (λ n. part + n) (ap size_of (stand-own s part g stands.0)) in (
       (λ j. with_targets s low (sets j) (keys_told (drop (i + 1) ks)) (size j) (gathered (goals_of rest)))
-      ∙ (λ j. with_targets s low ts (sym (keys-step ks i d lt) j) part (gathered (goals_of (sym first.front j)))),
+          ∙ (λ j. with_targets s low ts (sym (keys-step ks i d lt) j) part (gathered (goals_of (sym first.front j)))),
       subst (λ n. Stand s n (goals_among (gathered (goals_of rest)))) (sym size) stands.1,
     )
 
@@ -89,8 +89,8 @@ cases-next s cs news ks gs i part next d lt lt' stand at adds =
     let stands = stand-goal s part g (goals_among (gathered (goals_of rest))) (subst (λ hs. Stand s part (goals_among (gathered (goals_of hs)))) first.front stand) in
     let size : next ≡ part + goal_size g = at ∙ ap (λ n. part + n) (ap size_of (stand-own s part g stands.0)) in (
       (λ j. adds j ++ cases_of s (keys_told (drop (i + 1) ks)) (size j) (gathered (goals_of rest)))
-      ∙ (append_assoc cs (key_cases s (key_of_code (get_or ks i d)) (head_at part)) (cases_of s (keys_told (drop (i + 1) ks)) (part + goal_size g) (gathered (goals_of rest)))
-      ∙ (λ j. cs ++ cases_of s (sym (keys-step ks i d lt) j) part (gathered (goals_of (sym first.front j))))),
+          ∙ (append_assoc cs (key_cases s (key_of_code (get_or ks i d)) (head_at part)) (cases_of s (keys_told (drop (i + 1) ks)) (part + goal_size g) (gathered (goals_of rest)))
+          ∙ (λ j. cs ++ cases_of s (sym (keys-step ks i d lt) j) part (gathered (goals_of (sym first.front j))))),
       subst (λ n. Stand s n (goals_among (gathered (goals_of rest)))) (sym size) stands.1,
     )
 

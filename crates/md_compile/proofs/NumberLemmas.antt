@@ -59,6 +59,7 @@ lookup-put name arity key v (e ∷ es) none = here (is_functor_key key.name.now 
         → cond b (Some e.1) (lookup (is_functor_key name arity) (insert_entry (λ a. is_functor_key a.name.now a.arity) es key v)) ≡ first_of (cond b (Some e.1) (lookup (is_functor_key name arity) es)) (cond (is_functor_key name arity key) (Some v) None)
     more true rest = refl
     more false rest = rest
+
     here : (s : Bool) → is_functor_key key.name.now key.arity e.0 ≡ s
         → (lookup (is_functor_key key.name.now key.arity) es ≡ None
         → lookup (is_functor_key name arity) (insert_entry (λ a. is_functor_key a.name.now a.arity) es key v) ≡ first_of (lookup (is_functor_key name arity) es) (cond (is_functor_key name arity key) (Some v) None))
@@ -100,9 +101,11 @@ functor-there name arity key f v es named counted present =
     kept : (r : Option ℕ) (other : Option ℕ) → is_some r ≡ true → r ≡ first_of r other
     kept None other h = absurd (cc)
     kept (Some n) other h = refl
+
     plain : (r : Option ℕ) → r ≡ first_of r None
     plain None = refl
     plain (Some n) = refl
+
     here : (b : Bool) → is_functor_key name arity key ≡ b → lookup (is_functor_key name arity) es ≡ first_of (lookup (is_functor_key name arity) es) (cond b (Some v) None)
     here true is = kept (lookup (is_functor_key name arity) es) (Some v) (ap (λ r. is_some r) (test-is name arity key es is) ∙ present)
     here false is = plain (lookup (is_functor_key name arity) es)

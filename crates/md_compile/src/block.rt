@@ -230,7 +230,11 @@ fn disjunction_code(
         Some(switch) => {
             let operation = switch_by(tables, arms, number, switch.var)?;
             let missing = instruction(plus(at.pending, 1)?, at.other, Operation::Charge);
-            Ok([instruction(0, second_at(number)?, operation), missing, UNUSED])
+            Ok([
+                instruction(0, second_at(number)?, operation),
+                missing,
+                UNUSED,
+            ])
         }
     }
 }

@@ -168,12 +168,7 @@ fn cases_of(
 }
 
 /// Adds the case of a key.
-fn add_case(
-    tables: &Tables,
-    cases: &mut Vec<Case>,
-    key: &Key,
-    target: u32,
-) -> Result<(), NoMemory>
+fn add_case(tables: &Tables, cases: &mut Vec<Case>, key: &Key, target: u32) -> Result<(), NoMemory>
     ensures { OnOk result (cases.new.items ≡ cases.old.items ++ spec.key_cases (hlds_of tables.now.source.checked.now) (key_of_code key.now) target) }
 {
     match key {

@@ -69,7 +69,13 @@ pub const NO_CALL: Call = Call {
 pub fn plain_detail(alloc: Global) -> Detail
     ensures { spec.detail_told result ≡ spec.plain_detail }
 {
-    moves_detail(alloc, Value::Int(0), Vec::new(alloc), Vec::new(alloc), NO_CALL)
+    moves_detail(
+        alloc,
+        Value::Int(0),
+        Vec::new(alloc),
+        Vec::new(alloc),
+        NO_CALL,
+    )
 }
 
 /// Of a goal that has no targets and cases.
@@ -236,7 +242,13 @@ fn called_detail(
         other: at.other,
         is_closure: false,
     };
-    passed_detail(tables.alloc, pred.args.as_slice(), pred.head.as_slice(), places, call)
+    passed_detail(
+        tables.alloc,
+        pred.args.as_slice(),
+        pred.head.as_slice(),
+        places,
+        call,
+    )
 }
 
 /// The slots of the caller's variables that go in beside those of the head's, and those that come out.
@@ -255,8 +267,22 @@ fn passed_detail(
     for number in 0..count {
         let (own, head) = (places[number], heads[number]);
         let goes_in = goes_in(args[number].1);
-        push_if(&mut inputs, goes_in, Move { from: own, to: head })?;
-        push_if(&mut outputs, !goes_in, Move { from: head, to: own })?;
+        push_if(
+            &mut inputs,
+            goes_in,
+            Move {
+                from: own,
+                to: head,
+            },
+        )?;
+        push_if(
+            &mut outputs,
+            !goes_in,
+            Move {
+                from: head,
+                to: own,
+            },
+        )?;
     }
     Ok(moves_detail(alloc, Value::Int(0), inputs, outputs, call))
 }

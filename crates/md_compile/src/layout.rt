@@ -15,26 +15,25 @@ use crate::block::{add_block, parts_begin};
 use crate::detail::detail_of;
 use crate::number::{POP, plus, small, try_at};
 use crate::output::Output;
-use crate::place::{End, Entry, Place, Trial, branch_place, negated_place, other_after, places_of_test, some_place};
+use crate::place::{
+    End, Entry, Place, Trial, branch_place, negated_place, other_after, places_of_test, some_place,
+};
 use crate::tables::Tables;
 use md_base::NoMemory;
 use md_hlds::{Goal, GoalKind};
 
 /// Adds the code of a goal at a place, and of those within it.
 #[cycle(layout)]
-pub fn lay(
-    tables: &Tables,
-    output: &mut Output,
-    goal: &Goal,
-    at: Place,
-) -> Result<(), NoMemory>
+pub fn lay(tables: &Tables, output: &mut Output, goal: &Goal, at: Place) -> Result<(), NoMemory>
     ensures { OnOk result (Stand (hlds_of tables.now.source.checked.now) (laid output.old) (goals_within (goal_of goal.now))
         → Adds output.old output.new (spec.goal_code (hlds_of tables.now.source.checked.now) (laid output.old) (goal_of goal.now) (place_told at))
         (goal_details (hlds_of tables.now.source.checked.now) (laid output.old) (goal_of goal.now) (place_told at))) }
 {
     let number = small(output.details.len())?;
     add_block(tables, &mut output.instructions, &goal.kind, number, at)?;
-    output.details.push(detail_of(tables, &goal.kind, number, at)?)?;
+    output
+        .details
+        .push(detail_of(tables, &goal.kind, number, at)?)?;
     lay_inner(tables, output, &goal.kind, number, at)
 }
 
@@ -56,7 +55,14 @@ fn lay_inner(
             lay_conjunction(tables, output, goals.as_slice(), at, first_entry(at)?)
         }
         GoalKind::Disj(arms) => {
-            lay_arms(tables, output, arms.as_slice(), number, at, first_entry(at)?)
+            lay_arms(
+                tables,
+                output,
+                arms.as_slice(),
+                number,
+                at,
+                first_entry(at)?,
+            )
         }
         GoalKind::If(condition, then, otherwise) => {
             let places = places_of_test(tables, number, at)?;
@@ -185,7 +191,14 @@ fn arm_place(
         None => tried_place(tables, number, part, others, at, entry),
         Some(_) => {
             let other = at.other;
-            branch_place(tables, number, part, at, Entry { other, ..entry }, Trial::NoArm)
+            branch_place(
+                tables,
+                number,
+                part,
+                at,
+                Entry { other, ..entry },
+                Trial::NoArm,
+            )
         }
     }
 }

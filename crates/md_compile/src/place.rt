@@ -125,7 +125,12 @@ pub fn branch_place(
         ≡ spec.branch (hlds_of tables.now.source.checked.now) number part (place_told at) entry.other entry.pending entry.height (trial_told trial)) }
 {
     let next = end_at(part)?;
-    let end = joining(tables.leaves(part), tables.leaves(number), entry.other, at.next);
+    let end = joining(
+        tables.leaves(part),
+        tables.leaves(number),
+        entry.other,
+        at.next,
+    );
     Ok(at.part(next, entry, end, trial))
 }
 

@@ -112,12 +112,7 @@ fn begun(alloc: Global) -> Result<Output, NoMemory>
 }
 
 /// The body of a procedure, which has this number among the goals.
-fn body_place(
-    tables: &Tables,
-    procedure: u32,
-    pred: &Pred,
-    body: u32,
-) -> Result<Place, NoMemory>
+fn body_place(tables: &Tables, procedure: u32, pred: &Pred, body: u32) -> Result<Place, NoMemory>
     ensures { IfOk result (λ place. body ≡ body_number (hlds_of tables.now.source.checked.now) procedure → goal_at (hlds_of tables.now.source.checked.now) body ≡ Some (goal_of pred.now.body)
         → place_told place ≡ spec.body_place (hlds_of tables.now.source.checked.now) procedure (procedure_of pred.now)) }
 {

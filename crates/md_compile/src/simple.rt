@@ -145,7 +145,15 @@ fn variables_code(
         | None => {
             let weight = plus(at.pending, 1)?;
             let (first, second, other) = (x, y, at.other);
-            Ok(instruction(weight, at.next, Operation::Same { first, second, other }))
+            Ok(instruction(
+                weight,
+                at.next,
+                Operation::Same {
+                    first,
+                    second,
+                    other,
+                },
+            ))
         }
     }
 }
@@ -271,7 +279,11 @@ fn take_code(
 {
     let weight = plus(at.pending, 1)?;
     let (of, detail, other) = (x, number, at.other);
-    let test = instruction(weight, second_at(number)?, Operation::HasHead { of, head, other });
+    let test = instruction(
+        weight,
+        second_at(number)?,
+        Operation::HasHead { of, head, other },
+    );
     let meet = meet_code(number, x, bound, third_at(number)?, at);
     let take = instruction(0, at.next, Operation::Fields { of, detail });
     Ok([test, meet, take])

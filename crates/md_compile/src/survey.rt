@@ -77,7 +77,11 @@ fn add_inner(
 
 /// Adds what is known of goals one after the other, and of those within them, and tells what is known of them together.
 #[cycle(survey)]
-fn add_facts_of_all(source: &Source, facts: &mut Vec<Fact>, goals: &[Goal]) -> Result<Fact, NoMemory>
+fn add_facts_of_all(
+    source: &Source,
+    facts: &mut Vec<Fact>,
+    goals: &[Goal],
+) -> Result<Fact, NoMemory>
     ensures keeps { OnOk result (length facts.old.items ≤ length facts.new.items) }
     ensures facts { IfOk result (λ fact. Stand (hlds_of source.now.checked.now) (length facts.old.items) (goals_among (gathered (goals_of goals.now)))
         → (facts.new.items ≡ facts.old.items ++ facts_from (hlds_of source.now.checked.now) (length facts.old.items) (goals_among (gathered (goals_of goals.now))))
@@ -138,7 +142,10 @@ impl Fact {
             (one_if condition.leaves + condition.heights + then.heights + otherwise.heights)
             (condition.sites + (then.sites + otherwise.sites)) (charged_with 0)) }
     {
-        let heights = plus(plus(condition.cut_heights()?, then.heights)?, otherwise.heights)?;
+        let heights = plus(
+            plus(condition.cut_heights()?, then.heights)?,
+            otherwise.heights,
+        )?;
         let sites = plus(condition.sites, plus(then.sites, otherwise.sites)?)?;
         Ok(Fact {
             leaves: then.leaves || otherwise.leaves,

@@ -11,8 +11,8 @@ loop-place-preserved c = λ stand.
     let lt : i < length c.args.keys.now = omega (arith, c.min-place-end.ensures) in
     let lt' : i < length c.args.arms.now = omega (arith, c.min-place-end.ensures) in
     let next = targets-next (hlds_of c.args.tables.now.source.checked.now) c.args.low c.loop-place.targets.items c.set_target.new.targets.items c.args.keys.now c.args.arms.now i c.loop-place.part c.in_ok-part-2.part (Int (pos 0))
-        lt lt' both.1 c.in_ok-part-2.ensures
-        (c.set_target.ensures ∙ (λ j. slice_set c.loop-place.targets.items ((c.saturating_sub-functor.ensures ∙ ap (λ k. k - c.args.low) c.key_functor.ensures) j) (c.in_ok-head_at.ensures j))) in
+    lt lt' both.1 c.in_ok-part-2.ensures
+    (c.set_target.ensures ∙ (λ j. slice_set c.loop-place.targets.items ((c.saturating_sub-functor.ensures ∙ ap (λ k. k - c.args.low) c.key_functor.ensures) j) (c.in_ok-head_at.ensures j))) in
     (next.0 ∙ both.0, next.1)
 
 pub returns : goal.returns

@@ -14,8 +14,8 @@ loop-place-preserved c = λ stand.
     let lt : i < length c.args.keys.now = omega (arith, c.min-place-end.ensures) in
     let lt' : i < length c.args.arms.now = omega (arith, c.min-place-end.ensures) in
     let next = cases-next s c.loop-place.cases.items c.add_case.new.cases.items c.args.keys.now c.args.arms.now i c.loop-place.part c.in_ok-part-2.part (Int (pos 0))
-        lt lt' both.1 c.in_ok-part-2.ensures
-        (c.in_ok-add_case.ensures ∙ ap (λ target. c.loop-place.cases.items ++ key_cases s (key_of_code (get_or c.args.keys.now i (Int (pos 0)))) target) c.in_ok-head_at.ensures) in
+    lt lt' both.1 c.in_ok-part-2.ensures
+    (c.in_ok-add_case.ensures ∙ ap (λ target. c.loop-place.cases.items ++ key_cases s (key_of_code (get_or c.args.keys.now i (Int (pos 0)))) target) c.in_ok-head_at.ensures) in
     (next.0 ∙ both.0, next.1)
 
 pub returns : goal.returns
