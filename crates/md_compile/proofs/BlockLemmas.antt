@@ -1,11 +1,10 @@
 -- The instructions of a goal.
-use Rattle.std.proofs.Common.{◌≡◌, refl, ap, ◌∙◌, sym, subst, arith, ℕ, zero, suc, ◌+◌, ◌<◌, ◌≤◌, Bool, true, false, cond, List, [], ◌∷◌, ◌++◌, length, Option, Some, None, append_assoc, Vec, Box}
+use Rattle.std.proofs.Common.{◌≡◌, refl, ap, ◌∙◌, sym, arith, ℕ, zero, suc, ◌+◌, ◌<◌, ◌≤◌, Bool, true, false, List, [], ◌∷◌, ◌++◌, length, Option, Some, None, append_assoc, Vec}
 use Rattle.std.specs.declared.alloc.Global.{Global}
 use Rattle.md_hlds.specs.declared.goal.Goal.{Goal}
-use Rattle.md_hlds.specs.declared.goal.Term.{Term}
 use Rattle.md_hlds.specs.declared.goal.Term.TheVariants.{Var, Int, Str, Name}
 use Rattle.md_hlds.specs.declared.goal.GoalKind.{GoalKind, Conj, Disj}
-use Rattle.md_hlds.specs.HldsGoal.{Simple, Succeeds, Fails, Unifies, Computes, Compares, WritesInt, WritesText, EndsLine, Raises, HldsGoal, At, GoalExpr, SimpleGoal, CallGoal, HoCallGoal, ConjGoal, DisjGoal, IfGoal, NotGoal, SomeGoal, HldsGoals, nothing, also, expr_of, gathered, goal_of, goals_of, goal_size, goals_within, goals_below, goals_among}
+use Rattle.md_hlds.specs.HldsGoal.{Simple, Succeeds, Fails, Unifies, Computes, Compares, WritesInt, WritesText, EndsLine, Raises, HldsGoal, At, GoalExpr, SimpleGoal, CallGoal, HoCallGoal, ConjGoal, DisjGoal, IfGoal, NotGoal, SomeGoal, HldsGoals, nothing, also, expr_of, gathered, goals_of, goal_size}
 use Rattle.md_hlds.specs.Hlds.{Hlds, goal_at}
 use Rattle.md_hlds.proofs.Bridge.{expr_of-Conj, expr_of-Disj}
 use Rattle.md_modes.specs.Notes.{Role, constructs, closes, takes_apart, assigns, tests, applies, program_notes}
@@ -15,7 +14,7 @@ use Rattle.md_compile.specs.declared.fact.Change.{Change}
 use Rattle.md_compile.specs.declared.fact.Fact.{Fact}
 use Rattle.md_compile.specs.Leaves.{leaves_table}
 use Rattle.md_compile.specs.Tables.{head_at, try_at, heights_of, one_if}
-use Rattle.md_compile.specs.Facts.{Stand, Stands, change, then_change, kept_with, charged_with, pending_behind, simple_change, change_of, expr_change, parts_change, fact_of, fact_if, fact_at}
+use Rattle.md_compile.specs.Facts.{Stands, change, then_change, kept_with, pending_behind, simple_change, change_of, expr_change, parts_change, fact_of, fact_if, fact_at}
 use Rattle.md_compile.specs.Blocks.{Place, pending_simple, pending_after, pending_expr, pending_parts, own_code, end_code, try_code, block, least, parts_begin, first_trial, Holding, NoArm, height_if, branch, condition_place, if_condition, then_place, else_place}
 use Rattle.md_compile.proofs.SurveyLemmas.{stand-If, stand-own}
 

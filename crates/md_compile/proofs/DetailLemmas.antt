@@ -1,12 +1,11 @@
 -- The details of goals.
-use Rattle.std.proofs.Common.{◌≡◌, refl, ap, ◌∙◌, sym, subst, arith, ℕ, zero, suc, ◌+◌, ◌-◌, ◌<◌, ◌≤◌, Bool, true, false, cond, List, [], ◌∷◌, ◌++◌, length, drop, Option, Some, None, get_or, append_assoc, append-nil, drop-cons, add-one, length-drop}
+use Rattle.std.proofs.Common.{◌≡◌, refl, ap, ◌∙◌, sym, subst, arith, ℕ, zero, suc, ◌+◌, ◌-◌, ◌<◌, ◌≤◌, List, [], ◌∷◌, ◌++◌, length, drop, get_or, append_assoc, drop-cons, add-one}
 use Rattle.std.specs.Prelude.{slice_set}
 use Rattle.md_hlds.specs.declared.goal.Goal.{Goal}
 use Rattle.md_hlds.specs.declared.types.Ty.{Ty}
 use Rattle.md_hlds.specs.declared.types.Mode.{Mode}
-use Rattle.md_hlds.specs.HldsGoal.{HldsGoal, HldsGoals, gathered, goal_of, goals_of, goal_size, goals_within, goals_among}
+use Rattle.md_hlds.specs.HldsGoal.{gathered, goal_of, goals_of, goal_size, goals_among}
 use Rattle.md_hlds.specs.Hlds.{Hlds, args_of}
-use Rattle.md_hlds.specs.Switch as spec
 use Rattle.md_modes.specs.Classes.{size_of, size_at}
 use Rattle.md_switch.specs.declared.key.Key.{Key}
 use Rattle.md_switch.specs.Keys.{key_of_code, keys_told}

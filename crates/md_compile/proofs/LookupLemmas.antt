@@ -1,5 +1,5 @@
 -- What is found by numbers, in tables of all goals and all procedures of a program.
-use Rattle.std.proofs.Common.{◌≡◌, refl, ap, ◌∙◌, sym, subst, arith, ℕ, zero, suc, ◌+◌, ◌<◌, ◌≤◌, Bool, true, false, cond, List, [], ◌∷◌, ◌++◌, length, drop, Option, Some, None, Result, IfOk, slice_get, get_or, length-append, append_assoc, append-nil, drop-cons, add-one}
+use Rattle.std.proofs.Common.{◌≡◌, refl, ap, ◌∙◌, sym, subst, arith, ℕ, zero, suc, ◌+◌, ◌<◌, ◌≤◌, List, [], ◌∷◌, ◌++◌, length, drop, Option, Some, None, Result, IfOk, slice_get, get_or, append_assoc, append-nil, drop-cons, add-one}
 use Rattle.std.proofs.lemmas.List.{drop_all}
 use Rattle.md_hlds.specs.declared.program.Pred.{Pred}
 use Rattle.md_hlds.specs.declared.goal.PredName.{PredName}

@@ -1,8 +1,8 @@
 -- The bodies of a program laid out one after the other.
-use Rattle.std.proofs.Common.{◌≡◌, refl, ap, ◌∙◌, sym, subst, arith, ℕ, zero, suc, ◌+◌, ◌<◌, ◌≤◌, Bool, true, false, cond, List, [], ◌∷◌, ◌++◌, length, drop, map, Option, Some, None, slice_get, get_or, append_assoc, append-nil, add-one}
-use Rattle.std.proofs.lemmas.List.{drop_all, length-map, map-append}
+use Rattle.std.proofs.Common.{◌≡◌, refl, ap, ◌∙◌, sym, subst, arith, ℕ, zero, suc, ◌+◌, ◌<◌, ◌≤◌, Bool, true, false, cond, List, [], ◌∷◌, ◌++◌, length, drop, map, Some, slice_get, get_or, append_assoc, append-nil}
+use Rattle.std.proofs.lemmas.List.{drop_all, map-append}
 use Rattle.md_hlds.specs.declared.program.Pred.{Pred}
-use Rattle.md_hlds.specs.HldsGoal.{HldsGoal, goal_of, goal_size, goals_within}
+use Rattle.md_hlds.specs.HldsGoal.{goal_of, goal_size, goals_within}
 use Rattle.md_hlds.specs.Hlds.{Hlds, Procedure, procedure_of, procedures_of, clause_goals, goal_at, goals_before, body_number}
 use Rattle.md_flat.specs.declared.code.Routine as flat
 use Rattle.md_compile.specs.declared.output.Output.{Output}
@@ -11,7 +11,7 @@ use Rattle.md_compile.specs.Facts.{Stand, fact_of, fact_if, fact_at}
 use Rattle.md_compile.specs.declared.fact.Fact.{Fact}
 use Rattle.md_compile.specs.Leaves.{leaves_table, has_choices}
 use Rattle.md_compile.specs.Told.{body_end_by}
-use Rattle.md_compile.specs.Blocks.{Place, End, Trial, NoArm, body_end, body_place, goal_code, clauses_code, program_code, common_code}
+use Rattle.md_compile.specs.Blocks.{Place, End, Trial, NoArm, body_end, body_place, goal_code, clauses_code, program_code}
 use Rattle.md_compile.specs.Details.{Routine, detail_told, goal_details, clauses_details, routine_told, routine_of, routines_from, AreWithin}
 use Rattle.md_compile.specs.Adds.{Adds, laid, IsBegun, IsWhole}
 use Rattle.md_compile.proofs.SurveyLemmas.{stand-goal, stand-own}

@@ -1,5 +1,5 @@
 -- The shape of a switch whose arms stand in a program.
-use Rattle.std.proofs.Common.{◌≡◌, refl, ap, ◌∙◌, ℕ, suc, ◌+◌, List, [], ◌∷◌, Option}
+use Rattle.std.proofs.Common.{◌≡◌, ap, ◌∙◌, ℕ, suc, List, [], ◌∷◌}
 use Rattle.md_hlds.specs.HldsGoal.{HldsGoal, HldsGoals, goals_among}
 use Rattle.md_hlds.specs.Hlds.{Hlds}
 use Rattle.md_hlds.specs.Switch.{switch_shape}

@@ -1,11 +1,11 @@
 -- What is known of goals one after the other, and of the goals within a goal.
-use Rattle.std.proofs.Common.{◌≡◌, refl, ap, ◌∙◌, sym, subst, arith, ℕ, zero, suc, ◌+◌, ◌<◌, ◌≤◌, Bool, true, false, ◌||◌, cond, List, [], ◌∷◌, ◌++◌, length, drop, Vec, Box, Option, Some, None, Result, Ok, Err, OnOk, IfOk, not, get_or, length-append, append_assoc, append-nil, add_assoc}
+use Rattle.std.proofs.Common.{◌≡◌, refl, ap, ◌∙◌, sym, subst, arith, ℕ, suc, ◌+◌, ◌<◌, Bool, true, false, ◌||◌, List, [], ◌∷◌, ◌++◌, length, drop, Vec, Box, Option, Some, None, Result, Ok, Err, OnOk, IfOk, not, get_or, length-append, append_assoc}
 use Rattle.std.specs.Prelude.{slice_set, is_some}
 use Rattle.md_det.specs.declared.finding.Switch.{Switch}
 use Rattle.std.specs.declared.alloc.Global.{Global}
 use Rattle.md_hlds.specs.declared.goal.Goal.{Goal}
 use Rattle.md_hlds.specs.declared.goal.GoalKind.{GoalKind, Conj, Disj, If}
-use Rattle.md_hlds.specs.HldsGoal.{HldsGoal, At, GoalExpr, SimpleGoal, CallGoal, HoCallGoal, ConjGoal, DisjGoal, IfGoal, NotGoal, SomeGoal, HldsGoals, nothing, also, expr_of, gathered, goal_of, goals_of, goal_size, goals_within, goals_below, goals_among, site_count, site_lines, goals_lines}
+use Rattle.md_hlds.specs.HldsGoal.{HldsGoal, At, GoalExpr, SimpleGoal, CallGoal, HoCallGoal, ConjGoal, DisjGoal, IfGoal, NotGoal, SomeGoal, HldsGoals, also, expr_of, gathered, goal_of, goals_of, goal_size, goals_within, goals_below, goals_among, site_count, site_lines, goals_lines}
 use Rattle.md_hlds.specs.Hlds.{Hlds, goal_at}
 use Rattle.md_hlds.proofs.Bridge.{expr_of-Conj, expr_of-Disj}
 use Rattle.md_switch.proofs.KeyLemmas.{parts-step}
@@ -15,7 +15,7 @@ use Rattle.md_compile.specs.declared.fact.Change.{Change}
 use Rattle.md_compile.specs.declared.fact.Fact.{Fact}
 use Rattle.md_compile.specs.Leaves.{leaves, leaves_table, found_leaves, is_tried}
 use Rattle.md_compile.specs.Tables.{one_if, heights_of}
-use Rattle.md_compile.specs.Facts.{Stand, change, kept_with, charged_with, then_change, fact, fact_of, parts_fact, both_facts, no_fact, facts_from, change_of}
+use Rattle.md_compile.specs.Facts.{Stand, change, kept_with, charged_with, then_change, fact, fact_of, parts_fact, both_facts, facts_from}
 
 -- ---- goals of a program
 

@@ -1,9 +1,9 @@
 -- What the code of a goal needs to know of the goals of a program before it is laid out, by their numbers.
 use Rattle.std.specs.Prelude.{ℕ, suc, ◌+◌, ◌≡◌, Bool, true, false, ◌||◌, List, [], ◌∷◌, length, Option, Some, None, cond}
 use Rattle.md_hlds.specs.declared.goal.Term.{Term}
-use Rattle.md_hlds.specs.declared.goal.Term.TheVariants.{Var, Int, Str, Name}
+use Rattle.md_hlds.specs.declared.goal.Term.TheVariants.{Name}
 use Rattle.md_hlds.specs.HldsGoal.{Simple, Succeeds, Unifies, Computes, HldsGoal, At, GoalExpr, SimpleGoal, CallGoal, HoCallGoal, ConjGoal, DisjGoal, IfGoal, NotGoal, SomeGoal, HldsGoals, nothing, also, goal_size, goals_below, goals_lines, site_count}
-use Rattle.md_hlds.specs.Hlds.{Procedure, Hlds, clause_goals, goal_at}
+use Rattle.md_hlds.specs.Hlds.{Procedure, Hlds, goal_at}
 use Rattle.md_hlds.specs.Trace.{call_weight}
 use Rattle.md_modes.specs.Notes.{Role, constructs, assigns, program_notes}
 use Rattle.md_modes.specs.Classes.{role_at}

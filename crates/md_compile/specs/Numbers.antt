@@ -1,11 +1,11 @@
 -- Maps from what a program names to numbers.
 use Rattle.std.specs.Prelude.{ℕ, suc, ◌≡◌, List, [], ◌∷◌, Option, Some, None, cond}
 use Rattle.std.specs.Borrow.{Bor}
-use Rattle.md_hlds.specs.Hlds.{HldsFunctor, Hlds}
+use Rattle.md_hlds.specs.Hlds.{HldsFunctor}
 use Rattle.md_names.specs.declared.key.FunctorKey.{FunctorKey}
 use Rattle.md_names.specs.Maps.{is_functor_key}
 use Rattle.indexmap.specs.IndexMap.{IndexMap, get_by}
-use Rattle.md_compile.specs.Tables.{is_named, functors_of}
+use Rattle.md_compile.specs.Tables.{is_named}
 
 -- what a map has at a name and an arity
 abbrev pub number_in : {S : Type 0} → IndexMap FunctorKey ℕ S → List ℕ → ℕ → Option ℕ

@@ -1,4 +1,4 @@
-use Rattle.std.proofs.Common.{◌≡◌, ◌∙◌, ◌<◌, arith, length}
+use Rattle.std.proofs.Common.{◌∙◌, ◌<◌, arith, length}
 use Rattle.md_compile.proofs.SurveyLemmas.{if-ok-map}
 use Rattle.md_compile.proofs.BlockLemmas.{trial-there}
 use Rattle.md_compile.proofs.block.first_trial.Goals as goal

@@ -1,6 +1,6 @@
-use Rattle.std.proofs.Common.{◌≡◌, ◌∙◌, sym, ap, subst, refl, arith, true, suc, ◌+◌, ℕ}
+use Rattle.std.proofs.Common.{◌≡◌, ◌∙◌, sym, ap, subst, refl, arith, true, suc, ℕ}
 use Rattle.md_hlds.specs.Hlds.{hlds_of}
-use Rattle.md_hlds.specs.HldsGoal.{GoalExpr, expr_of, goal_of, goals_below, goal_size}
+use Rattle.md_hlds.specs.HldsGoal.{GoalExpr, expr_of, goal_of, goals_below}
 use Rattle.md_compile.specs.Leaves.{leaves_table}
 use Rattle.md_compile.specs.Tables.{head_at}
 use Rattle.md_compile.specs.Facts.{Stand}

@@ -1,4 +1,4 @@
-use Rattle.std.proofs.Common.{◌≡◌, ◌∙◌, ◌<◌, arith, length}
+use Rattle.std.proofs.Common.{◌∙◌, ◌<◌, arith, length}
 use Rattle.md_compile.proofs.SurveyLemmas.{if-ok-map}
 use Rattle.md_compile.proofs.BlockLemmas.{begin-there}
 use Rattle.md_compile.proofs.block.parts_begin.Goals as goal

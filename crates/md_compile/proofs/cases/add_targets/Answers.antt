@@ -1,4 +1,4 @@
-use Rattle.std.proofs.Common.{◌≡◌, ◌∙◌, ◌<◌, ◌-◌, pos, slice_set, sym, ap, arith, length, drop, length-drop}
+use Rattle.std.proofs.Common.{◌∙◌, ◌<◌, ◌-◌, pos, slice_set, sym, ap, arith, length, drop, length-drop}
 use Rattle.md_hlds.specs.Hlds.{hlds_of}
 use Rattle.md_switch.specs.declared.key.Key.TheVariants.{Int}
 use Rattle.md_compile.proofs.DetailLemmas.{targets-next, targets-end}

@@ -1,4 +1,4 @@
-use Rattle.std.proofs.Common.{◌≡◌, ◌∙◌, ◌<◌, ◌++◌, pos, get_or, sym, ap, arith, length, drop, length-drop, append-nil}
+use Rattle.std.proofs.Common.{◌∙◌, ◌<◌, ◌++◌, pos, get_or, sym, ap, arith, length, drop, length-drop, append-nil}
 use Rattle.md_hlds.specs.Hlds.{hlds_of}
 use Rattle.md_switch.specs.declared.key.Key.TheVariants.{Int}
 use Rattle.md_switch.specs.Keys.{key_of_code}

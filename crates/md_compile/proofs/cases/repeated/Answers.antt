@@ -1,4 +1,4 @@
-use Rattle.std.proofs.Common.{◌≡◌, ◌∙◌, ◌++◌, ◌∷◌, ◌-◌, [], ◌+◌, ap, arith, suc, ℕ}
+use Rattle.std.proofs.Common.{◌≡◌, ◌∙◌, ◌++◌, ◌∷◌, ◌-◌, [], ◌+◌, ap, arith, suc}
 use Rattle.md_compile.specs.Details.{repeated}
 use Rattle.md_compile.proofs.DetailLemmas.{repeated-push}
 use Rattle.md_compile.proofs.cases.repeated.Goals as goal

@@ -1,4 +1,4 @@
-use Rattle.std.proofs.Common.{◌≡◌, ◌∙◌, ◌+◌, sym, ap, arith, suc, ℕ}
+use Rattle.std.proofs.Common.{◌≡◌, ◌∙◌, sym, ap, arith, suc}
 use Rattle.md_hlds.specs.declared.program.Program.{Program}
 use Rattle.md_hlds.specs.Hlds.{hlds_of}
 use Rattle.md_hlds.specs.HldsGoal.{goals_of, gathered}

@@ -1,4 +1,4 @@
-use Rattle.std.proofs.Common.{◌≡◌, ◌∙◌, sym, ap, subst, suc}
+use Rattle.std.proofs.Common.{◌∙◌, sym, ap, subst, suc}
 use Rattle.md_hlds.specs.Hlds.{hlds_of}
 use Rattle.md_hlds.specs.HldsGoal.{GoalExpr, goals_below}
 use Rattle.md_compile.specs.Facts.{Stand}

@@ -1,5 +1,4 @@
-use Rattle.std.proofs.Common.{◌≡◌, ◌∙◌, ◌<◌, ◌++◌, sym, ap, arith, length, drop, length-drop, append-nil, [], List}
-use Rattle.md_flat.specs.declared.code.Move.{Move}
+use Rattle.std.proofs.Common.{◌∙◌, ◌++◌, sym, ap, arith, drop, length-drop, append-nil, []}
 use Rattle.md_compile.specs.Details.{detail, no_value}
 use Rattle.md_compile.proofs.DetailLemmas.{no-inputs, no-outputs}
 use Rattle.md_compile.proofs.detail.passed_detail.Goals as goal

@@ -1,4 +1,4 @@
-use Rattle.std.proofs.Common.{◌∙◌, sym, ap, arith, ℕ}
+use Rattle.std.proofs.Common.{◌∙◌, sym, ap, arith}
 use Rattle.std.specs.Map.{lookup}
 use Rattle.md_names.specs.Maps.{is_functor_key}
 use Rattle.md_compile.proofs.NumberLemmas.{functor-new, functor-there}

@@ -1,4 +1,4 @@
-use Rattle.std.proofs.Common.{◌≡◌, ◌+◌, ℕ, List, length, drop}
+use Rattle.std.proofs.Common.{◌≡◌, ◌+◌, ℕ, List, drop}
 use Rattle.md_hlds.specs.Hlds.{hlds_functors_of}
 use Rattle.md_compile.specs.Numbers.{number_in, place_among, first_of}
 use Rattle.md_compile.proofs.functors.add_functors.Given as goal

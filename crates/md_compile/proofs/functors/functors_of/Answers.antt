@@ -1,4 +1,4 @@
-use Rattle.std.proofs.Common.{◌≡◌, ◌∙◌, ◌+◌, ◌<◌, ap, subst, arith, length, List, get_or}
+use Rattle.std.proofs.Common.{◌≡◌, ◌∙◌, ◌<◌, subst, arith, length, List, get_or}
 use Rattle.md_hlds.specs.declared.program.TypeDef.{TypeDef}
 use Rattle.md_compile.specs.Numbers.{number_in}
 use Rattle.md_compile.proofs.NumberLemmas.{family-numbers, family-count}

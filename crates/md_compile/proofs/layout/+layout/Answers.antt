@@ -1,4 +1,4 @@
-use Rattle.std.proofs.Common.{◌≡◌, ◌∙◌, ◌+◌, ◌<◌, ◌≤◌, sym, ap, subst, arith, length, Some, ℕ}
+use Rattle.std.proofs.Common.{◌≡◌, ◌∙◌, ◌+◌, sym, subst, arith, Some}
 use Rattle.md_hlds.specs.Hlds.{hlds_of, goal_at}
 use Rattle.md_hlds.specs.HldsGoal.{expr_of, goal_of, goals_of, gathered, goal_size}
 use Rattle.md_det.specs.Findings.{program_findings, switch_at}

@@ -1,4 +1,4 @@
-use Rattle.std.proofs.Common.{◌≡◌, ◌<◌, arith, length}
+use Rattle.std.proofs.Common.{◌<◌, arith, length}
 use Rattle.md_compile.proofs.LayoutLemmas.{other-before}
 use Rattle.md_compile.proofs.layout.arm_other.Goals as goal
 

@@ -1,4 +1,4 @@
-use Rattle.std.proofs.Common.{◌≡◌, ◌<◌, arith, length}
+use Rattle.std.proofs.Common.{◌<◌, arith, length}
 use Rattle.md_compile.proofs.LayoutLemmas.{trial-before}
 use Rattle.md_compile.proofs.layout.arm_trial.Goals as goal
 

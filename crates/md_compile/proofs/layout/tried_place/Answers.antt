@@ -1,6 +1,6 @@
-use Rattle.std.proofs.Common.{◌≡◌, ◌∙◌, ◌+◌, ap}
+use Rattle.std.proofs.Common.{◌∙◌, ◌+◌, ap}
 use Rattle.md_hlds.specs.Hlds.{hlds_of}
-use Rattle.md_hlds.specs.HldsGoal.{goals_of, gathered, goal_size}
+use Rattle.md_hlds.specs.HldsGoal.{goals_of, gathered}
 use Rattle.md_modes.specs.Classes.{size_of}
 use Rattle.md_compile.specs.Blocks.{branch, arm_trial}
 use Rattle.md_compile.specs.Told.{place_told}

@@ -1,4 +1,4 @@
-use Rattle.std.proofs.Common.{◌≡◌, sym, subst, ap, List, ℕ, OnOk}
+use Rattle.std.proofs.Common.{◌≡◌, sym, subst, List, ℕ, OnOk}
 use Rattle.md_compile.specs.Numbers.{texts_of}
 use Rattle.md_compile.proofs.NumberLemmas.{with-Conj, with-Disj}
 use Rattle.md_compile.proofs.literals.+literals.Goals as goal

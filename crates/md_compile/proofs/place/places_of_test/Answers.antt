@@ -1,4 +1,4 @@
-use Rattle.std.proofs.Common.{◌≡◌, ◌∙◌, ◌+◌, ap}
+use Rattle.std.proofs.Common.{◌∙◌, ◌+◌, ap}
 use Rattle.md_hlds.specs.Hlds.{hlds_of}
 use Rattle.md_compile.specs.Tables.{one_if}
 use Rattle.md_compile.specs.Told.{place_told}

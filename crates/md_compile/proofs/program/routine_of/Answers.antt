@@ -1,4 +1,4 @@
-use Rattle.std.proofs.Common.{◌≡◌, ◌∙◌, ap}
+use Rattle.std.proofs.Common.{◌∙◌, ap}
 use Rattle.md_hlds.specs.Hlds.{procedure_of, args_of}
 use Rattle.md_compile.specs.declared.callee.Callee.{Callee}
 use Rattle.md_compile.specs.Tables.{head_at}

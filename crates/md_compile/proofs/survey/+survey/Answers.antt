@@ -1,6 +1,6 @@
-use Rattle.std.proofs.Common.{◌≡◌, ◌∙◌, ◌+◌, ◌++◌, sym, ap, subst, arith, rules, suc, length, IfOk, OnOk, not, List, slice_set}
+use Rattle.std.proofs.Common.{◌≡◌, ◌∙◌, sym, ap, arith, length}
 use Rattle.md_hlds.specs.Hlds.{hlds_of}
-use Rattle.md_hlds.specs.HldsGoal.{HldsGoal, At, expr_of, goal_of, goals_of, gathered, goals_below, goals_within, goal_size}
+use Rattle.md_hlds.specs.HldsGoal.{expr_of, goal_of}
 use Rattle.md_compile.proofs.SurveyLemmas.{surveyed-both, all-next, if-ok-map, both-Conj, both-Disj, both-If, is-tried, expr_of-If}
 use Rattle.std.specs.Prelude.{is_some}
 use Rattle.md_compile.proofs.survey.+survey.Goals as goal

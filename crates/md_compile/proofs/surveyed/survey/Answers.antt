@@ -1,10 +1,10 @@
-use Rattle.std.proofs.Common.{◌≡◌, ◌∙◌, ◌<◌, ◌≤◌, sym, ap, subst, arith, length, List, [], ◌++◌, get_or, refl}
+use Rattle.std.proofs.Common.{◌≡◌, ◌∙◌, ◌<◌, ◌≤◌, sym, ap, subst, arith, length, List, [], get_or, refl}
 use Rattle.md_hlds.specs.declared.program.Pred.{Pred}
 use Rattle.md_hlds.specs.declared.program.Program.{Program}
-use Rattle.md_hlds.specs.Hlds.{hlds_of, procedures_of, clause_goals}
+use Rattle.md_hlds.specs.Hlds.{hlds_of, clause_goals}
 use Rattle.md_compile.specs.declared.fact.Fact.{Fact}
 use Rattle.md_compile.specs.declared.callee.Callee.{Callee}
-use Rattle.md_compile.specs.Facts.{Stand, facts_from, callees_from}
+use Rattle.md_compile.specs.Facts.{facts_from, callees_from}
 use Rattle.md_compile.proofs.LookupLemmas.{Ahead, clause-next, ahead-end, stand-all}
 use Rattle.md_compile.proofs.surveyed.survey.Goals as goal
 

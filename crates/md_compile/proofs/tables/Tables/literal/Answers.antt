@@ -1,5 +1,4 @@
-use Rattle.std.proofs.Common.{◌≡◌, ◌∙◌, sym, ap, subst, Some, None, length, refl}
-use Rattle.md_hlds.specs.Hlds.{hlds_of}
+use Rattle.std.proofs.Common.{◌∙◌, sym, ap, Some, None, length, refl}
 use Rattle.md_compile.specs.Tables.{literal_place}
 use Rattle.md_compile.proofs.NumberLemmas.{literal-number}
 use Rattle.md_compile.proofs.tables.Tables.literal.Goals as goal
