@@ -6,3 +6,4 @@ pub mod ShapeLemmas
 pub mod DetailLemmas
 pub mod LayoutLemmas
 pub mod ProgramLemmas
+mod Worked
