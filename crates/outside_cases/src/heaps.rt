@@ -67,7 +67,7 @@ fn list(heap: &mut Heap, count: u32) -> Result<Value, NoMemory>
 fn show_pair(alloc: Global, text: &str, found: &mut String) -> Result<(), AllocError> {
     let (head, rest) = halves(text);
     let (literal, integer) = halves(rest);
-    let literal = Value::Lit(short(literal));
+    let literal = Value::Lit(u64::from(short(literal)));
     let integer = Value::Int(integer.parse().unwrap_or(0));
     match pair(alloc, short(head), literal, integer) {
         Ok(Some((head, first, second))) => writeln!(found, "{head} of {first:?} and {second:?}"),
