@@ -1,0 +1,4 @@
+pub mod Flat
+pub mod Shapes
+pub mod Laid
+pub mod Leads

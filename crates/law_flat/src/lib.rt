@@ -1,0 +1,2 @@
+//! Laws of flat code.
+#![tactic(auto)]
