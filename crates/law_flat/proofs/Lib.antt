@@ -1,5 +1,6 @@
 pub mod Lists
 pub mod Sizes
 pub mod Lying
-pub mod Leading
+pub mod Goals
 pub mod Bodies
+pub mod Armed

@@ -16,28 +16,12 @@ use Rattle.law_frames.specs.Ways.{Address, pop, port, to, tries, redoes, Way, on
 use Rattle.law_flat.specs.Flat.{Flat, HasAt, HasDetail, StandsFrom}
 use Rattle.law_flat.specs.Shapes.{Shape, KeepsIn}
 use Rattle.law_flat.specs.Laid.{Laid, IsCommon, HasSome, IsArmed, AreArmed}
-use Rattle.law_flat.specs.Leads.{IsCall, IsApplication, Leads, ArmsLead, FailsAt, passes, charges, simple, calls, applies, conjunction, disjunction, switch, condition, condition_above, negation, negation_above, quantified, quantified_above, joins_on, holding, holding_cut, denying, denying_cut, finding, finding_cut, no_arms, also_arm, charged, pops, goes_to, last_arm, arm_before}
+use Rattle.law_flat.specs.Leads.{is_first, FailsOff, IsCall, IsApplication, Leads, ArmsLead, FailsAt, passes, charges, simple, calls, applies, conjunction, disjunction, switch, condition, condition_above, negation, negation_above, quantified, quantified_above, joins_on, holding, holding_cut, denying, denying_cut, finding, finding_cut, no_arms, also_arm, charged, pops, goes_to, last_arm, arm_before}
 use Rattle.law_flat.proofs.Lists.{stands_left, stands_right, stands_at}
 use Rattle.law_flat.proofs.Sizes.{own_three, end_two}
 use Rattle.law_flat.proofs.Lying.{OwnLies, own_lies, IfLies, if_lies, OneLies, not_lies, some_lies, PartsLie, ArmsLie, conj_lies, disj_lies, first_part, other_parts, first_arm, other_arms}
 
 -- ---- addresses
-
-abbrev is_pop : Address → Bool
-is_pop pop = true
-is_pop port = false
-is_pop (to w) = false
-is_pop (tries p ps a w) = false
-is_pop (redoes a) = false
-
-abbrev is_first : ℕ → Bool
-is_first zero = true
-is_first (suc n) = false
-
--- the code fails to `a` at `other`, which is the first address just where `a` is the newest choice
-pub record FailsOff (s : Hlds) (code : Flat) (f : Shape) (other : ℕ) (a : Address) : Type 0 where
-  pub fails : FailsAt s code f other 0 a
-  pub sits : is_pop a ≡ is_first other
 
 pub is_later : (m j : ℕ) → m ≡ suc j → is_first m ≡ false
 is_later m j e = ap is_first e
