@@ -4,3 +4,5 @@ pub mod Lying
 pub mod Goals
 pub mod Bodies
 pub mod Armed
+pub mod Literals
+pub mod Trees

@@ -2,3 +2,4 @@ pub mod Flat
 pub mod Shapes
 pub mod Laid
 pub mod Leads
+pub mod Told
