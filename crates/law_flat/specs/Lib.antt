@@ -3,3 +3,5 @@ pub mod Shapes
 pub mod Laid
 pub mod Leads
 pub mod Told
+pub mod Shows
+pub mod Stays
