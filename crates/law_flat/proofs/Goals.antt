@@ -141,21 +141,17 @@ some_leads s code f false n l p height vs c a w is h keeps cond = quantified is 
 
 -- ---- calls
 
-call_leads : (s : Hlds) (code : Flat) (f : Shape) (n site p : ℕ) (r : PredName) (ys : List ℕ) (at : Place) (o : Option (ℕ × Procedure)) (q : ℕ × Procedure) → at.size ≡ f.size → at.pending ≡ p
-    → HasAt code (head_at n) (instruction (at.pending + called_weight o) at.next (act.Call n)) → HasDetail code n (call_detail s site ys at o) → o ≡ Some q
-    → HasAt code (head_at n) (instruction (p + call_weight q.1) at.next (act.Call n)) × IsCall s code n site f.size q ys at.next at.other
-call_leads s code f n site p r ys at None q z e h d is = absurd (cc is)
-call_leads s code f n site p r ys at (Some u) q z e h d is =
-    let same : u ≡ q = some_injective u q is in
-    (subst (λ (v : ℕ × Procedure). HasAt code (head_at n) (instruction (p + call_weight v.1) at.next (act.Call n))) same
-        (subst (λ m. HasAt code (head_at n) (instruction (m + call_weight u.1) at.next (act.Call n))) e h),
+call_leads : (s : Hlds) (code : Flat) (f : Shape) (n site p : ℕ) (ys : List ℕ) (at : Place) (o : Option (ℕ × Procedure)) (q : ℕ × Procedure) → at.size ≡ f.size → HasDetail code n (call_detail s site ys at o) → o ≡ Some q
+    → (p + called_weight o ≡ p + call_weight q.1) × IsCall s code n site f.size q ys at.next at.other
+call_leads s code f n site p ys at None q z d is = absurd (cc is)
+call_leads s code f n site p ys at (Some u) q z d is =
+    let same : u ≡ q = ap (or_first u) is in
+    (ap (λ (v : ℕ × Procedure). p + call_weight v.1) same,
      subst (λ (v : ℕ × Procedure). IsCall s code n site f.size v ys at.next at.other) same (subst (λ y. IsCall s code n site y u ys at.next at.other) z d))
   where
     or_first : (ℕ × Procedure) → Option (ℕ × Procedure) → ℕ × Procedure
     or_first d None = d
     or_first d (Some v) = v
-    some_injective : (u v : ℕ × Procedure) → Some u ≡ Some v → u ≡ v
-    some_injective u v h = ap (or_first u) h
 
 -- ---- disjunctions
 
@@ -190,7 +186,8 @@ mutual
   expr_leads s code f common n l (SimpleGoal g) at a w laid own armed off later leads =
       simple at refl refl (stands_left code.instructions (head_at n) (own_code s n (SimpleGoal g) at) _ own.instructions) own.detail leads off.fails
   expr_leads s code f common n l (CallGoal site r ys) at a w laid own armed off later leads =
-      calls at.next (λ q is. call_leads s code f n site at.pending r ys at (procedure_called s r) q laid.size refl own.instructions.0 own.detail is) leads off.fails
+      calls (at.pending + called_weight (procedure_called s r)) at.next own.instructions.0
+      (λ q is. call_leads s code f n site at.pending ys at (procedure_called s r) q laid.size own.detail is) leads off.fails
   expr_leads s code f common n l (HoCallGoal site x ys) at a w laid own armed off later leads =
       applies at.next own.instructions.0 (subst (λ y. IsApplication code n site y ys at.next at.other) laid.size own.detail) leads off.fails
   expr_leads s code f common n l (ConjGoal ps) at a w laid own armed off later leads =

@@ -6,3 +6,6 @@ pub mod Bodies
 pub mod Armed
 pub mod Literals
 pub mod Trees
+pub mod Writes
+pub mod Choosing
+pub mod Inside
