@@ -9,3 +9,4 @@ pub mod Trees
 pub mod Writes
 pub mod Choosing
 pub mod Inside
+pub mod Silent
