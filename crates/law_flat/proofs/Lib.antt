@@ -10,3 +10,4 @@ pub mod Writes
 pub mod Choosing
 pub mod Inside
 pub mod Silent
+pub mod Worked
