@@ -1,5 +1,5 @@
 -- A heap as the list of its cells, the newest first: a cell's number is how many are older. What a value stands for.
-use Rattle.std.specs.Prelude.{ℕ, ◌<◌, List, [], ◌∷◌, length, All, cond, nat_eq}
+use Rattle.std.specs.Prelude.{ℕ, ◌<◌, List, [], ◌∷◌, length, All, Bool, true, cond, nat_eq, nat_lt}
 use Rattle.md_heap.specs.declared.value.Value.{Value}
 use Rattle.md_heap.specs.declared.value.Value.TheVariants.{Int, Lit, Cell}
 use Rattle.md_heap.specs.Tree.{Tree, Number, Literal, Built, Trees, no_trees, also_tree}
@@ -16,6 +16,12 @@ abbrev pub IsThere : ℕ → Value → Type 0
 IsThere count (Int i) = Unit {0}
 IsThere count (Lit l) = Unit {0}
 IsThere count (Cell n) = n < count
+
+-- the same as a test
+abbrev pub is_there : ℕ → Value → Bool
+is_there count (Int i) = true
+is_there count (Lit l) = true
+is_there count (Cell n) = nat_lt n count
 
 -- the parts of a cell are older than the cell
 abbrev pub AreOlder : Cells → Type 0

@@ -29,7 +29,7 @@ impl Model for Heap {
 impl Heap {
     ghost use Rattle.std.specs.Prelude.{◌≡◌, ◌<◌, [], ◌∷◌, length, slice_get, All, Some, IfOk, OnOk, OnErr};
     ghost use Rattle.md_heap.specs.Tree.{Built, part_of};
-    ghost use Rattle.md_heap.specs.Cells.{IsThere, AreOlder, cell_at, tree_of, trees_of};
+    ghost use Rattle.md_heap.specs.Cells.{IsThere, is_there, AreOlder, cell_at, tree_of, trees_of};
     ghost use Rattle.md_heap.specs.declared.value.Value.{Value as AnyValue};
 
     /// No cells. Takes no memory.
@@ -91,8 +91,18 @@ impl Heap {
         self.parts[self.rows[cell as usize].first + place]
     }
 
-    /// How many parts a cell has.
-    pub(crate) fn part_count(&self, cell: u64) -> usize
+    /// Whether a value is an integer, a literal, or a cell that is there. Takes no memory.
+    pub fn holds(&self, value: Value) -> bool
+        ensures { result ≡ is_there (length self.now) value }
+    {
+        match value {
+            Value::Int(_) | Value::Lit(_) => true,
+            Value::Cell(cell) => cell < self.rows.len() as u64,
+        }
+    }
+
+    /// How many parts a cell has. Takes no memory.
+    pub fn part_count(&self, cell: u64) -> usize
         requires { cell < length self.now }
         ensures value { result ≡ length (cell_at self.now cell).parts }
         ensures older { AreOlder self.now }
