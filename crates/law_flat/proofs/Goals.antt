@@ -1,5 +1,5 @@
 -- Where a goal stands in the code, and what follows it and where it fails to stand there, the code leads along its way.
-use Rattle.std.proofs.Common.{◌≡◌, refl, sym, ap, ◌∙◌, subst, arith, ℕ, zero, suc, ◌+◌, ◌*◌, Bool, true, false, ◌||◌, List, [], ◌∷◌, ◌++◌, length, Option, Some, None, slice_get}
+use Rattle.std.proofs.Common.{◌≡◌, refl, sym, ap, ◌∙◌, subst, arith, ℕ, zero, suc, ◌+◌, ◌*◌, ◌<◌, Bool, true, false, ◌||◌, List, [], ◌∷◌, ◌++◌, length, Option, Some, None, slice_get}
 use Rattle.md_hlds.specs.declared.goal.PredName.{PredName}
 use Rattle.md_hlds.specs.HldsGoal.{HldsGoal, At, GoalExpr, SimpleGoal, CallGoal, HoCallGoal, ConjGoal, DisjGoal, IfGoal, NotGoal, SomeGoal, HldsGoals, nothing, also, goal_size, numbered_goal, numbered_from}
 use Rattle.md_hlds.specs.Hlds.{Procedure, Hlds, procedure_called, goal_at}
@@ -14,7 +14,9 @@ use Rattle.md_compile.specs.Blocks.{Place, End, Trial, LastArm, ArmBefore, instr
 use Rattle.md_compile.specs.Details.{switch_detail, call_detail}
 use Rattle.law_frames.specs.Ways.{Address, pop, port, to, tries, redoes, Way, on, joins, holds, denies, finds, after, ends, part_way, parts_way, condition_way, negation_way, some_way, arm_way}
 use Rattle.law_flat.specs.Flat.{Flat, HasAt, HasDetail, StandsFrom}
-use Rattle.law_flat.specs.Shapes.{Shape, KeepsIn}
+use Rattle.law_flat.specs.Shapes.{Shape, KeepsIn, InRange}
+use Rattle.md_modes.specs.Goals.{variables, expr_variables, parts_variables}
+use Rattle.md_modes.proofs.Counts.{times-append}
 use Rattle.law_flat.specs.Laid.{Laid, IsCommon, HasSome, IsArmed, AreArmed}
 use Rattle.law_flat.specs.Leads.{is_first, FailsOff, IsCall, IsApplication, Leads, ArmsLead, FailsAt, passes, charges, simple, calls, applies, conjunction, disjunction, switch, condition, condition_above, negation, negation_above, quantified, quantified_above, joins_on, holding, holding_cut, denying, denying_cut, finding, finding_cut, no_arms, also_arm, charged, pops, goes_to, last_arm, arm_before}
 use Rattle.law_flat.proofs.Lists.{stands_left, stands_right, stands_at}
@@ -177,92 +179,92 @@ disj_leads s code f n l (also g gs) at a w (Some by) is own lie h d some off tri
 -- ---- goals
 
 mutual
-  pub goal_leads : (s : Hlds) (code : Flat) (f : Shape) → IsCommon code → (n : ℕ) (g : HldsGoal) (at : Place) (a : Address) (w : Way) → Laid s code f n g at → IsArmed g → FailsOff s code f at.other a → is_first at.next ≡ false
+  pub goal_leads : (s : Hlds) (code : Flat) (f : Shape) → IsCommon code → (n : ℕ) (g : HldsGoal) (at : Place) (a : Address) (w : Way) → Laid s code f n g at → IsArmed g → InRange f (variables g) → FailsOff s code f at.other a → is_first at.next ≡ false
       → Leads s code f at.next (pending_after s n at.pending g) w → Leads s code f (head_at n) at.pending (on a (numbered_goal n g) w)
-  goal_leads s code f common n (At l t) at a w laid armed off later leads = expr_leads s code f common n l t at a w laid (own_lies s code f n l t at laid) armed off later leads
+  goal_leads s code f common n (At l t) at a w laid armed range off later leads = expr_leads s code f common n l t at a w laid (own_lies s code f n l t at laid) armed range off later leads
 
-  expr_leads : (s : Hlds) (code : Flat) (f : Shape) → IsCommon code → (n l : ℕ) (t : GoalExpr) (at : Place) (a : Address) (w : Way) → Laid s code f n (At l t) at → OwnLies s code f n l t at → IsArmed (At l t) → FailsOff s code f at.other a
+  expr_leads : (s : Hlds) (code : Flat) (f : Shape) → IsCommon code → (n l : ℕ) (t : GoalExpr) (at : Place) (a : Address) (w : Way) → Laid s code f n (At l t) at → OwnLies s code f n l t at → IsArmed (At l t) → InRange f (expr_variables t) → FailsOff s code f at.other a
       → is_first at.next ≡ false → Leads s code f at.next (pending_expr s n at.pending t) w → Leads s code f (head_at n) at.pending (on a (numbered_goal n (At l t)) w)
-  expr_leads s code f common n l (SimpleGoal g) at a w laid own armed off later leads =
-      simple at refl refl (stands_left code.instructions (head_at n) (own_code s n (SimpleGoal g) at) _ own.instructions) own.detail leads off.fails
-  expr_leads s code f common n l (CallGoal site r ys) at a w laid own armed off later leads =
+  expr_leads s code f common n l (SimpleGoal g) at a w laid own armed range off later leads =
+      simple at refl refl (stands_left code.instructions (head_at n) (own_code s n (SimpleGoal g) at) _ own.instructions) own.detail range leads off.fails
+  expr_leads s code f common n l (CallGoal site r ys) at a w laid own armed range off later leads =
       calls (at.pending + called_weight (procedure_called s r)) at.next own.instructions.0
-      (λ q is. call_leads s code f n site at.pending ys at (procedure_called s r) q laid.size own.detail is) leads off.fails
-  expr_leads s code f common n l (HoCallGoal site x ys) at a w laid own armed off later leads =
-      applies at.next own.instructions.0 (subst (λ y. IsApplication code n site y ys at.next at.other) laid.size own.detail) leads off.fails
-  expr_leads s code f common n l (ConjGoal ps) at a w laid own armed off later leads =
-      conjunction own.instructions.0 (parts_lead s code f common (suc n) ps at at.other (suc at.pending) at.height a w (conj_lies s code f n l ps at laid) armed off later leads)
-  expr_leads s code f common n l (DisjGoal ps) at a w laid own armed off later leads =
+      (λ q is. call_leads s code f n site at.pending ys at (procedure_called s r) q laid.size own.detail is) range leads off.fails
+  expr_leads s code f common n l (HoCallGoal site x ys) at a w laid own armed range off later leads =
+      applies at.next own.instructions.0 (subst (λ y. IsApplication code n site y ys at.next at.other) laid.size own.detail) range leads off.fails
+  expr_leads s code f common n l (ConjGoal ps) at a w laid own armed range off later leads =
+      conjunction own.instructions.0 (parts_lead s code f common (suc n) ps at at.other (suc at.pending) at.height a w (conj_lies s code f n l ps at laid) armed range off later leads)
+  expr_leads s code f common n l (DisjGoal ps) at a w laid own armed range off later leads =
       disj_leads s code f n l ps at a w (switch_at (program_findings s) n) refl own (disj_lies s code f n l ps at laid)
       (stands_left code.instructions (head_at n) (own_code s n (DisjGoal ps) at) _ own.instructions) own.detail armed.0 off
-      (λ whole lie. arms_tried s code f common n (suc n) ps at (suc at.pending) at.height a w whole lie armed.1 off leads)
-      (λ by lie. arms_lead s code f common n (suc n) ps at by (suc at.pending) at.height a w lie armed.1 off leads)
-  expr_leads s code f common n l (IfGoal c t e) at a w laid own armed off later leads =
+      (λ whole lie. arms_tried s code f common n (suc n) ps at (suc at.pending) at.height a w whole lie armed.1 range off leads)
+      (λ by lie. arms_lead s code f common n (suc n) ps at by (suc at.pending) at.height a w lie armed.1 range off leads)
+  expr_leads s code f common n l (IfGoal c t e) at a w laid own armed range off later leads =
       let m = suc n + goal_size c in
       let k = m + goal_size t in
       let b = leaves_table s (suc n) in
       let parts = if_lies s code f n l c t e at laid in
-      let else = goal_leads s code f common k e (else_place s n c t at) a (ends a (leaves_table s k) (leaves_table s n) w) parts.else armed.2 off (end_later k)
+      let else = goal_leads s code f common k e (else_place s n c t at) a (ends a (leaves_table s k) (leaves_table s n) w) parts.else armed.2 (λ y lt. range y (let i = times-append y (variables c) (variables t ++ variables e) in let j = times-append y (variables t) (variables e) in omega (arith, lt, i, j))) off (end_later k)
           (joined s code f (leaves_table s k) (leaves_table s n) k _ at.size at.other at.next a w laid.size off (goal_ends s code f k e (else_place s n c t at) parts.else) leads) in
-      let then = goal_leads s code f common m t (then_place s n c at) a (ends a (leaves_table s m) (leaves_table s n) w) parts.then armed.1 off (end_later m)
+      let then = goal_leads s code f common m t (then_place s n c at) a (ends a (leaves_table s m) (leaves_table s n) w) parts.then armed.1 (λ y lt. range y (let i = times-append y (variables c) (variables t ++ variables e) in let j = times-append y (variables t) (variables e) in omega (arith, lt, i, j))) off (end_later m)
           (joined s code f (leaves_table s m) (leaves_table s n) m _ at.size at.other at.next a w laid.size off (goal_ends s code f m t (then_place s n c at) parts.then) leads) in
       let miss = fails_after s code f common b (head_at k) (to (part_way (leaves_table s) n a (numbered_goal k e) w)) (fails_to_way s code f (head_at k) _ (head_later k) else) in
       let cond = goal_leads s code f common (suc n) c (if_condition s n c t at) (after (to (part_way (leaves_table s) n a (numbered_goal k e) w)) b)
-          (holds (after (to (part_way (leaves_table s) n a (numbered_goal k e) w)) b) b n (part_way (leaves_table s) n a (numbered_goal m t) w)) parts.condition armed.0 miss (end_later (suc n))
+          (holds (after (to (part_way (leaves_table s) n a (numbered_goal k e) w)) b) b n (part_way (leaves_table s) n a (numbered_goal m t) w)) parts.condition armed.0 (λ y lt. range y (let i = times-append y (variables c) (variables t ++ variables e) in omega (arith, lt, i))) miss (end_later (suc n))
           (holds_leads s code f b (end_at (suc n)) (head_at m) at.height _ n _ _ (goal_ends s code f (suc n) c (if_condition s n c t at) parts.condition).0 parts.keeps then) in
       if_leads s code f b n l at.pending at.height at.size (head_at k) c t e a w refl laid.size (stands_left code.instructions (head_at n) (own_code s n (IfGoal c t e) at) _ own.instructions) parts.keeps else cond
-  expr_leads s code f common n l (NotGoal c) at a w laid own armed off later leads =
+  expr_leads s code f common n l (NotGoal c) at a w laid own armed range off later leads =
       let b = leaves_table s (suc n) in
       let parts = not_lies s code f n l c at laid in
       let two = goal_ends s code f (suc n) c (negated_place s n at) parts.part in
       let miss = fails_after s code f common b at.next (to w) (fails_to_way s code f at.next w later leads) in
-      let cond = goal_leads s code f common (suc n) c (negated_place s n at) (after (to w) b) (denies (after (to w) b) b n a) parts.part armed miss (end_later (suc n))
+      let cond = goal_leads s code f common (suc n) c (negated_place s n at) (after (to w) b) (denies (after (to w) b) b n a) parts.part armed range miss (end_later (suc n))
           (denies_leads s code f b (end_at (suc n)) (ended_at (suc n)) at.height _ n _ a two.0 parts.keeps
           (charged (second_stands code n (end_at (suc n)) (ended_at (suc n)) _ (omega arith) two.1.0) off.fails)) in
       not_leads s code f b n l at.pending at.height at.size at.next c a w refl laid.size (stands_left code.instructions (head_at n) (own_code s n (NotGoal c) at) _ own.instructions) parts.keeps leads cond
-  expr_leads s code f common n l (SomeGoal vs c) at a w laid own armed off later leads =
+  expr_leads s code f common n l (SomeGoal vs c) at a w laid own armed range off later leads =
       let b = leaves_table s (suc n) in
       let parts = some_lies s code f n l vs c at laid in
       let two = goal_ends s code f (suc n) c (some_place s n at) parts.part in
-      let cond = goal_leads s code f common (suc n) c (some_place s n at) a (finds (after a b) b n w) parts.part armed off (end_later (suc n))
+      let cond = goal_leads s code f common (suc n) c (some_place s n at) a (finds (after a b) b n w) parts.part armed (λ y lt. range y (let i = times-append y vs (variables c) in omega (arith, lt, i))) off (end_later (suc n))
           (finds_leads s code f b (end_at (suc n)) at.next at.height _ n _ w two.0 parts.keeps leads) in
       some_leads s code f b n l at.pending at.height vs c a w refl (stands_left code.instructions (head_at n) (own_code s n (SomeGoal vs c) at) _ own.instructions) parts.keeps cond
 
-  parts_lead : (s : Hlds) (code : Flat) (f : Shape) → IsCommon code → (k : ℕ) (ps : HldsGoals) (at : Place) (other p h : ℕ) (a : Address) (w : Way) → PartsLie s code f k ps at other p h → AreArmed ps → FailsOff s code f other a
+  parts_lead : (s : Hlds) (code : Flat) (f : Shape) → IsCommon code → (k : ℕ) (ps : HldsGoals) (at : Place) (other p h : ℕ) (a : Address) (w : Way) → PartsLie s code f k ps at other p h → AreArmed ps → InRange f (parts_variables ps) → FailsOff s code f other a
       → is_first at.next ≡ false → Leads s code f at.next (pending_parts s k p ps) w → Leads s code f (parts_begin k ps at.next) p (parts_way (leaves_table s) k ps a w)
-  parts_lead s code f common k nothing at other p h a w lie armed off later leads = leads
-  parts_lead s code f common k (also g gs) at other p h a w lie armed off later leads =
-      goal_leads s code f common k g (conjunct_place s k g gs at other p h) a (parts_way (leaves_table s) (k + goal_size g) gs (after a (leaves_table s k)) w) (first_part s code f k g gs at other p h lie) armed.0 off
+  parts_lead s code f common k nothing at other p h a w lie armed range off later leads = leads
+  parts_lead s code f common k (also g gs) at other p h a w lie armed range off later leads =
+      goal_leads s code f common k g (conjunct_place s k g gs at other p h) a (parts_way (leaves_table s) (k + goal_size g) gs (after a (leaves_table s k)) w) (first_part s code f k g gs at other p h lie) armed.0 (λ y lt. range y (let i = times-append y (variables g) (parts_variables gs) in omega (arith, lt, i))) off
       (begin_later (k + goal_size g) gs at.next later)
-      (parts_lead s code f common (k + goal_size g) gs at (other_after other (leaves_table s k)) (pending_after s k p g) _ (after a (leaves_table s k)) w (other_parts s code f k g gs at other p h lie) armed.1
+      (parts_lead s code f common (k + goal_size g) gs at (other_after other (leaves_table s k)) (pending_after s k p g) _ (after a (leaves_table s k)) w (other_parts s code f k g gs at other p h lie) armed.1 (λ y lt. range y (let i = times-append y (variables g) (parts_variables gs) in omega (arith, lt, i)))
       (fails_after s code f common (leaves_table s k) other a off) later leads)
 
   -- the arms of a disjunction that is no switch
-  arms_tried : (s : Hlds) (code : Flat) (f : Shape) → IsCommon code → (n k : ℕ) (ps : HldsGoals) (at : Place) (p h : ℕ) (a : Address) (w : Way) → leaves_table s n ≡ true → ArmsLie s code f n k ps at None p h → AreArmed ps
+  arms_tried : (s : Hlds) (code : Flat) (f : Shape) → IsCommon code → (n k : ℕ) (ps : HldsGoals) (at : Place) (p h : ℕ) (a : Address) (w : Way) → leaves_table s n ≡ true → ArmsLie s code f n k ps at None p h → AreArmed ps → InRange f (parts_variables ps)
       → FailsOff s code f at.other a → Leads s code f at.next 0 w → TriedFrom s code f k p ps a w
-  arms_tried s code f common n k nothing at p h a w whole lie armed off leads = tt
-  arms_tried s code f common n k (also g nothing) at p h a w whole lie armed off leads =
+  arms_tried s code f common n k nothing at p h a w whole lie armed range off leads = tt
+  arms_tried s code f common n k (also g nothing) at p h a w whole lie armed range off leads =
       let laid = first_arm s code f n k g nothing at None p h lie in
       let place = arm_place s n k (k + goal_size g) nothing at None p h in
       last_arm (goal_tried s code f k g place laid)
-      (goal_leads s code f common k g place a (ends a (leaves_table s k) true w) laid armed.0 off (end_later k)
+      (goal_leads s code f common k g place a (ends a (leaves_table s k) true w) laid armed.0 (λ y lt. range y (let i = times-append y (variables g) (parts_variables nothing) in omega (arith, lt, i))) off (end_later k)
       (subst (λ b. Leads s code f (end_at k) (pending_after s k p g) (ends a (leaves_table s k) b w)) whole
       (joined s code f (leaves_table s k) (leaves_table s n) k _ at.size at.other at.next a w lie.size off (goal_ends s code f k g place laid) leads)))
-  arms_tried s code f common n k (also g (also g' gs)) at p h a w whole lie armed off leads =
+  arms_tried s code f common n k (also g (also g' gs)) at p h a w whole lie armed range off leads =
       let laid = first_arm s code f n k g (also g' gs) at None p h lie in
       let place = arm_place s n k (k + goal_size g) (also g' gs) at None p h in
       arm_before (subst (λ y. HasAt code (try_at k) (instruction 0 (head_at k) (act.Try (try_at (k + goal_size g)) y))) lie.size (goal_tried s code f k g place laid))
-      (goal_leads s code f common k g place pop w laid armed.0 (fails_popping s code f common) (end_later k)
+      (goal_leads s code f common k g place pop w laid armed.0 (λ y lt. range y (let i = times-append y (variables g) (parts_variables (also g' gs)) in omega (arith, lt, i))) (fails_popping s code f common) (end_later k)
       (joined_popping s code f (leaves_table s k) (leaves_table s n) k _ at.size at.next w (goal_ends s code f k g place laid) leads))
-      (arms_tried s code f common n (k + goal_size g) (also g' gs) at 0 _ a w whole (other_arms s code f n k g (also g' gs) at None p h lie) armed.1 off leads)
+      (arms_tried s code f common n (k + goal_size g) (also g' gs) at 0 _ a w whole (other_arms s code f n k g (also g' gs) at None p h lie) armed.1 (λ y lt. range y (let i = times-append y (variables g) (parts_variables (also g' gs)) in omega (arith, lt, i))) off leads)
 
   -- the arms of a switch
-  arms_lead : (s : Hlds) (code : Flat) (f : Shape) → IsCommon code → (n k : ℕ) (ps : HldsGoals) (at : Place) (by : Switch) (p h : ℕ) (a : Address) (w : Way) → ArmsLie s code f n k ps at (Some by) p h → AreArmed ps
+  arms_lead : (s : Hlds) (code : Flat) (f : Shape) → IsCommon code → (n k : ℕ) (ps : HldsGoals) (at : Place) (by : Switch) (p h : ℕ) (a : Address) (w : Way) → ArmsLie s code f n k ps at (Some by) p h → AreArmed ps → InRange f (parts_variables ps)
       → FailsOff s code f at.other a → Leads s code f at.next 0 w → ArmsLead s code f n p a w (numbered_from k ps)
-  arms_lead s code f common n k nothing at by p h a w lie armed off leads = no_arms
-  arms_lead s code f common n k (also g gs) at by p h a w lie armed off leads =
+  arms_lead s code f common n k nothing at by p h a w lie armed range off leads = no_arms
+  arms_lead s code f common n k (also g gs) at by p h a w lie armed range off leads =
       let laid = first_arm s code f n k g gs at (Some by) p h lie in
       let place = arm_place s n k (k + goal_size g) gs at (Some by) p h in
-      also_arm (goal_leads s code f common k g place a (ends a (leaves_table s k) (leaves_table s n) w) laid armed.0 off (end_later k)
+      also_arm (goal_leads s code f common k g place a (ends a (leaves_table s k) (leaves_table s n) w) laid armed.0 (λ y lt. range y (let i = times-append y (variables g) (parts_variables gs) in omega (arith, lt, i))) off (end_later k)
       (joined s code f (leaves_table s k) (leaves_table s n) k _ at.size at.other at.next a w lie.size off (goal_ends s code f k g place laid) leads))
-      (arms_lead s code f common n (k + goal_size g) gs at by p _ a w (other_arms s code f n k g gs at (Some by) p h lie) armed.1 off leads)
+      (arms_lead s code f common n (k + goal_size g) gs at by p _ a w (other_arms s code f n k g gs at (Some by) p h lie) armed.1 (λ y lt. range y (let i = times-append y (variables g) (parts_variables gs) in omega (arith, lt, i))) off leads)

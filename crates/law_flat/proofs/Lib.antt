@@ -11,3 +11,6 @@ pub mod Choosing
 pub mod Inside
 pub mod Silent
 pub mod Worked
+pub mod Popping
+pub mod Simply
+pub mod Charging

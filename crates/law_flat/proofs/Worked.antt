@@ -1,6 +1,6 @@
 -- The code of a small program, and where it leads, computed. Each address was worked out by hand: with another one the code
 -- would not lead along the ways of its bodies.
-use Rattle.std.proofs.Common.{◌≡◌, refl, ap, subst, ℕ, suc, ◌+◌, Bool, true, false, List, [], ◌∷◌, ◌++◌, Option, Some, None}
+use Rattle.std.proofs.Common.{◌≡◌, refl, ap, subst, arith, ℕ, suc, ◌+◌, Bool, true, false, List, [], ◌∷◌, ◌++◌, Option, Some, None}
 use Rattle.std.specs.Prelude.{codes}
 use Rattle.md_hlds.specs.declared.types.Det.{Det}
 use Rattle.md_hlds.specs.declared.types.Det.TheVariants as det
@@ -15,7 +15,7 @@ use Rattle.md_compile.specs.Leaves.{leaves_table}
 use Rattle.md_compile.specs.Blocks.{instruction, unused, program_code, Along, NoArm, Place}
 use Rattle.law_frames.specs.Ways.{Address, pop, port, to, Way, on, holds, exits, yields, cut_body, whole_body, condition_way, part_way, tries, arm_way}
 use Rattle.law_flat.specs.Flat.{Flat, flat_of}
-use Rattle.law_flat.specs.Shapes.{Shape, KeepsIn, shape_of}
+use Rattle.law_flat.specs.Shapes.{Shape, KeepsIn, InRange, shape_of}
 use Rattle.md_hlds.specs.Trace.{call_weight}
 use Rattle.law_flat.specs.Leads.{IsCall, Leads, FailsAt, passes, charges, simple, calls, conjunction, disjunction, condition_above, joins_on, holding_cut, exiting, yielding, charged, pops, ports, goes_to, last_arm, arm_before}
 
@@ -84,9 +84,13 @@ called_as P u q e h = subst P (ap (or_first u) e) h
 abbrev at_place : (next other pending : ℕ) → Place
 at_place next other pending = record { next = next; other = other; pending = pending; height = 0; size = 0; end = Along; trial = NoArm }
 
+-- no goal here has a variable
+none : (f : Shape) → InRange f []
+none f y lt = absurd (omega (arith, lt))
+
 once_leads : Leads program code (shape_of program 0 once) 6 0 (cut_body (leaves_table program) (numbered_goal 0 once.body))
 unfolding program_notes program_findings
-once_leads = simple (at_place 9 1 0) refl refl (refl, (refl, (refl, tt))) refl (passes {next = 10} refl (exiting {after = 0} refl)) (ports {after = 0} refl)
+once_leads = simple (at_place 9 1 0) refl refl (refl, (refl, (refl, tt))) refl (none (shape_of program 0 once)) (passes {next = 10} refl (exiting {after = 0} refl)) (ports {after = 0} refl)
 
 -- a body that is left, and comes back to its newest choice
 abbrev often_left : Way
@@ -100,9 +104,9 @@ often_leads : Leads program code (shape_of program 1 often) 12 0 (whole_body (le
 unfolding program_notes program_findings
 often_leads =
     disjunction {next = 23} refl refl (arm_before {next = 18} {other = 29} refl
-        (simple (at_place 21 0 1) refl refl (refl, (refl, (refl, tt))) refl (charges {next = 22} refl (passes {next = 15} refl often_end)) (pops {after = 0} refl))
+        (simple (at_place 21 0 1) refl refl (refl, (refl, (refl, tt))) refl (none (shape_of program 1 often)) (charges {next = 22} refl (passes {next = 15} refl often_end)) (pops {after = 0} refl))
         (last_arm {next = 24} refl
-        (simple (at_place 27 1 0) refl refl (refl, (refl, (refl, tt))) refl (charges {next = 28} refl (joins_on {next = 15} {other = 1} refl (ports {after = 0} refl) often_end)) (ports {after = 0} refl))))
+        (simple (at_place 27 1 0) refl refl (refl, (refl, (refl, tt))) refl (none (shape_of program 1 often)) (charges {next = 28} refl (joins_on {next = 15} {other = 1} refl (ports {after = 0} refl) often_end)) (ports {after = 0} refl))))
 
 abbrev shape : Shape
 shape = shape_of program 2 both
@@ -114,7 +118,7 @@ last_way = on port (numbered_goal 9 (call (codes "often") 3)) (yields pop)
 last_leads : Leads program code shape 60 0 last_way
 unfolding program_notes program_findings last_way
 last_leads =
-    calls {next = 33} {other = 1} 1 33 refl (λ q e. called_as (λ u. (1 ≡ 0 + call_weight u.1) × IsCall program code 9 3 shape.size u [] 33 1) (1, often) q e (refl, refl))
+    calls {next = 33} {other = 1} 1 33 refl (λ q e. called_as (λ u. (1 ≡ 0 + call_weight u.1) × IsCall program code 9 3 shape.size u [] 33 1) (1, often) q e (refl, refl)) (none shape)
     (yielding {again = 34} {other = 0} {after = 0} refl refl (pops {after = 0} refl)) (ports {after = 0} refl)
 
 -- the height of the stack is kept in the only slot
@@ -127,10 +131,10 @@ unfolding program_notes program_findings last_way
 both_leads =
     conjunction {next = 36} refl
     (condition_above {second = 37} {next = 42} {other = 54} {height = 0} refl refl keeps_five refl
-        (calls {next = 57} {other = 1} 1 57 refl (λ q e. called_as (λ u. (1 ≡ 0 + call_weight u.1) × IsCall program code 8 2 shape.size u [] 57 1) (0, once) q e (refl, refl))
+        (calls {next = 57} {other = 1} 1 57 refl (λ q e. called_as (λ u. (1 ≡ 0 + call_weight u.1) × IsCall program code 8 2 shape.size u [] 57 1) (0, once) q e (refl, refl)) (none shape)
             (charges {next = 58} refl (passes {next = 60} refl last_leads)) (ports {after = 0} refl))
-        (calls {next = 45} {other = 0} 3 45 refl (λ q e. called_as (λ u. (3 ≡ 2 + call_weight u.1) × IsCall program code 6 0 shape.size u [] 45 0) (1, often) q e (refl, refl))
+        (calls {next = 45} {other = 0} 3 45 refl (λ q e. called_as (λ u. (3 ≡ 2 + call_weight u.1) × IsCall program code 6 0 shape.size u [] 45 0) (1, often) q e (refl, refl)) (none shape)
             (holding_cut {next = 48} {height = 0} refl keeps_five
-            (calls {next = 51} {other = 1} 1 51 refl (λ q e. called_as (λ u. (1 ≡ 0 + call_weight u.1) × IsCall program code 7 1 shape.size u [] 51 1) (0, once) q e (refl, refl))
+            (calls {next = 51} {other = 1} 1 51 refl (λ q e. called_as (λ u. (1 ≡ 0 + call_weight u.1) × IsCall program code 7 1 shape.size u [] 51 1) (0, once) q e (refl, refl)) (none shape)
                 (charges {next = 52} refl (passes {next = 60} refl last_leads)) (ports {after = 0} refl)))
             (pops {after = 0} refl)))

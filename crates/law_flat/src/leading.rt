@@ -2,6 +2,7 @@
 ghost use Rattle.std.specs.Prelude.{◌≡◌, ℕ, true, false, List, Some, slice_get};
 ghost use Rattle.md_hlds.specs.HldsGoal.{HldsGoal, numbered_goal};
 ghost use Rattle.md_hlds.specs.Hlds.{Procedure, Hlds, body_number};
+ghost use Rattle.md_modes.specs.Goals.{variables};
 ghost use Rattle.md_reader.specs.Grammar.{Spells};
 ghost use Rattle.md_flat.specs.declared.code.Code.{Code};
 ghost use Rattle.law_frames.specs.Ways.{Address, Way, on, cut_body, whole_body};
@@ -10,7 +11,7 @@ ghost use Rattle.md_compile.specs.Tables.{head_at};
 ghost use Rattle.md_compile.specs.Blocks.{Place, pending_after};
 ghost use Rattle.md_compile.specs.Details.{IsCodeOf};
 ghost use Rattle.law_flat.specs.Flat.{Flat, flat_told};
-ghost use Rattle.law_flat.specs.Shapes.{Shape, shape_of};
+ghost use Rattle.law_flat.specs.Shapes.{Shape, InRange, shape_of};
 ghost use Rattle.law_flat.specs.Laid.{Laid, IsCommon, IsArmed};
 ghost use Rattle.law_flat.specs.Leads.{Leads, FailsOff, is_first};
 
@@ -21,8 +22,8 @@ pub fn bodies_lead()
     ensures whole { (bytes : List ℕ) (s : Hlds) → Spells bytes s → (code : Code) → IsCodeOf s code → (q : ℕ) (p : Procedure) → slice_get s.procedures q ≡ Some p → has_choices p.det ≡ true → Leads s (flat_told code) (shape_of s q p) (head_at (body_number s q)) 0 (whole_body (leaves_table s) (numbered_goal (body_number s q) p.body)) }
 {}
 
-/// Where a goal stands, each of whose disjunctions has an arm, and what follows it and where it fails to stand where its place
+/// Where a goal stands, each of whose disjunctions has an arm and each of whose variables a slot, and what follows it and where it fails to stand where its place
 /// says, the code leads along the goal and then what follows.
 pub fn goals_lead()
-    ensures { (s : Hlds) (code : Flat) (f : Shape) → IsCommon code → (n : ℕ) (g : HldsGoal) (place : Place) (a : Address) (w : Way) → Laid s code f n g place → IsArmed g → FailsOff s code f place.other a → is_first place.next ≡ false → Leads s code f place.next (pending_after s n place.pending g) w → Leads s code f (head_at n) place.pending (on a (numbered_goal n g) w) }
+    ensures { (s : Hlds) (code : Flat) (f : Shape) → IsCommon code → (n : ℕ) (g : HldsGoal) (place : Place) (a : Address) (w : Way) → Laid s code f n g place → IsArmed g → InRange f (variables g) → FailsOff s code f place.other a → is_first place.next ≡ false → Leads s code f place.next (pending_after s n place.pending g) w → Leads s code f (head_at n) place.pending (on a (numbered_goal n g) w) }
 {}

@@ -7,14 +7,14 @@ use Rattle.md_compile.specs.Tables.{head_at}
 use Rattle.law_flat.specs.Flat.{Flat}
 use Rattle.law_flat.specs.Shapes.{shape_of}
 use Rattle.law_flat.specs.Leads.{Leads}
-use Rattle.law_flat.proofs.Armed.{armed}
+use Rattle.law_flat.proofs.Armed.{armed, in_slots}
 use Rattle.law_flat.proofs.Bodies.{same_code, cut_body_leads, whole_body_leads}
 use Rattle.law_flat.proofs.leading.bodies_lead.Goals as goal
 
 pub returns-clause-cut : goal.returns-clause-cut
 returns-clause-cut c text s spells code is q p at det =
-    subst (λ (f : Flat). Leads s f (shape_of s q p) (head_at (body_number s q)) 0 (cut_body (leaves_table s) (numbered_goal (body_number s q) p.body))) (sym (same_code s code is)) (cut_body_leads s q p at det (armed text s spells q p at))
+    subst (λ (f : Flat). Leads s f (shape_of s q p) (head_at (body_number s q)) 0 (cut_body (leaves_table s) (numbered_goal (body_number s q) p.body))) (sym (same_code s code is)) (cut_body_leads s q p at det (armed text s spells q p at) (in_slots text s spells q p at))
 
 pub returns-clause-whole : goal.returns-clause-whole
 returns-clause-whole c text s spells code is q p at det =
-    subst (λ (f : Flat). Leads s f (shape_of s q p) (head_at (body_number s q)) 0 (whole_body (leaves_table s) (numbered_goal (body_number s q) p.body))) (sym (same_code s code is)) (whole_body_leads s q p at det (armed text s spells q p at))
+    subst (λ (f : Flat). Leads s f (shape_of s q p) (head_at (body_number s q)) 0 (whole_body (leaves_table s) (numbered_goal (body_number s q) p.body))) (sym (same_code s code is)) (whole_body_leads s q p at det (armed text s spells q p at) (in_slots text s spells q p at))
