@@ -68,7 +68,7 @@ tried_stands s code n t at h =
 pub goal_ends : (s : Hlds) (code : Flat) (f : Shape) (n : ℕ) (g : HldsGoal) (at : Place) → Laid s code f n g at → StandsFrom code.instructions (end_at n) (end_code n (pending_after s n at.pending g) at.size at.end)
 goal_ends s code f n (At l t) at h = ends_stand s code n t at (own_lies s code f n l t at h).instructions
 
-goal_tried : (s : Hlds) (code : Flat) (f : Shape) (n : ℕ) (g : HldsGoal) (at : Place) → Laid s code f n g at → HasAt code (try_at n) (try_code n at.size at.trial)
+pub goal_tried : (s : Hlds) (code : Flat) (f : Shape) (n : ℕ) (g : HldsGoal) (at : Place) → Laid s code f n g at → HasAt code (try_at n) (try_code n at.size at.trial)
 goal_tried s code f n (At l t) at h = tried_stands s code n t at (own_lies s code f n l t at h).instructions
 
 second_stands : (code : Flat) (n k m : ℕ) (i : Instruction) → suc k ≡ m → HasAt code (suc k) i → HasAt code m i

@@ -12,12 +12,13 @@ use Rattle.md_det.specs.Findings.{program_findings}
 use Rattle.md_flat.specs.declared.instruction.Instruction.{Instruction}
 use Rattle.md_flat.specs.declared.instruction.Operation.TheVariants as act
 use Rattle.md_compile.specs.Leaves.{leaves_table}
+use Rattle.md_compile.specs.Tables.{entry_at}
 use Rattle.md_compile.specs.Blocks.{instruction, unused, program_code, Along, NoArm, Place}
 use Rattle.law_frames.specs.Ways.{Address, pop, port, to, Way, on, holds, exits, yields, cut_body, whole_body, condition_way, part_way, tries, arm_way}
 use Rattle.law_flat.specs.Flat.{Flat, flat_of}
 use Rattle.law_flat.specs.Shapes.{Shape, KeepsIn, InRange, shape_of}
 use Rattle.md_hlds.specs.Trace.{call_weight}
-use Rattle.law_flat.specs.Leads.{IsCall, Leads, FailsAt, passes, charges, simple, calls, conjunction, disjunction, condition_above, joins_on, holding_cut, exiting, yielding, charged, pops, ports, goes_to, last_arm, arm_before}
+use Rattle.law_flat.specs.Leads.{IsCall, Enters, keeps_first, exiting_cut, Leads, FailsAt, passes, charges, simple, calls, conjunction, disjunction, condition_above, joins_on, holding_cut, exiting, yielding, charged, pops, ports, goes_to, last_arm, arm_before}
 
 abbrev goal : GoalExpr → HldsGoal
 goal t = At 0 t
@@ -138,3 +139,24 @@ both_leads =
             (calls {next = 51} {other = 1} 1 51 refl (λ q e. called_as (λ u. (1 ≡ 0 + call_weight u.1) × IsCall program code 7 1 shape.size u [] 51 1) (0, once) q e (refl, refl)) (none shape)
                 (charges {next = 52} refl (passes {next = 60} refl last_leads)) (ports {after = 0} refl)))
             (pops {after = 0} refl)))
+
+-- ---- a body that is cut
+
+-- first :- often.  It has one answer: the call is goal 4. The height of the stack is kept at 35, where a call begins, and to it the
+-- stack is cut at 33.
+abbrev first : Procedure
+first = procedure (codes "first") det.Det (call (codes "often") 0)
+
+abbrev cut_program : Hlds
+cut_program = record { module_name = codes "m"; module_line = 0; types = []; procedures = once ∷ often ∷ first ∷ [] }
+
+first_leads : Enters cut_program (flat_of cut_program) (shape_of cut_program 2 first) 35 (cut_body (leaves_table cut_program) (numbered_goal 4 first.body))
+unfolding program_notes program_findings
+first_leads =
+    keeps_first {next = 30} {height = 0} refl (record { place = 0; is = refl; at = refl })
+    (calls {next = 33} {other = 1} 1 33 refl (λ q e. called_as (λ u. (1 ≡ 0 + call_weight u.1) × IsCall cut_program (flat_of cut_program) 4 0 1 u [] 33 1) (1, often) q e (refl, refl)) (none (shape_of cut_program 2 first))
+        (exiting_cut {next = 34} {after = 0} {height = 0} refl (record { place = 0; is = refl; at = refl }) refl) (ports {after = 0} refl))
+
+first_entry : entry_at cut_program 2 first ≡ 35
+unfolding program_notes program_findings
+first_entry = refl
