@@ -91,6 +91,13 @@ impl Heap {
         self.parts[self.rows[cell as usize].first + place]
     }
 
+    /// How many cells there are. Takes no memory.
+    pub fn cell_count(&self) -> usize
+        ensures { result ≡ length self.now }
+    {
+        self.rows.len()
+    }
+
     /// Whether a value is an integer, a literal, or a cell that is there. Takes no memory.
     pub fn holds(&self, value: Value) -> bool
         ensures { result ≡ is_there (length self.now) value }
