@@ -14,3 +14,4 @@ pub mod Worked
 pub mod Popping
 pub mod Simply
 pub mod Charging
+pub mod Returning
