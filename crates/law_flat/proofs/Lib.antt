@@ -15,3 +15,5 @@ pub mod Popping
 pub mod Simply
 pub mod Charging
 pub mod Returning
+pub mod Entering
+pub mod Leaving

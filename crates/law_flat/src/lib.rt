@@ -3,12 +3,14 @@
 //! program, or the run has ended, or room is wanting.
 #![tactic(auto)]
 
+mod heaps;
 mod laid;
 mod leading;
 mod ports;
 mod simple;
 mod steps;
 
+pub use heaps::{cells_are_told, comparisons_go_the_same};
 pub use laid::{bodies_are_laid, parts_are_laid};
 pub use leading::{bodies_lead, goals_lead};
 pub use ports::{redos, returns_to_callers};
