@@ -147,9 +147,10 @@ call_leads : (s : Hlds) (code : Flat) (f : Shape) (n site p : ℕ) (ys : List �
     → (p + called_weight o ≡ p + call_weight q.1) × IsCall s code n site f.size q ys at.next at.other
 call_leads s code f n site p ys at None q z d is = absurd (cc is)
 call_leads s code f n site p ys at (Some u) q z d is =
-    let same : u ≡ q = ap (or_first u) is in
-    (ap (λ (v : ℕ × Procedure). p + call_weight v.1) same,
-     subst (λ (v : ℕ × Procedure). IsCall s code n site f.size v ys at.next at.other) same (subst (λ y. IsCall s code n site y u ys at.next at.other) z d))
+    let same : u ≡ q = ap (or_first u) is in (
+      ap (λ (v : ℕ × Procedure). p + call_weight v.1) same,
+      subst (λ (v : ℕ × Procedure). IsCall s code n site f.size v ys at.next at.other) same (subst (λ y. IsCall s code n site y u ys at.next at.other) z d),
+    )
   where
     or_first : (ℕ × Procedure) → Option (ℕ × Procedure) → ℕ × Procedure
     or_first d None = d
@@ -205,13 +206,13 @@ mutual
       let b = leaves_table s (suc n) in
       let parts = if_lies s code f n l c t e at laid in
       let else = goal_leads s code f common k e (else_place s n c t at) a (ends a (leaves_table s k) (leaves_table s n) w) parts.else armed.2 (λ y lt. range y (let i = times-append y (variables c) (variables t ++ variables e) in let j = times-append y (variables t) (variables e) in omega (arith, lt, i, j))) off (end_later k)
-          (joined s code f (leaves_table s k) (leaves_table s n) k _ at.size at.other at.next a w laid.size off (goal_ends s code f k e (else_place s n c t at) parts.else) leads) in
+      (joined s code f (leaves_table s k) (leaves_table s n) k _ at.size at.other at.next a w laid.size off (goal_ends s code f k e (else_place s n c t at) parts.else) leads) in
       let then = goal_leads s code f common m t (then_place s n c at) a (ends a (leaves_table s m) (leaves_table s n) w) parts.then armed.1 (λ y lt. range y (let i = times-append y (variables c) (variables t ++ variables e) in let j = times-append y (variables t) (variables e) in omega (arith, lt, i, j))) off (end_later m)
-          (joined s code f (leaves_table s m) (leaves_table s n) m _ at.size at.other at.next a w laid.size off (goal_ends s code f m t (then_place s n c at) parts.then) leads) in
+      (joined s code f (leaves_table s m) (leaves_table s n) m _ at.size at.other at.next a w laid.size off (goal_ends s code f m t (then_place s n c at) parts.then) leads) in
       let miss = fails_after s code f common b (head_at k) (to (part_way (leaves_table s) n a (numbered_goal k e) w)) (fails_to_way s code f (head_at k) _ (head_later k) else) in
       let cond = goal_leads s code f common (suc n) c (if_condition s n c t at) (after (to (part_way (leaves_table s) n a (numbered_goal k e) w)) b)
-          (holds (after (to (part_way (leaves_table s) n a (numbered_goal k e) w)) b) b n (part_way (leaves_table s) n a (numbered_goal m t) w)) parts.condition armed.0 (λ y lt. range y (let i = times-append y (variables c) (variables t ++ variables e) in omega (arith, lt, i))) miss (end_later (suc n))
-          (holds_leads s code f b (end_at (suc n)) (head_at m) at.height _ n _ _ (goal_ends s code f (suc n) c (if_condition s n c t at) parts.condition).0 parts.keeps then) in
+      (holds (after (to (part_way (leaves_table s) n a (numbered_goal k e) w)) b) b n (part_way (leaves_table s) n a (numbered_goal m t) w)) parts.condition armed.0 (λ y lt. range y (let i = times-append y (variables c) (variables t ++ variables e) in omega (arith, lt, i))) miss (end_later (suc n))
+      (holds_leads s code f b (end_at (suc n)) (head_at m) at.height _ n _ _ (goal_ends s code f (suc n) c (if_condition s n c t at) parts.condition).0 parts.keeps then) in
       if_leads s code f b n l at.pending at.height at.size (head_at k) c t e a w refl laid.size (stands_left code.instructions (head_at n) (own_code s n (IfGoal c t e) at) _ own.instructions) parts.keeps else cond
   expr_leads s code f common n l (NotGoal c) at a w laid own armed range off later leads =
       let b = leaves_table s (suc n) in
@@ -219,15 +220,15 @@ mutual
       let two = goal_ends s code f (suc n) c (negated_place s n at) parts.part in
       let miss = fails_after s code f common b at.next (to w) (fails_to_way s code f at.next w later leads) in
       let cond = goal_leads s code f common (suc n) c (negated_place s n at) (after (to w) b) (denies (after (to w) b) b n a) parts.part armed range miss (end_later (suc n))
-          (denies_leads s code f b (end_at (suc n)) (ended_at (suc n)) at.height _ n _ a two.0 parts.keeps
-          (charged (second_stands code n (end_at (suc n)) (ended_at (suc n)) _ (omega arith) two.1.0) off.fails)) in
+      (denies_leads s code f b (end_at (suc n)) (ended_at (suc n)) at.height _ n _ a two.0 parts.keeps
+      (charged (second_stands code n (end_at (suc n)) (ended_at (suc n)) _ (omega arith) two.1.0) off.fails)) in
       not_leads s code f b n l at.pending at.height at.size at.next c a w refl laid.size (stands_left code.instructions (head_at n) (own_code s n (NotGoal c) at) _ own.instructions) parts.keeps leads cond
   expr_leads s code f common n l (SomeGoal vs c) at a w laid own armed range off later leads =
       let b = leaves_table s (suc n) in
       let parts = some_lies s code f n l vs c at laid in
       let two = goal_ends s code f (suc n) c (some_place s n at) parts.part in
       let cond = goal_leads s code f common (suc n) c (some_place s n at) a (finds (after a b) b n w) parts.part armed (λ y lt. range y (let i = times-append y vs (variables c) in omega (arith, lt, i))) off (end_later (suc n))
-          (finds_leads s code f b (end_at (suc n)) at.next at.height _ n _ w two.0 parts.keeps leads) in
+      (finds_leads s code f b (end_at (suc n)) at.next at.height _ n _ w two.0 parts.keeps leads) in
       some_leads s code f b n l at.pending at.height vs c a w refl (stands_left code.instructions (head_at n) (own_code s n (SomeGoal vs c) at) _ own.instructions) parts.keeps cond
 
   parts_lead : (s : Hlds) (code : Flat) (f : Shape) → IsCommon code → (k : ℕ) (ps : HldsGoals) (at : Place) (other p h : ℕ) (a : Address) (w : Way) → PartsLie s code f k ps at other p h → AreArmed ps → InRange f (parts_variables ps) → FailsOff s code f other a

@@ -56,16 +56,16 @@ block_of a b c d e f rest = a ∷ b ∷ c ∷ d ∷ e ∷ f ∷ rest
 codes_of_program :
     program_code program
     ≡ block_of (instruction 0 0 act.Pop) (instruction 0 0 act.Fail) (instruction 0 0 act.Unwind) (instruction 0 0 act.Halt) (instruction 0 0 act.Over) unused
-        (block_of (instruction 0 9 act.Pass) unused unused (instruction 0 10 act.Pass) (instruction 1 0 (act.Exit 0)) unused
-        (block_of (instruction 0 23 act.Pass) unused unused (instruction 0 0 (act.Leave 1 16 0)) (instruction 0 0 act.Redo) unused
-        (block_of (instruction 0 21 act.Pass) unused unused (instruction 2 22 act.Charge) (instruction 0 15 act.Pass) (instruction 0 18 (act.Try 29 0))
-        (block_of (instruction 0 27 act.Pass) unused unused (instruction 1 28 act.Charge) (instruction 0 15 (act.Try 1 0)) (instruction 0 24 act.Pass)
-        (block_of (instruction 0 36 act.Pass) unused unused (instruction 0 0 (act.Leave 2 34 1)) (instruction 0 0 act.Redo) unused
-        (block_of (instruction 0 37 (act.Height 0)) (instruction 0 42 (act.Try 54 1)) unused unused unused unused
-        (block_of (instruction 3 45 (act.Call 6)) unused unused (instruction 0 48 (act.Cut 0)) unused unused
-        (block_of (instruction 1 51 (act.Call 7)) unused unused (instruction 0 52 act.Charge) (instruction 0 60 act.Pass) unused
-        (block_of (instruction 1 57 (act.Call 8)) unused unused (instruction 0 58 act.Charge) (instruction 0 60 act.Pass) unused
-        (block_of (instruction 1 33 (act.Call 9)) unused unused unused unused unused []))))))))))
+    (block_of (instruction 0 9 act.Pass) unused unused (instruction 0 10 act.Pass) (instruction 1 0 (act.Exit 0)) unused
+    (block_of (instruction 0 23 act.Pass) unused unused (instruction 0 0 (act.Leave 1 16 0)) (instruction 0 0 act.Redo) unused
+    (block_of (instruction 0 21 act.Pass) unused unused (instruction 2 22 act.Charge) (instruction 0 15 act.Pass) (instruction 0 18 (act.Try 29 0))
+    (block_of (instruction 0 27 act.Pass) unused unused (instruction 1 28 act.Charge) (instruction 0 15 (act.Try 1 0)) (instruction 0 24 act.Pass)
+    (block_of (instruction 0 36 act.Pass) unused unused (instruction 0 0 (act.Leave 2 34 1)) (instruction 0 0 act.Redo) unused
+    (block_of (instruction 0 37 (act.Height 0)) (instruction 0 42 (act.Try 54 1)) unused unused unused unused
+    (block_of (instruction 3 45 (act.Call 6)) unused unused (instruction 0 48 (act.Cut 0)) unused unused
+    (block_of (instruction 1 51 (act.Call 7)) unused unused (instruction 0 52 act.Charge) (instruction 0 60 act.Pass) unused
+    (block_of (instruction 1 57 (act.Call 8)) unused unused (instruction 0 58 act.Charge) (instruction 0 60 act.Pass) unused
+    (block_of (instruction 1 33 (act.Call 9)) unused unused unused unused unused []))))))))))
 unfolding program_notes program_findings
 codes_of_program = refl
 
@@ -105,9 +105,9 @@ often_leads : Leads program code (shape_of program 1 often) 12 0 (whole_body (le
 unfolding program_notes program_findings
 often_leads =
     disjunction {next = 23} refl refl (arm_before {next = 18} {other = 29} refl
-        (simple (at_place 21 0 1) refl refl (refl, (refl, (refl, tt))) refl (none (shape_of program 1 often)) (charges {next = 22} refl (passes {next = 15} refl often_end)) (pops {after = 0} refl))
-        (last_arm {next = 24} refl
-        (simple (at_place 27 1 0) refl refl (refl, (refl, (refl, tt))) refl (none (shape_of program 1 often)) (charges {next = 28} refl (joins_on {next = 15} {other = 1} refl (ports {after = 0} refl) often_end)) (ports {after = 0} refl))))
+    (simple (at_place 21 0 1) refl refl (refl, (refl, (refl, tt))) refl (none (shape_of program 1 often)) (charges {next = 22} refl (passes {next = 15} refl often_end)) (pops {after = 0} refl))
+    (last_arm {next = 24} refl
+    (simple (at_place 27 1 0) refl refl (refl, (refl, (refl, tt))) refl (none (shape_of program 1 often)) (charges {next = 28} refl (joins_on {next = 15} {other = 1} refl (ports {after = 0} refl) often_end)) (ports {after = 0} refl))))
 
 abbrev shape : Shape
 shape = shape_of program 2 both
@@ -132,13 +132,13 @@ unfolding program_notes program_findings last_way
 both_leads =
     conjunction {next = 36} refl
     (condition_above {second = 37} {next = 42} {other = 54} {height = 0} refl refl keeps_five refl
-        (calls {next = 57} {other = 1} 1 57 refl (λ q e. called_as (λ u. (1 ≡ 0 + call_weight u.1) × IsCall program code 8 2 shape.size u [] 57 1) (0, once) q e (refl, refl)) (none shape)
-            (charges {next = 58} refl (passes {next = 60} refl last_leads)) (ports {after = 0} refl))
-        (calls {next = 45} {other = 0} 3 45 refl (λ q e. called_as (λ u. (3 ≡ 2 + call_weight u.1) × IsCall program code 6 0 shape.size u [] 45 0) (1, often) q e (refl, refl)) (none shape)
-            (holding_cut {next = 48} {height = 0} refl keeps_five
-            (calls {next = 51} {other = 1} 1 51 refl (λ q e. called_as (λ u. (1 ≡ 0 + call_weight u.1) × IsCall program code 7 1 shape.size u [] 51 1) (0, once) q e (refl, refl)) (none shape)
-                (charges {next = 52} refl (passes {next = 60} refl last_leads)) (ports {after = 0} refl)))
-            (pops {after = 0} refl)))
+    (calls {next = 57} {other = 1} 1 57 refl (λ q e. called_as (λ u. (1 ≡ 0 + call_weight u.1) × IsCall program code 8 2 shape.size u [] 57 1) (0, once) q e (refl, refl)) (none shape)
+    (charges {next = 58} refl (passes {next = 60} refl last_leads)) (ports {after = 0} refl))
+    (calls {next = 45} {other = 0} 3 45 refl (λ q e. called_as (λ u. (3 ≡ 2 + call_weight u.1) × IsCall program code 6 0 shape.size u [] 45 0) (1, often) q e (refl, refl)) (none shape)
+    (holding_cut {next = 48} {height = 0} refl keeps_five
+    (calls {next = 51} {other = 1} 1 51 refl (λ q e. called_as (λ u. (1 ≡ 0 + call_weight u.1) × IsCall program code 7 1 shape.size u [] 51 1) (0, once) q e (refl, refl)) (none shape)
+    (charges {next = 52} refl (passes {next = 60} refl last_leads)) (ports {after = 0} refl)))
+    (pops {after = 0} refl)))
 
 -- ---- a body that is cut
 
@@ -155,7 +155,7 @@ unfolding program_notes program_findings
 first_leads =
     keeps_first {next = 30} {height = 0} refl (record { place = 0; is = refl; at = refl })
     (calls {next = 33} {other = 1} 1 33 refl (λ q e. called_as (λ u. (1 ≡ 0 + call_weight u.1) × IsCall cut_program (flat_of cut_program) 4 0 1 u [] 33 1) (1, often) q e (refl, refl)) (none (shape_of cut_program 2 first))
-        (exiting_cut {next = 34} {after = 0} {height = 0} refl (record { place = 0; is = refl; at = refl }) refl) (ports {after = 0} refl))
+    (exiting_cut {next = 34} {after = 0} {height = 0} refl (record { place = 0; is = refl; at = refl }) refl) (ports {after = 0} refl))
 
 first_entry : entry_at cut_program 2 first ≡ 35
 unfolding program_notes program_findings
