@@ -17,3 +17,4 @@ pub mod Charging
 pub mod Returning
 pub mod Entering
 pub mod Leaving
+pub mod Framing
