@@ -18,3 +18,4 @@ pub mod Returning
 pub mod Entering
 pub mod Leaving
 pub mod Framing
+pub mod Calling

@@ -5,3 +5,4 @@ pub mod Leads
 pub mod Told
 pub mod Shows
 pub mod Stays
+pub mod Calls
