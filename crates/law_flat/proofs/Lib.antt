@@ -19,3 +19,4 @@ pub mod Entering
 pub mod Leaving
 pub mod Framing
 pub mod Calling
+pub mod Shaped
