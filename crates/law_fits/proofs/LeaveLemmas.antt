@@ -21,7 +21,8 @@ use Rattle.md_safety.proofs.SwitchLemmas.{shape_occurs}
 use Rattle.md_safety.proofs.NotedGoals.{noted}
 use Rattle.md_safety.proofs.FoundGoals.{pairs_are_found}
 use Rattle.law_fits.specs.Handing.{HandsOpen}
-use Rattle.law_fits.specs.Leaves.{has_choices, named_leaves, role_leaves, leaves, expr_leaves, found_leaves, leaves_table, EachInTable, PartsInTable, MeetsSwitch}
+use Rattle.md_compile.specs.Leaves.{has_choices, named_leaves, role_leaves, leaves, expr_leaves, found_leaves, leaves_table}
+use Rattle.law_fits.specs.Leaves.{EachInTable, PartsInTable, MeetsSwitch}
 
 -- ---- the table at the goals of a clause
 

@@ -21,7 +21,7 @@ use Rattle.md_safety.proofs.NotedGoals.{one_known}
 use Rattle.law_fits.specs.Fast.{Puts, Misses, Bursts, Sticks, outcome, fast_simple}
 use Rattle.law_fits.specs.States.{FitsHere, GivesBack}
 use Rattle.law_fits.specs.Reads.{reads_at}
-use Rattle.law_fits.specs.Leaves.{leaves_table}
+use Rattle.md_compile.specs.Leaves.{leaves_table}
 
 -- ---- choices
 

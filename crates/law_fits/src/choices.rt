@@ -7,7 +7,8 @@ ghost use Rattle.md_hlds.specs.Value.{Env};
 ghost use Rattle.md_det.specs.Findings.{program_findings, switch_at};
 ghost use Rattle.md_safety.specs.Known.{FitsAt};
 ghost use Rattle.law_fits.specs.Handing.{HandsOpen};
-ghost use Rattle.law_fits.specs.Leaves.{has_choices, expr_leaves, leaves_table, PartsInTable, MeetsSwitch};
+ghost use Rattle.md_compile.specs.Leaves.{has_choices, expr_leaves, leaves_table};
+ghost use Rattle.law_fits.specs.Leaves.{PartsInTable, MeetsSwitch};
 
 /// The table of the goals that may leave choices has, for each goal that a run comes to, what the goal and its parts leave; a
 /// call leaves a choice just where the procedure that is called has more than one answer.

@@ -15,7 +15,7 @@ ghost use Rattle.law_frames.specs.Standing.{Runs, Stands};
 ghost use Rattle.law_frames.specs.Leaving.{has_many};
 ghost use Rattle.law_frames.specs.Calls.{body_of, captured};
 ghost use Rattle.law_fits.specs.States.{FitsState};
-ghost use Rattle.law_fits.specs.Leaves.{leaves_table};
+ghost use Rattle.md_compile.specs.Leaves.{leaves_table};
 ghost use Rattle.law_runs.specs.FitRuns.{FitsTurn, ins_of, CallFrame, called_act, ClosureThere};
 
 /// A call of a predicate: the procedure is there, with as many variables in its head as the call has. In a frame that has

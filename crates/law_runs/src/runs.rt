@@ -14,7 +14,7 @@ ghost use Rattle.law_frames.specs.Moves.{MovesTo, Stops};
 ghost use Rattle.law_frames.specs.Running.{visible};
 ghost use Rattle.law_frames.specs.Calls.{MainFrame, body_of};
 ghost use Rattle.law_fits.specs.States.{FitsState};
-ghost use Rattle.law_fits.specs.Leaves.{leaves_table};
+ghost use Rattle.md_compile.specs.Leaves.{leaves_table};
 ghost use Rattle.law_runs.specs.FitRuns.{FitsTurn, FitsMove, FitRun, FitPends, FitTurns, FitCharges};
 
 /// A machine in place begins a run in main's frame, with the code of main's procedure or with code of its own. Steps and turns

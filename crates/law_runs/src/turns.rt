@@ -17,7 +17,7 @@ ghost use Rattle.law_frames.specs.Leaving.{LeavesRight};
 ghost use Rattle.law_fits.specs.Fast.{Hold, fast_simple};
 ghost use Rattle.law_fits.specs.States.{FitsState};
 ghost use Rattle.law_fits.specs.Reads.{reads_at};
-ghost use Rattle.law_fits.specs.Leaves.{leaves_table};
+ghost use Rattle.md_compile.specs.Leaves.{leaves_table};
 ghost use Rattle.law_runs.specs.FitRuns.{FitsTurn, AfterEffect, AfterSwitch};
 
 /// What the checks find of the goals that leave choices is right at each turn that fits; and the turn of a goal on a way of a

@@ -1,0 +1,141 @@
+-- Literals that are equal have equal numbers.
+use Rattle.std.proofs.Common.{◌≡◌, refl, sym, ap, ◌∙◌, subst, inl, inr, ◌⊎◌, arith, ℕ, zero, suc, ◌+◌, ◌<◌, ◌≤◌, Bool, true, false, cond, nat_eq, List, [], ◌∷◌, ◌++◌, length, length-append, Option, Some, None, slice_get}
+use Rattle.std.proofs.lemmas.Bool.{cases_eq, eqb-true, eqb-false, eq-eqb, ne_eqb, cond-true, cond-false}
+use Rattle.std.proofs.lemmas.Slice.Eq.{bytes_eq-Decides}
+use Rattle.std.specs.Str.{bytes_eq}
+use Rattle.md_hlds.specs.declared.goal.Term.{Term}
+use Rattle.md_hlds.specs.declared.goal.Term.TheVariants.{Var, Int, Str, Name}
+use Rattle.md_hlds.specs.HldsGoal.{Simple, Succeeds, Fails, Unifies, Computes, Compares, WritesInt, WritesText, EndsLine, Raises, HldsGoal, At, GoalExpr, SimpleGoal, CallGoal, HoCallGoal, ConjGoal, DisjGoal, IfGoal, NotGoal, SomeGoal, HldsGoals, nothing, also}
+use Rattle.md_hlds.specs.Hlds.{Procedure, Hlds}
+use Rattle.md_compile.specs.Tables.{literal_place, with_literal, with_term, with_simple, with_goal, with_expr, with_goals, with_clauses, literals_of, literal_number}
+use Rattle.law_flat.specs.Told.{bytes_among, zeros, bytes_or, literal_bytes}
+
+-- ---- bytes
+
+pub same_bytes : (b : List ℕ) → bytes_eq b b ≡ true
+same_bytes b = (bytes_eq-Decides b b).1 refl
+
+-- ---- no literal stands twice
+
+-- each of these is found at its place
+abbrev Apart : List (List ℕ) → Type 0
+Apart ls = (i : ℕ) (l : List ℕ) → slice_get ls i ≡ Some l → literal_place l 0 ls ≡ i
+
+place_later : (b : List ℕ) (n m : ℕ) (ls : List (List ℕ)) → literal_place b (n + m) ls ≡ n + literal_place b m ls
+place_later b n m [] = refl
+place_later b n m (l ∷ ls) = by_choice (bytes_eq b l) (literal_place b (suc (n + m)) ls) (literal_place b (suc m) ls) (ap (λ k. literal_place b k ls) (omega arith) ∙ place_later b n (suc m) ls)
+  where
+    by_choice : (c : Bool) (x y : ℕ) → x ≡ n + y → cond c (n + m) x ≡ n + cond c m y
+    by_choice true x y e = refl
+    by_choice false x y e = e
+
+-- among more it is found where it was
+place_stays : (b : List ℕ) (n i : ℕ) (ls more : List (List ℕ)) → i < n + length ls → literal_place b n ls ≡ i → literal_place b n (ls ++ more) ≡ i
+place_stays b n i [] more lt e = absurd (omega (arith, lt, e))
+place_stays b n i (l ∷ ls) more lt e = by_choice (bytes_eq b l) e (λ same. place_stays b (suc n) i ls more (omega (arith, lt)) same)
+  where
+    by_choice : (c : Bool) → cond c n (literal_place b (suc n) ls) ≡ i → (literal_place b (suc n) ls ≡ i → literal_place b (suc n) (ls ++ more) ≡ i) → cond c n (literal_place b (suc n) (ls ++ more)) ≡ i
+    by_choice true same later = same
+    by_choice false same later = later same
+
+-- one that is not found is found where it is put
+place_last : (b : List ℕ) (n : ℕ) (ls : List (List ℕ)) → literal_place b n ls ≡ n + length ls → literal_place b n (ls ++ b ∷ []) ≡ n + length ls
+place_last b n [] e = ap (λ c. cond c n (suc n)) (same_bytes b) ∙ omega arith
+place_last b n (l ∷ ls) e = by_choice (bytes_eq b l) e (λ same. place_last b (suc n) ls same)
+  where
+    by_choice : (c : Bool) → cond c n (literal_place b (suc n) ls) ≡ n + length (l ∷ ls) → (literal_place b (suc n) ls ≡ suc n + length ls → literal_place b (suc n) (ls ++ b ∷ []) ≡ suc n + length ls)
+        → cond c n (literal_place b (suc n) (ls ++ b ∷ [])) ≡ n + length (l ∷ ls)
+    by_choice true same later = absurd (omega (arith, same))
+    by_choice false same later = let r = later (omega (arith, same)) in omega (arith, r)
+
+get_left_or_last : (b l : List ℕ) (i : ℕ) (ls : List (List ℕ)) → slice_get (ls ++ b ∷ []) i ≡ Some l → (slice_get ls i ≡ Some l) × (i < length ls) ⊎ (b ≡ l) × (i ≡ length ls)
+get_left_or_last b l zero [] h = inr (some_same h, refl)
+  where
+    some_same : {x y : List ℕ} → Some x ≡ Some y → x ≡ y
+    some_same h = cc h
+get_left_or_last b l (suc i) [] h = absurd (cc h)
+get_left_or_last b l zero (m ∷ ls) h = inl (h, omega arith)
+get_left_or_last b l (suc i) (m ∷ ls) h = elim (get_left_or_last b l i ls h) [
+  | inl r ↦ inl (r.0, (let lt = r.1 in omega (arith, lt)))
+  | inr r ↦ inr (r.0, (let e = r.1 in omega (arith, e)))
+]
+
+put_apart : (ls : List (List ℕ)) (b : List ℕ) → Apart ls → literal_place b 0 ls ≡ length ls → Apart (ls ++ b ∷ [])
+put_apart ls b h none i l is = elim (get_left_or_last b l i ls is) [
+  | inl r ↦ place_stays l 0 i ls (b ∷ []) (let lt = r.1 in omega (arith, lt)) (h i l r.0)
+  | inr r ↦ subst (λ (m : List ℕ). literal_place m 0 (ls ++ b ∷ []) ≡ i) r.0 (let e = r.1 in let p = place_last b 0 ls (omega (arith, none)) in omega (arith, p, e))
+]
+
+literal_apart : (ls : List (List ℕ)) (b : List ℕ) → Apart ls → Apart (with_literal ls b)
+literal_apart ls b h = elim (cases_eq (literal_place b 0 ls) (length ls)) [
+  | inl e ↦ subst (λ (ms : List (List ℕ)). Apart ms) (sym (cond-true (nat_eq (literal_place b 0 ls) (length ls)) (ls ++ b ∷ []) ls (eq-eqb (literal_place b 0 ls) (length ls) e))) (put_apart ls b h e)
+  | inr ne ↦ subst (λ (ms : List (List ℕ)). Apart ms) (sym (cond-false (nat_eq (literal_place b 0 ls) (length ls)) (ls ++ b ∷ []) ls (ne_eqb (literal_place b 0 ls) (length ls) ne))) h
+]
+
+term_apart : (ls : List (List ℕ)) (t : Term) → Apart ls → Apart (with_term ls t)
+term_apart ls (Var y) h = h
+term_apart ls (Int n) h = h
+term_apart ls (Str b) h = literal_apart ls b h
+term_apart ls (Name q ys) h = h
+
+simple_apart : (ls : List (List ℕ)) (g : Simple) → Apart ls → Apart (with_simple ls g)
+simple_apart ls (Unifies x t) h = term_apart ls t h
+simple_apart ls g h = h
+
+mutual
+  goal_apart : (ls : List (List ℕ)) (g : HldsGoal) → Apart ls → Apart (with_goal ls g)
+  goal_apart ls (At l t) h = expr_apart ls t h
+
+  expr_apart : (ls : List (List ℕ)) (t : GoalExpr) → Apart ls → Apart (with_expr ls t)
+  expr_apart ls (SimpleGoal g) h = simple_apart ls g h
+  expr_apart ls (CallGoal site q ys) h = h
+  expr_apart ls (HoCallGoal site f ys) h = h
+  expr_apart ls (ConjGoal ps) h = goals_apart ls ps h
+  expr_apart ls (DisjGoal ps) h = goals_apart ls ps h
+  expr_apart ls (IfGoal c t e) h = goal_apart (with_goal (with_goal ls c) t) e (goal_apart (with_goal ls c) t (goal_apart ls c h))
+  expr_apart ls (NotGoal c) h = goal_apart ls c h
+  expr_apart ls (SomeGoal vs c) h = goal_apart ls c h
+
+  goals_apart : (ls : List (List ℕ)) (ps : HldsGoals) → Apart ls → Apart (with_goals ls ps)
+  goals_apart ls nothing h = h
+  goals_apart ls (also p ps) h = goals_apart (with_goal ls p) ps (goal_apart ls p h)
+
+clauses_apart : (ls : List (List ℕ)) (ps : List Procedure) → Apart ls → Apart (with_clauses ls ps)
+clauses_apart ls [] h = h
+clauses_apart ls (p ∷ ps) h = clauses_apart (with_goal ls p.body) ps (goal_apart ls p.body h)
+
+literals_apart : (s : Hlds) → Apart (literals_of s)
+literals_apart s = clauses_apart [] s.procedures (λ i l is. absurd (cc is))
+
+-- ---- the bytes of a number
+
+zeros_count : (n : ℕ) → length (zeros n) ≡ n
+zeros_count zero = refl
+zeros_count (suc n) = ap suc (zeros_count n)
+
+few_bytes : (ls : List (List ℕ)) (i : ℕ) (l : List ℕ) → slice_get ls i ≡ Some l → length l ≤ bytes_among ls
+few_bytes [] i l h = absurd (cc h)
+few_bytes (m ∷ ls) zero l h = let e : m ≡ l = cc h in let n = ap length e in omega (arith, n)
+few_bytes (m ∷ ls) (suc i) l h = let r = few_bytes ls i l h in omega (arith, r)
+
+-- two numbers of the same bytes are one
+one_number : (ls : List (List ℕ)) → Apart ls → (a b : ℕ) (o p : Option (List ℕ)) → slice_get ls a ≡ o → slice_get ls b ≡ p
+    → bytes_or (zeros (suc (bytes_among ls + a))) o ≡ bytes_or (zeros (suc (bytes_among ls + b))) p → a ≡ b
+one_number ls h a b None None x y e =
+    let n = ap length e in
+    let i = zeros_count (suc (bytes_among ls + a)) in
+    let j = zeros_count (suc (bytes_among ls + b)) in
+    omega (arith, n, i, j)
+one_number ls h a b None (Some l) x y e = absurd (let n = ap length e in let i = zeros_count (suc (bytes_among ls + a)) in let f = few_bytes ls b l y in omega (arith, n, i, f))
+one_number ls h a b (Some l) None x y e = absurd (let n = ap length e in let i = zeros_count (suc (bytes_among ls + b)) in let f = few_bytes ls a l x in omega (arith, n, i, f))
+one_number ls h a b (Some l) (Some m) x y e = sym (h a l x) ∙ ap (λ (k : List ℕ). literal_place k 0 ls) e ∙ h b m y
+
+pub decided : (x y : List ℕ) (a b : ℕ) → (x ≡ y → a ≡ b) → (a ≡ b → x ≡ y) → bytes_eq x y ≡ nat_eq a b
+decided x y a b there back = by_choice (bytes_eq x y) refl
+  where
+    by_choice : (c : Bool) → bytes_eq x y ≡ c → bytes_eq x y ≡ nat_eq a b
+    by_choice true is = is ∙ sym (eq-eqb a b (there ((bytes_eq-Decides x y).0 is)))
+    by_choice false is = is ∙ sym (ne_eqb a b (λ e. absurd (let t = (bytes_eq-Decides x y).1 (back e) in cc (is, t))))
+
+pub same_literals : (s : Hlds) (a b : ℕ) → bytes_eq (literal_bytes s a) (literal_bytes s b) ≡ nat_eq a b
+same_literals s a b = decided (literal_bytes s a) (literal_bytes s b) a b (one_number (literals_of s) (literals_apart s) a b _ _ refl refl) (λ e. ap (literal_bytes s) e)

@@ -1,0 +1,20 @@
+//! Laws of flat code: where the code of a program stands, which ways of its clauses it leads along, and what a machine over flat
+//! code makes of a step. At each step that has a law here the machine goes on as a machine in place does, in the run of the
+//! program, or the run has ended, or room is wanting.
+#![tactic(auto)]
+
+mod heaps;
+mod laid;
+mod leading;
+mod ports;
+mod simple;
+mod steps;
+
+pub use heaps::{cells_are_told, comparisons_go_the_same};
+pub use laid::{bodies_are_laid, parts_are_laid};
+pub use leading::{bodies_lead, goals_lead};
+pub use ports::{redos, returns_to_callers};
+pub use simple::{goals_that_test, goals_that_write};
+pub use steps::{
+    choices_and_failures, ends_of_conditions, goals_with_parts, instructions_of_no_goal,
+};
