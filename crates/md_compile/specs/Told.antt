@@ -9,7 +9,7 @@ use Rattle.md_compile.specs.declared.place.Trial as code'
 use Rattle.md_compile.specs.declared.place.Trial.TheVariants as trial
 use Rattle.md_compile.specs.declared.place.Place as code''
 use Rattle.md_compile.specs.Tables.{fail_address}
-use Rattle.md_compile.specs.Blocks.{End, Along, Joining, Holding, Denying, Exiting, Yielding, Trial, NoArm, LastArm, ArmBefore, Place, other_after, height_if}
+use Rattle.md_compile.specs.Blocks.{End, Along, Joining, Holding, Denying, Exiting, Yielding, Trial, NoArm, LastArm, ArmBefore, Keeping, Place, other_after, height_if}
 
 abbrev pub end_told : code.End → End
 end_told end.Along = Along
@@ -23,6 +23,7 @@ abbrev pub trial_told : code'.Trial → Trial
 trial_told trial.NoArm = NoArm
 trial_told trial.LastArm = LastArm
 trial_told (trial.ArmBefore other) = ArmBefore other
+trial_told (trial.Keeping height) = Keeping height
 
 abbrev pub place_told : code''.Place → Place
 place_told p = record {

@@ -118,7 +118,7 @@ fn join_or_pass(other: Option<u32>, size: u32, next: u32) -> Instruction
     }
 }
 
-/// Where a goal is tried as an arm.
+/// Where a goal is come to, before its first instruction.
 fn try_code(number: u32, size: u32, trial: Trial) -> Result<Instruction, NoMemory>
     ensures { IfOk result (λ code. code ≡ spec.try_code number size (trial_told trial)) }
 {
@@ -127,6 +127,9 @@ fn try_code(number: u32, size: u32, trial: Trial) -> Result<Instruction, NoMemor
         Trial::LastArm => Ok(instruction(0, head_at(number)?, Operation::Pass)),
         Trial::ArmBefore { other } => {
             Ok(instruction(0, head_at(number)?, Operation::Try { other, size }))
+        }
+        Trial::Keeping { height } => {
+            Ok(instruction(0, head_at(number)?, Operation::Height { to: height }))
         }
     }
 }

@@ -7,11 +7,13 @@ ghost use Rattle.md_modes.specs.Classes.{role_at};
 ghost use Rattle.md_compile.specs.Facts.{Stands};
 ghost use Rattle.md_compile.specs.Blocks.{constant_of};
 ghost use Rattle.md_compile.specs.Details as spec;
+ghost use Rattle.md_compile.specs.Tables.{entry_at};
 ghost use Rattle.md_compile.specs.Told.{place_told};
 
 use crate::cases::switch_detail;
-use crate::number::{head_at, plus};
+use crate::number::{entry_by, plus};
 use crate::place::Place;
+use crate::survey::has_choices;
 use crate::tables::Tables;
 use md_base::{NoMemory, SiteId};
 use md_flat::{Call, Detail, Move};
@@ -233,10 +235,11 @@ fn called_detail(
     ensures { IfOk result (λ detail. slice_get (hlds_of tables.now.source.checked.now).procedures procedure ≡ Some (procedure_of pred.now)
         → spec.detail_told detail ≡ spec.call_detail (hlds_of tables.now.source.checked.now) site places.now (place_told at) (Some (procedure, procedure_of pred.now))) }
 {
+    let entry = entry_of(tables, procedure, pred)?;
     let call = Call {
         site: site.number(),
         procedure,
-        entry: head_at(tables.callee(procedure).body)?,
+        entry,
         size: at.size,
         next: at.next,
         other: at.other,
@@ -316,4 +319,16 @@ fn closure_detail(
         is_closure: true,
     };
     slots_detail(alloc, Value::Int(0), places, call)
+}
+
+/// Where the body of a procedure begins.
+pub fn entry_of(tables: &Tables, procedure: u32, pred: &Pred) -> Result<u32, NoMemory>
+    ensures { IfOk result (λ entry. slice_get (hlds_of tables.now.source.checked.now).procedures procedure ≡ Some (procedure_of pred.now)
+        → entry ≡ entry_at (hlds_of tables.now.source.checked.now) procedure (procedure_of pred.now)) }
+{
+    let callee = tables.callee(procedure);
+    let leaves = tables.leaves(callee.body);
+    let is_many = has_choices(pred.det);
+    let entry = entry_by(is_many, leaves, callee.body)?;
+    Ok(entry)
 }

@@ -78,3 +78,13 @@ pub fn try_at(goal: u32) -> Result<u32, NoMemory>
 {
     address(goal, 11)
 }
+
+/// Where a body of this number begins, by whether it may have more answers and whether it may leave a choice.
+pub fn entry_by(is_many: bool, leaves: bool, body: u32) -> Result<u32, NoMemory>
+    ensures { IfOk result (λ at. at ≡ tables.entry_by is_many leaves body) }
+{
+    if is_many {
+        return head_at(body);
+    }
+    if leaves { try_at(body) } else { head_at(body) }
+}

@@ -31,13 +31,14 @@ pub enum End {
     Yielding { procedure: u32, other: u32 },
 }
 
-/// How a goal is tried: as an arm of a disjunction that is followed by another, which is tried at an address, as the last
-/// arm, or as no arm.
+/// How a goal is come to: as an arm of a disjunction that is followed by another, which is tried at an address, as the last
+/// arm, as a body before which a slot keeps the height of the stack, or in no such way.
 #[derive(Clone, Copy)]
 pub enum Trial {
     NoArm,
     LastArm,
     ArmBefore { other: u32 },
+    Keeping { height: u32 },
 }
 
 /// Where it goes on after a goal and where it fails to; what is pending before it; the first slot for heights of its own; how

@@ -5,15 +5,15 @@ ghost use Rattle.md_hlds.specs.HldsGoal.{goal_of};
 ghost use Rattle.md_compile.specs.Tables.{one_if, literals_of};
 ghost use Rattle.md_compile.specs.Blocks as spec;
 ghost use Rattle.md_compile.specs.Details.{routine_told, routine_of, routines_from, inputs_of, IsCodeOf, AreWithin};
-ghost use Rattle.md_compile.specs.Told.{place_told, end_told, body_end_by};
+ghost use Rattle.md_compile.specs.Told.{place_told, end_told, trial_told, body_end_by};
 ghost use Rattle.md_compile.specs.Adds.{IsBegun, IsWhole};
 
 use crate::block::instruction;
-use crate::detail::goes_in;
+use crate::detail::{entry_of, goes_in};
 use crate::functors::functors_of;
 use crate::layout::lay;
 use crate::literals::literals_of;
-use crate::number::{FAIL, end_at, head_at, plus, small};
+use crate::number::{FAIL, end_at, plus, small};
 use crate::output::Output;
 use crate::place::{End, Place, Trial, height_if, other_after};
 use crate::source::Source;
@@ -131,8 +131,19 @@ fn body_place(tables: &Tables, procedure: u32, pred: &Pred, body: u32) -> Result
         height,
         size,
         end,
-        trial: Trial::NoArm,
+        trial: body_trial(is_many, leaves, variables),
     })
+}
+
+/// How a body is come to.
+fn body_trial(is_many: bool, leaves: bool, height: u32) -> Trial
+    ensures { trial_told result ≡ spec.body_trial is_many leaves height }
+{
+    if leaves && !is_many {
+        Trial::Keeping { height }
+    } else {
+        Trial::NoArm
+    }
 }
 
 /// Whether a height is kept for a body.
@@ -171,7 +182,7 @@ fn routine_of(tables: &Tables, procedure: u32, pred: &Pred) -> Result<Routine, N
         → routine_told routine ≡ routine_of (hlds_of tables.now.source.checked.now) procedure (procedure_of pred.now)) }
 {
     let callee = tables.callee(procedure);
-    let entry = head_at(callee.body)?;
+    let entry = entry_of(tables, procedure, pred)?;
     let head = Vec::from_slice(tables.alloc, pred.head.as_slice())?;
     let inputs = inputs_of(tables.alloc, pred.args.as_slice())?;
     Ok(Routine {

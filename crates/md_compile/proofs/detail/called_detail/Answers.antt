@@ -1,7 +1,5 @@
 use Rattle.std.proofs.Common.{◌∙◌, ap, [], false}
 use Rattle.md_hlds.specs.Hlds.{procedure_of, args_of}
-use Rattle.md_compile.specs.declared.callee.Callee.{Callee}
-use Rattle.md_compile.specs.Tables.{head_at}
 use Rattle.md_compile.specs.Details.{detail, no_value, call_inputs, call_outputs}
 use Rattle.md_compile.proofs.SurveyLemmas.{if-ok-map}
 use Rattle.md_compile.proofs.detail.called_detail.Goals as goal
@@ -11,5 +9,5 @@ returns c =
     if-ok-map c.passed_detail.result
     (λ d is there. is
     ∙ (λ j. detail no_value (call_inputs (args_of (c.as_slice.ensures.value j)) (c.as_slice-2.ensures j) c.args.places.now) (call_outputs (args_of (c.as_slice.ensures.value j)) (c.as_slice-2.ensures j) c.args.places.now) [] []
-    (record { site = c.number.ensures j; procedure = c.args.procedure; entry = (c.in_ok-head_at.ensures ∙ ap (λ (e : Callee). head_at e.body) (c.callee.ensures (procedure_of c.args.pred.now) there)) j; size = c.args.at.size; next = c.args.at.next; other = c.args.at.other; is_closure = false })))
+    (record { site = c.number.ensures j; procedure = c.args.procedure; entry = c.in_ok-entry.ensures there j; size = c.args.at.size; next = c.args.at.next; other = c.args.at.other; is_closure = false })))
     c.passed_detail.ensures
