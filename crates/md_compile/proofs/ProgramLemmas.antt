@@ -1,17 +1,13 @@
 -- The bodies of a program laid out one after the other.
-use Rattle.std.proofs.Common.{◌≡◌, refl, ap, ◌∙◌, sym, subst, arith, ℕ, zero, suc, ◌+◌, ◌<◌, ◌≤◌, Bool, true, false, cond, List, [], ◌∷◌, ◌++◌, length, drop, map, Some, slice_get, get_or, append_assoc, append-nil}
+use Rattle.std.proofs.Common.{◌≡◌, refl, ap, ◌∙◌, sym, subst, arith, ℕ, zero, suc, ◌+◌, ◌<◌, ◌≤◌, List, [], ◌∷◌, ◌++◌, length, drop, map, Some, slice_get, get_or, append_assoc, append-nil}
 use Rattle.std.proofs.lemmas.List.{drop_all, map-append}
 use Rattle.md_hlds.specs.declared.program.Pred.{Pred}
 use Rattle.md_hlds.specs.HldsGoal.{goal_of, goal_size, goals_within}
 use Rattle.md_hlds.specs.Hlds.{Hlds, Procedure, procedure_of, procedures_of, clause_goals, goal_at, goals_before, body_number}
 use Rattle.md_flat.specs.declared.code.Routine as flat
 use Rattle.md_compile.specs.declared.output.Output.{Output}
-use Rattle.md_compile.specs.Tables.{frame_size, one_if, body_height, end_at}
-use Rattle.md_compile.specs.Facts.{Stand, fact_of, fact_if, fact_at}
-use Rattle.md_compile.specs.declared.fact.Fact.{Fact}
-use Rattle.md_compile.specs.Leaves.{leaves_table, has_choices}
-use Rattle.md_compile.specs.Told.{body_end_by}
-use Rattle.md_compile.specs.Blocks.{Place, End, Trial, NoArm, body_end, body_place, goal_code, clauses_code, program_code}
+use Rattle.md_compile.specs.Facts.{Stand}
+use Rattle.md_compile.specs.Blocks.{Place, End, Trial, body_place, goal_code, clauses_code, program_code}
 use Rattle.md_compile.specs.Details.{Routine, detail_told, goal_details, clauses_details, routine_told, routine_of, routines_from, AreWithin}
 use Rattle.md_compile.specs.Adds.{Adds, laid, IsBegun, IsWhole}
 use Rattle.md_compile.proofs.SurveyLemmas.{stand-goal, stand-own}
@@ -122,21 +118,3 @@ routines-next s ps i q p olds news r all lt is at left told pushes =
 pub routines-end : (s : Hlds) (ps : List Pred) (i : ℕ) (rs : List flat.Routine) (all : List Routine) → length ps ≤ i → all ≡ map routine_told rs ++ routines_from s i (procedures_of (drop i ps)) → map routine_told rs ≡ all
 routines-end s ps i rs all end' left =
     sym (left ∙ (ap (λ qs. map routine_told rs ++ routines_from s i qs) (ap procedures_of (drop_all i ps end')) ∙ append-nil (map routine_told rs)))
-
--- ---- the place of a body
-
-body-end-is : (s : Hlds) (q : ℕ) (p : Procedure) (b : Bool) → body_end_by q b (leaves_table s (body_number s q)) (length p.vars) ≡ body_end s q p b
-body-end-is s q p true = refl
-body-end-is s q p false = refl
-
-pub body-is : (s : Hlds) (q : ℕ) (p : Procedure) (body variables height next size : ℕ) (f : Fact) (leaves many : Bool) (e : End) → body ≡ body_number s q → goal_at s body ≡ Some p.body
-    → variables ≡ length p.vars → f ≡ fact_at s body → leaves ≡ leaves_table s body → many ≡ has_choices p.det → height ≡ variables + cond many 0 (one_if leaves) → size ≡ height + f.heights → next ≡ end_at body
-    → e ≡ body_end_by q many leaves variables → place next 1 0 height size e NoArm ≡ body_place s q p
-body-is s q p body variables height next size f leaves many e at there vs fs ls ms hs ss ns es =
-    let f' : f ≡ fact_of s (body_number s q) p.body = fs ∙ (ap (fact_if s body) there ∙ ap (λ k. fact_of s k p.body) at) in
-    let ls' : leaves ≡ leaves_table s (body_number s q) = ls ∙ ap (leaves_table s) at in
-    let hs' : height ≡ length p.vars + body_height s q p = hs ∙ (λ i. vs i + cond (ms i) 0 (one_if (ls' i))) in
-    let ss' : size ≡ frame_size s q p = ss ∙ (λ i. hs' i + (f' i).heights) in
-    let ns' : next ≡ end_at (body_number s q) = ns ∙ ap end_at at in
-    let es' : e ≡ body_end s q p (has_choices p.det) = es ∙ ((λ i. body_end_by q (ms i) (ls' i) (vs i)) ∙ body-end-is s q p (has_choices p.det)) in
-    λ i. place (ns' i) 1 0 (hs' i) (ss' i) (es' i) NoArm

@@ -1,5 +1,5 @@
 -- The code of a small program, worked out by hand.
-use Rattle.std.proofs.Common.{◌≡◌, refl, ℕ, List, [], ◌∷◌, ◌++◌, None}
+use Rattle.std.proofs.Common.{◌≡◌, refl, ℕ, [], ◌∷◌, ◌++◌, None}
 use Rattle.md_hlds.specs.declared.types.Det.TheVariants.{Semidet}
 use Rattle.md_hlds.specs.HldsGoal.{HldsGoal, At, SimpleGoal, ConjGoal, IfGoal, NotGoal, Succeeds, Fails, nothing, also}
 use Rattle.md_hlds.specs.Hlds.{Hlds}

@@ -1,5 +1,5 @@
-use Rattle.std.proofs.Common.{◌∙◌, ap, [], false}
-use Rattle.md_hlds.specs.Hlds.{procedure_of, args_of}
+use Rattle.std.proofs.Common.{◌∙◌, [], false}
+use Rattle.md_hlds.specs.Hlds.{args_of}
 use Rattle.md_compile.specs.Details.{detail, no_value, call_inputs, call_outputs}
 use Rattle.md_compile.proofs.SurveyLemmas.{if-ok-map}
 use Rattle.md_compile.proofs.detail.called_detail.Goals as goal
