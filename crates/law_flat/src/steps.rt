@@ -3,7 +3,7 @@ ghost use Rattle.law_flat.specs.Flat.{Flat, HasAt};
 ghost use Rattle.law_flat.specs.Leads.{FailsAt, Leads};
 ghost use Rattle.law_flat.specs.Shapes.{KeepsIn};
 ghost use Rattle.law_flat.specs.Shows.{Frames};
-ghost use Rattle.law_flat.specs.Stays.{After, Here, Stays};
+ghost use Rattle.law_flat.specs.Stays.{After, Before, Here, Stays};
 ghost use Rattle.law_frames.specs.Standing.{Misses, Runs};
 ghost use Rattle.law_frames.specs.Stores.{Act, Choice, Store, choice};
 ghost use Rattle.law_frames.specs.Ways.{Address, Way, arm_way, condition_way, denies, finds, holds, joins, negation_way, on, part_way, parts_way, pop, some_way, to, tries};
@@ -50,6 +50,11 @@ pub fn choices_and_failures<M>()
     ensures arm_before { (s : Hlds) → (code : Flat) → (b : ℕ) → (seen : Items) → (st : State M) → (F : Frames) → (p : ℕ) → (S : Store) → (q r : Numbered) → (qs : List Numbered) → (w : Way) → (x : Act) → (c : List Act) → (cs : List Choice) → (a : Address) → (other next : ℕ) → FailsAt s code (F.shapes x.index) other 0 (tries r qs a w) → Leads s code (F.shapes x.index) next p (arm_way (leaves_table s) q (r ∷ qs) a w) → Here s code b seen st F p S (Misses (tries q (r ∷ qs) a w) x c) x cs cs → After s code b seen (tried other (F.shapes x.index).size next st) }
     ensures goes_to { (s : Hlds) → (code : Flat) → (b : ℕ) → (seen : Items) → (st : State M) → (F : Frames) → (p : ℕ) → (S : Store) → (w : Way) → (x : Act) → (c : List Act) → (cs : List Choice) → Leads s code (F.shapes x.index) st.address p w → Here s code b seen st F p S (Misses (to w) x c) x cs cs → Stays s code b seen st }
     ensures pops { (s : Hlds) → (code : Flat) → (b : ℕ) → (seen : Items) → (st : State M) → (F : Frames) → (S : Store) → (x : Act) → (c : List Act) → (cs : List Choice) → Here s code b seen st F 0 S (Misses pop x c) x cs cs → After s code b seen (popped F.reach (length code.instructions) st) }
+{}
+
+/// The height to which a body is cut is kept in its slot before the body begins.
+pub fn heights_of_bodies<M>()
+    ensures { (s : Hlds) → (code : Flat) → (b : ℕ) → (seen : Items) → (st : State M) → (F : Frames) → (S : Store) → (w : Way) → (x : Act) → (c : List Act) → (cs : List Choice) → (place next : ℕ) → KeepsIn (F.shapes x.index) place 0 → Leads s code (F.shapes x.index) next 0 w → Before s code b seen st F S w x c cs → After s code b seen (height_kept place next st) }
 {}
 
 /// At the end of a condition, of what is negated and of what is quantified the choices above the height that a slot keeps are
