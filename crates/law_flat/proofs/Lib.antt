@@ -21,3 +21,4 @@ pub mod Framing
 pub mod Calling
 pub mod Shaped
 pub mod Terms
+pub mod Plain
