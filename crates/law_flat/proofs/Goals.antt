@@ -1,6 +1,5 @@
 -- Where a goal stands in the code, and what follows it and where it fails to stand there, the code leads along its way.
-use Rattle.std.proofs.Common.{◌≡◌, refl, sym, ap, ◌∙◌, subst, arith, ℕ, zero, suc, ◌+◌, ◌*◌, ◌<◌, Bool, true, false, ◌||◌, List, [], ◌∷◌, ◌++◌, length, Option, Some, None, slice_get}
-use Rattle.md_hlds.specs.declared.goal.PredName.{PredName}
+use Rattle.std.proofs.Common.{◌≡◌, refl, sym, ap, ◌∙◌, subst, arith, ℕ, zero, suc, ◌+◌, ◌*◌, Bool, true, false, ◌||◌, List, [], ◌∷◌, ◌++◌, Option, Some, None}
 use Rattle.md_hlds.specs.HldsGoal.{HldsGoal, At, GoalExpr, SimpleGoal, CallGoal, HoCallGoal, ConjGoal, DisjGoal, IfGoal, NotGoal, SomeGoal, HldsGoals, nothing, also, goal_size, numbered_goal, numbered_from}
 use Rattle.md_hlds.specs.Hlds.{Procedure, Hlds, procedure_called, goal_at}
 use Rattle.md_hlds.specs.Trace.{call_weight}
@@ -10,18 +9,18 @@ use Rattle.md_flat.specs.declared.instruction.Instruction.{Instruction}
 use Rattle.md_flat.specs.declared.instruction.Operation.TheVariants as act
 use Rattle.md_compile.specs.Leaves.{is_tried, parts_leave, found_leaves, leaves_table}
 use Rattle.md_compile.specs.Tables.{pop_address, head_at, second_at, end_at, ended_at, try_at}
-use Rattle.md_compile.specs.Blocks.{Place, End, Trial, LastArm, ArmBefore, instruction, other_after, pending_after, pending_parts, pending_expr, cut_or_pass, end_code, try_code, parts_begin, condition_code, some_code, switch_by, shape_keys, disjunction_code, called_weight, own_code, block, height_if, joining, if_condition, then_place, else_place, negated_place, some_place, conjunct_place, arm_place}
+use Rattle.md_compile.specs.Blocks.{Place, instruction, other_after, pending_after, pending_parts, pending_expr, cut_or_pass, end_code, try_code, parts_begin, condition_code, some_code, disjunction_code, called_weight, own_code, block, height_if, joining, if_condition, then_place, else_place, negated_place, some_place, conjunct_place, arm_place}
 use Rattle.md_compile.specs.Details.{switch_detail, call_detail}
-use Rattle.law_frames.specs.Ways.{Address, pop, port, to, tries, redoes, Way, on, joins, holds, denies, finds, after, ends, part_way, parts_way, condition_way, negation_way, some_way, arm_way}
+use Rattle.law_frames.specs.Ways.{Address, pop, port, to, tries, redoes, Way, on, holds, denies, finds, after, ends, part_way, parts_way, condition_way, negation_way, some_way}
 use Rattle.law_flat.specs.Flat.{Flat, HasAt, HasDetail, StandsFrom}
 use Rattle.law_flat.specs.Shapes.{Shape, KeepsIn, InRange}
 use Rattle.md_modes.specs.Goals.{variables, expr_variables, parts_variables}
 use Rattle.md_modes.proofs.Counts.{times-append}
 use Rattle.law_flat.specs.Laid.{Laid, IsCommon, HasSome, IsArmed, AreArmed}
 use Rattle.law_flat.specs.Leads.{is_first, FailsOff, IsCall, IsApplication, Leads, ArmsLead, FailsAt, passes, charges, simple, calls, applies, conjunction, disjunction, switch, condition, condition_above, negation, negation_above, quantified, quantified_above, joins_on, holding, holding_cut, denying, denying_cut, finding, finding_cut, no_arms, also_arm, charged, pops, goes_to, last_arm, arm_before}
-use Rattle.law_flat.proofs.Lists.{stands_left, stands_right, stands_at}
+use Rattle.law_flat.proofs.Lists.{stands_left, stands_right}
 use Rattle.law_flat.proofs.Sizes.{own_three, end_two}
-use Rattle.law_flat.proofs.Lying.{OwnLies, own_lies, IfLies, if_lies, OneLies, not_lies, some_lies, PartsLie, ArmsLie, conj_lies, disj_lies, first_part, other_parts, first_arm, other_arms}
+use Rattle.law_flat.proofs.Lying.{OwnLies, own_lies, if_lies, not_lies, some_lies, PartsLie, ArmsLie, conj_lies, disj_lies, first_part, other_parts, first_arm, other_arms}
 
 -- ---- addresses
 

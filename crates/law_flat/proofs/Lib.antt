@@ -20,3 +20,5 @@ pub mod Leaving
 pub mod Framing
 pub mod Calling
 pub mod Shaped
+pub mod Terms
+pub mod Plain

@@ -1,5 +1,5 @@
 -- A list that stands in another.
-use Rattle.std.proofs.Common.{◌≡◌, refl, sym, ap, ◌∙◌, subst, arith, ℕ, suc, ◌+◌, List, [], ◌∷◌, ◌++◌, length, map, Some, slice_get}
+use Rattle.std.proofs.Common.{◌≡◌, refl, subst, arith, ℕ, suc, ◌+◌, List, [], ◌∷◌, ◌++◌, length}
 use Rattle.law_flat.specs.Flat.{StandsFrom}
 
 pub stands_left : {A : Type 0} (xs : List A) (k : ℕ) (ys zs : List A) → StandsFrom xs k (ys ++ zs) → StandsFrom xs k ys

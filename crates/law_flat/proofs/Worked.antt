@@ -1,10 +1,9 @@
 -- The code of a small program, and where it leads, computed. Each address was worked out by hand: with another one the code
 -- would not lead along the ways of its bodies.
-use Rattle.std.proofs.Common.{◌≡◌, refl, ap, subst, arith, ℕ, suc, ◌+◌, Bool, true, false, List, [], ◌∷◌, ◌++◌, Option, Some, None}
+use Rattle.std.proofs.Common.{◌≡◌, refl, ap, subst, arith, ℕ, ◌+◌, List, [], ◌∷◌, Option, Some, None}
 use Rattle.std.specs.Prelude.{codes}
 use Rattle.md_hlds.specs.declared.types.Det.{Det}
 use Rattle.md_hlds.specs.declared.types.Det.TheVariants as det
-use Rattle.md_hlds.specs.declared.goal.PredName.{PredName}
 use Rattle.md_hlds.specs.HldsGoal.{HldsGoal, At, GoalExpr, Succeeds, SimpleGoal, CallGoal, ConjGoal, DisjGoal, IfGoal, gathered, numbered_goal}
 use Rattle.md_hlds.specs.Hlds.{Hlds, Procedure}
 use Rattle.md_modes.specs.Notes.{program_notes}
@@ -14,11 +13,11 @@ use Rattle.md_flat.specs.declared.instruction.Operation.TheVariants as act
 use Rattle.md_compile.specs.Leaves.{leaves_table}
 use Rattle.md_compile.specs.Tables.{entry_at}
 use Rattle.md_compile.specs.Blocks.{instruction, unused, program_code, Along, NoArm, Place}
-use Rattle.law_frames.specs.Ways.{Address, pop, port, to, Way, on, holds, exits, yields, cut_body, whole_body, condition_way, part_way, tries, arm_way}
+use Rattle.law_frames.specs.Ways.{pop, port, Way, on, yields, cut_body, whole_body}
 use Rattle.law_flat.specs.Flat.{Flat, flat_of}
 use Rattle.law_flat.specs.Shapes.{Shape, KeepsIn, InRange, shape_of}
 use Rattle.md_hlds.specs.Trace.{call_weight}
-use Rattle.law_flat.specs.Leads.{IsCall, Enters, keeps_first, exiting_cut, Leads, FailsAt, passes, charges, simple, calls, conjunction, disjunction, condition_above, joins_on, holding_cut, exiting, yielding, charged, pops, ports, goes_to, last_arm, arm_before}
+use Rattle.law_flat.specs.Leads.{IsCall, Enters, keeps_first, exiting_cut, Leads, passes, charges, simple, calls, conjunction, disjunction, condition_above, joins_on, holding_cut, exiting, yielding, pops, ports, last_arm, arm_before}
 
 abbrev goal : GoalExpr → HldsGoal
 goal t = At 0 t

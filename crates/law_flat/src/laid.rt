@@ -8,6 +8,7 @@ ghost use Rattle.md_compile.specs.Blocks.{Place, if_condition, then_place, else_
 ghost use Rattle.md_compile.specs.Details.{IsCodeOf};
 ghost use Rattle.law_flat.specs.Flat.{Flat, flat_told};
 ghost use Rattle.law_flat.specs.Shapes.{Shape, shape_of};
+ghost use Rattle.law_flat.specs.Calls.{IsShape};
 ghost use Rattle.law_flat.specs.Laid.{Laid, PartsLaid, ArmsLaid, IsCommon};
 
 /// In the code of a program each body stands where the number of its goal says, and what each program has at the first
@@ -26,4 +27,9 @@ pub fn parts_are_laid()
     ensures otherwise { (s : Hlds) (code : Flat) (f : Shape) (n l : ℕ) (c t e : HldsGoal) (place : Place) → Laid s code f n (At l (IfGoal c t e)) place → Laid s code f (suc n + goal_size c + goal_size t) e (else_place s n c t place) }
     ensures negation { (s : Hlds) (code : Flat) (f : Shape) (n l : ℕ) (c : HldsGoal) (place : Place) → Laid s code f n (At l (NotGoal c)) place → Laid s code f (suc n) c (negated_place s n place) }
     ensures quantified { (s : Hlds) (code : Flat) (f : Shape) (n l : ℕ) (vs : List ℕ) (c : HldsGoal) (place : Place) → Laid s code f n (At l (SomeGoal vs c)) place → Laid s code f (suc n) c (some_place s n place) }
+{}
+
+/// A frame's slots are enough for its variables and the heights that its goals keep, of which none is kept twice.
+pub fn shapes_are_right()
+    ensures { (s : Hlds) (q : ℕ) (p : Procedure) → IsShape (shape_of s q p) }
 {}
