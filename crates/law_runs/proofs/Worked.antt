@@ -1,11 +1,11 @@
 -- What calls copy, what simple goals lead to, and the turn of a switch, computed.
-use Rattle.std.proofs.Common.{◌≡◌, refl, ℕ, pos, Bool, true, false, List, [], ◌∷◌, Option, Some, None}
+use Rattle.std.proofs.Common.{◌≡◌, refl, ℕ, false, List, [], ◌∷◌, Some, None}
 use Rattle.std.specs.Prelude.{codes}
 use Rattle.md_hlds.specs.declared.types.Mode.{Mode}
 use Rattle.md_hlds.specs.declared.types.Mode.TheVariants.{In, Out, Di, Uo}
 use Rattle.md_hlds.specs.HldsGoal.{HldsGoal, HldsGoals, gathered, numbered_goal}
 use Rattle.md_hlds.specs.Hlds.{HldsType, number, world}
-use Rattle.md_hlds.specs.Value.{Value, Number, Literal, Built, no_values}
+use Rattle.md_hlds.specs.Value.{Value, Built, no_values}
 use Rattle.md_hlds.specs.Trace.{Alloc, Out as WritesOut, Throw}
 use Rattle.md_steps.specs.State.{State}
 use Rattle.md_modes.proofs.Worked.{conj, is_int, made, code}

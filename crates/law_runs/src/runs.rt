@@ -1,6 +1,8 @@
 // A machine in place makes the run of a program where the modes hold. Each law is the contract of a function that does nothing.
-ghost use Rattle.std.specs.Prelude.{◌≡◌, ◌≤◌, ◌<◌, ℕ, ◌+◌, ◌-◌, List, [], ◌∷◌, ◌++◌, Some, None};
+ghost use Rattle.std.specs.Prelude.{◌≡◌, ◌≤◌, ◌<◌, ℕ, ◌+◌, ◌-◌, List, [], ◌∷◌, ◌++◌, Some, None, pos, slice_get};
+ghost use Rattle.md_hlds.specs.declared.types.Det.TheVariants.{Det};
 ghost use Rattle.md_hlds.specs.Hlds.{Hlds, Procedure, procedure_called};
+ghost use Rattle.md_hlds.specs.Value.{Number};
 ghost use Rattle.md_hlds.specs.Trace.{Turn, Items, call_weight};
 ghost use Rattle.md_hlds.specs.Run.{run, main_name};
 ghost use Rattle.md_steps.specs.State.{State};
@@ -28,6 +30,13 @@ pub fn fit_machines_run()
     ensures moves { (program : Hlds) (b left : ℕ) (done : Items) (S T : Store) (d e : Doing) (cs ds : List Choice) (k m : ℕ) (items : Items) (r : FitRun program b left done S d cs k) → FitsMove program r.st items T e ds m → FitRun program b left (done ++ items) T e ds m }
     ensures turns { (program : Hlds) (b left : ℕ) (done : Items) (S T : Store) (d e : Doing) (cs ds : List Choice) (k m : ℕ) (a g weight : ℕ) (items : Items) (r : FitRun program b left done S d cs k) → FitsTurn program r.st a g weight items T e ds m → FitTurns program b left done a g weight items T e ds m }
     ensures stops { (program : Hlds) (b left : ℕ) (done items : Items) (S : Store) (d : Doing) (cs : List Choice) (k : ℕ) (r : FitRun program b left done S d cs k) → Stops r.st items → run program b ≡ done ++ items }
+{}
+
+/// A program without a fault of modes has a main, which has one answer; its frame, the first, is one whose first variable
+/// holds the io state.
+pub fn main_is_there()
+    ensures there { (bytes : List ℕ) (program : Hlds) → Spells bytes program → mode_fault program ≡ None → (m : ℕ × Procedure) × (procedure_called program main_name ≡ Some m) × (slice_get program.procedures m.0 ≡ Some m.1) × (m.1.det ≡ Det) }
+    ensures frame { (m : ℕ × Procedure) (S : Store) (x : Act) → S.acts x.index ≡ x → x.index ≡ 0 → x.number ≡ 0 → ((h : ℕ) (rest : List ℕ) → m.1.head ≡ h ∷ rest → S.values x.index h ≡ Number (pos 0)) → MainFrame m S x }
 {}
 
 /// So it is where weights are charged later: a turn without items is deferred, steps without items are made, and a turn with
