@@ -1,12 +1,12 @@
 -- One way to write the frame of a call, and that it is one.
-use Rattle.std.proofs.Common.{◌≡◌, refl, ap, sym, ◌∙◌, subst, arith, ℕ, zero, suc, ◌<◌, Bool, true, false, cond, nat_eq, List, [], ◌∷◌, length, Option, None, inl, inr}
+use Rattle.std.proofs.Common.{Some, ◌≤◌, ◌≡◌, refl, ap, sym, ◌∙◌, subst, arith, ℕ, zero, suc, ◌<◌, Bool, true, false, cond, nat_eq, List, [], ◌∷◌, length, Option, None, inl, inr}
 use Rattle.std.proofs.lemmas.Bool.{eq-eqb, eqb-true}
 use Rattle.md_hlds.specs.Hlds.{Procedure}
 use Rattle.md_hlds.specs.Value.{Value, Env, value_at, bound, blank}
 use Rattle.md_hlds.specs.Trace.{back_value, passed, given, entered, pairs_of, without}
 use Rattle.law_frames.specs.Ways.{IsAmong}
 use Rattle.law_frames.specs.Stores.{Act, Store, with_value, with_values, with_height, bind_all, at_place}
-use Rattle.law_frames.specs.Calls.{NewFrame, with_act, captured, PassesIn, none_in, passed_in, held_back, copy_in, frame_written}
+use Rattle.law_frames.specs.Calls.{NewFrame, AgreeBelow, with_frame, with_act, captured, PassesIn, none_in, passed_in, held_back, copy_in, frame_written}
 use Rattle.law_frames.proofs.Cells.{value_elsewhere, height_here, not_none, same_frame}
 use Rattle.law_frames.proofs.Sealing.{Shows}
 use Rattle.law_frames.proofs.Writing.{shows_bound, shows_written}
@@ -110,3 +110,25 @@ frame_filled S x z i h q vs ys ins e lt is passes caller =
           (subst (Shows Any T i) (sym (given_bound vs q.head (blank (length q.vars)))) (shows_written Any held S i (blank (length q.vars)) (blank_shows S i (length q.vars)))) y v tt has;
       height = height_here V i 0 h;
     }
+
+-- ---- any frame
+
+-- a frame that is replaced is a new one, where it has the values
+pub any_frame : (S : Store) (i : ℕ) (slots : ℕ → Value) (heights : ℕ → ℕ) (x : Act) (e : Env) → x.index ≡ i → ((y : ℕ) (v : Value) → value_at e y ≡ Some v → slots y ≡ v) → NewFrame S (with_frame S i slots heights x) i x e (heights 0)
+any_frame S i slots heights x e is shown = record {
+  is = is;
+  values = λ j y below. other_frame (nat_eq j i) (slots y) (S.values j y) (λ eq. (let same = eqb-true j i eq in omega (arith, below, same)));
+  heights = λ j n below. other_frame (nat_eq j i) (heights n) (S.heights j n) (λ eq. (let same = eqb-true j i eq in omega (arith, below, same)));
+  acts = λ j below. other_frame (nat_eq j i) x (S.acts j) (λ eq. (let same = eqb-true j i eq in omega (arith, below, same)));
+  act = ap (λ b. cond b x (S.acts i)) (eq-eqb i i refl);
+  entered = λ y v has. ap (λ b. cond b (slots y) (S.values i y)) (eq-eqb i i refl) ∙ shown y v has;
+  height = ap (λ b. cond b (heights 0) (S.heights i 0)) (eq-eqb i i refl);
+}
+
+-- and where it lies above the others, these are as they were
+pub replaced_above : (S : Store) (i : ℕ) (slots : ℕ → Value) (heights : ℕ → ℕ) (x : Act) (n : ℕ) → n ≤ i → AgreeBelow n S (with_frame S i slots heights x)
+replaced_above S i slots heights x n le = record {
+  values = λ j y below. other_frame (nat_eq j i) (slots y) (S.values j y) (λ eq. (let same = eqb-true j i eq in omega (arith, below, le, same)));
+  heights = λ j m below. other_frame (nat_eq j i) (heights m) (S.heights j m) (λ eq. (let same = eqb-true j i eq in omega (arith, below, le, same)));
+  acts = λ j below. other_frame (nat_eq j i) x (S.acts j) (λ eq. (let same = eqb-true j i eq in omega (arith, below, le, same)));
+}

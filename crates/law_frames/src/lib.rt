@@ -14,6 +14,6 @@ pub use failing::{
 };
 pub use runs::{machines_run, main_begins, weights_fold};
 pub use turns::{
-    every_turn, turns_of_calls, turns_of_conditions, turns_of_conjunctions, turns_of_disjunctions,
-    turns_of_simple_goals,
+    every_turn, frames_above_the_top, turns_of_calls, turns_of_conditions, turns_of_conjunctions,
+    turns_of_disjunctions, turns_of_simple_goals,
 };
