@@ -10,7 +10,7 @@ mod turns;
 
 pub use failing::{
     callers_are_below, ends_of_bodies, ends_of_conditions, exceptions, failures, frame_rule,
-    tops_fall,
+    tops_fall, writes_keep_the_rest,
 };
 pub use runs::{machines_run, main_begins, weights_fold};
 pub use turns::{
