@@ -2,6 +2,8 @@
 //! status. All that a command does is `md_tool::top`; what it wrote to a file takes its name behind it.
 #![tactic(auto)]
 
+ghost use Rattle.std.specs.Prelude.{◌≡◌, true, false};
+
 use md_base::{Sink, write_whole};
 use md_system::{StdSink, StdStore, TcpNet, take_free_numbers};
 use md_tool::top;

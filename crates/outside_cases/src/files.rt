@@ -29,7 +29,11 @@ pub fn show(rt: &HostRuntime, alloc: Global, case: &Case, found: &mut String) ->
     Ok(())
 }
 
-fn settle(store: &mut StdStore<&HostRuntime>, kept: bool, found: &mut String) -> Result<(), AllocError> {
+fn settle(
+    store: &mut StdStore<&HostRuntime>,
+    kept: bool,
+    found: &mut String,
+) -> Result<(), AllocError> {
     match store.settle(kept) {
         Ok(()) => writeln!(found, "settled"),
         Err(failed) => writeln!(found, "not settled: {failed}"),
@@ -52,7 +56,12 @@ fn prepare(rt: &HostRuntime, alloc: Global, field: &Field, found: &mut String) -
 }
 
 /// What a store that has written nothing reads in a file.
-fn fresh(rt: &HostRuntime, alloc: Global, name: &str, found: &mut String) -> Result<(), AllocError> {
+fn fresh(
+    rt: &HostRuntime,
+    alloc: Global,
+    name: &str,
+    found: &mut String,
+) -> Result<(), AllocError> {
     let mut store = StdStore::new(alloc, rt, process::id(rt.process()));
     match read_all(alloc, &mut store, name, MOST) {
         Ok(bytes) => {

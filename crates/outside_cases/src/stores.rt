@@ -66,7 +66,8 @@ pub fn act_all<S: Store>(
     Ok(())
 }
 
-fn act<S: Store>(
+/// Does what one line says.
+pub fn act<S: Store>(
     alloc: Global,
     field: &Field,
     store: &mut S,
