@@ -52,7 +52,7 @@ returns-in-None-clause-added c =
     let none = none_so_far c.self.inside.other c.args.self.now c.is_some.result (ap (λ (s : SumRows). s.other) c.self.view_is) c.is_some.ensures c.if-is_some.false in
     on_ok c.begin.result c.begin.ensures.statics c.begin.ensures.rows c.begin.ensures.others c.begin.ensures.count
     (λ statics rows others count files over.
-        begins files c.args.self.now c.begin.new.self c.args.file.now over (sym (ap (λ (s : SumRows). s.statics) c.self.view_is) ∙ c.in-None.is) none c.is_small.ensures c.requires.few_links statics rows (others ∙ none) count)
+    begins files c.args.self.now c.begin.new.self c.args.file.now over (sym (ap (λ (s : SumRows). s.statics) c.self.view_is) ∙ c.in-None.is) none c.is_small.ensures c.requires.few_links statics rows (others ∙ none) count)
 
 pub returns-in_ok-self-inside-in-Some-clause-added : goal.returns-in_ok-self-inside-in-Some-clause-added
 returns-in_ok-self-inside-in-Some-clause-added c = λ files over.
