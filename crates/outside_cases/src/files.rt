@@ -1,6 +1,6 @@
 // Files of the machine: what comes of calls on them, under which names they stand, and what stays as it was.
 use crate::input::{halves, number, show_bytes};
-use crate::stores::act;
+use crate::stores::{act, write};
 use cases::{Case, Field};
 use md_base::{Store, read_all};
 use md_system::StdStore;
@@ -12,7 +12,7 @@ use std::{fs, io, process};
 const MOST: u64 = 1_000_000;
 
 /// Does what the lines say, in order: those of every store, and `keep` and `forget`, which settle what was written.
-/// `fresh NAME` reads a file through another store. `symlink TARGET NAME`, `folder NAME`, `mode NAME MODE` and
+/// `fresh NAME` reads a file through another store, and `also NAME BYTES` writes one through another. `symlink TARGET NAME`, `folder NAME`, `mode NAME MODE` and
 /// `remove NAME` prepare files and take them away; `shown NAME` tells a file's mode, and what a link says.
 pub fn show(rt: &HostRuntime, alloc: Global, case: &Case, found: &mut String) -> io::Result<()> {
     let mut store = StdStore::new(alloc, rt, process::id(rt.process()));
@@ -45,6 +45,7 @@ fn prepare(rt: &HostRuntime, alloc: Global, field: &Field, found: &mut String) -
     let (name, rest) = halves(field.text.as_str());
     match field.key.as_str() {
         "fresh" => Ok(fresh(rt, alloc, name, found)?),
+        "also" => Ok(also(rt, alloc, name, rest, found)?),
         "symlink" => symlink(rt, name, rest),
         "folder" => fs::create_dir(rt, name),
         "mode" => fs::set_permissions(rt, name, PermissionsExt::from_mode(octal(rest))),
@@ -70,6 +71,19 @@ fn fresh(
         }
         Err(fault) => writeln!(found, "fresh: {fault}"),
     }
+}
+
+/// Writes a file through a store of its own.
+fn also(
+    rt: &HostRuntime,
+    alloc: Global,
+    name: &str,
+    bytes: &str,
+    found: &mut String,
+) -> Result<(), AllocError> {
+    let mut store = StdStore::new(alloc, rt, process::id(rt.process()));
+    write(&mut store, name, bytes.as_bytes(), found)?;
+    settle(&mut store, true, found)
 }
 
 /// The mode of a file, and what it says where it is a link.

@@ -98,7 +98,8 @@ fn read<S: Store>(
     }
 }
 
-fn write<S: Store>(
+/// Writes a file whole.
+pub fn write<S: Store>(
     store: &mut S,
     name: &str,
     bytes: &[u8],
