@@ -1,5 +1,5 @@
 -- Cuts: choices are dropped down to a height that a frame keeps.
-use Rattle.std.proofs.Common.{◌≡◌, refl, ap, sym, ◌∙◌, arith, ℕ, suc, ◌≤◌, Bool, true, false, cond, nat_le, List, [], ◌∷◌, length, true≢false}
+use Rattle.std.proofs.Common.{◌++◌, ◌≡◌, refl, ap, sym, ◌∙◌, arith, ℕ, suc, ◌≤◌, Bool, true, false, cond, nat_le, List, [], ◌∷◌, length, true≢false}
 use Rattle.std.proofs.lemmas.Bool.{le-leb, lt-leb, leb-true, leb-false}
 use Rattle.law_frames.specs.Stores.{Act, Choice, Store, Perm, KeepsHeight, trimmed, trimmed_if}
 
@@ -32,3 +32,12 @@ cut_here S W x false n cs keeps = record { low = λ t. absurd (true≢false (sym
 pub cut_past : (cut : Bool) (h : ℕ) (cs rest : List Choice) (ch : Choice) → cut ≡ true → Cutting cut h cs rest → Cutting cut h (ch ∷ cs) rest
 cut_past true h cs rest ch t cuts = record { low = λ t. (let low = cuts.low t in omega (arith, low)); is = cuts.is ∙ sym (trimmed_more h ch cs (cuts.low t)) }
 cut_past false h cs rest ch t cuts = absurd (true≢false (sym t))
+
+cut_rest : (h : ℕ) (ch : Choice) (cs : List Choice) → (dropped : List Choice) × (cs ≡ dropped ++ trimmed h cs) → (b : Bool) → (dropped : List Choice) × ((ch ∷ cs) ≡ dropped ++ cond b (ch ∷ cs) (trimmed h cs))
+cut_rest h ch cs rest true = ([], refl)
+cut_rest h ch cs rest false = (ch ∷ rest.0, ap (λ ds. ch ∷ ds) rest.1)
+
+-- what is left is the older end of the stack
+pub trimmed_rest : (h : ℕ) (cs : List Choice) → (dropped : List Choice) × (cs ≡ dropped ++ trimmed h cs)
+trimmed_rest h [] = ([], refl)
+trimmed_rest h (ch ∷ cs) = cut_rest h ch cs (trimmed_rest h cs) (nat_le (suc (length cs)) h)

@@ -1,10 +1,14 @@
 -- The leave in a new frame: the slots of its variables that have values are closed, and so is its head.
-use Rattle.std.proofs.Common.{◌≡◌, refl, ap, sym, ◌∙◌, subst, arith, ℕ, zero, suc, ◌<◌, ◌≤◌, Bool, true, false, cond, not, nat_eq, nat_lt, Option, Some, None, is_some, true≢false}
+use Rattle.std.proofs.Common.{List, ◌≡◌, refl, ap, sym, ◌∙◌, subst, arith, ℕ, zero, suc, ◌<◌, ◌≤◌, Bool, true, false, cond, not, nat_eq, nat_lt, Option, Some, None, is_some, true≢false}
 use Rattle.std.proofs.lemmas.Bool.{eq-eqb, eqb-true, le-leb, lt-leb, leb-true, leb-false}
 use Rattle.md_hlds.specs.Value.{Value, Env, value_at}
-use Rattle.law_frames.specs.Ways.{Way, Later}
-use Rattle.law_frames.specs.Stores.{Act, Store, Cell, slot, height, header, Perm, Below, AlikeBelow, IsFree, Same, Framed, IsKept, Kept, KeepsHeight}
-use Rattle.law_frames.specs.Calls.{NewFrame}
+use Rattle.md_steps.specs.State.{State}
+use Rattle.law_frames.specs.Ways.{Leaves, Way, Later}
+use Rattle.law_frames.specs.Stores.{Act, Choice, Store, Cell, slot, height, header, Perm, Below, AlikeBelow, IsFree, top, Same, Framed, IsKept, Kept, KeepsHeight}
+use Rattle.law_frames.specs.Calls.{NewFrame, AgreeBelow}
+use Rattle.law_frames.specs.Standing.{Runs, Stands, runs}
+use Rattle.law_frames.proofs.FrameRule.{going_kept}
+use Rattle.law_frames.proofs.Ends.{placed_of}
 
 -- whether the body cuts decides whether its height is closed
 abbrev pub new_cell : Env → Bool → Cell → Bool
@@ -86,3 +90,16 @@ new_frame_kept {T = T} {i = i} {x = x} {e = e} cut W w later new = record {
 pub new_height : (cut : Bool) {S T : Store} {i : ℕ} {x : Act} {e : Env} {h : ℕ} (W : Perm) → NewFrame S T i x e h → KeepsHeight T (entering i e cut W) x cut 0 h
 new_height true {T = T} {i = i} {e = e} W new = (ap (λ j. T.heights j 0) new.is ∙ new.height, ap (λ j. entering i e true W j (height 0)) new.is ∙ at_frame i e true W (height 0))
 new_height false W new = tt
+
+-- ---- frames above the top
+
+agree_same : {S T : Store} (W : Perm) (n : ℕ) → IsFree W n → AgreeBelow n S T → Same W S T
+agree_same W n free agree = record {
+  values = λ j y is. agree.values j y (closed_is_below W n free j (slot y) is);
+  heights = λ j m is. agree.heights j m (closed_is_below W n free j (height m) is);
+  acts = λ j is. agree.acts j (closed_is_below W n free j header is);
+}
+
+-- whatever they hold, the machine stands where it stood
+pub anything_above : {lv : Leaves} {S T : Store} {w : Way} {x : Act} {c : List Act} {cs : List Choice} {k : ℕ} {st : State} → AgreeBelow (top x cs) S T → Stands lv S (Runs w x c) cs k st → Stands lv T (Runs w x c) cs k st
+anything_above {x = x} {cs = cs} agree (runs {W = W} k goes) = runs k (going_kept goes (agree_same W (top x cs) (placed_of goes).free agree))

@@ -1,12 +1,12 @@
 -- One way to write the frame of a call, and that it is one.
-use Rattle.std.proofs.Common.{◌≡◌, refl, ap, sym, ◌∙◌, subst, arith, ℕ, zero, suc, ◌<◌, Bool, true, false, cond, nat_eq, List, [], ◌∷◌, length, Option, None, inl, inr}
+use Rattle.std.proofs.Common.{Some, ◌≤◌, ◌≡◌, refl, ap, sym, ◌∙◌, subst, arith, ℕ, zero, suc, ◌<◌, Bool, true, false, cond, nat_eq, List, [], ◌∷◌, length, Option, None, inl, inr}
 use Rattle.std.proofs.lemmas.Bool.{eq-eqb, eqb-true}
 use Rattle.md_hlds.specs.Hlds.{Procedure}
 use Rattle.md_hlds.specs.Value.{Value, Env, value_at, bound, blank}
 use Rattle.md_hlds.specs.Trace.{back_value, passed, given, entered, pairs_of, without}
 use Rattle.law_frames.specs.Ways.{IsAmong}
-use Rattle.law_frames.specs.Stores.{Act, Store, with_value, with_values, with_height, bind_all, at_place}
-use Rattle.law_frames.specs.Calls.{NewFrame, with_act, captured, PassesIn, none_in, passed_in, held_back, copy_in, frame_written}
+use Rattle.law_frames.specs.Stores.{Act, Store, with_value, with_values, with_height, copy_all, bind_all, at_place}
+use Rattle.law_frames.specs.Calls.{NewFrame, AgreeBelow, with_frame, with_act, captured, PassesIn, none_in, passed_in, held_back, copy_in, frame_written}
 use Rattle.law_frames.proofs.Cells.{value_elsewhere, height_here, not_none, same_frame}
 use Rattle.law_frames.proofs.Sealing.{Shows}
 use Rattle.law_frames.proofs.Writing.{shows_bound, shows_written}
@@ -63,7 +63,7 @@ other_frame : {C : Type 0} (b : Bool) (u v : C) → (b ≡ true → ⊥) → con
 other_frame true u v other = absurd (other refl)
 other_frame false u v other = refl
 
-written_below : (bs : List (ℕ × Value)) (S : Store) (i j y : ℕ) → (j ≡ i → ⊥) → (with_values bs S i).values j y ≡ S.values j y
+pub written_below : (bs : List (ℕ × Value)) (S : Store) (i j y : ℕ) → (j ≡ i → ⊥) → (with_values bs S i).values j y ≡ S.values j y
 written_below [] S i j y other = refl
 written_below (b ∷ bs) S i j y other = written_below bs (with_value S i b.0 b.1) i j y other ∙ value_elsewhere S i b.0 b.1 j y (λ frame cell. other frame)
 
@@ -71,7 +71,7 @@ copied_below : (ins : List (ℕ × ℕ)) (S : Store) (from i j y : ℕ) → (j �
 copied_below [] S from i j y other = refl
 copied_below (p ∷ ps) S from i j y other = copied_below ps (with_value S i p.0 (S.values from p.1)) from i j y other ∙ value_elsewhere S i p.0 (S.values from p.1) j y (λ frame cell. other frame)
 
-written_heights : (bs : List (ℕ × Value)) (S : Store) (i j n : ℕ) → (with_values bs S i).heights j n ≡ S.heights j n
+pub written_heights : (bs : List (ℕ × Value)) (S : Store) (i j n : ℕ) → (with_values bs S i).heights j n ≡ S.heights j n
 written_heights [] S i j n = refl
 written_heights (b ∷ bs) S i j n = written_heights bs (with_value S i b.0 b.1) i j n
 
@@ -79,7 +79,7 @@ copied_heights : (ins : List (ℕ × ℕ)) (S : Store) (from i j n : ℕ) → (c
 copied_heights [] S from i j n = refl
 copied_heights (p ∷ ps) S from i j n = copied_heights ps (with_value S i p.0 (S.values from p.1)) from i j n
 
-written_acts : (bs : List (ℕ × Value)) (S : Store) (i j : ℕ) → (with_values bs S i).acts j ≡ S.acts j
+pub written_acts : (bs : List (ℕ × Value)) (S : Store) (i j : ℕ) → (with_values bs S i).acts j ≡ S.acts j
 written_acts [] S i j = refl
 written_acts (b ∷ bs) S i j = written_acts bs (with_value S i b.0 b.1) i j
 
@@ -110,3 +110,40 @@ frame_filled S x z i h q vs ys ins e lt is passes caller =
           (subst (Shows Any T i) (sym (given_bound vs q.head (blank (length q.vars)))) (shows_written Any held S i (blank (length q.vars)) (blank_shows S i (length q.vars)))) y v tt has;
       height = height_here V i 0 h;
     }
+
+-- ---- any frame
+
+-- a frame that is replaced is a new one, where it has the values
+pub any_frame : (S : Store) (i : ℕ) (slots : ℕ → Value) (heights : ℕ → ℕ) (x : Act) (e : Env) → x.index ≡ i → ((y : ℕ) (v : Value) → value_at e y ≡ Some v → slots y ≡ v) → NewFrame S (with_frame S i slots heights x) i x e (heights 0)
+any_frame S i slots heights x e is shown = record {
+  is = is;
+  values = λ j y below. other_frame (nat_eq j i) (slots y) (S.values j y) (λ eq. (let same = eqb-true j i eq in omega (arith, below, same)));
+  heights = λ j n below. other_frame (nat_eq j i) (heights n) (S.heights j n) (λ eq. (let same = eqb-true j i eq in omega (arith, below, same)));
+  acts = λ j below. other_frame (nat_eq j i) x (S.acts j) (λ eq. (let same = eqb-true j i eq in omega (arith, below, same)));
+  act = ap (λ b. cond b x (S.acts i)) (eq-eqb i i refl);
+  entered = λ y v has. ap (λ b. cond b (slots y) (S.values i y)) (eq-eqb i i refl) ∙ shown y v has;
+  height = ap (λ b. cond b (heights 0) (S.heights i 0)) (eq-eqb i i refl);
+}
+
+-- and where it lies above the others, these are as they were
+pub replaced_above : (S : Store) (i : ℕ) (slots : ℕ → Value) (heights : ℕ → ℕ) (x : Act) (n : ℕ) → n ≤ i → AgreeBelow n S (with_frame S i slots heights x)
+replaced_above S i slots heights x n le = record {
+  values = λ j y below. other_frame (nat_eq j i) (slots y) (S.values j y) (λ eq. (let same = eqb-true j i eq in omega (arith, below, le, same)));
+  heights = λ j m below. other_frame (nat_eq j i) (heights m) (S.heights j m) (λ eq. (let same = eqb-true j i eq in omega (arith, below, le, same)));
+  acts = λ j below. other_frame (nat_eq j i) x (S.acts j) (λ eq. (let same = eqb-true j i eq in omega (arith, below, le, same)));
+}
+
+-- ---- an exit's copies
+
+pub handed_elsewhere : (outs : List (ℕ × ℕ)) (S : Store) (from into j y : ℕ) → (j ≡ into → ⊥) → (copy_all outs S from into).values j y ≡ S.values j y
+handed_elsewhere [] S from into j y other = refl
+handed_elsewhere (p ∷ ps) S from into j y other =
+    handed_elsewhere ps (with_value S into p.1 (S.values from p.0)) from into j y other ∙ value_elsewhere S into p.1 (S.values from p.0) j y (λ frame cell. other frame)
+
+pub handed_heights : (outs : List (ℕ × ℕ)) (S : Store) (from into j n : ℕ) → (copy_all outs S from into).heights j n ≡ S.heights j n
+handed_heights [] S from into j n = refl
+handed_heights (p ∷ ps) S from into j n = handed_heights ps (with_value S into p.1 (S.values from p.0)) from into j n
+
+pub handed_acts : (outs : List (ℕ × ℕ)) (S : Store) (from into j : ℕ) → (copy_all outs S from into).acts j ≡ S.acts j
+handed_acts [] S from into j = refl
+handed_acts (p ∷ ps) S from into j = handed_acts ps (with_value S into p.1 (S.values from p.0)) from into j

@@ -1,10 +1,11 @@
 // Failures, ends and exceptions of a machine in place. Each law is the contract of a function that does nothing.
-ghost use Rattle.std.specs.Prelude.{◌≡◌, ◌≤◌, ◌<◌, ℕ, suc, Bool, true, List, [], ◌∷◌, length};
+ghost use Rattle.std.specs.Prelude.{◌≡◌, ◌≤◌, ◌<◌, ℕ, suc, Bool, true, List, [], ◌∷◌, ◌++◌, length};
 ghost use Rattle.md_hlds.specs.HldsGoal.{Numbered};
+ghost use Rattle.md_hlds.specs.Value.{Value};
 ghost use Rattle.md_hlds.specs.Trace.{Exit, Fail, Answer, Frame};
 ghost use Rattle.md_steps.specs.State.{Wait, State};
 ghost use Rattle.law_frames.specs.Ways.{Leaves, Address, pop, port, to, tries, redoes, Way, joins, holds, denies, finds, exits, yields, halts, arm_way};
-ghost use Rattle.law_frames.specs.Stores.{Act, Choice, choice, Store, Perm, Below, AlikeBelow, Same, arms_choices, trimmed, top, IsStacked};
+ghost use Rattle.law_frames.specs.Stores.{Act, Choice, choice, Store, Perm, Below, AlikeBelow, Same, arms_choices, trimmed, top, IsStacked, with_values, copy_all};
 ghost use Rattle.law_frames.specs.Standing.{Failing, Going, Ending, Runs, Misses, Raises, Stands};
 ghost use Rattle.law_frames.specs.Moves.{MovesTo, Stops, env_of};
 ghost use Rattle.law_frames.specs.After.{AreCallers, PortsTo, RedoesTo, CutsTo, ExitsTo, YieldsTo, LeavesTo};
@@ -57,10 +58,11 @@ pub fn exceptions()
     ensures ends { (lv : Leaves) (S : Store) (cs : List Choice) (k : ℕ) (st : State) → Stands lv S (Raises []) cs k st → Stops st [] }
 {}
 
-/// A stack of choices that is cut to a height has so many. And what is read lies in frames below a top, which only a call
+/// A stack of choices that is cut to a height has so many, its oldest. And what is read lies in frames below a top, which only a call
 /// raises: not a choice, nor what comes back to one, nor an exit, nor a cut.
 pub fn tops_fall()
     ensures so_many { (h : ℕ) (cs : List Choice) → h ≤ length cs → length (trimmed h cs) ≡ h }
+    ensures the_oldest { (h : ℕ) (cs : List Choice) → (dropped : List Choice) × (cs ≡ dropped ++ trimmed h cs) }
     ensures above { (x : Act) (cs : List Choice) → x.index < top x cs }
     ensures choices { (x : Act) (c : List Act) (a : Address) (cs : List Choice) → top x (choice x c a ∷ cs) ≡ top x cs }
     ensures redos { (x y : Act) (c : List Act) (a : Address) (cs : List Choice) → y.index < x.index → top y (choice x c a ∷ cs) ≡ top x cs }
@@ -73,4 +75,14 @@ pub fn tops_fall()
 pub fn callers_are_below()
     ensures none { (x : Act) (c : List Act) → IsStacked x c → x.index ≡ 0 → c ≡ [] }
     ensures some { (x : Act) (c : List Act) → IsStacked x c → (x.index ≡ 0 → ⊥) → (y : Act) × (rest : List Act) × (c ≡ y ∷ rest) × (x.caller ≡ y.index) × (y.index < x.index) × IsStacked y rest }
+{}
+
+/// Values that are written to slots of one frame, and an exit's copies, change slots of that frame alone.
+pub fn writes_keep_the_rest()
+    ensures written { (bs : List (ℕ × Value)) (S : Store) (i j y : ℕ) → (j ≡ i → ⊥) → (with_values bs S i).values j y ≡ S.values j y }
+    ensures written_heights { (bs : List (ℕ × Value)) (S : Store) (i j n : ℕ) → (with_values bs S i).heights j n ≡ S.heights j n }
+    ensures written_acts { (bs : List (ℕ × Value)) (S : Store) (i j : ℕ) → (with_values bs S i).acts j ≡ S.acts j }
+    ensures copied { (outs : List (ℕ × ℕ)) (S : Store) (from into j y : ℕ) → (j ≡ into → ⊥) → (copy_all outs S from into).values j y ≡ S.values j y }
+    ensures copied_heights { (outs : List (ℕ × ℕ)) (S : Store) (from into j n : ℕ) → (copy_all outs S from into).heights j n ≡ S.heights j n }
+    ensures copied_acts { (outs : List (ℕ × ℕ)) (S : Store) (from into j : ℕ) → (copy_all outs S from into).acts j ≡ S.acts j }
 {}

@@ -10,10 +10,10 @@ mod turns;
 
 pub use failing::{
     callers_are_below, ends_of_bodies, ends_of_conditions, exceptions, failures, frame_rule,
-    tops_fall,
+    tops_fall, writes_keep_the_rest,
 };
 pub use runs::{machines_run, main_begins, weights_fold};
 pub use turns::{
-    every_turn, turns_of_calls, turns_of_conditions, turns_of_conjunctions, turns_of_disjunctions,
-    turns_of_simple_goals,
+    every_turn, frames_above_the_top, turns_of_calls, turns_of_conditions, turns_of_conjunctions,
+    turns_of_disjunctions, turns_of_simple_goals,
 };

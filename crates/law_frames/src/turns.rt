@@ -1,5 +1,5 @@
 // Turns of a machine in place. Each law is the contract of a function that does nothing.
-ghost use Rattle.std.specs.Prelude.{◌≡◌, ℕ, suc, ◌+◌, Bool, true, false, List, [], ◌∷◌, ◌++◌, length, Option, Some, None, nat_eq};
+ghost use Rattle.std.specs.Prelude.{◌≡◌, ◌≤◌, ℕ, suc, ◌+◌, Bool, true, false, List, [], ◌∷◌, ◌++◌, length, Option, Some, None, nat_eq};
 ghost use Rattle.md_hlds.specs.HldsGoal.{Simple, HldsGoal, At, SimpleGoal, ConjGoal, DisjGoal, IfGoal, NotGoal, SomeGoal, HldsGoals, goal_size, Numbered, numbered_goal, numbered_from};
 ghost use Rattle.md_hlds.specs.Hlds.{Hlds, Procedure};
 ghost use Rattle.md_hlds.specs.Value.{Value, Env, value_at};
@@ -14,7 +14,7 @@ ghost use Rattle.law_frames.specs.Stores.{Act, Choice, choice, choice_if, Store,
 ghost use Rattle.law_frames.specs.Standing.{Runs, Misses, Raises, Stands};
 ghost use Rattle.law_frames.specs.Moves.{Unfolds, TurnsTo, AnyTurn, env_of};
 ghost use Rattle.law_frames.specs.Leaving.{has_many, LeavesRight, AreTried};
-ghost use Rattle.law_frames.specs.Calls.{NewFrame, body_of, callee, captured, PassesIn, frame_written, HandsRight, IsCallOf};
+ghost use Rattle.law_frames.specs.Calls.{NewFrame, AgreeBelow, with_frame, body_of, callee, captured, PassesIn, frame_written, HandsRight, IsCallOf};
 
 /// Simple goals. Each variable of a goal that has a value has it in its slot (`reads`). A goal that succeeds gives values to
 /// variables of its own that had none, one after the other (`binds`), and it is enough to write them to their slots.
@@ -55,6 +55,13 @@ pub fn turns_of_calls()
     ensures cut { (s : Hlds) (lv : Leaves) (S T : Store) (a : Address) (p : Numbered) (w : Way) (x : Act) (c : List Act) (cs : List Choice) (k : ℕ) (st : State) (site : ℕ) (q : ℕ × Procedure) (vs : List Value) (ys : List ℕ) (outs : List (ℕ × ℕ)) → Stands lv S (Runs (on a p w) x c) cs k st → IsCallOf s (env_of st) p.goal site q vs ys → nat_eq (length vs + length ys) (length q.1.head) ≡ true → has_many q.1.det ≡ false → lv p.number ≡ false → HandsOver (env_of st) (pairs_of (without vs q.1.head) ys) outs → NewFrame S T (top x cs) (callee (top x cs) k x q vs ys outs a p w) (entered q.1 vs ys (env_of st)) (length cs) → TurnsTo s lv st x.number p.number (call_weight q.1) (Call k (Some x.number) (Some site) q.0 ∷ []) T (Runs (cut_body lv (body_of s q)) (callee (top x cs) k x q vs ys outs a p w) (x ∷ c)) cs (suc k) }
     ensures whole { (s : Hlds) (lv : Leaves) (S T : Store) (a : Address) (p : Numbered) (w : Way) (x : Act) (c : List Act) (cs : List Choice) (k : ℕ) (st : State) (site : ℕ) (q : ℕ × Procedure) (vs : List Value) (ys : List ℕ) (outs : List (ℕ × ℕ)) (h : ℕ) → Stands lv S (Runs (on a p w) x c) cs k st → IsCallOf s (env_of st) p.goal site q vs ys → nat_eq (length vs + length ys) (length q.1.head) ≡ true → has_many q.1.det ≡ true → lv p.number ≡ true → HandsOver (env_of st) (pairs_of (without vs q.1.head) ys) outs → NewFrame S T (top x cs) (callee (top x cs) k x q vs ys outs a p w) (entered q.1 vs ys (env_of st)) h → TurnsTo s lv st x.number p.number (call_weight q.1) (Call k (Some x.number) (Some site) q.0 ∷ []) T (Runs (whole_body lv (body_of s q)) (callee (top x cs) k x q vs ys outs a p w) (x ∷ c)) cs (suc k) }
     ensures frame { (s : Hlds) (lv : Leaves) (S : Store) (a : Address) (p : Numbered) (w : Way) (x : Act) (c : List Act) (cs : List Choice) (k : ℕ) (st : State) (site : ℕ) (q : ℕ × Procedure) (vs : List Value) (ys : List ℕ) (outs ins : List (ℕ × ℕ)) → Stands lv S (Runs (on a p w) x c) cs k st → IsCallOf s (env_of st) p.goal site q vs ys → nat_eq (length vs + length ys) (length q.1.head) ≡ true → PassesIn (env_of st) (pairs_of (without vs q.1.head) ys) ins → NewFrame S (frame_written S x.index (top x cs) (callee (top x cs) k x q vs ys outs a p w) (length cs) (captured vs q.1.head) ins) (top x cs) (callee (top x cs) k x q vs ys outs a p w) (entered q.1 vs ys (env_of st)) (length cs) }
+{}
+
+/// Frames from the top on may hold anything, and be replaced: by any frame that has the values with which a body begins.
+pub fn frames_above_the_top()
+    ensures anything { (lv : Leaves) (S T : Store) (w : Way) (x : Act) (c : List Act) (cs : List Choice) (k : ℕ) (st : State) → AgreeBelow (top x cs) S T → Stands lv S (Runs w x c) cs k st → Stands lv T (Runs w x c) cs k st }
+    ensures replaced { (S : Store) (i : ℕ) (slots : ℕ → Value) (heights : ℕ → ℕ) (x : Act) (n : ℕ) → n ≤ i → AgreeBelow n S (with_frame S i slots heights x) }
+    ensures new { (S : Store) (i : ℕ) (slots : ℕ → Value) (heights : ℕ → ℕ) (x : Act) (e : Env) → x.index ≡ i → ((y : ℕ) (v : Value) → value_at e y ≡ Some v → slots y ≡ v) → NewFrame S (with_frame S i slots heights x) i x e (heights 0) }
 {}
 
 /// Where what is said of choices is right, and of what calls hand over, every turn leads to a state that the machine in

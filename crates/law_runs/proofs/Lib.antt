@@ -4,3 +4,4 @@ pub mod FitTurns
 pub mod FitCalls
 pub mod FitLifts
 pub mod Worked
+pub mod MainLemmas

@@ -41,19 +41,19 @@ plus_assoc (Some a) None c = refl
 plus_assoc (Some a) (Some b) None = refl
 plus_assoc (Some a) (Some b) (Some c) = ap (λ (k : ℕ). Some k) (let e : a + (b + c) ≡ (a + b) + c = omega arith in e)
 
-sum_push : (ns : List (Option ℕ)) (n : Option ℕ) → sum_all (ns ++ n ∷ []) ≡ plus (sum_all ns) n
+pub sum_push : (ns : List (Option ℕ)) (n : Option ℕ) → sum_all (ns ++ n ∷ []) ≡ plus (sum_all ns) n
 sum_push [] n = zero_last n
 sum_push (k ∷ ns) n = ap (plus k) (sum_push ns n) ∙ plus_assoc k (sum_all ns) n
 
 -- the views of files with one file more
-record LastView (fs : List LoadedRows) (f : LoadedRows) (vs : List View) : Type 0 where
+pub record LastView (fs : List LoadedRows) (f : LoadedRows) (vs : List View) : Type 0 where
   pub front : List View
   pub last : View
   pub are : vs ≡ front ++ last ∷ []
   pub views : AreViews fs front
   pub view : IsFileView f.profile last
 
-last_view : (fs : List LoadedRows) (f : LoadedRows) (vs : List View) → AreViews (fs ++ f ∷ []) vs → LastView fs f vs
+pub last_view : (fs : List LoadedRows) (f : LoadedRows) (vs : List View) → AreViews (fs ++ f ∷ []) vs → LastView fs f vs
 last_view [] f [] are = absurd are
 last_view [] f (v ∷ []) are = record { front = []; last = v; are = refl; views = tt; view = are.0 }
 last_view [] f (v ∷ w ∷ vs) are = absurd are.1
@@ -74,13 +74,13 @@ summed fs f of a x b so_far one total vs are =
     ∙ ap (λ (k : ℕ). Some k) (sym total)
 
 -- the sums of a procedure are over some of the file's links, so they have room
-part_room : (f : LoadedRows) → IsSmall f → length f.profile.links < 2 ^ 25 → (test : LinkRow → Bool) (m : Measure) → sum_where test m f.profile.links ≤ most
+pub part_room : (f : LoadedRows) → IsSmall f → length f.profile.links < 2 ^ 25 → (test : LinkRow → Bool) (m : Measure) → sum_where test m f.profile.links ≤ most
 part_room f small few test m = let part = part_le test m f.profile.links in let all = small.small m in omega arith
 
-own_is : (f : LoadedRows) (v : View) (id : ℕ) (m : Measure) → IsFileView f.profile v → v.own (OfProcedure id) m ≡ Some (sum_where (λ r. same_option (Some id) (procedure_at f.profile r.callee)) m f.profile.links)
+pub own_is : (f : LoadedRows) (v : View) (id : ℕ) (m : Measure) → IsFileView f.profile v → v.own (OfProcedure id) m ≡ Some (sum_where (λ r. same_option (Some id) (procedure_at f.profile r.callee)) m f.profile.links)
 own_is f v id m is = ap (λ (w : View). w.own (OfProcedure id) m) is.is
 
-total_is : (f : LoadedRows) (v : View) (id : ℕ) (m : Measure) → (is : IsFileView f.profile v)
+pub total_is : (f : LoadedRows) (v : View) (id : ℕ) (m : Measure) → (is : IsFileView f.profile v)
     → v.total (OfProcedure id) m ≡ Some (path_sum is.paths f.profile.links (λ d. same_option (Some id) (procedure_at f.profile d)) m)
 total_is f v id m is = ap (λ (w : View). w.total (OfProcedure id) m) is.is
 
@@ -124,7 +124,7 @@ pub all_added : (files : List LoadedRows) (of : View → Measure → Option ℕ)
     → (vs : List View) (m : Measure) → AreViews files vs → sum_all (map (λ v. of v m) vs) ≡ Some (sum_of s m)
 all_added files of s added vs m are = added.sums vs m (subst (λ (fs : List LoadedRows). AreViews fs vs) (sym (take-length files)) are)
 
-views_from : (files : List LoadedRows) → AllByRecursion IsSmall files → HaveViews files
+pub views_from : (files : List LoadedRows) → AllByRecursion IsSmall files → HaveViews files
 views_from [] small = ([], tt)
 views_from (f ∷ fs) small = let t = views_from fs small.1 in (small.0.view ∷ t.0, (small.0.is, t.1))
 

@@ -1,5 +1,6 @@
 pub mod Parts
 pub mod Adding
+pub mod Onward
 pub mod Decimal
 pub mod Cuts
 pub mod Steps

@@ -1,5 +1,5 @@
 -- What a program's procedures cost over several runs: sums over the views of its files.
-use Rattle.std.specs.Prelude.{ℕ, ◌≡◌, ◌≢◌, ◌+◌, ◌<◌, List, [], ◌∷◌, length, map, Option, None, Some, option_map, slice_get, IfSome}
+use Rattle.std.specs.Prelude.{ℕ, ◌≡◌, ◌≢◌, ◌+◌, ◌<◌, ◌^◌, List, [], ◌∷◌, length, map, All, Option, None, Some, option_map, slice_get, IfSome, IfNone}
 use Rattle.md_base.specs.declared.measure.Measure.{Measure}
 use Rattle.md_static.specs.Tables.{Static}
 use Rattle.md_cost.specs.Climbing.{AreSmall}
@@ -66,3 +66,41 @@ pub record IsSmall (f : LoadedRows) : Type 0 where
 abbrev pub IsSumFault : List LoadedRows → SumFault → Type 0
 IsSumFault files (Differ place) = IsFirstOther files place
 IsSumFault files NoMemory = Unit {0}
+
+-- ---- one file after the other
+
+-- what is kept of files that are added up one after the other: the first one's tables, the sums of each procedure, how many
+-- files there were, and the first one that is of another program than the first one
+pub record SumRows : Type 0 where
+  pub statics : Option Static
+  pub rows : List ProcSum
+  pub count : ℕ
+  pub other : Option ℕ
+
+-- it is kept of these files, each with less than 2 ^ 25 links: the sums, or the first file of another program
+pub record IsSumOver (files : List LoadedRows) (s : SumRows) : Type 0 where
+  pub count : s.count ≡ length files
+  pub statics : s.statics ≡ statics_at files 0
+  pub small : All IsSmall files
+  pub few_links : All (λ f. length f.profile.links < 2 ^ 25) files
+  pub one : IfNone s.other (AreOfOne files)
+  pub sums : IfNone s.other (0 < length files → AreProcSums files s.rows)
+  pub differs : IfSome s.other (IsFirstOther files)
+
+-- a row with the costs of one file more
+pub record IsRowMore (f : LoadedRows) (row more : ProcSum) : Type 0 where
+  pub is : more.id ≡ row.id
+  pub own : (v : View) (m : Measure) → IsFileView f.profile v → plus (Some (sum_of row.own m)) (v.own (OfProcedure row.id) m) ≡ Some (sum_of more.own m)
+  pub total : (v : View) (m : Measure) → IsFileView f.profile v → plus (Some (sum_of row.total m)) (v.total (OfProcedure row.id) m) ≡ Some (sum_of more.total m)
+
+-- the same of each row, in order
+abbrev pub AreRowsMore : LoadedRows → List ProcSum → List ProcSum → Type 0
+AreRowsMore f [] [] = Unit {0}
+AreRowsMore f [] (q ∷ qs) = ⊥
+AreRowsMore f (r ∷ rs) [] = ⊥
+AreRowsMore f (r ∷ rs) (q ∷ qs) = IsRowMore f r q × AreRowsMore f rs qs
+
+-- there is room for the costs of one file more: 16 files with 2 ^ 25 links have no greater sums than 64 bits
+pub record HasRoom (row : ProcSum) : Type 0 where
+  pub own : (m : Measure) → sum_of row.own m < 2161727821137838081
+  pub total : (m : Measure) → sum_of row.total m < 2161727821137838081

@@ -9,6 +9,7 @@ mod number;
 mod put;
 mod reading;
 mod rows;
+mod running;
 mod same;
 mod section;
 mod summing;
@@ -18,5 +19,6 @@ mod writing;
 
 pub use fault::DumpFault;
 pub use reading::undump;
+pub use running::{RunningSums, one_after_the_other_gives_the_same};
 pub use summing::{ProcSum, SumFault, sum_procs};
 pub use writing::dump;

@@ -122,7 +122,7 @@ fn are_all_small(files: &[Loaded])
     }
 }
 
-fn are_small(links: &[LinkRow])
+pub(crate) fn are_small(links: &[LinkRow])
     ensures { AreSmall links.now }
 {
     for link in links {

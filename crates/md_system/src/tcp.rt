@@ -1,100 +1,52 @@
-// Connections over TCP at 127.0.0.1.
-ghost use Rattle.std.specs.Prelude.{◌≡◌, ◌≤◌, None, length, IfOk, IsSome};
-ghost use Rattle.md_base.specs.Streams.{sink_side, source_side};
+// The net at 127.0.0.1.
+ghost use Rattle.std.specs.Prelude.{◌≡◌, None, IfOk, IsSome};
 
-use crate::sink::write_some;
-use md_base::{Failed, Link, Net, NoMemory, Sink, Source};
-use std::io::{Read, Write};
+use crate::held::{Held, Listening};
+use crate::link::TcpLink;
+use crate::tries::{counted, failed};
+use md_base::{Failed, Net, NoMemory};
+use std::alloc::Global;
 use std::net::{Ipv4Addr, OpenListener, SocketAddr};
-
-/// A connection over TCP. It tells nothing of what it holds.
-#[derive(Drop)]
-pub struct TcpLink<S> {
-    stream: S,
-    read_faults: u64,
-    write_faults: u64,
-}
-
-impl<S: Read + Write> TcpLink<S> {
-    /// A connection over this stream, with counts of 0.
-    pub fn new(stream: S) -> TcpLink<S>
-        ensures reads { result.read_faults ≡ 0 }
-        ensures writes { result.write_faults ≡ 0 }
-    {
-        TcpLink {
-            stream,
-            read_faults: 0,
-            write_faults: 0,
-        }
-    }
-}
-
-impl<S: Read + Write> Source for TcpLink<S> {
-    ghost stream = { λ _. None };
-
-    ghost read_faults = { λ l. l.read_faults };
-
-    ghost sink_beside = { λ l. sink_side None l.write_faults };
-
-    fn read(&mut self, buf: &mut [u8]) -> Result<usize, Failed> {
-        match self.stream.read(buf) {
-            Ok(count) => Ok(count),
-            Err(_) => {
-                self.read_faults = self.read_faults.saturating_add(1);
-                Err(Failed::Device)
-            }
-        }
-    }
-}
-
-impl<S: Read + Write> Sink for TcpLink<S> {
-    ghost held = { λ _. None };
-
-    ghost write_faults = { λ l. l.write_faults };
-
-    ghost source_beside = { λ l. source_side None l.read_faults };
-
-    fn write(&mut self, piece: &[u8]) -> Result<usize, Failed> {
-        match write_some(&mut self.stream, piece) {
-            Ok(count) => Ok(count),
-            Err(fault) => {
-                self.write_faults = self.write_faults.saturating_add(1);
-                Err(fault)
-            }
-        }
-    }
-}
-
-impl<S: Read + Write> Link for TcpLink<S> {
-    ghost use Rattle.std.proofs.Common.{refl};
-
-    ghost reads_leave_the_sink = { λ _. refl };
-
-    ghost writes_leave_the_source = { λ _. refl };
-}
+use std::os::fd::AsRawFd;
+use std::rt::Clock;
 
 /// The net at 127.0.0.1. It tells nothing of the connections, and never says that there will be none.
+///
+/// It takes in connections as they come, and gives the first one whose head is there, or whose time is up, so that no
+/// peer waits for another one's head. A connection that is given back stays until its peer has the answer.
 #[derive(Drop)]
-pub struct TcpNet<R: std::net::Net> {
+pub struct TcpNet<R: std::net::Net + Clock> {
+    alloc: Global,
     net: R,
     listener: Option<R::Listener>,
+    held: Held<R::Stream>,
     faults: u64,
 }
 
-impl<R: std::net::Net> TcpNet<R> {
+impl<R: std::net::Net + Clock> TcpNet<R> {
     /// A net that listens at no port yet, with a count of 0.
-    pub fn new(net: R) -> TcpNet<R>
+    pub fn new(alloc: Global, net: R) -> TcpNet<R>
         ensures { result.faults ≡ 0 }
     {
         TcpNet {
+            alloc,
             net,
             listener: None,
+            held: Held::new(alloc),
             faults: 0,
         }
     }
+
+    /// Closes the connections that are left, and waits until the peers that were answered have their answers, a second
+    /// at most.
+    pub fn finish(&mut self)
+        ensures { self.new.faults ≡ self.old.faults }
+    {
+        finish(&self.net, self.alloc, &mut self.held);
+    }
 }
 
-impl<R: std::net::Net> Net for TcpNet<R> {
+impl<R: std::net::Net + Clock> Net for TcpNet<R> {
     type Conn = TcpLink<R::Stream>;
 
     ghost connections = { λ _. None };
@@ -104,37 +56,82 @@ impl<R: std::net::Net> Net for TcpNet<R> {
     ghost IsBound = { λ n. IsSome n.listener };
 
     fn bind(&mut self, port: u16) -> Result<(), Failed> {
-        match self.net.bind(SocketAddr::from((Ipv4Addr::LOCALHOST, port))) {
+        match counted(&mut self.faults, listen(&self.net, port)) {
             Ok(listener) => {
                 self.listener = Some(listener);
                 Ok(())
             }
-            Err(_) => {
-                self.faults = self.faults.saturating_add(1);
-                Err(Failed::Device)
-            }
+            Err(fault) => Err(fault),
         }
     }
 
     fn next(&mut self) -> Result<Option<TcpLink<R::Stream>>, Failed> {
-        match accept(&self.listener) {
-            Some(stream) => Ok(Some(TcpLink::new(stream))),
-            None => {
-                self.faults = self.faults.saturating_add(1);
-                Err(Failed::Device)
-            }
+        let found = next_ready(self.alloc, &self.net, &self.listener, &mut self.held);
+        match counted(&mut self.faults, found) {
+            Ok(link) => Ok(Some(link)),
+            Err(fault) => Err(fault),
         }
     }
 
     fn done(&mut self, link: TcpLink<R::Stream>) -> Result<(), NoMemory> {
-        drop(link);
-        Ok(())
+        let (stream, is_answered) = link.into_stream();
+        match self.net.monotonic() {
+            Ok(now) if is_answered => self.held.close(stream, now),
+            // It is closed at once.
+            _ => Ok(()),
+        }
     }
 }
 
-/// The stream of the next connection, or `None` where there is no listener or it failed.
-fn accept<L: OpenListener>(listener: &Option<L>) -> Option<L::Stream> {
-    let listener = listener.as_ref()?;
-    let (stream, _) = listener.accept().ok()?;
-    Some(stream)
+/// Listens at a port of 127.0.0.1. An accept there doesn't wait.
+fn listen<R: std::net::Net>(net: &R, port: u16) -> Result<R::Listener, Failed> {
+    let address = SocketAddr::from((Ipv4Addr::LOCALHOST, port));
+    let listener = net.bind(address).map_err(failed)?;
+    listener.set_nonblocking(true).map_err(failed)?;
+    Ok(listener)
+}
+
+/// The first connection that is ready to be served.
+fn next_ready<R: std::net::Net + Clock>(
+    alloc: Global,
+    net: &R,
+    listener: &Option<R::Listener>,
+    held: &mut Held<R::Stream>,
+) -> Result<TcpLink<R::Stream>, Failed>
+    ensures { IfOk result (λ link. (link.read_faults ≡ 0) × (link.write_faults ≡ 0)) }
+{
+    let Some(listener) = listener else {
+        return Err(Failed::Device);
+    };
+    let mut refusals = 0;
+    for _ in 0..u64::MAX {
+        let now = net.monotonic().map_err(failed)?;
+        let listening = held.take_in(alloc, listener, &mut refusals, now)?;
+        held.hear(now)?;
+        if let Some(link) = held.first_ready() {
+            return Ok(link);
+        }
+        match listening {
+            Listening::Open => held.wait(alloc, Some(listener.as_raw_fd()), false, now)?,
+            Listening::Full => held.wait(alloc, None, false, now)?,
+            Listening::Paused => held.wait(alloc, None, true, now)?,
+        }
+    }
+    Err(Failed::Device)
+}
+
+/// Closes what is held, once the peers that were answered have their answers, or their time is up.
+fn finish<R: std::net::Net + Clock>(net: &R, alloc: Global, held: &mut Held<R::Stream>) {
+    held.forget();
+    for _ in 0..u64::MAX {
+        let Ok(now) = net.monotonic() else {
+            return;
+        };
+        if held.hear(now).is_err() || held.is_empty() {
+            return;
+        }
+        if held.wait(alloc, None, false, now).is_err() {
+            return;
+        }
+    }
 }

@@ -1,12 +1,12 @@
 -- What comes of profiles that are added up.
-use Rattle.std.proofs.Common.{◌≡◌, ◌∙◌, refl, sym, ap, inl, inr, ℕ, zero, suc, ◌+◌, ◌<◌, List, [], ◌∷◌, ◌++◌, length, take, drop, Option, Some, arith}
+use Rattle.std.proofs.Common.{◌≡◌, ◌∙◌, refl, sym, ap, subst, inl, inr, ℕ, zero, suc, ◌+◌, ◌<◌, List, [], ◌∷◌, ◌++◌, length, take, drop, Option, None, Some, arith}
 use Rattle.std.proofs.lemmas.List.{take_more}
-use Rattle.std.specs.Prelude.{Result, Ok, Err, slice_get, slice_index_or, option_map}
+use Rattle.std.specs.Prelude.{Result, Ok, Err, IsErrAnd, IfSome, IfNone, slice_get, slice_index_or}
 use Rattle.std.specs.Borrow.{Bor}
 use Rattle.md_base.specs.Files.{Files}
 use Rattle.md_cost.specs.Loading.{LoadedRows}
-use Rattle.md_dump.specs.Sums.{IsFirstOther, AreOfOne, HaveViews, AreProcSums}
-use Rattle.md_dump.specs.declared.summing.ProcSum.{ProcSum}
+use Rattle.md_dump.specs.Sums.{IsFirstOther, AreOfOne, AreProcSums, SumRows, statics_at}
+use Rattle.md_dump.proofs.Adding.{have_views}
 use Rattle.md_static.specs.Tables.{Static}
 use Rattle.md_words.specs.Told.{texts}
 use Rattle.md_tool.specs.declared.fault.Fault.{Fault}
@@ -14,7 +14,7 @@ use Rattle.md_tool.specs.declared.fault.Fault.TheVariants.{Usage, Read, TooLong,
 use Rattle.md_tool.specs.declared.sums.Stopped.{Stopped}
 use Rattle.md_tool.specs.Due.{WriteEnds}
 use Rattle.md_tool.specs.Stored.{IsLoadedFrom, ViewFails}
-use Rattle.md_tool.specs.Summed.{AreLoaded, StopsAt, AddUpFails, IsSumOf, IsOfAnother, SumEnds, SumStops, sum_text}
+use Rattle.md_tool.specs.Summed.{AreLoaded, AreSummed, StopsAt, AddUpFails, IsSumOf, IsOfAnother, SumEnds, SumStops, sum_text}
 
 -- ---- lists of loaded profiles
 
@@ -87,23 +87,46 @@ stops_at held ws k d fs some all fault less loaded rises fails = record {
 
 -- ---- their sums
 
-first_at : (fs : List LoadedRows) (d : LoadedRows) → 0 < length fs → slice_get fs 0 ≡ Some (slice_index_or fs 0 d)
-first_at [] d some = absurd (omega (arith, some))
-first_at (f ∷ fs) d some = refl
+-- how many files were added up
+pub as_many_summed : (held : Option Files) (ws : List (Bor (List ℕ))) (s : SumRows) → AreSummed held (texts ws) s → s.count ≡ length ws
+as_many_summed held ws s sums = sums.over.count ∙ as_many_loaded held (texts ws) sums.files sums.loaded ∙ as_many_texts ws
 
-pub summed : (held : Option Files) (ws : List (Bor (List ℕ))) (fs : List LoadedRows) (d first : LoadedRows) (statics : Static) (rows : List ProcSum) (text : List ℕ) → AreLoaded held (texts ws) fs → HaveViews fs → AreOfOne fs
-    → AreProcSums fs rows → 0 < length fs → first ≡ slice_index_or fs 0 d → statics ≡ first.profile.statics → text ≡ sum_text statics (length ws) rows → IsSumOf held (texts ws) text
-summed held ws fs d first statics rows text loaded views one sums some there its is = record {
-  files = fs;
-  loaded = loaded;
-  views = views;
-  one = one;
+some_summed : (held : Option Files) (ws : List (Bor (List ℕ))) (s : SumRows) (sums : AreSummed held (texts ws) s) → 0 < length ws → 0 < length sums.files
+some_summed held ws s sums some = let a = as_many_loaded held (texts ws) sums.files sums.loaded in let b = as_many_texts ws in omega (arith, a, b, some)
+
+tables_at_first : (fs : List LoadedRows) → 0 < length fs → statics_at fs 0 ≡ None → ⊥
+tables_at_first [] some none = absurd (omega (arith, some))
+tables_at_first (f ∷ fs) some none = absurd (cc none)
+
+-- a first file has tables
+pub has_tables : (held : Option Files) (ws : List (Bor (List ℕ))) (s : SumRows) → AreSummed held (texts ws) s → 0 < length ws → s.statics ≡ None → ⊥
+has_tables held ws s sums some none = tables_at_first sums.files (some_summed held ws s sums some) (sym sums.over.statics ∙ none)
+
+pub summed : (held : Option Files) (ws : List (Bor (List ℕ))) (s : SumRows) (statics : Static) (text : List ℕ) → AreSummed held (texts ws) s → 0 < length ws → s.other ≡ None → s.statics ≡ Some statics → text ≡ sum_text statics (length ws) s.rows
+    → IsSumOf held (texts ws) text
+summed held ws s statics text sums some none its is = record {
+  files = sums.files;
+  loaded = sums.loaded;
+  views = have_views sums.files sums.over.small;
+  one = subst (λ (o : Option ℕ). IfNone o (AreOfOne sums.files)) none sums.over.one;
   statics = statics;
-  statics_are = ap (λ (o : Option LoadedRows). option_map (λ f. f.profile.statics) o) (first_at fs d some) ∙ ap (λ (s : Static). Some s) (sym (its ∙ ap (λ (f : LoadedRows). f.profile.statics) there));
-  rows = rows;
-  sums = sums;
-  is = is ∙ ap (λ (n : ℕ). sum_text statics n rows) (sym (as_many_texts ws));
+  statics_are = sym sums.over.statics ∙ its;
+  rows = s.rows;
+  sums = subst (λ (o : Option ℕ). IfNone o (0 < length sums.files → AreProcSums sums.files s.rows)) none sums.over.sums (some_summed held ws s sums some);
+  is = is ∙ ap (λ (n : ℕ). sum_text statics n s.rows) (sym (as_many_texts ws));
 }
+
+pub other_found : (held : Option Files) (ws : List (Bor (List ℕ))) (s : SumRows) (place : ℕ) (sums : AreSummed held (texts ws) s) → s.other ≡ Some place → IsFirstOther sums.files place
+other_found held ws s place sums found = subst (λ (o : Option ℕ). IfSome o (IsFirstOther sums.files)) found sums.over.differs
+
+-- it is one of the files
+pub other_named : (held : Option Files) (ws : List (Bor (List ℕ))) (s : SumRows) (place : ℕ) → AreSummed held (texts ws) s → s.other ≡ Some place → place < length ws
+other_named held ws s place sums found =
+    let first = other_found held ws s place sums found in
+    let a = as_many_loaded held (texts ws) sums.files sums.loaded in
+    let b = as_many_texts ws in
+    let there = first.there in
+    omega (arith, a, b, there)
 
 pub of_another : (held : Option Files) (ws : List (Bor (List ℕ))) (fs : List LoadedRows) (place : ℕ) (d : Bor (List ℕ)) → AreLoaded held (texts ws) fs → IsFirstOther fs place → IsOfAnother held (texts ws) (slice_index_or ws place d).now
 of_another held ws fs place d loaded first = record {
@@ -151,6 +174,11 @@ sum_fails held names at out reads outs (TooLarge most) h = absurd h
 sum_fails held names at out reads outs (Damaged place kind) h = absurd h
 sum_fails held names at out reads outs (TwoEntries clique a b) h = absurd h
 sum_fails held names at out reads outs Write h = absurd h
+
+pub stopped_ends : (held : Option Files) (names : List (List ℕ)) (out : Option (List ℕ)) (reads outs : Type 0) (stopped : Stopped) (r : Result (Unit {0}) Stopped) → AddUpFails held names stopped.file.now stopped.fault → IsErrAnd r (λ e. e ≡ stopped)
+    → SumStops held names out out reads outs r
+stopped_ends held names out reads outs stopped (Ok done) fails is = absurd is
+stopped_ends held names out reads outs stopped (Err e) fails is = sum_fails held names e.file.now out reads outs e.fault (subst (λ (s : Stopped). AddUpFails held names s.file.now s.fault) (sym is) fails)
 
 -- the sums were written as far as they were
 pub sum_written : (held : Option Files) (names : List (List ℕ)) (text : List ℕ) (out out' : Option (List ℕ)) (reads outs : Type 0) (fault : Fault) → IsSumOf held names text → WriteEnds text out out' outs (Err fault)

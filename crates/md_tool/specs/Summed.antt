@@ -5,7 +5,7 @@ use Rattle.std.specs.List.{flat_map}
 use Rattle.md_base.specs.Outside.{added, PartAdded}
 use Rattle.md_base.specs.Files.{Files}
 use Rattle.md_cost.specs.Loading.{LoadedRows}
-use Rattle.md_dump.specs.Sums.{IsFirstOther, AreOfOne, HaveViews, AreProcSums, statics_at}
+use Rattle.md_dump.specs.Sums.{IsFirstOther, AreOfOne, HaveViews, AreProcSums, SumRows, IsSumOver, statics_at}
 use Rattle.md_dump.specs.declared.summing.ProcSum.{ProcSum}
 use Rattle.md_render.specs.Lines.{proc_line}
 use Rattle.md_static.specs.Tables.{Static}
@@ -20,6 +20,12 @@ AreLoaded held [] [] = Unit {0}
 AreLoaded held [] (f ∷ fs) = ⊥
 AreLoaded held (name ∷ names) [] = ⊥
 AreLoaded held (name ∷ names) (f ∷ fs) = IsLoadedFrom held name f × AreLoaded held names fs
+
+-- the files of these names spell such profiles, and this is kept of them, added up one after the other
+pub record AreSummed (held : Option Files) (names : List (List ℕ)) (sums : SumRows) : Type 0 where
+  pub files : List LoadedRows
+  pub loaded : AreLoaded held names files
+  pub over : IsSumOver files sums
 
 -- ---- what is due
 

@@ -1,18 +1,18 @@
 // The command `sum`.
-ghost use Rattle.std.specs.Prelude.{◌≡◌, ◌≤◌, ◌++◌, ◌∷◌, [], Option, length, IfOk, OnOk, MatchResult, string_bytes};
+ghost use Rattle.std.specs.Prelude.{◌≡◌, ◌<◌, ◌≤◌, ◌++◌, ◌∷◌, [], List, Option, length, IfOk, OnOk, MatchResult, string_bytes};
 ghost use Rattle.md_base.specs.Files.{Files};
 ghost use Rattle.md_base.specs.Outside.{Rose};
 ghost use Rattle.md_cost.specs.Loading.{LoadedRows};
+ghost use Rattle.md_dump.specs.Sums.{IsSumOver};
 ghost use Rattle.md_words.specs.Told.{texts};
 ghost use Rattle.md_tool.specs.Stored.{IsLoadedFrom, ViewFails};
-ghost use Rattle.md_tool.specs.Summed.{AreLoaded, SumStops, AddUpFails, StopsAt, IsSumOf, sum_lines, sum_title, sum_text};
+ghost use Rattle.md_tool.specs.Summed.{AreSummed, SumStops, AddUpFails, StopsAt, IsSumOf, sum_lines, sum_title, sum_text};
 
 use crate::fault::Fault;
 use crate::stored::load_file;
 use crate::write::write;
 use md_base::{NoMemory, Sink, Store};
-use md_cost::Loaded;
-use md_dump::{ProcSum, SumFault, sum_procs};
+use md_dump::{ProcSum, RunningSums};
 use md_render::add_proc_line;
 use md_static::Statics;
 use std::alloc::{AllocError, Global};
@@ -37,93 +37,93 @@ pub fn sum_files<'a, S: Store, O: Sink>(
         (Rose (S.read_faults store.old) (S.read_faults store.new)) (Rose (O.write_faults out.old) (O.write_faults out.new)) result }
     ensures kept { S.held store.new ≡ S.held store.old }
 {
-    let files = load_files(alloc, names, store)?;
-    write_sums(alloc, names, &files, out)
+    let sums = add_files(alloc, names, store)?;
+    write_sums(alloc, names, &sums, out)
 }
 
-/// Writes the sums of some profiles.
+/// Writes the sums over some profiles.
 fn write_sums<'a, O: Sink>(
     alloc: Global,
     names: &[&'a str],
-    files: &[Loaded],
+    sums: &RunningSums,
     out: &mut O,
 ) -> Result<(), Stopped<'a>>
     requires some { 1 ≤ length names.now }
-    requires few { length names.now ≤ 16 }
-    requires loaded { (held : Option Files) × AreLoaded held (texts names.now) files.now }
-    ensures { (held : Option Files) → AreLoaded held (texts names.now) files.now
+    requires summed { (held : Option Files) × AreSummed held (texts names.now) sums.now }
+    ensures { (held : Option Files) → AreSummed held (texts names.now) sums.now
         → SumStops held (texts names.now) (O.held out.old) (O.held out.new) ⊥ (Rose (O.write_faults out.old) (O.write_faults out.new)) result }
 {
-    let text = add_up(alloc, names, files)?;
+    let text = text_of(alloc, names, sums)?;
     match write(out, &text) {
         Ok(()) => Ok(()),
         Err(fault) => Err(Stopped { file: "", fault }),
     }
 }
 
-/// Loads the profiles in some files, in order.
-fn load_files<'a, S: Store>(
+/// Adds up the profiles in some files, in order. Each is given up before the next one is loaded.
+fn add_files<'a, S: Store>(
     alloc: Global,
     names: &[&'a str],
     store: &mut S,
-) -> Result<Vec<Loaded>, Stopped<'a>>
-    ensures loaded { MatchResult result (λ files. AreLoaded (S.held store.old) (texts names.now) files.items)
+) -> Result<RunningSums, Stopped<'a>>
+    requires few { length names.now ≤ 16 }
+    ensures summed { MatchResult result (AreSummed (S.held store.old) (texts names.now))
         (λ stopped. StopsAt (S.held store.old) (texts names.now) stopped.file.now (Rose (S.read_faults store.old) (S.read_faults store.new)) stopped.fault) }
     ensures kept { S.held store.new ≡ S.held store.old }
 {
-    let mut files = Vec::new(alloc);
+    let mut sums = RunningSums::new(alloc);
     for name in names {
-        match load_next(alloc, &mut files, *name, store) {
+        match add_file(alloc, &mut sums, *name, store) {
             Ok(()) => {}
             Err(fault) => return Err(Stopped { file: *name, fault }),
         }
     }
-    Ok(files)
+    Ok(sums)
 }
 
-/// Loads the profile in a file, and puts it behind those that were loaded before it.
-fn load_next<S: Store>(
+/// Loads the profile in a file, and adds it to those that were added up before it.
+fn add_file<S: Store>(
     alloc: Global,
-    files: &mut Vec<Loaded>,
+    sums: &mut RunningSums,
     name: &str,
     store: &mut S,
 ) -> Result<(), Fault>
-    ensures loaded { MatchResult result (λ _. (file : LoadedRows) × IsLoadedFrom (S.held store.old) name.now file × (files.new.items ≡ files.old.items ++ file ∷ []))
+    requires few { sums.old.count < 16 }
+    requires sums { (files : List LoadedRows) × IsSumOver files sums.old }
+    ensures added { MatchResult result
+        (λ _. (file : LoadedRows) × IsLoadedFrom (S.held store.old) name.now file × ((files : List LoadedRows) → IsSumOver files sums.old → IsSumOver (files ++ file ∷ []) sums.new))
         (ViewFails (S.held store.old) name.now (Rose (S.read_faults store.old) (S.read_faults store.new))) }
     ensures kept { S.held store.new ≡ S.held store.old }
     ensures later { S.read_faults store.old ≤ S.read_faults store.new }
 {
     let loaded = load_file(alloc, name, store)?;
-    match files.push(loaded) {
+    match sums.add(alloc, &loaded) {
         Ok(()) => Ok(()),
-        Err(_) => Err(Fault::NoMemory),
+        Err(NoMemory) => Err(Fault::NoMemory),
     }
 }
 
-/// The text of the sums of some profiles.
-fn add_up<'a>(alloc: Global, names: &[&'a str], files: &[Loaded]) -> Result<Vec<u8>, Stopped<'a>>
+/// The text of the sums over some profiles.
+fn text_of<'a>(alloc: Global, names: &[&'a str], sums: &RunningSums) -> Result<Vec<u8>, Stopped<'a>>
     requires some { 1 ≤ length names.now }
-    requires few { length names.now ≤ 16 }
-    requires loaded { (held : Option Files) × AreLoaded held (texts names.now) files.now }
-    ensures { (held : Option Files) → AreLoaded held (texts names.now) files.now
+    requires summed { (held : Option Files) × AreSummed held (texts names.now) sums.now }
+    ensures { (held : Option Files) → AreSummed held (texts names.now) sums.now
         → MatchResult result (λ text. IsSumOf held (texts names.now) text.items) (λ stopped. AddUpFails held (texts names.now) stopped.file.now stopped.fault) }
 {
-    match sum_procs(alloc, files) {
-        Ok(rows) => match text_of_sums(alloc, files[0].profile().statics(), names.len(), &rows) {
+    match (sums.first_other(), sums.statics()) {
+        (Some(place), _) => Err(Stopped {
+            file: names[place as usize],
+            fault: Fault::AnotherProgram,
+        }),
+        (None, Some(statics)) => match text_of_sums(alloc, statics, names.len(), sums.rows()) {
             Ok(text) => Ok(text),
             Err(_) => Err(Stopped {
                 file: "",
                 fault: Fault::NoMemory,
             }),
         },
-        Err(SumFault::Differ(place)) => Err(Stopped {
-            file: names[place as usize],
-            fault: Fault::AnotherProgram,
-        }),
-        Err(SumFault::NoMemory) => Err(Stopped {
-            file: "",
-            fault: Fault::NoMemory,
-        }),
+        // There is a first file.
+        (None, None) => unreachable!(),
     }
 }
 

@@ -1,47 +1,20 @@
-// Files, the error stream and connections of the machine.
+// The error stream of the machine, and a connection.
 use crate::input::show_bytes;
 use crate::nets::serve_next;
+use crate::peers::{at, free_port};
 use crate::sinks::write_all;
-use crate::stores::act_all;
 use cases::Case;
 use md_base::Net;
-use md_system::{StdSink, StdStore, TcpNet};
+use md_system::{StdSink, TcpNet};
 use std::alloc::Global;
-use std::net::{Ipv4Addr, OpenListener, SocketAddr, TcpStream};
-use std::{fs, io};
-
-/// The files of the machine: what comes of calls on them. Those of the lines `remove NAME` are removed in the end.
-pub fn show_files(
-    rt: &HostRuntime,
-    alloc: Global,
-    case: &Case,
-    found: &mut String,
-) -> io::Result<()> {
-    let mut store = StdStore::new(alloc, rt);
-    act_all(alloc, case, &mut store, found)?;
-    for field in case.fields() {
-        if field.key.as_str() == "remove" {
-            fs::remove_file(rt, field.text.as_str())?;
-        }
-    }
-    Ok(())
-}
+use std::io;
+use std::net::TcpStream;
 
 /// What comes of writing to standard error.
 pub fn show_error_stream(rt: &HostRuntime, case: &Case, found: &mut String) -> io::Result<()> {
-    let mut sink = StdSink::new(rt.stderr());
+    let mut sink = StdSink::new(Some(rt.stderr()));
     write_all(case, &mut sink, found)?;
     Ok(())
-}
-
-/// A port at which nobody listens.
-fn free_port(rt: &HostRuntime) -> io::Result<u16> {
-    let listener = std::net::Net::bind(rt, at(0))?;
-    Ok(listener.local_addr()?.port())
-}
-
-fn at(port: u16) -> SocketAddr {
-    SocketAddr::from((Ipv4Addr::LOCALHOST, port))
 }
 
 /// A connection over TCP that sends the bytes of the line `sends`: what comes of it, and what it gets.
@@ -52,7 +25,7 @@ pub fn show_tcp(
     found: &mut String,
 ) -> io::Result<()> {
     let port = free_port(rt)?;
-    let mut net = TcpNet::new(rt);
+    let mut net = TcpNet::new(alloc, rt);
     match net.bind(port) {
         Ok(()) => connect(rt, alloc, case, port, &mut net, found),
         Err(failed) => Ok(writeln!(found, "not listening: {failed}")?),

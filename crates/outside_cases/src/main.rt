@@ -4,11 +4,13 @@
 #![tactic(auto)]
 
 mod counts;
+mod files;
 mod heaps;
 mod input;
 mod machine;
 mod names;
 mod nets;
+mod peers;
 mod sinks;
 mod stores;
 
@@ -43,7 +45,8 @@ fn said_of(rt: &HostRuntime, alloc: Global, case: &Case) -> io::Result<String> {
 /// Adds what the view that the case names shows.
 fn show(rt: &HostRuntime, alloc: Global, case: &Case, found: &mut String) -> io::Result<()> {
     match case.text("show") {
-        "files" => machine::show_files(rt, alloc, case, found),
+        "files" => files::show(rt, alloc, case, found),
+        "peers" => peers::show(rt, alloc, case, found),
         "tcp" => machine::show_tcp(rt, alloc, case, found),
         "error stream" => machine::show_error_stream(rt, case, found),
         view => Ok(show_in_memory(alloc, case, view, found)?),
@@ -62,7 +65,7 @@ fn show_in_memory(
         "sure store" => stores::show_sure(alloc, case, found),
         "sink" => sinks::show_failing(alloc, case, found),
         "sure sink" => sinks::show_sure(alloc, case, found),
-        "full sink" => sinks::show_full(case, found),
+        "hampered sink" => sinks::show_hampered(case, found),
         "net" => nets::show_failing(alloc, case, found),
         "sure net" => nets::show_sure(alloc, case, found),
         "counts" => counts::show(case, found),

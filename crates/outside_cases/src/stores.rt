@@ -66,7 +66,8 @@ pub fn act_all<S: Store>(
     Ok(())
 }
 
-fn act<S: Store>(
+/// Does what one line says.
+pub fn act<S: Store>(
     alloc: Global,
     field: &Field,
     store: &mut S,
@@ -97,7 +98,8 @@ fn read<S: Store>(
     }
 }
 
-fn write<S: Store>(
+/// Writes a file whole.
+pub fn write<S: Store>(
     store: &mut S,
     name: &str,
     bytes: &[u8],

@@ -1,4 +1,4 @@
-use Rattle.law_frames.proofs.Cuts.{trimmed_length}
+use Rattle.law_frames.proofs.Cuts.{trimmed_length, trimmed_rest}
 use Rattle.law_frames.proofs.Leave.{top_above, top_choice, top_redo, top_popped, top_caller, top_trimmed}
 use Rattle.law_frames.proofs.failing.tops_fall.Goals as goal
 
@@ -22,3 +22,6 @@ returns-clause-exits c = top_caller
 
 pub returns-clause-cuts : goal.returns-clause-cuts
 returns-clause-cuts c = top_trimmed
+
+pub returns-clause-the_oldest : goal.returns-clause-the_oldest
+returns-clause-the_oldest c = trimmed_rest

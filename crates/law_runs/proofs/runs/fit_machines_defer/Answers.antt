@@ -1,4 +1,4 @@
-use Rattle.law_runs.proofs.FitLifts.{fit_pends, fit_defers, fit_moves_silently, fit_charges, fit_charged, fit_refused}
+use Rattle.law_runs.proofs.FitLifts.{fit_pends, fit_defers, fit_moves_silently, fit_charges, fit_moves_charged, fit_stops_charged, fit_charged, fit_refused}
 use Rattle.law_runs.proofs.runs.fit_machines_defer.Goals as goal
 
 pub returns-clause-nothing : goal.returns-clause-nothing
@@ -12,6 +12,12 @@ returns-clause-moves c s b left p done S T d e cs ds k m r t = fit_moves_silentl
 
 pub returns-clause-charges : goal.returns-clause-charges
 returns-clause-charges c s b left p done S T d e cs ds k m a g weight items r t = fit_charges r t
+
+pub returns-clause-moves_charged : goal.returns-clause-moves_charged
+returns-clause-moves_charged c s b left p done S T d e cs ds k m items r le t = fit_moves_charged r le t
+
+pub returns-clause-stops_charged : goal.returns-clause-stops_charged
+returns-clause-stops_charged c s b left p done items S d cs k r le ends = fit_stops_charged r le ends
 
 pub returns-clause-charged : goal.returns-clause-charged
 returns-clause-charged c s b left p done S d cs k r le = fit_charged r le

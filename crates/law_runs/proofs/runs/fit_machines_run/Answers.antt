@@ -1,4 +1,5 @@
-use Rattle.law_runs.proofs.Joining.{move_with}
+use Rattle.md_safety.proofs.Whole.{proper}
+use Rattle.law_runs.proofs.Joining.{move_with, unfolded_fits}
 use Rattle.law_runs.proofs.FitLifts.{fit_begins_main, fit_begins_cut, fit_moves, fit_turns, fit_stops}
 use Rattle.law_runs.proofs.runs.fit_machines_run.Goals as goal
 
@@ -7,6 +8,9 @@ returns-clause-begins c = fit_begins_main
 
 pub returns-clause-begins_cut : goal.returns-clause-begins_cut
 returns-clause-begins_cut c = fit_begins_cut
+
+pub returns-clause-applies : goal.returns-clause-applies
+returns-clause-applies c text s spells h st a n w by fits = unfolded_fits (proper text s spells h) by fits
 
 pub returns-clause-keeps : goal.returns-clause-keeps
 returns-clause-keeps c s st items S d cs k by fits = move_with by fits

@@ -1,0 +1,55 @@
+// Turns of simple goals as instructions over the slots of a frame. Each law is the contract of a function that does nothing.
+ghost use Rattle.std.specs.Prelude.{◌≡◌, ◌⊎◌, ℕ, suc, ◌+◌, pos, ℤ, ◌&&◌, cond, nat_eq, List, [], ◌∷◌, ◌++◌, length, map, Some, None};
+ghost use Rattle.std.specs.Fmt.{signed_decimal};
+ghost use Rattle.std.specs.Str.{bytes_eq};
+ghost use Rattle.md_hlds.specs.declared.goal.Cmp.{Cmp};
+ghost use Rattle.md_hlds.specs.declared.goal.Op.{Op};
+ghost use Rattle.md_hlds.specs.declared.goal.PredName.{PredName};
+ghost use Rattle.md_hlds.specs.declared.goal.Term.TheVariants.{Name, Var};
+ghost use Rattle.md_hlds.specs.declared.goal.Term.{Term};
+ghost use Rattle.md_hlds.specs.HldsGoal.{Unifies, Computes, Compares, WritesInt, WritesText, EndsLine, Raises as Throws, At, SimpleGoal, numbered_goal};
+ghost use Rattle.md_hlds.specs.Hlds.{Procedure, Hlds, procedure_called};
+ghost use Rattle.md_hlds.specs.Value.{Value, Values, Number, Literal, Built, Closure, listed_values, gathered_values, value_count, compared};
+ghost use Rattle.md_hlds.specs.Simple.{result_of, holds};
+ghost use Rattle.md_hlds.specs.Trace.{Out, Throw, allocated};
+ghost use Rattle.md_steps.specs.State.{State};
+ghost use Rattle.md_modes.specs.Modes.{mode_fault};
+ghost use Rattle.md_modes.specs.Notes.{constructs, closes, takes_apart, assigns, tests, program_notes};
+ghost use Rattle.md_modes.specs.Classes.{role_at};
+ghost use Rattle.md_reader.specs.Grammar.{Spells};
+ghost use Rattle.law_frames.specs.Ways.{Address, Way, on};
+ghost use Rattle.law_frames.specs.Stores.{Act, Choice, Store, with_value};
+ghost use Rattle.law_frames.specs.Standing.{Runs, Raises, Stands};
+ghost use Rattle.law_fits.specs.Fast.{Puts, Misses, IsConstant, beside, tested, fast_same};
+ghost use Rattle.law_fits.specs.States.{FitsState};
+ghost use Rattle.law_fits.specs.Reads.{reads_at};
+ghost use Rattle.law_fits.specs.Leaves.{leaves_table};
+ghost use Rattle.law_runs.specs.FitRuns.{FitsTurn, AfterEffect};
+
+/// The turns of unifications with a name, by the role that the checks note at the goal: a construction, a closing, and a
+/// deconstruction of the term in the slot of its variable, with parts that are compared or, where the role names none, all
+/// written.
+pub fn instructions_on_terms()
+    ensures constructs { (bytes : List ℕ) (program : Hlds) → Spells bytes program → mode_fault program ≡ None → (S : Store) (a : Address) (n line : ℕ) (v : ℕ) (q : PredName) (ys : List ℕ) (w : Way) (x : Act) (c : List Act) (cs : List Choice) (k : ℕ) (st : State) → Stands (leaves_table program) S (Runs (on a (numbered_goal n (At line (SimpleGoal (Unifies v (Name q ys))))) w) x c) cs k st → FitsState program st → role_at (program_notes program) n ≡ Some constructs → FitsTurn program st x.number n (suc (length ys)) (allocated x.number (length ys) ++ []) (with_value S x.index v (Built q.name (gathered_values (map (S.values x.index) ys)))) (Runs w x c) cs k }
+    ensures closes { (bytes : List ℕ) (program : Hlds) → Spells bytes program → mode_fault program ≡ None → (S : Store) (a : Address) (n line : ℕ) (v : ℕ) (q : PredName) (ys : List ℕ) (r : ℕ × Procedure) (w : Way) (x : Act) (c : List Act) (cs : List Choice) (k : ℕ) (st : State) → Stands (leaves_table program) S (Runs (on a (numbered_goal n (At line (SimpleGoal (Unifies v (Name q ys))))) w) x c) cs k st → FitsState program st → role_at (program_notes program) n ≡ Some closes → procedure_called program q ≡ Some r → FitsTurn program st x.number n (suc (length ys + 3)) (allocated x.number (length ys + 3) ++ []) (with_value S x.index v (Closure r.0 (gathered_values (map (S.values x.index) ys)))) (Runs w x c) cs k }
+    ensures takes_apart { (bytes : List ℕ) (program : Hlds) → Spells bytes program → mode_fault program ≡ None → (S : Store) (a : Address) (n line : ℕ) (v : ℕ) (q : PredName) (ys bound : List ℕ) (w : Way) (x : Act) (c : List Act) (cs : List Choice) (k : ℕ) (st : State) → Stands (leaves_table program) S (Runs (on a (numbered_goal n (At line (SimpleGoal (Unifies v (Name q ys))))) w) x c) cs k st → FitsState program st → role_at (program_notes program) n ≡ Some (takes_apart bound) → (f : List ℕ) × ((parts : Values) × (S.values x.index v ≡ Built f parts) × AfterEffect program st S n a w x c cs k (fast_same (reads_at program n) (S.values x.index) ys (listed_values parts) (bytes_eq q.name f && nat_eq (length ys) (value_count parts)))) }
+    ensures takes_all { (bytes : List ℕ) (program : Hlds) → Spells bytes program → mode_fault program ≡ None → (S : Store) (a : Address) (n line : ℕ) (v : ℕ) (q : PredName) (ys : List ℕ) (w : Way) (x : Act) (c : List Act) (cs : List Choice) (k : ℕ) (st : State) → Stands (leaves_table program) S (Runs (on a (numbered_goal n (At line (SimpleGoal (Unifies v (Name q ys))))) w) x c) cs k st → FitsState program st → role_at (program_notes program) n ≡ Some (takes_apart []) → (f : List ℕ) × ((parts : Values) × (S.values x.index v ≡ Built f parts) × AfterEffect program st S n a w x c cs k (cond (bytes_eq q.name f && nat_eq (length ys) (value_count parts)) (Puts (beside ys (listed_values parts)) 0 0 None) (Misses 0))) }
+{}
+
+/// The turns of unifications of two variables, and of one with an integer or a literal, by the role that the checks note.
+pub fn instructions_on_variables()
+    ensures assigns { (bytes : List ℕ) (program : Hlds) → Spells bytes program → mode_fault program ≡ None → (S : Store) (a : Address) (n line : ℕ) (v u to : ℕ) (w : Way) (x : Act) (c : List Act) (cs : List Choice) (k : ℕ) (st : State) → Stands (leaves_table program) S (Runs (on a (numbered_goal n (At line (SimpleGoal (Unifies v (Var u))))) w) x c) cs k st → FitsState program st → role_at (program_notes program) n ≡ Some (assigns to) → ((to ≡ u) × FitsTurn program st x.number n 1 ([]) (with_value S x.index u (S.values x.index v)) (Runs w x c) cs k) ⊎ ((to ≡ v) × FitsTurn program st x.number n 1 ([]) (with_value S x.index v (S.values x.index u)) (Runs w x c) cs k) }
+    ensures tests { (bytes : List ℕ) (program : Hlds) → Spells bytes program → mode_fault program ≡ None → (S : Store) (a : Address) (n line : ℕ) (v u : ℕ) (w : Way) (x : Act) (c : List Act) (cs : List Choice) (k : ℕ) (st : State) → Stands (leaves_table program) S (Runs (on a (numbered_goal n (At line (SimpleGoal (Unifies v (Var u))))) w) x c) cs k st → FitsState program st → role_at (program_notes program) n ≡ Some tests → AfterEffect program st S n a w x c cs k (tested (compared (S.values x.index v) (S.values x.index u)).pairs (compared (S.values x.index v) (S.values x.index u)).equal) }
+    ensures constant { (bytes : List ℕ) (program : Hlds) → Spells bytes program → mode_fault program ≡ None → (S : Store) (a : Address) (n line : ℕ) (v : ℕ) (t : Term) (o : Value) (w : Way) (x : Act) (c : List Act) (cs : List Choice) (k : ℕ) (st : State) → Stands (leaves_table program) S (Runs (on a (numbered_goal n (At line (SimpleGoal (Unifies v t)))) w) x c) cs k st → FitsState program st → IsConstant t o → role_at (program_notes program) n ≡ Some constructs → FitsTurn program st x.number n 1 ([]) (with_value S x.index v o) (Runs w x c) cs k }
+    ensures tests_constant { (bytes : List ℕ) (program : Hlds) → Spells bytes program → mode_fault program ≡ None → (S : Store) (a : Address) (n line : ℕ) (v : ℕ) (t : Term) (o : Value) (bound : List ℕ) (w : Way) (x : Act) (c : List Act) (cs : List Choice) (k : ℕ) (st : State) → Stands (leaves_table program) S (Runs (on a (numbered_goal n (At line (SimpleGoal (Unifies v t)))) w) x c) cs k st → FitsState program st → IsConstant t o → role_at (program_notes program) n ≡ Some (takes_apart bound) → AfterEffect program st S n a w x c cs k (tested 0 (compared (S.values x.index v) o).equal) }
+{}
+
+/// The turns of arithmetic, of comparisons, of writes and of exceptions.
+pub fn other_instructions()
+    ensures computes { (bytes : List ℕ) (program : Hlds) → Spells bytes program → mode_fault program ≡ None → (S : Store) (a : Address) (n line : ℕ) (v u : ℕ) (op : Op) (y : ℕ) (w : Way) (x : Act) (c : List Act) (cs : List Choice) (k : ℕ) (st : State) → Stands (leaves_table program) S (Runs (on a (numbered_goal n (At line (SimpleGoal (Computes v u op y)))) w) x c) cs k st → FitsState program st → (i j : ℤ) × (S.values x.index u ≡ Number i) × (S.values x.index y ≡ Number j) × FitsTurn program st x.number n 1 ([]) (with_value S x.index v (Number (result_of op i j))) (Runs w x c) cs k }
+    ensures compares { (bytes : List ℕ) (program : Hlds) → Spells bytes program → mode_fault program ≡ None → (S : Store) (a : Address) (n line : ℕ) (u : ℕ) (cmp : Cmp) (y : ℕ) (w : Way) (x : Act) (c : List Act) (cs : List Choice) (k : ℕ) (st : State) → Stands (leaves_table program) S (Runs (on a (numbered_goal n (At line (SimpleGoal (Compares u cmp y)))) w) x c) cs k st → FitsState program st → (i j : ℤ) × (S.values x.index u ≡ Number i) × (S.values x.index y ≡ Number j) × AfterEffect program st S n a w x c cs k (tested 0 (holds cmp i j)) }
+    ensures writes_int { (bytes : List ℕ) (program : Hlds) → Spells bytes program → mode_fault program ≡ None → (S : Store) (a : Address) (n line : ℕ) (v u y : ℕ) (w : Way) (x : Act) (c : List Act) (cs : List Choice) (k : ℕ) (st : State) → Stands (leaves_table program) S (Runs (on a (numbered_goal n (At line (SimpleGoal (WritesInt v u y)))) w) x c) cs k st → FitsState program st → (i : ℤ) × (S.values x.index v ≡ Number i) × FitsTurn program st x.number n (suc (length (signed_decimal i))) (Out (signed_decimal i) ∷ []) (with_value S x.index y (Number (pos 0))) (Runs w x c) cs k }
+    ensures writes_text { (bytes : List ℕ) (program : Hlds) → Spells bytes program → mode_fault program ≡ None → (S : Store) (a : Address) (n line : ℕ) (v u y : ℕ) (w : Way) (x : Act) (c : List Act) (cs : List Choice) (k : ℕ) (st : State) → Stands (leaves_table program) S (Runs (on a (numbered_goal n (At line (SimpleGoal (WritesText v u y)))) w) x c) cs k st → FitsState program st → (b : List ℕ) × (S.values x.index v ≡ Literal b) × FitsTurn program st x.number n (suc (length b)) (Out b ∷ []) (with_value S x.index y (Number (pos 0))) (Runs w x c) cs k }
+    ensures ends_line { (bytes : List ℕ) (program : Hlds) → Spells bytes program → mode_fault program ≡ None → (S : Store) (a : Address) (n line : ℕ) (u y : ℕ) (w : Way) (x : Act) (c : List Act) (cs : List Choice) (k : ℕ) (st : State) → Stands (leaves_table program) S (Runs (on a (numbered_goal n (At line (SimpleGoal (EndsLine u y)))) w) x c) cs k st → FitsState program st → FitsTurn program st x.number n 2 (Out (10 ∷ []) ∷ []) (with_value S x.index y (Number (pos 0))) (Runs w x c) cs k }
+    ensures throws { (bytes : List ℕ) (program : Hlds) → Spells bytes program → mode_fault program ≡ None → (S : Store) (a : Address) (n line : ℕ) (v : ℕ) (w : Way) (x : Act) (c : List Act) (cs : List Choice) (k : ℕ) (st : State) → Stands (leaves_table program) S (Runs (on a (numbered_goal n (At line (SimpleGoal (Throws v)))) w) x c) cs k st → FitsState program st → (b : List ℕ) × (S.values x.index v ≡ Literal b) × FitsTurn program st x.number n 1 (Throw b ∷ []) S (Raises (x ∷ c)) cs k }
+{}
