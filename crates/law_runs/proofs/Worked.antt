@@ -14,7 +14,7 @@ use Rattle.law_frames.specs.Stores.{Act, Choice, Store, with_value}
 use Rattle.law_frames.specs.Standing.{Runs, Misses, Raises}
 use Rattle.law_fits.specs.Fast.{Puts, Bursts}
 use Rattle.law_fits.specs.Fast.{Misses as MissesBy}
-use Rattle.law_fits.specs.Leaves.{leaves_table}
+use Rattle.md_compile.specs.Leaves.{leaves_table}
 use Rattle.law_runs.specs.FitRuns.{FitsTurn, AfterEffect, AfterSwitch, outs_of, ins_of}
 
 -- ---- calls

@@ -23,7 +23,7 @@ ghost use Rattle.law_frames.specs.Standing.{Runs, Raises, Stands};
 ghost use Rattle.law_fits.specs.Fast.{Puts, Misses, IsConstant, beside, tested, fast_same};
 ghost use Rattle.law_fits.specs.States.{FitsState};
 ghost use Rattle.law_fits.specs.Reads.{reads_at};
-ghost use Rattle.law_fits.specs.Leaves.{leaves_table};
+ghost use Rattle.md_compile.specs.Leaves.{leaves_table};
 ghost use Rattle.law_runs.specs.FitRuns.{FitsTurn, AfterEffect};
 
 /// The turns of unifications with a name, by the role that the checks note at the goal: a construction, a closing, and a
