@@ -22,3 +22,9 @@ pub mod Calling
 pub mod Shaped
 pub mod Terms
 pub mod Plain
+pub mod Functors
+pub mod Written
+pub mod Comparing
+pub mod Parts
+pub mod Taking
+pub mod Meeting

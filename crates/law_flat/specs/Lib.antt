@@ -6,3 +6,4 @@ pub mod Told
 pub mod Shows
 pub mod Stays
 pub mod Calls
+pub mod Taken
