@@ -28,3 +28,6 @@ pub mod Comparing
 pub mod Parts
 pub mod Taking
 pub mod Meeting
+pub mod Keys
+pub mod Switching
+pub mod Targets

@@ -7,3 +7,4 @@ pub mod Shows
 pub mod Stays
 pub mod Calls
 pub mod Taken
+pub mod Keyed

@@ -10,6 +10,7 @@ mod outputs;
 mod ports;
 mod simple;
 mod steps;
+mod switches;
 mod unifications;
 
 pub use heaps::{cells_are_told, comparisons_go_the_same};
@@ -22,6 +23,7 @@ pub use steps::{
     choices_and_failures, ends_of_conditions, goals_with_parts, heights_of_bodies,
     instructions_of_no_goal,
 };
+pub use switches::{switches_by_constants, switches_by_functors};
 pub use unifications::{
     comparisons_of_parts, comparisons_of_values, constants_of_functors, heads_of_cells,
     parts_of_cells,
