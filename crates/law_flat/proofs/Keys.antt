@@ -1,5 +1,5 @@
 -- The keys of a switch: each is of the kind of the value that the switch meets, and its variable has a slot.
-use Rattle.std.proofs.Common.{◌≡◌, refl, sym, ap, subst, inl, ℕ, ℤ, suc, ◌<◌, Bool, true, false, cond, List, [], ◌∷◌, length, Option, Some, None, Ok}
+use Rattle.std.proofs.Common.{◌≡◌, refl, sym, ap, subst, inl, ℕ, ℤ, suc, ◌<◌, ◌≤◌, Bool, true, false, cond, List, [], ◌∷◌, length, Option, Some, None, Ok}
 use Rattle.md_hlds.specs.declared.goal.PredName.{PredName}
 use Rattle.md_hlds.specs.declared.goal.Term.{Term}
 use Rattle.md_hlds.specs.declared.goal.Term.TheVariants.{Var, Int, Str, Name}
@@ -24,51 +24,54 @@ use Rattle.md_safety.specs.Values.{Fits}
 use Rattle.md_safety.proofs.Handing.{first_times}
 use Rattle.law_frames.specs.Ways.{Mentions, SomeMentions, Address, Way, on, parts_way, joins, holds, denies, finds, exits, yields, halts}
 use Rattle.md_compile.specs.Leaves.{leaves_table}
+use Rattle.md_compile.specs.Tables.{functors_of}
 use Rattle.law_flat.specs.Flat.{Flat}
 use Rattle.law_flat.specs.Shapes.{Shape}
+use Rattle.law_flat.specs.Told.{names_among}
 use Rattle.law_flat.specs.Leads as leads
 use Rattle.law_flat.specs.Leads.{Leads}
+use Rattle.law_flat.proofs.Parts.{comparable_short}
 
 -- ---- kinds
 
--- a value and a key are of one kind
-abbrev pub IsOfKind : Value → Key → Type 0
-IsOfKind (Number m) (IntKey n) = Unit {0}
-IsOfKind (Literal a) (TextKey b) = Unit {0}
-IsOfKind (Built f vs) (FunctorKey g n) = Unit {0}
-IsOfKind v k = ⊥
+-- a value and a key are of one kind; the name of a term is one of a functor, so it is not longer than all theirs
+abbrev pub IsOfKind : Hlds → Value → Key → Type 0
+IsOfKind s (Number m) (IntKey n) = Unit {0}
+IsOfKind s (Literal a) (TextKey b) = Unit {0}
+IsOfKind s (Built f vs) (FunctorKey g n) = length f ≤ names_among (functors_of s)
+IsOfKind s v k = ⊥
 
-abbrev pub AreOfKind : Value → List Key → Type 0
-AreOfKind v [] = Unit {0}
-AreOfKind v (k ∷ ks) = IsOfKind v k × AreOfKind v ks
+abbrev pub AreOfKind : Hlds → Value → List Key → Type 0
+AreOfKind s v [] = Unit {0}
+AreOfKind s v (k ∷ ks) = IsOfKind s v k × AreOfKind s v ks
 
-int_kind : (s : Hlds) (n : ℤ) (v : Value) → IsComparable s (Int n) (Some v) → IsOfKind v (IntKey n)
+int_kind : (s : Hlds) (n : ℤ) (v : Value) → IsComparable s (Int n) (Some v) → IsOfKind s v (IntKey n)
 int_kind s n (Number m) h = tt
 int_kind s n (Literal b) h = absurd h
 int_kind s n (Built f vs) h = absurd h
 int_kind s n (Closure q vs) h = absurd h
 
-text_kind : (s : Hlds) (b : List ℕ) (v : Value) → IsComparable s (Str b) (Some v) → IsOfKind v (TextKey b)
+text_kind : (s : Hlds) (b : List ℕ) (v : Value) → IsComparable s (Str b) (Some v) → IsOfKind s v (TextKey b)
 text_kind s b (Literal a) h = tt
 text_kind s b (Number m) h = absurd h
 text_kind s b (Built f vs) h = absurd h
 text_kind s b (Closure q vs) h = absurd h
 
-name_kind : (s : Hlds) (q : PredName) (ys : List ℕ) (v : Value) → IsComparable s (Name q ys) (Some v) → IsOfKind v (FunctorKey q.name (length ys))
-name_kind s q ys (Built f vs) h = tt
+name_kind : (s : Hlds) (q : PredName) (ys : List ℕ) (v : Value) → IsComparable s (Name q ys) (Some v) → IsOfKind s v (FunctorKey q.name (length ys))
+name_kind s q ys (Built f vs) h = comparable_short s q ys f vs h
 name_kind s q ys (Number m) h = absurd h
 name_kind s q ys (Literal a) h = absurd h
 name_kind s q ys (Closure p vs) h = absurd h
 
-name_key : (q : PredName) (ys : List ℕ) (v : Value) (k : Key) (b : Bool) → IsOfKind v (FunctorKey q.name (length ys)) → cond b (Some (FunctorKey q.name (length ys))) None ≡ Some k → IsOfKind v k
-name_key q ys v k true h e = let same : FunctorKey q.name (length ys) ≡ k = cc e in subst (λ (j : Key). IsOfKind v j) same h
-name_key q ys v k false h e = absurd (cc e)
+name_key : (s : Hlds) (q : PredName) (ys : List ℕ) (v : Value) (k : Key) (b : Bool) → IsOfKind s v (FunctorKey q.name (length ys)) → cond b (Some (FunctorKey q.name (length ys))) None ≡ Some k → IsOfKind s v k
+name_key s q ys v k true h e = let same : FunctorKey q.name (length ys) ≡ k = cc e in subst (λ (j : Key). IsOfKind s v j) same h
+name_key s q ys v k false h e = absurd (cc e)
 
-comparable_kind : (s : Hlds) (t : Term) (v : Value) (k : Key) → IsComparable s t (Some v) → term_key s t ≡ Some k → IsOfKind v k
+comparable_kind : (s : Hlds) (t : Term) (v : Value) (k : Key) → IsComparable s t (Some v) → term_key s t ≡ Some k → IsOfKind s v k
 comparable_kind s (Var y) v k h e = absurd (cc e)
-comparable_kind s (Int n) v k h e = let same : IntKey n ≡ k = cc e in subst (λ (j : Key). IsOfKind v j) same (int_kind s n v h)
-comparable_kind s (Str b) v k h e = let same : TextKey b ≡ k = cc e in subst (λ (j : Key). IsOfKind v j) same (text_kind s b v h)
-comparable_kind s (Name q ys) v k h e = name_key q ys v k (is_functor s q (length ys)) (name_kind s q ys v h) e
+comparable_kind s (Int n) v k h e = let same : IntKey n ≡ k = cc e in subst (λ (j : Key). IsOfKind s v j) same (int_kind s n v h)
+comparable_kind s (Str b) v k h e = let same : TextKey b ≡ k = cc e in subst (λ (j : Key). IsOfKind s v j) same (text_kind s b v h)
+comparable_kind s (Name q ys) v k h e = name_key s q ys v k (is_functor s q (length ys)) (name_kind s q ys v h) e
 
 -- a term that a value is met with may be compared with it
 term_met : (s : Hlds) (e : Env) (x : ℕ) (t : Term) (v : Value) (ys : List ℕ) (i : Instantiation) (kn : InstMap) → value_at e x ≡ Some v → IsMet s e x t (role_of_term ys i kn) → IsComparable s t (Some v)
@@ -79,13 +82,13 @@ named_met : (s : Hlds) (e : Env) (x : ℕ) (t : Term) (v : Value) (ys : List ℕ
 named_met s e x t v ys i kn (Some f) is m = term_met s e x t v ys i kn is m
 named_met s e x t v ys i kn None is m = absurd (let n = m.0 in cc (n, is))
 
-test_kind : (s : Hlds) (c : Scope) (l x : ℕ) (t : Term) (e : Env) (kn : InstMap) (a : After) (v : Value) (k : Key) → c.program ≡ s → goal c (At l (SimpleGoal (Unifies x t))) kn ≡ Ok a → Fits s (simple_variables (Unifies x t)) kn e → value_at e x ≡ Some v → term_key s t ≡ Some k → IsOfKind v k
+test_kind : (s : Hlds) (c : Scope) (l x : ℕ) (t : Term) (e : Env) (kn : InstMap) (a : After) (v : Value) (k : Key) → c.program ≡ s → goal c (At l (SimpleGoal (Unifies x t))) kn ≡ Ok a → Fits s (simple_variables (Unifies x t)) kn e → value_at e x ≡ Some v → term_key s t ≡ Some k → IsOfKind s v k
 test_kind s c l x t e kn a v k program ok fits is key =
     let o = ok_reached true (rules.simple c.program c.strict l (Unifies x t) kn) a ok in
     let here : rules.simple s c.strict l (Unifies x t) kn ≡ Ok a.known = subst (λ (p : Hlds). rules.simple p c.strict l (Unifies x t) kn ≡ Ok a.known) program o.0 in
     by_term t key (unification_met s (simple_variables (Unifies x t)) c.strict l x t e kn a.known fits (λ y there. there) here)
   where
-    by_term : (u : Term) → term_key s u ≡ Some k → IsMet s e x u (role_of_unification s x u kn) → IsOfKind v k
+    by_term : (u : Term) → term_key s u ≡ Some k → IsMet s e x u (role_of_unification s x u kn) → IsOfKind s v k
     by_term (Var y) h m = absurd (cc h)
     by_term (Int n) h m = comparable_kind s (Int n) v k (term_met s e x (Int n) v [] (known_at kn x) kn is m) h
     by_term (Str b) h m = comparable_kind s (Str b) v k (term_met s e x (Str b) v [] (known_at kn x) kn is m) h
@@ -157,29 +160,29 @@ shape_mentions s (also p ps) x keys h =
 
 -- ---- the arms' keys are of the kind of the value
 
-first_kind : (s : Hlds) (c : Scope) (p : HldsGoal) (x : ℕ) (k : Key) (e : Env) (kn : InstMap) (a : After) (v : Value) → c.program ≡ s → IsTest s p x k → goal c p kn ≡ Ok a → Fits s (variables p) kn e → value_at e x ≡ Some v → IsOfKind v k
+first_kind : (s : Hlds) (c : Scope) (p : HldsGoal) (x : ℕ) (k : Key) (e : Env) (kn : InstMap) (a : After) (v : Value) → c.program ≡ s → IsTest s p x k → goal c p kn ≡ Ok a → Fits s (variables p) kn e → value_at e x ≡ Some v → IsOfKind s v k
 first_kind s c p x k e kn a v program t ok fits is =
     test_kind s c t.line x t.term e kn a v k program (subst (λ (g : HldsGoal). goal c g kn ≡ Ok a) t.is ok) (subst (λ (g : HldsGoal). Fits s (variables g) kn e) t.is fits) is t.key
 
-arm_kind : (s : Hlds) (c : Scope) (p : HldsGoal) (x : ℕ) (k : Key) (e : Env) (kn : InstMap) (a : After) (v : Value) → c.program ≡ s → BeginsWith s p x k → goal c p kn ≡ Ok a → Fits s (variables p) kn e → value_at e x ≡ Some v → IsOfKind v k
+arm_kind : (s : Hlds) (c : Scope) (p : HldsGoal) (x : ℕ) (k : Key) (e : Env) (kn : InstMap) (a : After) (v : Value) → c.program ≡ s → BeginsWith s p x k → goal c p kn ≡ Ok a → Fits s (variables p) kn e → value_at e x ≡ Some v → IsOfKind s v k
 arm_kind s c p x k e kn a v program (alone t) ok fits is = first_kind s c p x k e kn a v program t ok fits is
 arm_kind s c p x k e kn a v program (first line part others same t) ok fits is =
     let o = each_ok c part others kn a (subst (λ (g : HldsGoal). goal c g kn ≡ Ok a) same ok) in
     first_kind s c part x k e kn o.first v program t o.begins (fits_left s (variables part) (parts_variables others) kn e (subst (λ (g : HldsGoal). Fits s (variables g) kn e) same fits)) is
 
 keys_kind : (s : Hlds) (c : Scope) (ps : HldsGoals) (x : ℕ) (keys : List Key) (e : Env) (kn : InstMap) (ends : List After) (v : Value) → c.program ≡ s → keys_of s x ps ≡ Some keys → arms c ps kn ≡ Ok ends → Fits s (parts_variables ps) kn e → value_at e x ≡ Some v
-    → AreOfKind v keys
-keys_kind s c nothing x keys e kn ends v program h ok fits is = let none : [] ≡ keys = cc h in subst (λ (ks : List Key). AreOfKind v ks) none tt
+    → AreOfKind s v keys
+keys_kind s c nothing x keys e kn ends v program h ok fits is = let none : [] ≡ keys = cc h in subst (λ (ks : List Key). AreOfKind s v ks) none tt
 keys_kind s c (also p ps) x keys e kn ends v program h ok fits is =
     let r = first_keys s x p ps keys h in
     let o = arms_ok c p ps kn ends ok in
-    subst (λ (ks : List Key). AreOfKind v ks) (sym r.is) (
+    subst (λ (ks : List Key). AreOfKind s v ks) (sym r.is) (
       arm_kind s c p x r.first e kn o.first v program (arm_begins s p x r.first r.arm) o.begins (fits_left s (variables p) (parts_variables ps) kn e fits) is,
       keys_kind s c ps x r.rest e kn o.ends v program r.others o.others (fits_right s (variables p) (parts_variables ps) kn e fits) is,
     )
 
 -- where a switch is met
-pub switch_kind : (s : Hlds) (e : Env) (g : Numbered) (goals : List Numbered) (l x : ℕ) (ps : HldsGoals) (keys : List Key) (v : Value) → FitsAt s e g goals → g.goal ≡ At l (DisjGoal ps) → switch_shape s ps ≡ Some (x, keys) → value_at e x ≡ Some v → AreOfKind v keys
+pub switch_kind : (s : Hlds) (e : Env) (g : Numbered) (goals : List Numbered) (l x : ℕ) (ps : HldsGoals) (keys : List Key) (v : Value) → FitsAt s e g goals → g.goal ≡ At l (DisjGoal ps) → switch_shape s ps ≡ Some (x, keys) → value_at e x ≡ Some v → AreOfKind s v keys
 switch_kind s e g goals l x ps keys v h same shape is =
     let c : Scope = place s h.procedure.1 h.strict in
     let fits : Fits s (parts_variables ps) h.known e = subst (λ (p : HldsGoal). Fits s (variables p) h.known e) same (fits_left s (variables g.goal) _ h.known e h.fits) in
