@@ -22,3 +22,12 @@ pub mod Calling
 pub mod Shaped
 pub mod Terms
 pub mod Plain
+pub mod Ending
+pub mod Heads
+pub mod Named
+pub mod Beginning
+pub mod OpenReturning
+pub mod Captures
+pub mod Opening
+pub mod Applying
+pub mod Mains

@@ -6,3 +6,5 @@ pub mod Told
 pub mod Shows
 pub mod Stays
 pub mod Calls
+pub mod Entering
+pub mod Begins
