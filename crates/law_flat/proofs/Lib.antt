@@ -31,3 +31,12 @@ pub mod Meeting
 pub mod Keys
 pub mod Switching
 pub mod Targets
+pub mod Ending
+pub mod Heads
+pub mod Named
+pub mod Beginning
+pub mod OpenReturning
+pub mod Captures
+pub mod Opening
+pub mod Applying
+pub mod Mains

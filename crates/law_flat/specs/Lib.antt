@@ -8,3 +8,5 @@ pub mod Stays
 pub mod Calls
 pub mod Taken
 pub mod Keyed
+pub mod Entering
+pub mod Begins

@@ -3,7 +3,11 @@
 //! program, or the run has ended, or room is wanting.
 #![tactic(auto)]
 
+mod beginnings;
+mod closures;
+mod endings;
 mod heaps;
+mod joined;
 mod laid;
 mod leading;
 mod outputs;
@@ -13,7 +17,11 @@ mod steps;
 mod switches;
 mod unifications;
 
+pub use beginnings::runs_begin;
+pub use closures::{open_calls, returns_from_closures};
+pub use endings::{ends_of_main, exceptions_leave};
 pub use heaps::{cells_are_told, comparisons_go_the_same};
+pub use joined::named_calls;
 pub use laid::{bodies_are_laid, parts_are_laid, shapes_are_right};
 pub use leading::{bodies_lead, goals_lead};
 pub use outputs::goals_that_write_out;
