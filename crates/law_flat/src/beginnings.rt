@@ -16,6 +16,6 @@ ghost use Rattle.std.specs.Prelude.{List, None, Some, [], slice_get, ℕ, ◌<�
 /// room for main's call there is no run.
 pub fn runs_begin<M>()
     ensures main { (spelled : List ℕ) → (s : Hlds) → Spells spelled s → mode_fault s ≡ None → (code : Code) → IsCodeOf s code → (m : ℕ × Procedure) × (procedure_called s main_name ≡ Some m) × (slice_get s.procedures m.0 ≡ Some m.1) × (m.0 ≡ code.main) × HasRoutine (flat_told code) code.main (routine_of s m.0 m.1) }
-    ensures begins { (spelled : List ℕ) → (s : Hlds) → Spells spelled s → mode_fault s ≡ None → (code : Code) → IsCodeOf s code → (m : ℕ × Procedure) → procedure_called s main_name ≡ Some m → (b : ℕ) → call_weight m.1 ≤ b → (st : State M) → Begins s (flat_told code) b m st → Stays s (flat_told code) b (Call 0 None None m.0 ∷ []) st }
+    ensures begins { (spelled : List ℕ) → (s : Hlds) → Spells spelled s → mode_fault s ≡ None → (code : Code) → IsCodeOf s code → (m : ℕ × Procedure) → procedure_called s main_name ≡ Some m → (b : ℕ) → call_weight m.1 ≤ b → (st : State M) → (h : Begins s (flat_told code) b m st) → Stays s (flat_told code) ((h.frames.first.mark, 0) ∷ []) b (Call 0 None None m.0 ∷ []) st }
     ensures nothing { (s : Hlds) → (m : ℕ × Procedure) → procedure_called s main_name ≡ Some m → (b : ℕ) → b < call_weight m.1 → run s b ≡ [] }
 {}
