@@ -1,0 +1,7 @@
+pub mod Following
+pub mod Keeping
+pub mod Making
+pub mod Quiet
+pub mod Porting
+pub mod Stage
+pub mod Ending
