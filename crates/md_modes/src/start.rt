@@ -21,13 +21,19 @@ pub struct Start<'a> {
 }
 
 impl<'a> Start<'a> {
-    /// The variables of a goal of this kind, with what is known of them.
-    pub fn new(alloc: Global, goal: &GoalKind, insts: &[Inst<'a>]) -> Result<Start<'a>, NoMemory>
-        ensures local { IfOk result (λ start. IsLocal start.local.places.items start.local.counts.items (expr_variables (expr_of goal.now))) }
-        ensures before { IfOk result (λ start. inst_map_of start.before.items ≡ seen start.local.places.items (inst_map_of insts.now)) }
+    /// The variables of a goal of this kind, with what is known of them. It is boxed and not inlined, since the recursion over
+    /// goals keeps one at each level.
+    #[inline(never)]
+    pub fn new(
+        alloc: Global,
+        goal: &GoalKind,
+        insts: &[Inst<'a>],
+    ) -> Result<Box<Start<'a>>, NoMemory>
+        ensures local { IfOk result (λ start. IsLocal start.value.local.places.items start.value.local.counts.items (expr_variables (expr_of goal.now))) }
+        ensures before { IfOk result (λ start. inst_map_of start.value.before.items ≡ seen start.value.local.places.items (inst_map_of insts.now)) }
     {
         let local = Local::new(alloc, goal)?;
         let before = seen(alloc, &local.places, insts)?;
-        Ok(Start { local, before })
+        Ok(Box::new(alloc, Start { local, before })?)
     }
 }
