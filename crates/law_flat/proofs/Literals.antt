@@ -1,5 +1,5 @@
 -- Literals that are equal have equal numbers.
-use Rattle.std.proofs.Common.{◌≡◌, refl, sym, ap, ◌∙◌, subst, inl, inr, ◌⊎◌, arith, ℕ, zero, suc, ◌+◌, ◌<◌, ◌≤◌, Bool, true, false, cond, nat_eq, List, [], ◌∷◌, ◌++◌, length, Option, Some, None, slice_get}
+use Rattle.std.proofs.Common.{◌≡◌, refl, sym, ap, ◌∙◌, subst, inl, inr, ◌⊎◌, arith, ℕ, zero, suc, ◌+◌, ◌<◌, ◌≤◌, Bool, true, false, ◌&&◌, cond, nat_eq, List, [], ◌∷◌, ◌++◌, length, Option, Some, None, slice_get}
 use Rattle.std.proofs.lemmas.Bool.{cases_eq, eq-eqb, ne_eqb, cond-true, cond-false}
 use Rattle.std.proofs.lemmas.Slice.Eq.{bytes_eq-Decides}
 use Rattle.std.specs.Str.{bytes_eq}
@@ -7,8 +7,9 @@ use Rattle.md_hlds.specs.declared.goal.Term.{Term}
 use Rattle.md_hlds.specs.declared.goal.Term.TheVariants.{Var, Int, Str, Name}
 use Rattle.md_hlds.specs.HldsGoal.{Simple, Unifies, HldsGoal, At, GoalExpr, SimpleGoal, CallGoal, HoCallGoal, ConjGoal, DisjGoal, IfGoal, NotGoal, SomeGoal, HldsGoals, nothing, also}
 use Rattle.md_hlds.specs.Hlds.{Procedure, Hlds}
-use Rattle.md_compile.specs.Tables.{literal_place, with_literal, with_term, with_simple, with_goal, with_expr, with_goals, with_clauses, literals_of}
-use Rattle.law_flat.specs.Told.{bytes_among, zeros, bytes_or, literal_bytes}
+use Rattle.md_hlds.specs.Value as value
+use Rattle.md_compile.specs.Tables.{literal_place, with_literal, with_term, with_simple, with_goal, with_expr, with_goals, with_clauses, functors_of, literals_of}
+use Rattle.law_flat.specs.Told.{bytes_among, zeros, bytes_or, literal_bytes, names_among, literal_or, untold, told_numbered}
 
 -- ---- bytes
 
@@ -109,7 +110,7 @@ literals_apart s = clauses_apart [] s.procedures (λ i l is. absurd (cc is))
 
 -- ---- the bytes of a number
 
-zeros_count : (n : ℕ) → length (zeros n) ≡ n
+pub zeros_count : (n : ℕ) → length (zeros n) ≡ n
 zeros_count zero = refl
 zeros_count (suc n) = ap suc (zeros_count n)
 
@@ -139,3 +140,36 @@ decided x y a b there back = by_choice (bytes_eq x y) refl
 
 pub same_literals : (s : Hlds) (a b : ℕ) → bytes_eq (literal_bytes s a) (literal_bytes s b) ≡ nat_eq a b
 same_literals s a b = decided (literal_bytes s a) (literal_bytes s b) a b (one_number (literals_of s) (literals_apart s) a b _ _ refl refl) (λ e. ap (literal_bytes s) e)
+
+-- ---- what a number tells
+
+pub literal_is : (s : Hlds) (n : ℕ) (x : List ℕ) → slice_get (literals_of s) n ≡ Some x → literal_bytes s n ≡ x
+literal_is s n x f = ap (λ o. bytes_or (zeros (suc (bytes_among (literals_of s) + n))) o) f
+
+none_paired : (t : Bool) → value.below_pair (t && nat_eq 0 0) (record { pairs = 0; equal = true }) ≡ value.one_pair t
+none_paired true = refl
+none_paired false = refl
+
+-- what two numbers tell is the same just where they are
+pub numbers_compared : (s : Hlds) (a b : ℕ) → value.compared (told_numbered s a) (told_numbered s b) ≡ value.one_pair (nat_eq a b)
+numbers_compared s a b = by_found (slice_get (literals_of s) a) (slice_get (literals_of s) b) refl refl
+  where
+    long : ℕ → List ℕ
+    long n = zeros (suc (names_among (functors_of s) + n))
+
+    one : zeros (suc (names_among (functors_of s) + a)) ≡ zeros (suc (names_among (functors_of s) + b)) → a ≡ b
+    one e =
+        let n = ap length e in
+        let i = zeros_count (suc (names_among (functors_of s) + a)) in
+        let j = zeros_count (suc (names_among (functors_of s) + b)) in
+        omega (arith, n, i, j)
+
+    apart : (x : List ℕ) → (a ≡ b → ◌≡◌ {A = Option (List ℕ)} None (Some x)) → value.one_pair false ≡ value.one_pair (nat_eq a b)
+    apart x h = ap value.one_pair (sym (ne_eqb a b (λ e. absurd (let t = h e in cc t))))
+
+    by_found : (o p : Option (List ℕ)) → slice_get (literals_of s) a ≡ o → slice_get (literals_of s) b ≡ p → value.compared (literal_or (untold s a) o) (literal_or (untold s b) p) ≡ value.one_pair (nat_eq a b)
+    by_found (Some x) (Some y) f g =
+        ap value.one_pair (ap (λ k. bytes_eq k y) (sym (literal_is s a x f)) ∙ (ap (λ k. bytes_eq (literal_bytes s a) k) (sym (literal_is s b y g)) ∙ same_literals s a b))
+    by_found (Some x) None f g = apart x (λ e. sym g ∙ (ap (slice_get (literals_of s)) (sym e) ∙ f))
+    by_found None (Some y) f g = apart y (λ e. sym f ∙ (ap (slice_get (literals_of s)) e ∙ g))
+    by_found None None f g = none_paired (bytes_eq (long a) (long b)) ∙ ap value.one_pair (decided (long a) (long b) a b one (λ e. ap long e))

@@ -71,7 +71,7 @@ codes_of_program = refl
 -- ---- where they lead
 
 abbrev code : Flat
-code = flat_of program
+code = flat_of program 1
 
 -- a procedure that is called is this one
 called_as : (P : ℕ × Procedure → Type 0) (u q : ℕ × Procedure) → Some u ≡ Some q → P u → P q
@@ -149,11 +149,11 @@ first = procedure (codes "first") det.Det (call (codes "often") 0)
 abbrev cut_program : Hlds
 cut_program = record { module_name = codes "m"; module_line = 0; types = []; procedures = once ∷ often ∷ first ∷ [] }
 
-first_leads : Enters cut_program (flat_of cut_program) (shape_of cut_program 2 first) 35 (cut_body (leaves_table cut_program) (numbered_goal 4 first.body))
+first_leads : Enters cut_program (flat_of cut_program 1) (shape_of cut_program 2 first) 35 (cut_body (leaves_table cut_program) (numbered_goal 4 first.body))
 unfolding program_notes program_findings
 first_leads =
     keeps_first {next = 30} {height = 0} refl (record { place = 0; is = refl; at = refl })
-    (calls {next = 33} {other = 1} 1 33 refl (λ q e. called_as (λ u. (1 ≡ 0 + call_weight u.1) × IsCall cut_program (flat_of cut_program) 4 0 1 u [] 33 1) (1, often) q e (refl, refl)) (none (shape_of cut_program 2 first))
+    (calls {next = 33} {other = 1} 1 33 refl (λ q e. called_as (λ u. (1 ≡ 0 + call_weight u.1) × IsCall cut_program (flat_of cut_program 1) 4 0 1 u [] 33 1) (1, often) q e (refl, refl)) (none (shape_of cut_program 2 first))
     (exiting_cut {next = 34} {after = 0} {height = 0} refl (record { place = 0; is = refl; at = refl }) refl) (ports {after = 0} refl))
 
 first_entry : entry_at cut_program 2 first ≡ 35

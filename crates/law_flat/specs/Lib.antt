@@ -6,3 +6,7 @@ pub mod Told
 pub mod Shows
 pub mod Stays
 pub mod Calls
+pub mod Taken
+pub mod Keyed
+pub mod Entering
+pub mod Begins

@@ -13,16 +13,16 @@ use Rattle.law_flat.proofs.leading.bodies_lead.Goals as goal
 
 pub returns-clause-cut : goal.returns-clause-cut
 returns-clause-cut c text s spells code is q p at det =
-    subst (λ (f : Flat). Leads s f (shape_of s q p) (head_at (body_number s q)) 0 (cut_body (leaves_table s) (numbered_goal (body_number s q) p.body))) (sym (same_code s code is)) (cut_body_leads s q p at det (armed text s spells q p at) (in_slots text s spells q p at))
+    subst (λ (f : Flat). Leads s f (shape_of s q p) (head_at (body_number s q)) 0 (cut_body (leaves_table s) (numbered_goal (body_number s q) p.body))) (sym (same_code s code is)) (cut_body_leads s code.reach q p at det (armed text s spells q p at) (in_slots text s spells q p at))
 
 pub returns-clause-whole : goal.returns-clause-whole
 returns-clause-whole c text s spells code is q p at det =
-    subst (λ (f : Flat). Leads s f (shape_of s q p) (head_at (body_number s q)) 0 (whole_body (leaves_table s) (numbered_goal (body_number s q) p.body))) (sym (same_code s code is)) (whole_body_leads s q p at det (armed text s spells q p at) (in_slots text s spells q p at))
+    subst (λ (f : Flat). Leads s f (shape_of s q p) (head_at (body_number s q)) 0 (whole_body (leaves_table s) (numbered_goal (body_number s q) p.body))) (sym (same_code s code is)) (whole_body_leads s code.reach q p at det (armed text s spells q p at) (in_slots text s spells q p at))
 
 pub returns-clause-cut_entered : goal.returns-clause-cut_entered
 returns-clause-cut_entered c text s spells code is q p at det =
-    subst (λ (f : Flat). Enters s f (shape_of s q p) (entry_at s q p) (cut_body (leaves_table s) (numbered_goal (body_number s q) p.body))) (sym (same_code s code is)) (cut_body_enters s q p at det (armed text s spells q p at) (in_slots text s spells q p at))
+    subst (λ (f : Flat). Enters s f (shape_of s q p) (entry_at s q p) (cut_body (leaves_table s) (numbered_goal (body_number s q) p.body))) (sym (same_code s code is)) (cut_body_enters s code.reach q p at det (armed text s spells q p at) (in_slots text s spells q p at))
 
 pub returns-clause-whole_entered : goal.returns-clause-whole_entered
 returns-clause-whole_entered c text s spells code is q p at det =
-    subst (λ (f : Flat). Enters s f (shape_of s q p) (entry_at s q p) (whole_body (leaves_table s) (numbered_goal (body_number s q) p.body))) (sym (same_code s code is)) (whole_body_enters s q p at det (armed text s spells q p at) (in_slots text s spells q p at))
+    subst (λ (f : Flat). Enters s f (shape_of s q p) (entry_at s q p) (whole_body (leaves_table s) (numbered_goal (body_number s q) p.body))) (sym (same_code s code is)) (whole_body_enters s code.reach q p at det (armed text s spells q p at) (in_slots text s spells q p at))
