@@ -59,7 +59,7 @@ and-assoc : (a b c : Bool) → (a && (b && c)) ≡ ((a && b) && c)
 and-assoc true b c = refl
 and-assoc false b c = refl
 
-or_else-assoc : (a b c : Option DetFault) → or_else a (or_else b c) ≡ or_else (or_else a b) c
+pub or_else-assoc : (a b c : Option DetFault) → or_else a (or_else b c) ≡ or_else (or_else a b) c
 or_else-assoc None b c = refl
 or_else-assoc (Some f) b c = refl
 

@@ -21,7 +21,7 @@ use crate::arms::{Arm, add_checked, add_part, end_arms, let_go, no_arms};
 use crate::class::Note;
 use crate::clause::Clause;
 use crate::joined::Joined;
-use crate::nonlocals::{Nonlocals, View, binds_outside};
+use crate::nonlocals::{View, binds_outside};
 use crate::noting::{add_note, end_note};
 use crate::start::Start;
 use crate::view::put_all;
@@ -46,15 +46,9 @@ impl<'a, 'b> Clause<'a, 'b> {
             ≡ notes_told notes.old.items ++ noted.notes (scope_at self.now strict) (goal_of goal.now) (inst_map_of insts.old.items)) }
     {
         let start = Start::new(alloc, &goal.kind, insts)?;
-        let outside = Nonlocals {
-            all: &self.counts,
-            local: &start.local,
-        };
-        let view = View {
-            outside,
-            before: &start.before,
-        };
+        let view = start.view(alloc, &self.counts)?;
         let reach = self.check_viewed(alloc, insts, &view, strict, goal, notes);
+        drop(view);
         drop(start);
         reach
     }

@@ -7,6 +7,7 @@ ghost use Rattle.md_modes.specs.Tally.{IsLocal};
 ghost use Rattle.md_modes.specs.Views.{seen};
 
 use crate::local::Local;
+use crate::nonlocals::{Nonlocals, View};
 use crate::view::seen;
 use md_base::NoMemory;
 use md_hlds::GoalKind;
@@ -35,5 +36,20 @@ impl<'a> Start<'a> {
         let local = Local::new(alloc, goal)?;
         let before = seen(alloc, &local.places, insts)?;
         Ok(Box::new(alloc, Start { local, before })?)
+    }
+
+    /// The view of the goal, in a clause whose variables occur so often. It is boxed and not inlined either.
+    #[inline(never)]
+    pub fn view<'b>(&'b self, alloc: Global, all: &'b [u64]) -> Result<Box<View<'a, 'b>>, NoMemory>
+        ensures local { IfOk result (λ view. view.value.outside.local.now ≡ self.now.local) }
+        ensures all { IfOk result (λ view. view.value.outside.all.now ≡ all.now) }
+        ensures before { IfOk result (λ view. inst_map_of view.value.before.now ≡ inst_map_of self.now.before.items) }
+    {
+        let outside = Nonlocals {
+            all,
+            local: &self.local,
+        };
+        let before = self.before.as_slice();
+        Ok(Box::new(alloc, View { outside, before })?)
     }
 }

@@ -418,9 +418,9 @@ pub check-check_viewed-reach-requires : goals.check-check_viewed-reach-requires
 check-check_viewed-reach-requires t c = (
   search rules,
   record {
-    local = rw c.deref-3.ensures c.in_ok-start.ensures.local;
-    all = c.deref-2.ensures.value;
-    before = ap inst_map_of c.deref-5.ensures.value ∙ rw (c.deref-4.ensures, c.deref-3.ensures) (c.in_ok-start.ensures.before ∙ rw c.deref.ensures.value refl);
+    local = rw (c.deref-4.ensures, c.in_ok-view.ensures.local, c.deref-2.ensures) c.in_ok-start.ensures.local;
+    all = rw (c.deref-4.ensures, c.in_ok-view.ensures.all) c.deref-3.ensures.value;
+    before = rw (c.deref-4.ensures, c.in_ok-view.ensures.local, c.in_ok-view.ensures.before, c.deref-2.ensures) (c.in_ok-start.ensures.before ∙ rw c.deref.ensures.value refl);
   },
 )
 
