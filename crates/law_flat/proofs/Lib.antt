@@ -40,3 +40,4 @@ pub mod Captures
 pub mod Opening
 pub mod Applying
 pub mod Mains
+pub mod Roles
