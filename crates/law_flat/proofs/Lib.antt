@@ -41,3 +41,4 @@ pub mod Opening
 pub mod Applying
 pub mod Mains
 pub mod Roles
+pub mod Texts
