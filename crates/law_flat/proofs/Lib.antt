@@ -42,3 +42,4 @@ pub mod Applying
 pub mod Mains
 pub mod Roles
 pub mod Texts
+pub mod Whole
