@@ -26,7 +26,7 @@ pub use laid::{bodies_are_laid, parts_are_laid, shapes_are_right};
 pub use leading::{bodies_lead, goals_lead};
 pub use outputs::goals_that_write_out;
 pub use ports::{calls, exceptions, exits_that_leave, redos, returns_to_callers};
-pub use simple::{constants, goals_that_build, goals_that_test, goals_that_write};
+pub use simple::{constants, goals_that_build, goals_that_test, goals_that_write, simple_goals};
 pub use steps::{
     choices_and_failures, ends_of_conditions, goals_with_parts, heights_of_bodies,
     instructions_of_no_goal,
