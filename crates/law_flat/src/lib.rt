@@ -31,7 +31,7 @@ pub use steps::{
     choices_and_failures, ends_of_conditions, goals_with_parts, heights_of_bodies,
     instructions_of_no_goal,
 };
-pub use switches::{switches_by_constants, switches_by_functors};
+pub use switches::{switch_goals, switches_by_constants, switches_by_functors};
 pub use unifications::{
     comparisons_of_parts, comparisons_of_values, constants_of_functors, heads_of_cells,
     parts_of_cells,
