@@ -20,6 +20,7 @@ use Rattle.law_flat.specs.Laid.{Laid, IsCommon, HasSome, IsArmed, AreArmed}
 use Rattle.law_flat.specs.Leads.{is_first, FailsOff, IsCall, IsApplication, Leads, ArmsLead, FailsAt, passes, charges, simple, calls, applies, conjunction, disjunction, switch, condition, condition_above, negation, negation_above, quantified, quantified_above, joins_on, holding, holding_cut, denying, denying_cut, finding, finding_cut, no_arms, also_arm, charged, pops, goes_to, last_arm, arm_before}
 use Rattle.law_flat.proofs.Lists.{stands_left, stands_right}
 use Rattle.law_flat.proofs.Sizes.{own_three, end_two}
+use Rattle.law_flat.proofs.Texts.{simple_literals, switch_literals}
 use Rattle.law_flat.proofs.Lying.{OwnLies, own_lies, if_lies, not_lies, some_lies, PartsLie, ArmsLie, conj_lies, disj_lies, first_part, other_parts, first_arm, other_arms}
 
 -- ---- addresses
@@ -174,7 +175,7 @@ disj_leads : (s : Hlds) (code : Flat) (f : Shape) (n l : ℕ) (ps : HldsGoals) (
     → Leads s code f (head_at n) at.pending (on a (numbered_goal n (At l (DisjGoal ps))) w)
 disj_leads s code f n l nothing at a w by is own lie h d some off tried led = absurd some
 disj_leads s code f n l (also g gs) at a w None is own lie h d some off tried led = disjunction is h.0 (tried (tried_leaves s n l (also g gs) own.goal is) lie)
-disj_leads s code f n l (also g gs) at a w (Some by) is own lie h d some off tried led = switch by is h.0 d (second_stands code n (head_at n) (second_at n) _ (omega arith) h.1.0) (led by lie) off.fails
+disj_leads s code f n l (also g gs) at a w (Some by) is own lie h d some off tried led = switch by is h.0 d (switch_literals s (suc n) (also g gs) lie.lies.goals) (second_stands code n (head_at n) (second_at n) _ (omega arith) h.1.0) (led by lie) off.fails
 
 -- ---- goals
 
@@ -186,7 +187,7 @@ mutual
   expr_leads : (s : Hlds) (code : Flat) (f : Shape) → IsCommon code → (n l : ℕ) (t : GoalExpr) (at : Place) (a : Address) (w : Way) → Laid s code f n (At l t) at → OwnLies s code f n l t at → IsArmed (At l t) → InRange f (expr_variables t) → FailsOff s code f at.other a
       → is_first at.next ≡ false → Leads s code f at.next (pending_expr s n at.pending t) w → Leads s code f (head_at n) at.pending (on a (numbered_goal n (At l t)) w)
   expr_leads s code f common n l (SimpleGoal g) at a w laid own armed range off later leads =
-      simple at refl refl (stands_left code.instructions (head_at n) (own_code s n (SimpleGoal g) at) _ own.instructions) own.detail range leads off.fails
+      simple at refl refl (stands_left code.instructions (head_at n) (own_code s n (SimpleGoal g) at) _ own.instructions) own.detail range (simple_literals s n l g own.goal) leads off.fails
   expr_leads s code f common n l (CallGoal site r ys) at a w laid own armed range off later leads =
       calls (at.pending + called_weight (procedure_called s r)) at.next own.instructions.0
       (λ q is. call_leads s code f n site at.pending ys at (procedure_called s r) q laid.size own.detail is) range leads off.fails

@@ -217,12 +217,12 @@ parts_keyed s f l n (also p ps) a w h x k is = h x k (first_key s p x k is)
 pub first_keyed : {s : Hlds} {code : Flat} {f : Shape} {pc p : ℕ} {v : Way} → Leads s code f pc p v → FirstKeyedIn s f v
 first_keyed (leads.passes at_pc later) = first_keyed later
 first_keyed (leads.charges at_pc later) = first_keyed later
-first_keyed {s} {code} {f} (leads.simple {l = l} {g = g} at pc pending stands at_pc range later fails) = simple_keyed s f l g range
+first_keyed {s} {code} {f} (leads.simple {l = l} {g = g} at pc pending stands at_pc range literals later fails) = simple_keyed s f l g range
 first_keyed (leads.calls weight after at_pc q range later fails) = λ x k h. absurd (cc h)
 first_keyed (leads.applies after at_pc is range later fails) = λ x k h. absurd (cc h)
 first_keyed {s} {code} {f} (leads.conjunction {n = n} {l = l} {ps = ps} {a = a} {w = w} at_pc later) = parts_keyed s f l n ps a w (first_keyed later)
 first_keyed (leads.disjunction none at_pc fails) = λ x k h. absurd (cc h)
-first_keyed (leads.switch by is at_pc detail charge others fails) = λ x k h. absurd (cc h)
+first_keyed (leads.switch by is at_pc detail literals charge others fails) = λ x k h. absurd (cc h)
 first_keyed (leads.condition can at_pc later) = λ x k h. absurd (cc h)
 first_keyed (leads.condition_above may at_pc keeps tries other later) = λ x k h. absurd (cc h)
 first_keyed (leads.negation can at_pc later) = λ x k h. absurd (cc h)

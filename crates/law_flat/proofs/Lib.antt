@@ -40,3 +40,6 @@ pub mod Captures
 pub mod Opening
 pub mod Applying
 pub mod Mains
+pub mod Roles
+pub mod Texts
+pub mod Whole

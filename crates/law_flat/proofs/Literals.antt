@@ -1,5 +1,5 @@
--- Literals that are equal have equal numbers.
-use Rattle.std.proofs.Common.{◌≡◌, refl, sym, ap, ◌∙◌, subst, inl, inr, ◌⊎◌, arith, ℕ, zero, suc, ◌+◌, ◌<◌, ◌≤◌, Bool, true, false, ◌&&◌, cond, nat_eq, List, [], ◌∷◌, ◌++◌, length, Option, Some, None, slice_get}
+-- The literals of a program: each is found at its number, and those that are equal have equal numbers.
+use Rattle.std.proofs.Common.{◌≡◌, refl, sym, ap, ◌∙◌, subst, inl, inr, ◌⊎◌, arith, ℕ, zero, suc, ◌+◌, ◌<◌, ◌≤◌, Bool, true, false, ◌&&◌, cond, nat_eq, List, [], ◌∷◌, ◌++◌, length, length-append, Option, Some, None, slice_get}
 use Rattle.std.proofs.lemmas.Bool.{cases_eq, eq-eqb, ne_eqb, cond-true, cond-false}
 use Rattle.std.proofs.lemmas.Slice.Eq.{bytes_eq-Decides}
 use Rattle.std.specs.Str.{bytes_eq}
@@ -73,40 +73,75 @@ literal_apart ls b h = elim (cases_eq (literal_place b 0 ls) (length ls)) [
   | inr ne ↦ subst (λ (ms : List (List ℕ)). Apart ms) (sym (cond-false (nat_eq (literal_place b 0 ls) (length ls)) (ls ++ b ∷ []) ls (ne_eqb (literal_place b 0 ls) (length ls) ne))) h
 ]
 
-term_apart : (ls : List (List ℕ)) (t : Term) → Apart ls → Apart (with_term ls t)
-term_apart ls (Var y) h = h
-term_apart ls (Int n) h = h
-term_apart ls (Str b) h = literal_apart ls b h
-term_apart ls (Name q ys) h = h
+-- what holds of literals, and stays so with one more, holds with those of a goal, and with those of clauses
+term_keeps : (P : List (List ℕ) → Type 0) → ((ls : List (List ℕ)) (b : List ℕ) → P ls → P (with_literal ls b)) → (ls : List (List ℕ)) (t : Term) → P ls → P (with_term ls t)
+term_keeps P more ls (Var y) h = h
+term_keeps P more ls (Int n) h = h
+term_keeps P more ls (Str b) h = more ls b h
+term_keeps P more ls (Name q ys) h = h
 
-simple_apart : (ls : List (List ℕ)) (g : Simple) → Apart ls → Apart (with_simple ls g)
-simple_apart ls (Unifies x t) h = term_apart ls t h
-simple_apart ls g h = h
+simple_keeps : (P : List (List ℕ) → Type 0) → ((ls : List (List ℕ)) (b : List ℕ) → P ls → P (with_literal ls b)) → (ls : List (List ℕ)) (g : Simple) → P ls → P (with_simple ls g)
+simple_keeps P more ls (Unifies x t) h = term_keeps P more ls t h
+simple_keeps P more ls g h = h
 
 mutual
-  goal_apart : (ls : List (List ℕ)) (g : HldsGoal) → Apart ls → Apart (with_goal ls g)
-  goal_apart ls (At l t) h = expr_apart ls t h
+  pub goal_keeps : (P : List (List ℕ) → Type 0) → ((ls : List (List ℕ)) (b : List ℕ) → P ls → P (with_literal ls b)) → (ls : List (List ℕ)) (g : HldsGoal) → P ls → P (with_goal ls g)
+  goal_keeps P more ls (At l t) h = expr_keeps P more ls t h
 
-  expr_apart : (ls : List (List ℕ)) (t : GoalExpr) → Apart ls → Apart (with_expr ls t)
-  expr_apart ls (SimpleGoal g) h = simple_apart ls g h
-  expr_apart ls (CallGoal site q ys) h = h
-  expr_apart ls (HoCallGoal site f ys) h = h
-  expr_apart ls (ConjGoal ps) h = goals_apart ls ps h
-  expr_apart ls (DisjGoal ps) h = goals_apart ls ps h
-  expr_apart ls (IfGoal c t e) h = goal_apart (with_goal (with_goal ls c) t) e (goal_apart (with_goal ls c) t (goal_apart ls c h))
-  expr_apart ls (NotGoal c) h = goal_apart ls c h
-  expr_apart ls (SomeGoal vs c) h = goal_apart ls c h
+  expr_keeps : (P : List (List ℕ) → Type 0) → ((ls : List (List ℕ)) (b : List ℕ) → P ls → P (with_literal ls b)) → (ls : List (List ℕ)) (t : GoalExpr) → P ls → P (with_expr ls t)
+  expr_keeps P more ls (SimpleGoal g) h = simple_keeps P more ls g h
+  expr_keeps P more ls (CallGoal site q ys) h = h
+  expr_keeps P more ls (HoCallGoal site f ys) h = h
+  expr_keeps P more ls (ConjGoal ps) h = goals_keep P more ls ps h
+  expr_keeps P more ls (DisjGoal ps) h = goals_keep P more ls ps h
+  expr_keeps P more ls (IfGoal c t e) h = goal_keeps P more (with_goal (with_goal ls c) t) e (goal_keeps P more (with_goal ls c) t (goal_keeps P more ls c h))
+  expr_keeps P more ls (NotGoal c) h = goal_keeps P more ls c h
+  expr_keeps P more ls (SomeGoal vs c) h = goal_keeps P more ls c h
 
-  goals_apart : (ls : List (List ℕ)) (ps : HldsGoals) → Apart ls → Apart (with_goals ls ps)
-  goals_apart ls nothing h = h
-  goals_apart ls (also p ps) h = goals_apart (with_goal ls p) ps (goal_apart ls p h)
+  pub goals_keep : (P : List (List ℕ) → Type 0) → ((ls : List (List ℕ)) (b : List ℕ) → P ls → P (with_literal ls b)) → (ls : List (List ℕ)) (ps : HldsGoals) → P ls → P (with_goals ls ps)
+  goals_keep P more ls nothing h = h
+  goals_keep P more ls (also p ps) h = goals_keep P more (with_goal ls p) ps (goal_keeps P more ls p h)
 
-clauses_apart : (ls : List (List ℕ)) (ps : List Procedure) → Apart ls → Apart (with_clauses ls ps)
-clauses_apart ls [] h = h
-clauses_apart ls (p ∷ ps) h = clauses_apart (with_goal ls p.body) ps (goal_apart ls p.body h)
+pub clauses_keep : (P : List (List ℕ) → Type 0) → ((ls : List (List ℕ)) (b : List ℕ) → P ls → P (with_literal ls b)) → (ls : List (List ℕ)) (ps : List Procedure) → P ls → P (with_clauses ls ps)
+clauses_keep P more ls [] h = h
+clauses_keep P more ls (p ∷ ps) h = clauses_keep P more (with_goal ls p.body) ps (goal_keeps P more ls p.body h)
 
 literals_apart : (s : Hlds) → Apart (literals_of s)
-literals_apart s = clauses_apart [] s.procedures (λ i l is. absurd (cc is))
+literals_apart s = clauses_keep Apart literal_apart [] s.procedures (λ i l is. absurd (cc is))
+
+-- ---- a literal that is one of these
+
+-- it is found
+abbrev pub IsAmong : List ℕ → List (List ℕ) → Type 0
+IsAmong b ls = literal_place b 0 ls < length ls
+
+place_within : (b : List ℕ) (n : ℕ) (ls : List (List ℕ)) → literal_place b n ls ≤ n + length ls
+place_within b n [] = omega arith
+place_within b n (l ∷ ls) = by_choice (bytes_eq b l) (place_within b (suc n) ls)
+  where
+    by_choice : (c : Bool) → literal_place b (suc n) ls ≤ suc n + length ls → cond c n (literal_place b (suc n) ls) ≤ n + length (l ∷ ls)
+    by_choice true later = omega arith
+    by_choice false later = omega (arith, later)
+
+-- each is among these and itself
+pub among_with : (ls : List (List ℕ)) (b : List ℕ) → IsAmong b (with_literal ls b)
+among_with ls b = elim (cases_eq (literal_place b 0 ls) (length ls)) [
+  | inl e ↦ subst (λ (ms : List (List ℕ)). IsAmong b ms) (sym (cond-true (nat_eq (literal_place b 0 ls) (length ls)) (ls ++ b ∷ []) ls (eq-eqb (literal_place b 0 ls) (length ls) e)))
+      (let p = place_last b 0 ls (omega (arith, e)) in let k = length-append ls (b ∷ []) in omega (arith, p, k))
+  | inr ne ↦ subst (λ (ms : List (List ℕ)). IsAmong b ms) (sym (cond-false (nat_eq (literal_place b 0 ls) (length ls)) (ls ++ b ∷ []) ls (ne_eqb (literal_place b 0 ls) (length ls) ne)))
+      (let le = place_within b 0 ls in omega (arith, le, ne))
+]
+
+-- and stays among more
+pub among_more : (a : List ℕ) (ls : List (List ℕ)) (b : List ℕ) → IsAmong a ls → IsAmong a (with_literal ls b)
+among_more a ls b h = by_choice (nat_eq (literal_place b 0 ls) (length ls))
+  where
+    by_choice : (c : Bool) → IsAmong a (cond c (ls ++ b ∷ []) ls)
+    by_choice true =
+        let p = place_stays a 0 (literal_place a 0 ls) ls (b ∷ []) (omega (arith, h)) refl in
+        let k = length-append ls (b ∷ []) in
+        omega (arith, h, p, k)
+    by_choice false = h
 
 -- ---- the bytes of a number
 

@@ -90,7 +90,7 @@ none f y lt = absurd (omega (arith, lt))
 
 once_leads : Leads program code (shape_of program 0 once) 6 0 (cut_body (leaves_table program) (numbered_goal 0 once.body))
 unfolding program_notes program_findings
-once_leads = simple (at_place 9 1 0) refl refl (refl, (refl, (refl, tt))) refl (none (shape_of program 0 once)) (passes {next = 10} refl (exiting {after = 0} refl)) (ports {after = 0} refl)
+once_leads = simple (at_place 9 1 0) refl refl (refl, (refl, (refl, tt))) refl (none (shape_of program 0 once)) tt (passes {next = 10} refl (exiting {after = 0} refl)) (ports {after = 0} refl)
 
 -- a body that is left, and comes back to its newest choice
 abbrev often_left : Way
@@ -104,9 +104,9 @@ often_leads : Leads program code (shape_of program 1 often) 12 0 (whole_body (le
 unfolding program_notes program_findings
 often_leads =
     disjunction {next = 23} refl refl (arm_before {next = 18} {other = 29} refl
-    (simple (at_place 21 0 1) refl refl (refl, (refl, (refl, tt))) refl (none (shape_of program 1 often)) (charges {next = 22} refl (passes {next = 15} refl often_end)) (pops {after = 0} refl))
+    (simple (at_place 21 0 1) refl refl (refl, (refl, (refl, tt))) refl (none (shape_of program 1 often)) tt (charges {next = 22} refl (passes {next = 15} refl often_end)) (pops {after = 0} refl))
     (last_arm {next = 24} refl
-    (simple (at_place 27 1 0) refl refl (refl, (refl, (refl, tt))) refl (none (shape_of program 1 often)) (charges {next = 28} refl (joins_on {next = 15} {other = 1} refl (ports {after = 0} refl) often_end)) (ports {after = 0} refl))))
+    (simple (at_place 27 1 0) refl refl (refl, (refl, (refl, tt))) refl (none (shape_of program 1 often)) tt (charges {next = 28} refl (joins_on {next = 15} {other = 1} refl (ports {after = 0} refl) often_end)) (ports {after = 0} refl))))
 
 abbrev shape : Shape
 shape = shape_of program 2 both

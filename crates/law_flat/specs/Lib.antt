@@ -10,3 +10,4 @@ pub mod Taken
 pub mod Keyed
 pub mod Entering
 pub mod Begins
+pub mod Steps

@@ -26,12 +26,12 @@ pub use laid::{bodies_are_laid, parts_are_laid, shapes_are_right};
 pub use leading::{bodies_lead, goals_lead};
 pub use outputs::goals_that_write_out;
 pub use ports::{calls, exceptions, exits_that_leave, redos, returns_to_callers};
-pub use simple::{constants, goals_that_build, goals_that_test, goals_that_write};
+pub use simple::{constants, goals_that_build, goals_that_test, goals_that_write, simple_goals};
 pub use steps::{
     choices_and_failures, ends_of_conditions, goals_with_parts, heights_of_bodies,
     instructions_of_no_goal,
 };
-pub use switches::{switches_by_constants, switches_by_functors};
+pub use switches::{switch_goals, switches_by_constants, switches_by_functors};
 pub use unifications::{
     comparisons_of_parts, comparisons_of_values, constants_of_functors, heads_of_cells,
     parts_of_cells,

@@ -1,24 +1,28 @@
 // Steps of simple goals over flat code. Each law is the contract of a function that does nothing.
-ghost use Rattle.law_flat.specs.Flat.{Flat};
+ghost use Rattle.law_flat.specs.Flat.{Flat, HasDetail, StandsFrom};
+ghost use Rattle.law_flat.specs.Keyed.{HasLiterals};
 ghost use Rattle.law_flat.specs.Leads.{FailsAt, Leads};
 ghost use Rattle.law_flat.specs.Shapes.{InRange};
 ghost use Rattle.law_flat.specs.Shows.{Frames};
 ghost use Rattle.law_flat.specs.Stays.{After, AfterSeeing, Here};
+ghost use Rattle.law_flat.specs.Steps.{SimpleStep};
 ghost use Rattle.law_frames.specs.Standing.{Runs};
 ghost use Rattle.law_frames.specs.Stores.{Act, Choice, Store};
 ghost use Rattle.law_frames.specs.Ways.{Address, Way, on};
-ghost use Rattle.md_compile.specs.Details.{from_slots};
-ghost use Rattle.md_compile.specs.Tables.{closure_head, functor_number, functors_of, literal_number, literals_of};
+ghost use Rattle.md_compile.specs.Blocks.{Place, pending_simple, simple_code};
+ghost use Rattle.md_compile.specs.Details.{from_slots, simple_detail};
+ghost use Rattle.md_compile.specs.Tables.{closure_head, functor_number, functors_of, head_at, literal_number, literals_of};
 ghost use Rattle.md_flat.specs.Meaning.{On, State, constant_tested, gathered, if_charged, less_left, put, with_cell};
 ghost use Rattle.md_heap.specs.declared.value.Value.TheVariants.{Int, Lit};
 ghost use Rattle.md_hlds.specs.Hlds.{Hlds, Procedure, procedure_called};
-ghost use Rattle.md_hlds.specs.HldsGoal.{At, Compares, Computes, Fails, SimpleGoal, Succeeds, Unifies, numbered_goal};
+ghost use Rattle.md_hlds.specs.HldsGoal.{At, Compares, Computes, Fails, Simple, SimpleGoal, Succeeds, Unifies, numbered_goal};
 ghost use Rattle.md_hlds.specs.Trace.{Alloc, Items};
 ghost use Rattle.md_hlds.specs.declared.goal.Cmp.TheVariants.{Ge, Gt, Le, Lt};
 ghost use Rattle.md_hlds.specs.declared.goal.Op.TheVariants.{Add, Mul, Sub};
 ghost use Rattle.md_hlds.specs.declared.goal.PredName.{PredName};
 ghost use Rattle.md_hlds.specs.declared.goal.Term.TheVariants.{Name, Var};
 ghost use Rattle.md_modes.specs.Classes.{role_at};
+ghost use Rattle.md_modes.specs.Goals.{simple_variables};
 ghost use Rattle.md_modes.specs.Modes.{mode_fault};
 ghost use Rattle.md_modes.specs.Notes.{assigns, closes, constructs, program_notes, takes_apart};
 ghost use Rattle.md_reader.specs.Grammar.{Spells};
@@ -58,4 +62,9 @@ pub fn constants<M>()
 pub fn goals_that_build<M>()
     ensures term { (spelled : List ℕ) → (s : Hlds) → (code : Flat) → (marks : List (M × ℕ)) → (b : ℕ) → (seen : Items) → (st : State M) → (F : Frames) → (p : ℕ) → (S : Store) → (n l y z : ℕ) → (q : PredName) → (zs : List ℕ) → (a : Address) → (w : Way) → (x : Act) → (c : List Act) → (cs : List Choice) → (next : ℕ) → Spells spelled s → mode_fault s ≡ None → role_at (program_notes s) n ≡ Some constructs → InRange (F.shapes x.index) (y ∷ z ∷ zs) → functor_number s q.name (length (z ∷ zs)) < length (functors_of s) → Leads s code (F.shapes x.index) next 0 w → Here s code marks b seen st F p S (Runs (on a (numbered_goal n (At l (SimpleGoal (Unifies y (Name q (z ∷ zs)))))) w) x c) x cs cs → AfterSeeing s code marks b seen (seen ++ Alloc x.number (length (z ∷ zs)) ∷ []) (if_charged (suc p + length (z ∷ zs)) st (On (with_cell y (functor_number s q.name (length (z ∷ zs))) next (gathered (from_slots (z ∷ zs)) st.base st.slots) (less_left (suc p + length (z ∷ zs)) st)))) }
     ensures closure { (spelled : List ℕ) → (s : Hlds) → (code : Flat) → (marks : List (M × ℕ)) → (b : ℕ) → (seen : Items) → (st : State M) → (F : Frames) → (p : ℕ) → (S : Store) → (n l y : ℕ) → (q : PredName) → (ys : List ℕ) → (a : Address) → (w : Way) → (x : Act) → (c : List Act) → (cs : List Choice) → (r : ℕ × Procedure) → (next : ℕ) → Spells spelled s → mode_fault s ≡ None → role_at (program_notes s) n ≡ Some closes → procedure_called s q ≡ Some r → InRange (F.shapes x.index) (y ∷ ys) → Leads s code (F.shapes x.index) next 0 w → Here s code marks b seen st F p S (Runs (on a (numbered_goal n (At l (SimpleGoal (Unifies y (Name q ys))))) w) x c) x cs cs → AfterSeeing s code marks b seen (seen ++ Alloc x.number (length ys + 3) ∷ []) (if_charged (suc p + (length ys + 3)) st (On (with_cell y (closure_head s r.0) next (gathered (from_slots ys) st.base st.slots) (less_left (suc p + (length ys + 3)) st)))) }
+{}
+
+/// Where the code leads along a simple goal, whichever it is, its first instruction is one that makes of the machine what is right.
+pub fn simple_goals<M>()
+    ensures { (spelled : List ℕ) → (s : Hlds) → (code : Flat) → (marks : List (M × ℕ)) → (b : ℕ) → (seen : Items) → (st : State M) → (F : Frames) → (p : ℕ) → (S : Store) → (n l : ℕ) → (g : Simple) → (a : Address) → (w : Way) → (x : Act) → (c : List Act) → (cs : List Choice) → (at : Place) → (pc : ℕ) → Spells spelled s → mode_fault s ≡ None → pc ≡ head_at n → p ≡ at.pending → StandsFrom code.instructions (head_at n) (simple_code s n g at) → HasDetail code n (simple_detail s n g) → InRange (F.shapes x.index) (simple_variables g) → HasLiterals s g → Leads s code (F.shapes x.index) at.next (pending_simple at.pending g (role_at (program_notes s) n)) w → FailsAt s code (F.shapes x.index) at.other 0 a → Here s code marks b seen st F p S (Runs (on a (numbered_goal n (At l (SimpleGoal g))) w) x c) x cs cs → SimpleStep s code marks b seen st x n pc }
 {}

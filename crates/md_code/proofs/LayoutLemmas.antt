@@ -38,17 +38,24 @@ length-laid s olds news next p e =
     ∙ (length-append (cells_of olds) (table s (length olds) next p)
     ∙ (ap (λ n. n + length (table s (length olds) next p)) (length-cells olds) ∙ ap (λ n. length olds + n) (length-table s (length olds) next p))))
 
--- a goal's own entry, and those of the goals within it
-pub laid : (s : Hlds) (olds pushed : List Entry) (e : Entry) (next : Option ℕ) (g : Goal) (number : ℕ) → pushed ≡ olds ++ e ∷ [] → number ≡ length olds
+-- a goal's own entry
+pub added : (s : Hlds) (olds pushed : List Entry) (e : Entry) (next : Option ℕ) (g : Goal) (number : ℕ) → pushed ≡ olds ++ e ∷ [] → number ≡ length olds
     → cell_of e ≡ cell (planned s number next (expr_of g.kind)) next
+    → cells_of pushed ≡ cells_of olds ++ cell (planned s (length olds) next (expr_of g.kind)) next ∷ []
+added s olds pushed e next g number is at told =
+    ap cells_of is
+    ∙ (cells-append olds e ∙ ap (λ (c : Cell). cells_of olds ++ c ∷ []) (told ∙ ap (λ n. cell (planned s n next (expr_of g.kind)) next) at))
+
+-- the same, and those of the goals within it
+pub laid : (s : Hlds) (olds pushed : List Entry) (next : Option ℕ) (g : Goal)
+    → cells_of pushed ≡ cells_of olds ++ cell (planned s (length olds) next (expr_of g.kind)) next ∷ []
     → cells_of pushed ++ inner_table s (length pushed) next (expr_of g.kind) ≡ cells_of olds ++ table s (length olds) next (goal_of g)
-laid s olds pushed e next g number is at told =
-    let long : length pushed ≡ suc (length olds) = omega (arith, ap length is, length-append olds (e ∷ [])) in
+laid s olds pushed next g is =
+    let own = cell (planned s (length olds) next (expr_of g.kind)) next in
+    let long : length pushed ≡ suc (length olds)
+    = omega (arith, length-cells pushed, length-cells olds, ap length is, length-append (cells_of olds) (own ∷ [])) in
     ap (λ n. cells_of pushed ++ inner_table s n next (expr_of g.kind)) long
-    ∙ (ap (λ cs. cs ++ inner_table s (suc (length olds)) next (expr_of g.kind))
-    (ap cells_of is ∙ (cells-append olds e
-    ∙ ap (λ (c : Cell). cells_of olds ++ c ∷ []) (told ∙ ap (λ n. cell (planned s n next (expr_of g.kind)) next) at)))
-    ∙ append_assoc (cells_of olds) _ _)
+    ∙ (ap (λ cs. cs ++ inner_table s (suc (length olds)) next (expr_of g.kind)) is ∙ append_assoc (cells_of olds) _ _)
 
 -- the goals of a vector inside a goal
 pub inner-Conj : (s : Hlds) (n : ℕ) (next : Option ℕ) (k : GoalKind) (v : Vec Goal Global) → k ≡ Conj v

@@ -14,22 +14,43 @@ pub struct Extent {
 }
 
 /// The extent of a goal.
-#[cycle(extents)]
 pub fn extent_of(goal: &Goal) -> Result<Extent, NoMemory>
     ensures { IfOk result (λ extent. extent ≡ extent_of (goal_of goal.now)) }
 {
+    let mut all = Extent::NOTHING;
+    add_extent(goal, &mut all)?;
+    Ok(all)
+}
+
+/// Adds the extent of a goal. The recursion over goals hands one extent on, so that a level of it takes little of the stack.
+#[cycle(extents)]
+fn add_extent(goal: &Goal, all: &mut Extent) -> Result<(), NoMemory>
+    ensures { IfOk result (λ _. all.new ≡ both_extents all.old (extent_of (goal_of goal.now))) }
+{
     match &goal.kind {
-        GoalKind::Conj(goals) => Extent::PLAIN.and(extent_of_all(goals.as_slice())?),
-        GoalKind::Disj(arms) => Extent::PLAIN.and(extent_of_all(arms.as_slice())?),
-        GoalKind::If(condition, then, otherwise) => {
-            let condition = extent_of(condition)?;
-            let then = extent_of(then)?;
-            let otherwise = extent_of(otherwise)?;
-            Extent::of_test(condition, then, otherwise)
+        GoalKind::Conj(goals) => {
+            all.add(Extent::PLAIN)?;
+            add_extents(goals.as_slice(), all)
         }
-        GoalKind::Not(inner) => Extent::PLAIN.and(extent_of(inner)?),
-        GoalKind::Some(_, inner) => Extent::PLAIN.and(extent_of(inner)?),
-        GoalKind::Call(..) | GoalKind::HoCall(..) => Ok(Extent::CALL),
+        GoalKind::Disj(arms) => {
+            all.add(Extent::PLAIN)?;
+            add_extents(arms.as_slice(), all)
+        }
+        GoalKind::If(condition, then, otherwise) => {
+            all.add(Extent::PLAIN)?;
+            add_extent(condition, all)?;
+            add_extent(then, all)?;
+            add_extent(otherwise, all)
+        }
+        GoalKind::Not(inner) => {
+            all.add(Extent::PLAIN)?;
+            add_extent(inner, all)
+        }
+        GoalKind::Some(_, inner) => {
+            all.add(Extent::PLAIN)?;
+            add_extent(inner, all)
+        }
+        GoalKind::Call(..) | GoalKind::HoCall(..) => all.add(Extent::CALL),
         GoalKind::True
         | GoalKind::Fail
         | GoalKind::Unify(..)
@@ -38,20 +59,19 @@ pub fn extent_of(goal: &Goal) -> Result<Extent, NoMemory>
         | GoalKind::WriteInt(..)
         | GoalKind::WriteStr(..)
         | GoalKind::Nl(..)
-        | GoalKind::Error(_) => Ok(Extent::PLAIN),
+        | GoalKind::Error(_) => all.add(Extent::PLAIN),
     }
 }
 
-/// The extent of goals together.
+/// Adds the extents of goals.
 #[cycle(extents)]
-fn extent_of_all(goals: &[Goal]) -> Result<Extent, NoMemory>
-    ensures { IfOk result (λ extent. extent ≡ extents_of (gathered (goals_of goals.now))) }
+fn add_extents(goals: &[Goal], all: &mut Extent) -> Result<(), NoMemory>
+    ensures { IfOk result (λ _. all.new ≡ both_extents all.old (extents_of (gathered (goals_of goals.now)))) }
 {
-    let mut all = Extent::NOTHING;
     for goal in goals {
-        all = all.and(extent_of(goal)?)?;
+        add_extent(goal, all)?;
     }
-    Ok(all)
+    Ok(())
 }
 
 impl Extent {
@@ -62,20 +82,14 @@ impl Extent {
 
     const CALL: Extent = Extent { goals: 1, sites: 1 };
 
-    /// Of an if-then-else, by those of its parts.
-    fn of_test(condition: Extent, then: Extent, otherwise: Extent) -> Result<Extent, NoMemory>
-        ensures { IfOk result (λ whole. whole ≡ both_extents (extent 1 0) (both_extents condition (both_extents then otherwise))) }
+    /// Adds another. It isn't inlined, so that the recursion over goals takes little of the stack.
+    #[inline(never)]
+    fn add(&mut self, other: Extent) -> Result<(), NoMemory>
+        ensures { IfOk result (λ _. self.new ≡ both_extents self.old other) }
     {
-        Extent::PLAIN.and(condition.and(then.and(otherwise)?)?)
-    }
-
-    /// The two together.
-    fn and(self, other: Extent) -> Result<Extent, NoMemory>
-        ensures { IfOk result (λ extent. extent ≡ both_extents self other) }
-    {
-        let goals = sum(self.goals, other.goals)?;
-        let sites = sum(self.sites, other.sites)?;
-        Ok(Extent { goals, sites })
+        self.goals = sum(self.goals, other.goals)?;
+        self.sites = sum(self.sites, other.sites)?;
+        Ok(())
     }
 }
 

@@ -1,8 +1,8 @@
 // Goals laid out in text order, outer before inner.
-ghost use Rattle.std.specs.Prelude.{◌≡◌, ◌+◌, ◌++◌, length, IfOk, OnOk};
+ghost use Rattle.std.specs.Prelude.{◌≡◌, ◌+◌, ◌++◌, ◌∷◌, [], length, IfOk, OnOk};
 ghost use Rattle.md_hlds.specs.Hlds.{hlds_of};
 ghost use Rattle.md_hlds.specs.HldsGoal.{expr_of, goal_of, goals_of, gathered, goal_size};
-ghost use Rattle.md_code.specs.Layout.{begins, table, inner_table, conjunction_table, arm_table};
+ghost use Rattle.md_code.specs.Layout.{begins, cell, planned, table, inner_table, conjunction_table, arm_table};
 ghost use Rattle.md_code.specs.Told.{cells_of};
 
 use crate::code::Entry;
@@ -22,11 +22,27 @@ pub fn lay<'a>(
     ensures { OnOk result (cells_of entries.new.items
         ≡ cells_of entries.old.items ++ table (hlds_of moded.now) (length entries.old.items) next (goal_of goal.now)) }
 {
+    add_entry(moded, entries, goal, next)?;
+    lay_inner(moded, entries, &goal.kind, next)
+}
+
+/// Adds the entry of a goal, without those of the goals within it. It isn't inlined, so that the recursion over goals has no
+/// room for an entry at each level.
+#[inline(never)]
+fn add_entry<'a>(
+    moded: &Moded,
+    entries: &mut Vec<Entry<'a>>,
+    goal: &'a Goal,
+    next: Option<u32>,
+) -> Result<(), NoMemory>
+    ensures { OnOk result (cells_of entries.new.items
+        ≡ cells_of entries.old.items ++ cell (planned (hlds_of moded.now) (length entries.old.items) next (expr_of goal.now.kind)) next ∷ []) }
+{
     let alloc = *entries.allocator();
     let number = place(entries.len())?;
     let step = step_of(alloc, moded, &goal.kind, number, next)?;
     entries.push(Entry { step, next })?;
-    lay_inner(moded, entries, &goal.kind, next)
+    Ok(())
 }
 
 /// Adds the entries of the goals within a goal.

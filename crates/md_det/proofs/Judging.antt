@@ -1,10 +1,11 @@
 -- Judgements of the code: one goal and then others, one arm beside others, and a goal with those within it.
-use Rattle.std.proofs.Common.{◌≡◌, refl, sym, ap, ◌∙◌, subst, arith, append-nil, ℕ, zero, suc, ◌+◌, ◌<◌, Bool, true, false, ◌&&◌, ◌||◌, List, [], ◌∷◌, ◌++◌, length, length-append, drop, get_or, Option, Some, None, Vec, Box, Result, append_assoc, slice_set}
+use Rattle.std.proofs.Common.{◌≡◌, refl, sym, ap, ◌∙◌, subst, arith, append-nil, ℕ, zero, suc, ◌+◌, ◌<◌, Bool, true, false, ◌&&◌, ◌||◌, List, [], ◌∷◌, ◌++◌, length, length-append, drop, get_or, Option, Some, None, Vec, Box, Result, Ok, Err, append_assoc, slice_set}
 use Rattle.std.specs.Prelude.{IfOk}
 use Rattle.std.specs.declared.alloc.Global.{Global}
 use Rattle.md_hlds.specs.declared.goal.Goal.{Goal}
-use Rattle.md_hlds.specs.declared.goal.GoalKind.{GoalKind, Conj, Disj, If}
-use Rattle.md_hlds.specs.HldsGoal.{ConjGoal, DisjGoal, IfGoal, gathered, goal_of, goals_of, expr_of}
+use Rattle.md_hlds.specs.declared.goal.GoalKind.{GoalKind, Conj, Disj, If, Not}
+use Rattle.md_hlds.specs.declared.goal.GoalKind.TheVariants as kinds
+use Rattle.md_hlds.specs.HldsGoal.{ConjGoal, DisjGoal, IfGoal, NotGoal, SomeGoal, gathered, goal_of, goals_of, expr_of}
 use Rattle.md_hlds.proofs.Bridge.{expr_of-Conj, expr_of-Disj}
 use Rattle.md_det.specs.declared.fault.DetFault.{DetFault}
 use Rattle.md_det.specs.declared.finding.Finding.{Finding}
@@ -58,7 +59,7 @@ and-assoc : (a b c : Bool) → (a && (b && c)) ≡ ((a && b) && c)
 and-assoc true b c = refl
 and-assoc false b c = refl
 
-or_else-assoc : (a b c : Option DetFault) → or_else a (or_else b c) ≡ or_else (or_else a b) c
+pub or_else-assoc : (a b c : Option DetFault) → or_else a (or_else b c) ≡ or_else (or_else a b) c
 or_else-assoc None b c = refl
 or_else-assoc (Some f) b c = refl
 
@@ -198,6 +199,28 @@ pub disj_found : {E : Type 0} (r : Reading) (n : ℕ) (at : Option ℕ) (again :
     → IfOk o (λ f. found_told f news ≡ found_onto olds (judge_expr r n at again l (expr_of k)))
 disj_found r n at again l k v gs o olds news is items told =
     subst (λ t. IfOk o (λ f. found_told f news ≡ found_onto olds (judge_expr r n at again l t))) (ap (λ xs. DisjGoal (gathered (goals_of xs))) items ∙ sym (ap expr_of is ∙ expr_of-Disj v)) told
+
+-- what is found whatever the variable of a switch is, is found
+pub at_any : {E : Type 0} (o : Result code.Found E) (P : code.Found → Option ℕ → Type 0) (at : Option ℕ) → IfOk o (λ f. (x : Option ℕ) → P f x) → IfOk o (λ f. P f at)
+at_any (Ok f) P at h = h at
+at_any (Err e) P at h = tt
+
+-- a goal that is negated or quantified, by what was found at it
+pub not_kind : {E : Type 0} (r : Reading) (n : ℕ) (at : Option ℕ) (again : Bool) (l : ℕ) (k : GoalKind) (b : Box Goal Global) (g : Goal) (o : Result code.Found E) (olds news : List Finding)
+    → k ≡ Not b → g ≡ b.value
+    → IfOk o (λ f. found_told f news ≡ found_onto olds (judge_expr r n None again l (NotGoal (goal_of g))))
+    → IfOk o (λ f. found_told f news ≡ found_onto olds (judge_expr r n at again l (expr_of k)))
+not_kind r n at again l k b g o olds news is gs told =
+    let same : NotGoal (goal_of g) ≡ expr_of k = sym (ap expr_of is ∙ rw gs refl) in
+    subst (λ u. IfOk o (λ f. found_told f news ≡ found_onto olds (judge_expr r n at again l u))) same told
+
+pub some_kind : {E : Type 0} (r : Reading) (n : ℕ) (at : Option ℕ) (again : Bool) (l : ℕ) (k : GoalKind) (vs : List ℕ) (b : Box Goal Global) (g : Goal) (o : Result code.Found E) (olds news : List Finding)
+    → k ≡ kinds.Some vs b → g ≡ b.value
+    → IfOk o (λ f. found_told f news ≡ found_onto olds (judge_expr r n None again l (SomeGoal [] (goal_of g))))
+    → IfOk o (λ f. found_told f news ≡ found_onto olds (judge_expr r n at again l (expr_of k)))
+some_kind r n at again l k vs b g o olds news is gs told =
+    let same : SomeGoal vs (goal_of g) ≡ expr_of k = sym (ap expr_of is ∙ rw gs refl) in
+    subst (λ u. IfOk o (λ f. found_told f news ≡ found_onto olds (judge_expr r n at again l u))) same told
 
 -- condition, then and else, each with what was found before it
 pub choice_found : (r : Reading) (n : ℕ) (at : Option ℕ) (again : Bool) (l : ℕ) (k : GoalKind) (cb tb eb : Box Goal Global) (c t e : Goal)

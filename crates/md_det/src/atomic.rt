@@ -15,6 +15,7 @@ use md_hlds::{GoalKind, TypeDef};
 use md_modes::{Class, Moded, Named};
 
 /// The pair of the goal of this number, where it has no parts. `at` is the variable of the switch whose arm it begins.
+#[inline(never)]
 pub fn atomic_pair(moded: &Moded, kind: &GoalKind, number: u32, at: Option<u32>) -> Pair
     ensures { result ≡ read_atomic (hlds_of moded.now) at (name_at (hlds_of moded.now) number)
         (role_at (program_notes (hlds_of moded.now)) number) (expr_of kind.now) }
@@ -125,6 +126,7 @@ pub fn is_apart(moded: &Moded, number: u32) -> bool
 }
 
 /// The fault of a goal of this number on this line that names an io state, where a run may come back.
+#[inline(never)]
 pub fn io_fault(context: &Context, number: u32, again: bool, line: u32) -> Option<DetFault>
     ensures { result ≡ io_fault (reading_in context.now) number again line }
 {
@@ -137,6 +139,7 @@ pub fn io_fault(context: &Context, number: u32, again: bool, line: u32) -> Optio
 
 /// The fault of an if-then-else on this line whose condition has this number and this pair: the condition has many
 /// solutions, and binds a variable that occurs outside it.
+#[inline(never)]
 pub fn condition_fault(context: &Context, line: u32, number: u32, pair: Pair) -> Option<DetFault>
     ensures { result ≡ condition_fault (reading_in context.now) line number pair }
 {

@@ -15,6 +15,7 @@ use md_hlds::{Goal, GoalKind};
 use md_switch::shape_of;
 
 /// The switch that a disjunction of these arms is, where the first of them has this number.
+#[inline(never)]
 pub fn find_switch(
     context: &Context,
     arms: &[Goal],

@@ -1,7 +1,12 @@
 // The judgement of a goal: how often it may succeed, its first fault, and what is found at it and at the goals within it.
-ghost use Rattle.std.specs.Prelude.{◌≡◌, ◌<◌, ◌+◌, ◌^◌, suc, ◌||◌, is_none, length, None, IfOk};
-ghost use Rattle.md_hlds.specs.HldsGoal.{ConjGoal, DisjGoal, IfGoal, goal_of, goals_of, gathered, expr_of};
-ghost use Rattle.md_det.specs.Judge.{or_else, judge_part, judge_expr, judge_each, judge_arms, onto};
+ghost use Rattle.std.specs.Prelude.{◌≡◌, ◌<◌, ◌+◌, ◌^◌, [], ℕ, suc, ◌||◌, is_none, length, Option, None, IfOk};
+ghost use Rattle.md_hlds.specs.HldsGoal.{DisjGoal, NotGoal, SomeGoal, goal_of, goals_of, gathered, expr_of};
+ghost use Rattle.md_modes.specs.Inside.{IsChoice};
+ghost use Rattle.md_hlds.specs.Hlds.{hlds_of};
+ghost use Rattle.md_names.specs.Named.{name_at};
+ghost use Rattle.md_modes.specs.Notes.{program_notes};
+ghost use Rattle.md_modes.specs.Classes.{role_at};
+ghost use Rattle.md_det.specs.Judge.{or_else, judge_part, judge_expr, judge_each, judge_arms, onto, read_atomic, io_fault, condition_fault};
 ghost use Rattle.md_det.specs.Pairs.{one_of_two};
 ghost use Rattle.md_det.specs.Told.{reading_in, judged_told, found_told, found_onto};
 
@@ -100,36 +105,113 @@ fn judge_kind(
         GoalKind::Disj(arms) => {
             judge_disjunction(context, arms.as_slice(), number, again, findings)
         }
-        GoalKind::If(condition, then, otherwise) => {
-            let tested = judge(context, condition, None, again, findings)?;
-            let fault = condition_fault(context, goal.line, number + 1, tested.pair);
-            let first = judge(context, then, None, again, findings)?;
-            let second = judge(context, otherwise, None, again, findings)?;
-            Ok(chosen(fault, tested, first, second))
-        }
-        GoalKind::Not(inner) => {
-            let judged = judge(context, inner, None, again, findings)?;
-            let fault = io_fault(context, number, again, goal.line);
-            Ok(around(Pair::UNSURE, fault, judged.fault))
-        }
+        GoalKind::If(..) => judge_choice(context, goal, number, again, findings),
+        GoalKind::Not(inner) => judge_negation(context, goal.line, number, again, inner, findings),
         GoalKind::Some(_, inner) => {
-            let judged = judge(context, inner, None, again, findings)?;
-            let fault = io_fault(context, number, again, goal.line);
-            Ok(around(judged.pair.cut(), fault, judged.fault))
+            judge_quantified(context, goal.line, number, again, inner, findings)
         }
-        _ => {
-            let pair = atomic_pair(context.moded, &goal.kind, number, at);
-            let fault = io_fault(context, number, again, goal.line);
-            Ok(Found::plain(pair, fault))
-        }
+        _ => Ok(judge_atomic(context, goal, number, at, again)),
     }
 }
 
-/// Of an if-then-else with this fault of its own, from its parts.
-fn chosen(own: Option<DetFault>, tested: Judged, first: Judged, second: Judged) -> Found
-    ensures { result ≡ record { switch = None; pair = one_of_two first.pair second.pair; fault = or_else own (or_else tested.fault (or_else first.fault second.fault)) } }
+/// Judges a goal that has no parts. Not inlined, so that the recursion over goals has no room for what is found there.
+#[inline(never)]
+fn judge_atomic(context: &Context, goal: &Goal, number: u32, at: Option<u32>, again: bool) -> Found
+    ensures { result ≡ record {
+      switch = None;
+      pair = read_atomic (hlds_of context.now.moded.now) at (name_at (hlds_of context.now.moded.now) number)
+          (role_at (program_notes (hlds_of context.now.moded.now)) number) (expr_of goal.now.kind);
+      fault = io_fault (reading_in context.now) number again goal.now.line;
+    } }
 {
-    let fault = own.or(tested.fault.or(first.fault.or(second.fault)));
+    let pair = atomic_pair(context.moded, &goal.kind, number, at);
+    let fault = io_fault(context, number, again, goal.line);
+    Found::plain(pair, fault)
+}
+
+/// Judges an if-then-else. It isn't inlined, so that only goals of this kind take the room for three judgements.
+#[cycle(judging)]
+#[inline(never)]
+fn judge_choice(
+    context: &Context,
+    goal: &Goal,
+    number: u32,
+    again: bool,
+    findings: &mut Vec<Finding>,
+) -> Result<Found, NoMemory>
+    requires choice { IsChoice (expr_of goal.now.kind) }
+    requires numbered { suc number ≡ length findings.old.items }
+    requires small { number < 4294967290 }
+    ensures { IfOk result (λ found. (at : Option ℕ) → found_told found findings.new.items
+        ≡ found_onto findings.old.items (judge_expr (reading_in context.now) number at again goal.now.line (expr_of goal.now.kind))) }
+{
+    match &goal.kind {
+        GoalKind::If(condition, then, otherwise) => {
+            let tested = judge(context, condition, None, again, findings)?;
+            let fault = tested_fault(context, goal.line, number + 1, tested);
+            let first = judge(context, then, None, again, findings)?;
+            let second = judge(context, otherwise, None, again, findings)?;
+            Ok(chosen(fault, first, second))
+        }
+        _ => unreachable!(),
+    }
+}
+
+/// Judges a negation. Not inlined either, so that other goals have no room for what it judges.
+#[cycle(judging)]
+#[inline(never)]
+fn judge_negation(
+    context: &Context,
+    line: u32,
+    number: u32,
+    again: bool,
+    inner: &Goal,
+    findings: &mut Vec<Finding>,
+) -> Result<Found, NoMemory>
+    requires numbered { suc number ≡ length findings.old.items }
+    requires small { number < 4294967290 }
+    ensures { IfOk result (λ found. found_told found findings.new.items
+        ≡ found_onto findings.old.items (judge_expr (reading_in context.now) number None again line (NotGoal (goal_of inner.now)))) }
+{
+    let judged = judge(context, inner, None, again, findings)?;
+    let fault = io_fault(context, number, again, line);
+    Ok(around(Pair::UNSURE, fault, judged.fault))
+}
+
+/// Judges a quantified goal. Not inlined either.
+#[cycle(judging)]
+#[inline(never)]
+fn judge_quantified(
+    context: &Context,
+    line: u32,
+    number: u32,
+    again: bool,
+    inner: &Goal,
+    findings: &mut Vec<Finding>,
+) -> Result<Found, NoMemory>
+    requires numbered { suc number ≡ length findings.old.items }
+    requires small { number < 4294967290 }
+    ensures { IfOk result (λ found. found_told found findings.new.items
+        ≡ found_onto findings.old.items (judge_expr (reading_in context.now) number None again line (SomeGoal [] (goal_of inner.now)))) }
+{
+    let judged = judge(context, inner, None, again, findings)?;
+    let fault = io_fault(context, number, again, line);
+    Ok(around(judged.pair.cut(), fault, judged.fault))
+}
+
+/// The first fault of an if-then-else whose condition has this number, as far as the condition is judged. Not inlined either.
+#[inline(never)]
+fn tested_fault(context: &Context, line: u32, number: u32, tested: Judged) -> Option<DetFault>
+    ensures { result ≡ or_else (condition_fault (reading_in context.now) line number tested.pair) tested.fault }
+{
+    condition_fault(context, line, number, tested.pair).or(tested.fault)
+}
+
+/// Of an if-then-else with this first fault up to its condition, from its other parts.
+fn chosen(tested: Option<DetFault>, first: Judged, second: Judged) -> Found
+    ensures { result ≡ record { switch = None; pair = one_of_two first.pair second.pair; fault = or_else tested (or_else first.fault second.fault) } }
+{
+    let fault = tested.or(first.fault.or(second.fault));
     Found::plain(first.pair.or(second.pair), fault)
 }
 
@@ -171,8 +253,9 @@ fn judge_each(
     Ok(all)
 }
 
-/// Judges a disjunction of these arms. They are alternatives, where it is no switch.
+/// Judges a disjunction of these arms. They are alternatives, where it is no switch. Not inlined either.
 #[cycle(judging)]
+#[inline(never)]
 fn judge_disjunction(
     context: &Context,
     arms: &[Goal],

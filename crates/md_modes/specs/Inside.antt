@@ -1,6 +1,6 @@
 -- A goal within a branch, and the view that the code has of a goal's variables.
-use Rattle.std.specs.Prelude.{◌≡◌, ℕ, List, Ok}
-use Rattle.md_hlds.specs.HldsGoal.{HldsGoal}
+use Rattle.std.specs.Prelude.{◌≡◌, ⊤, ℕ, List, Ok}
+use Rattle.md_hlds.specs.HldsGoal.{HldsGoal, GoalExpr, IfGoal}
 use Rattle.md_inst.specs.Verdict.{Verdict, ◌>>=◌, ◌>>◌}
 use Rattle.md_inst.specs.Instantiation.{InstMap, times}
 use Rattle.md_inst.specs.Kinds.{inst_map_of}
@@ -27,3 +27,8 @@ pub record IsViewOf (k : Clause) (view : View) (vars : List ℕ) (s : InstMap) :
   pub local : IsLocal view.outside.local.now.places.items view.outside.local.now.counts.items vars
   pub all : view.outside.all.now ≡ k.counts.items
   pub before : inst_map_of view.before.now ≡ seen view.outside.local.now.places.items s
+
+-- the goal is an if-then-else
+abbrev pub IsChoice : GoalExpr → Type 0
+IsChoice (IfGoal p t e) = ⊤
+IsChoice t = ⊥

@@ -10,3 +10,4 @@ pub mod Joins
 pub mod Clauses
 pub mod Classes
 pub mod Inside
+pub mod Begun

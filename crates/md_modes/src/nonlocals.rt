@@ -1,13 +1,17 @@
 // The variables that occur outside a goal, and what a branch may bind.
-ghost use Rattle.std.specs.Prelude.{◌≡◌, ℕ, List, slice_index};
+ghost use Rattle.std.specs.Prelude.{◌≡◌, ℕ, List, slice_index, IfOk};
 ghost use Rattle.md_modes.specs.Branches.{binds_some, some_of, outside};
 ghost use Rattle.md_modes.specs.Tally.{AreCounts, IsLocal};
 ghost use Rattle.md_modes.specs.Joins.{occurs};
+ghost use Rattle.md_modes.specs.Views.{seen};
 ghost use Rattle.md_inst.specs.Kinds.{inst_map_of};
 
 use crate::local::Local;
 use crate::tally::{count_at, count_in};
+use crate::view::seen;
+use md_base::NoMemory;
 use md_inst::{Inst, inst_in};
+use std::alloc::Global;
 
 /// How often each variable occurs in a clause, and how often each variable of one of its goals occurs in that.
 #[derive(Clone, Copy)]
@@ -57,8 +61,23 @@ pub struct View<'a, 'b> {
     pub before: &'b [Inst<'a>],
 }
 
+/// Whether a variable that occurs outside is free before and bound by what is known now.
+#[inline(never)]
+pub fn binds_outside(
+    alloc: Global,
+    view: &View<'_, '_>,
+    insts: &[Inst<'_>],
+) -> Result<bool, NoMemory>
+    ensures { IfOk result (λ binds. binds ≡ binds_some (occurs view.now.outside) (inst_map_of view.now.before.now)
+        (seen view.now.outside.local.now.places.items (inst_map_of insts.now))) }
+{
+    let after = seen(alloc, &view.outside.local.places, insts)?;
+    let binds = binds_some(view.outside, view.before, &after);
+    Ok(binds)
+}
+
 /// Whether a variable that occurs outside is free before and bound after.
-pub fn binds_some(outside: Nonlocals<'_>, before: &[Inst<'_>], after: &[Inst<'_>]) -> bool
+fn binds_some(outside: Nonlocals<'_>, before: &[Inst<'_>], after: &[Inst<'_>]) -> bool
     ensures { result ≡ binds_some (occurs outside.entry) (inst_map_of before.now) (inst_map_of after.now) }
 {
     for number in 0..before.len() {

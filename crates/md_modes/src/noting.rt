@@ -5,6 +5,7 @@ ghost use Rattle.md_hlds.specs.HldsGoal.{expr_of};
 ghost use Rattle.md_inst.specs.Kinds.{inst_map_of};
 ghost use Rattle.md_modes.specs.Branches.{outside, some_of};
 ghost use Rattle.md_modes.specs.Classes.{class_told};
+ghost use Rattle.md_modes.specs.Begun.{IsBegun};
 ghost use Rattle.md_modes.specs.Notes.{role_of};
 ghost use Rattle.md_modes.specs.Tally.{AreCounts, IsLocal};
 ghost use Rattle.md_modes.specs.Views.{seen, picked, names_seen};
@@ -20,8 +21,25 @@ use md_inst::Inst;
 use md_names::Names;
 use std::alloc::Global;
 
+/// Adds the note of a goal before what is within it is checked. It isn't inlined, so that the recursion over goals has no room
+/// for a note at each level.
+#[inline(never)]
+pub fn add_note(
+    alloc: Global,
+    names: &Names<'_>,
+    goal: &GoalKind,
+    insts: &[Inst<'_>],
+    notes: &mut Vec<Note>,
+) -> Result<(), NoMemory>
+    ensures { OnOk result (IsBegun (hlds_of names.now) (expr_of goal.now) (inst_map_of insts.now) notes.old.items notes.new.items) }
+{
+    let note = begin_note(alloc, names, goal, insts)?;
+    notes.push(note)?;
+    Ok(())
+}
+
 /// The note of a goal before what is within it is checked: what the goal does, and what its name stands for.
-pub fn begin_note(
+fn begin_note(
     alloc: Global,
     names: &Names<'_>,
     goal: &GoalKind,
@@ -42,26 +60,27 @@ pub fn begin_note(
 }
 
 /// Completes the note of a goal, which has so many goals, by what is known after it.
+#[inline(never)]
 pub fn end_note(
     alloc: Global,
-    view: View<'_, '_>,
+    view: &View<'_, '_>,
     goal: &GoalKind,
     insts: &[Inst<'_>],
     reach: bool,
     size: usize,
     note: &mut Note,
 ) -> Result<(), NoMemory>
-    requires { length view.before.now ≡ length view.outside.local.now.places.items }
+    requires { length view.now.before.now ≡ length view.now.outside.local.now.places.items }
     ensures class { OnOk result (note.new.class ≡ note.old.class) }
     ensures named { OnOk result (note.new.named ≡ note.old.named) }
     ensures size { OnOk result (note.new.size ≡ size) }
-    ensures binds { OnOk result (note.new.binds.items ≡ cond reach (picked view.entry.outside.local.now.places.items (inst_map_of view.entry.before.now)
-        (seen view.entry.outside.local.now.places.items (inst_map_of insts.now))) []) }
-    ensures outside { OnOk result ((all vars : List ℕ) → AreCounts view.entry.outside.all.now all
-        → IsLocal view.entry.outside.local.now.places.items view.entry.outside.local.now.counts.items vars
+    ensures binds { OnOk result (note.new.binds.items ≡ cond reach (picked view.now.outside.local.now.places.items (inst_map_of view.now.before.now)
+        (seen view.now.outside.local.now.places.items (inst_map_of insts.now))) []) }
+    ensures outside { OnOk result ((all vars : List ℕ) → AreCounts view.now.outside.all.now all
+        → IsLocal view.now.outside.local.now.places.items view.now.outside.local.now.counts.items vars
         → note.new.binds_outside ≡ some_of (outside all vars) note.new.binds.items) }
-    ensures state { OnOk result (note.new.names_io ≡ names_seen (expr_of goal.now) (inst_map_of view.entry.before.now)
-        (seen view.entry.outside.local.now.places.items (inst_map_of insts.now))) }
+    ensures state { OnOk result (note.new.names_io ≡ names_seen (expr_of goal.now) (inst_map_of view.now.before.now)
+        (seen view.now.outside.local.now.places.items (inst_map_of insts.now))) }
 {
     let after = seen(alloc, &view.outside.local.places, insts)?;
     let change = Change {

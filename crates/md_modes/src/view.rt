@@ -24,6 +24,7 @@ pub fn seen<'a>(
 }
 
 /// Makes what is known of these variables what a view of them has.
+#[inline(never)]
 pub fn put_all<'a>(insts: &mut Vec<Inst<'a>>, places: &[u32], view: &[Inst<'a>])
     ensures { inst_map_of insts.new.items ≡ put_all places.now (inst_map_of view.now) (inst_map_of insts.old.items) }
 {

@@ -274,6 +274,16 @@ unfoldable pub open_goal : ℕ → Parser ℕ
 open_goal zero = λ i. if sees kind.Open i then limit i else refuse i
 open_goal (suc room) = expect kind.Open
 
+-- a goal of this line
+abbrev pub goal_at : ℕ → Parser GoalExpr → Parser HldsGoal
+goal_at line p = p >>= (λ t. pure (At line t))
+
+-- a goal, and then a token of this kind
+abbrev pub before : Kind → HldsGoal → Parser HldsGoal
+before k p = do
+  expect k
+  pure p
+
 -- The goals of one depth, by the conjunction of the next one.
 module _ (inner : Parser HldsGoal) where
   unfoldable pub arms_from : (n : ℕ) → List HldsGoal → Parser (List HldsGoal)

@@ -1,17 +1,21 @@
 use Rattle.std.proofs.Common.{◌≡◌, ◌∙◌, ap, subst, IfOk}
 use Rattle.md_code.specs.declared.extent.Extent.{Extent}
-use Rattle.md_code.specs.Extents.{extent, both_extents}
-use Rattle.md_code.proofs.ExtentLemmas.{extents_in, whole-Conj, whole-Disj}
+use Rattle.md_code.specs.Extents.{both_extents}
+use Rattle.md_code.proofs.ExtentLemmas.{extents_in, added-Conj, added-Disj}
 use Rattle.md_code.proofs.extent.+extents.Goals as goal
 
-pub extent_of-returns-in_ok-extent_of_all-in-Conj : goal.extent_of-returns-in_ok-extent_of_all-in-Conj
-extent_of-returns-in_ok-extent_of_all-in-Conj t c =
-    subst (λ (x : Extent). IfOk c.and.result (λ e. e ≡ x))
-    (ap (both_extents (extent 1 0)) (c.in_ok-extent_of_all-in-Conj.ensures ∙ ap extents_in c.as_slice.ensures.value) ∙ whole-Conj c.args.goal.now c.in-Conj.goals c.in-Conj.is)
-    c.and.ensures
+pub add_extent-returns-in_ok-add-in-Conj : goal.add_extent-returns-in_ok-add-in-Conj
+add_extent-returns-in_ok-add-in-Conj t c =
+    subst (λ (x : Extent). IfOk c.add_extents.result (λ _. c.add_extents.new.all ≡ x))
+    (ap (both_extents c.add.new.self) (ap extents_in c.as_slice.ensures.value)
+    ∙ (ap (λ all. both_extents all (extents_in c.in-Conj.goals.items)) c.in_ok-add-in-Conj.ensures
+    ∙ added-Conj c.args.all.now c.args.goal.now c.in-Conj.goals c.in-Conj.is))
+    c.add_extents.ensures
 
-pub extent_of-returns-in_ok-extent_of_all-in-Disj : goal.extent_of-returns-in_ok-extent_of_all-in-Disj
-extent_of-returns-in_ok-extent_of_all-in-Disj t c =
-    subst (λ (x : Extent). IfOk c.and-in-Disj.result (λ e. e ≡ x))
-    (ap (both_extents (extent 1 0)) (c.in_ok-extent_of_all-in-Disj.ensures ∙ ap extents_in c.as_slice-in-Disj.ensures.value) ∙ whole-Disj c.args.goal.now c.in-Disj.arms c.in-Disj.is)
-    c.and-in-Disj.ensures
+pub add_extent-returns-in_ok-add-in-Disj : goal.add_extent-returns-in_ok-add-in-Disj
+add_extent-returns-in_ok-add-in-Disj t c =
+    subst (λ (x : Extent). IfOk c.add_extents-in-Disj.result (λ _. c.add_extents-in-Disj.new.all ≡ x))
+    (ap (both_extents c.add-in-Disj.new.self) (ap extents_in c.as_slice-in-Disj.ensures.value)
+    ∙ (ap (λ all. both_extents all (extents_in c.in-Disj.arms.items)) c.in_ok-add-in-Disj.ensures
+    ∙ added-Disj c.args.all.now c.args.goal.now c.in-Disj.arms c.in-Disj.is))
+    c.add_extents-in-Disj.ensures

@@ -3,17 +3,15 @@ use Rattle.std.proofs.lemmas.Grind.{common_steps}
 use Rattle.md_hlds.specs.declared.goal.Goal.{Goal}
 use Rattle.md_hlds.specs.Hlds.{hlds_of}
 use Rattle.md_hlds.specs.HldsGoal.{goal_of, goal_size, goals_of, gathered}
-use Rattle.md_code.specs.Layout.{Cell, cell, begins, conjunction_table, arm_table}
+use Rattle.md_code.specs.Layout.{Cell, begins, conjunction_table, arm_table}
 use Rattle.md_code.specs.Told.{cells_of}
 use Rattle.md_code.proofs.LayoutLemmas.{laid, inner-Conj, inner-Disj, inner-If, what_is_left, conjunction-next, arms-next}
 use Rattle.md_code.proofs.layout.+layout.Goals as goal
 
 pub lay-returns : goal.lay-returns
 lay-returns t c =
-    let olds = c.args.entries.now.items in
     subst (λ (cs : List Cell). OnOk c.lay_inner.result (cells_of c.lay_inner.new.entries.items ≡ cs))
-    (laid (hlds_of c.args.moded.now) olds c.push.new.self.items (record { step = c.in_ok-step.step; next = c.args.next }) c.args.next c.args.goal.now c.in_ok-number.number
-    c.in_ok-push.ensures.items (omega (arith, c.in_ok-number.ensures, c.len.ensures, c.args.entries.now.ok)) (ap (λ step. cell step c.args.next) c.in_ok-step.ensures))
+    (laid (hlds_of c.args.moded.now) c.args.entries.now.items c.add_entry.new.entries.items c.args.next c.args.goal.now c.in_ok-add_entry.ensures)
     c.lay_inner.ensures
 
 pub lay_inner-returns-in-Conj : goal.lay_inner-returns-in-Conj

@@ -1,9 +1,10 @@
-use Rattle.std.proofs.Common.{◌≡◌, ◌∙◌, ◌+◌, suc, refl, arith, add-one, ◌||◌, length, drop}
+use Rattle.std.proofs.Common.{◌≡◌, ◌∙◌, ◌+◌, suc, refl, sym, subst, rules, arith, add-one, ◌||◌, length, drop}
 use Rattle.std.proofs.lemmas.Grind.{common_steps}
 use Rattle.md_hlds.specs.HldsGoal.{gathered, goals_of, expr_of}
-use Rattle.md_det.specs.Judge.{condition_fault, judge_expr}
+use Rattle.md_modes.specs.Inside.{IsChoice}
+use Rattle.md_det.specs.Judge.{or_else, condition_fault, judge_expr}
 use Rattle.md_det.specs.Told.{reading_in, found_told, found_onto}
-use Rattle.md_det.proofs.Judging.{each_next, arms_next, each_end, arms_end, still_within, own_set, conj_found, disj_found, choice_found}
+use Rattle.md_det.proofs.Judging.{each_next, arms_next, each_end, arms_end, still_within, own_set, or_else-assoc, conj_found, disj_found, choice_found, at_any, not_kind, some_kind}
 use Rattle.md_det.proofs.judge.+judging.Goals as goal
 use Rattle.md_det.proofs.judge.+judging.Goals.{judge_each-then-again, judge_each-else-again}
 
@@ -30,19 +31,47 @@ judge_kind-returns-in-Disj t c =
     c.judge_disjunction.result c.args.findings.now.items c.judge_disjunction.new.findings.items
     c.in-Disj.is c.as_slice-in-Disj.ensures.value c.judge_disjunction.ensures
 
-pub judge_kind-returns-in_ok-second-in-If : goal.judge_kind-returns-in_ok-second-in-If
-judge_kind-returns-in_ok-second-in-If t c =
+pub judge_kind-judge_choice-requires : goal.judge_kind-judge_choice-requires
+judge_kind-judge_choice-requires t c = (search rules, (subst (λ k. IsChoice (expr_of k)) (sym c.in-If.is) tt, (c.requires.numbered, c.requires.small)))
+
+pub judge_kind-returns-in-If : goal.judge_kind-returns-in-If
+judge_kind-returns-in-If t c =
+    at_any c.judge_choice.result
+    (λ f at. found_told f c.judge_choice.new.findings.items
+    ≡ found_onto c.args.findings.now.items (judge_expr (reading_in c.args.context.now) c.args.number at c.args.again c.args.goal.now.line (expr_of c.args.goal.now.kind)))
+    c.args.at c.judge_choice.ensures
+
+pub judge_kind-returns-in-Not : goal.judge_kind-returns-in-Not
+judge_kind-returns-in-Not t c =
+    not_kind (reading_in c.args.context.now) c.args.number c.args.at c.args.again c.args.goal.now.line c.args.goal.now.kind c.in-Not.inner c.deref.result.now
+    c.judge_negation.result c.args.findings.now.items c.judge_negation.new.findings.items
+    c.in-Not.is c.deref.ensures c.judge_negation.ensures
+
+pub judge_kind-returns-in-Some : goal.judge_kind-returns-in-Some
+judge_kind-returns-in-Some t c =
+    some_kind (reading_in c.args.context.now) c.args.number c.args.at c.args.again c.args.goal.now.line c.args.goal.now.kind _ c.in-Some.inner c.deref-in-Some.result.now
+    c.judge_quantified.result c.args.findings.now.items c.judge_quantified.new.findings.items
+    c.in-Some.is c.deref-in-Some.ensures c.judge_quantified.ensures
+
+pub judge_choice-returns : goal.judge_choice-returns
+judge_choice-returns t c at =
     let r = reading_in c.args.context.now in
-    let own : c.condition_fault-fault.result ≡ condition_fault r c.args.goal.now.line (suc c.args.number) c.in_ok-tested-in-If.tested.pair
-    = c.condition_fault-fault.ensures ∙ rw add-one refl in
-    rw c.chosen.ensures
-    (choice_found (reading_in c.args.context.now) c.args.number c.args.at c.args.again c.args.goal.now.line c.args.goal.now.kind
+    let own = condition_fault r c.args.goal.now.line (suc c.args.number) c.in_ok-tested-in-If.tested.pair in
+    let fault : c.tested_fault-fault.result ≡ or_else own c.in_ok-tested-in-If.tested.fault = c.tested_fault-fault.ensures ∙ rw add-one refl in
+    rw (c.chosen.ensures, fault, ← or_else-assoc own c.in_ok-tested-in-If.tested.fault (or_else c.in_ok-first-in-If.first.fault c.in_ok-second-in-If.second.fault))
+    (choice_found (reading_in c.args.context.now) c.args.number at c.args.again c.args.goal.now.line c.args.goal.now.kind
     c.in-If.condition c.in-If.then c.in-If.otherwise c.deref.result.now c.deref-in-If.result.now c.deref-in-If-2.result.now
     c.args.findings.now.items c.judge.new.findings.items c.judge-in-If.new.findings.items c.judge-in-If-2.new.findings.items
     c.in_ok-tested-in-If.tested.pair c.in_ok-first-in-If.first.pair c.in_ok-second-in-If.second.pair
-    c.in_ok-tested-in-If.tested.fault c.in_ok-first-in-If.first.fault c.in_ok-second-in-If.second.fault c.condition_fault-fault.result
+    c.in_ok-tested-in-If.tested.fault c.in_ok-first-in-If.first.fault c.in_ok-second-in-If.second.fault own
     c.in-If.is c.deref.ensures c.deref-in-If.ensures c.deref-in-If-2.ensures c.requires.numbered
-    c.in_ok-tested-in-If.ensures own c.in_ok-first-in-If.ensures c.in_ok-second-in-If.ensures)
+    c.in_ok-tested-in-If.ensures refl c.in_ok-first-in-If.ensures c.in_ok-second-in-If.ensures)
+
+pub judge_negation-returns : goal.judge_negation-returns
+judge_negation-returns t c = grind (arith, common_steps)
+
+pub judge_quantified-returns : goal.judge_quantified-returns
+judge_quantified-returns t c = grind (arith, common_steps)
 
 pub judge_each-loop-goal-preserved : goal.judge_each-loop-goal-preserved
 judge_each-loop-goal-preserved t c =
@@ -81,9 +110,3 @@ judge-index_mut-requires t c =
 
 pub judge-returns-then-place-ge-MOST_GOALS : goal.judge-returns-then-place-ge-MOST_GOALS
 judge-returns-then-place-ge-MOST_GOALS t c = grind (arith, common_steps)
-
-pub judge_kind-returns-in_ok-judged-in-Not : goal.judge_kind-returns-in_ok-judged-in-Not
-judge_kind-returns-in_ok-judged-in-Not t c = grind (arith, common_steps)
-
-pub judge_kind-returns-in_ok-judged-in-Some : goal.judge_kind-returns-in_ok-judged-in-Some
-judge_kind-returns-in_ok-judged-in-Some t c = grind (arith, common_steps)

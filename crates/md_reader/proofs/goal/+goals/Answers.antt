@@ -1,9 +1,9 @@
 use Rattle.std.proofs.Common.{rules, arith}
 use Rattle.std.proofs.lemmas.Grind.{common_steps}
 use Rattle.md_hlds.specs.HldsGoal.{goals_of}
-use Rattle.md_hlds.proofs.Bridge.{goals_of-append, expr_of-Disj}
+use Rattle.md_hlds.proofs.Bridge.{goals_of-append}
 use Rattle.md_reader.specs.Input.{input_of}
-use Rattle.md_reader.specs.Rules.{within, units_from, arms_from, disjunction}
+use Rattle.md_reader.specs.Rules.{within, units_from, arms_from}
 use Rattle.md_reader.proofs.Turns.{one_more, no_more}
 use Rattle.md_reader.proofs.Goals.{conjunction_is, within_is}
 use Rattle.md_reader.proofs.goal.+goals.Goals as goal
@@ -62,20 +62,14 @@ arms-returns t c =
     let e = no_more (λ n. arms_from (within c.args.room) n (goals_of c.loop-turn.found.items) (input_of c.loop-turn.input)) _ c.loop-turn._turn c.loop-turn-test.false c.loop-turn.invariant in
     grind (arith, common_steps)
 
-pub conjunction-returns : goal.conjunction-returns
-conjunction-returns t c =
+pub conjunction-returns-in-Ok : goal.conjunction-returns-in-Ok
+conjunction-returns-in-Ok t c =
     rw (conjunction_is c.args.room (input_of c.args.input.now)) (first_of (search rules, grind (arith, common_steps)))
 
-pub conjunction-returns-in_err-units : goal.conjunction-returns-in_err-units
-conjunction-returns-in_err-units t c =
+pub conjunction-returns-in-Err : goal.conjunction-returns-in-Err
+conjunction-returns-in-Err t c =
     rw (conjunction_is c.args.room (input_of c.args.input.now)) (first_of (search rules, grind (arith, common_steps)))
 
 pub part-returns : goal.part-returns
 part-returns t c =
     rw (within_is c.args.room (input_of c.args.input.now) c.requires) c.conjunction.ensures
-
-pub disjunction-returns : goal.disjunction-returns
-unfolding disjunction
-disjunction-returns t c =
-    let e = expr_of-Disj c.in_ok-arms.arms in
-    grind (arith, common_steps)

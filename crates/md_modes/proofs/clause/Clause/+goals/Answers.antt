@@ -1,4 +1,4 @@
-use Rattle.std.proofs.Common.{◌≡◌, ◌∙◌, refl, sym, ap, arith, subst, false, true, [], ◌∷◌, ◌++◌, List, length, ◌<◌, Ok, Err, add-one, rules}
+use Rattle.std.proofs.Common.{◌≡◌, ◌∙◌, refl, sym, ap, arith, subst, false, true, [], ◌∷◌, ◌++◌, List, Option, length, ◌<◌, Ok, Err, add-one, rules}
 use Rattle.std.proofs.lemmas.Grind.{common_steps}
 use Rattle.std.proofs.lemmas.Result.{err_from_is_err_and}
 use Rattle.md_hlds.specs.HldsGoal.{DisjGoal, goal_of, goals_of, expr_of, gathered}
@@ -9,6 +9,7 @@ use Rattle.md_modes.specs.Goals.{goal, expr, each, arms, variables, expr_variabl
 use Rattle.md_modes.specs.Notes.{Note, role_of, inner_notes, each_notes, arm_notes}
 use Rattle.md_modes.specs.Classes.{class_told, notes_told}
 use Rattle.md_modes.specs.Joins.{occurs, Ends}
+use Rattle.md_modes.specs.declared.joined.Joined.{Joined}
 use Rattle.md_modes.specs.Views.{seen, put_all, seen_ends, Leaves, AllLeave}
 use Rattle.md_modes.specs.Clauses.{scope_at}
 use Rattle.md_modes.proofs.ArmLemmas.{no_ends, seen_ends-more, all_leave-more}
@@ -19,58 +20,58 @@ use Rattle.md_modes.proofs.Listed.{goals_variables, goals_variables-Disj, variab
 use Rattle.md_modes.proofs.NoteNames.{own_size}
 use Rattle.md_modes.proofs.Views.{length-seen}
 use Rattle.md_inst.proofs.Insts.{length-inst_map_of}
-use Rattle.md_modes.specs.Inside.{IsViewOf}
+use Rattle.md_modes.specs.Inside.{IsViewOf, IsChoice}
 use Rattle.md_modes.proofs.Notings.{not_notes_is, some_notes_is, each-loop, each-loop-end, within_notes, goal_notes, notes_along, each_notes_is, arm_notes_is, arms-loop, arms-loop-end, choice_noted, choice_notes_is, kept_note, always}
 use Rattle.md_modes.proofs.clause.Clause.+goals.Goals as goals
 
 pub check_viewed-index_mut-requires : goals.check_viewed-index_mut-requires
 check_viewed-index_mut-requires t c =
-    let lt = within_notes c.args.notes.now.items c.push.new.self.items c.check_kind.new.notes.items c.in_ok-note.note _ c.in_ok-push.ensures.items c.in_ok-reach.ensures.notes in
+    let lt = within_notes c.args.notes.now.items c.add_note.new.notes.items c.check_kind.new.notes.items c.in_ok-add_note.ensures.note _ c.in_ok-add_note.ensures.added c.in_ok-reach.ensures.notes in
     omega (arith, lt, c.len-number.ensures)
 
 pub check_viewed-overflow_sub-size : goals.check_viewed-overflow_sub-size
 check_viewed-overflow_sub-size t c =
-    let lt = within_notes c.args.notes.now.items c.push.new.self.items c.check_kind.new.notes.items c.in_ok-note.note _ c.in_ok-push.ensures.items c.in_ok-reach.ensures.notes in
+    let lt = within_notes c.args.notes.now.items c.add_note.new.notes.items c.check_kind.new.notes.items c.in_ok-add_note.ensures.note _ c.in_ok-add_note.ensures.added c.in_ok-reach.ensures.notes in
     omega (arith, lt, c.len-number.ensures, c.len.ensures)
 
 pub check_viewed-end_note-requires : goals.check_viewed-end_note-requires
 check_viewed-end_note-requires t c =
-    let view = c.args.view in
+    let view = c.args.view.now in
     sym (length-inst_map_of view.before.now) ∙ (ap length c.requires.view.before ∙ length-seen (places_of view) (inst_map_of c.args.insts.now.items))
 
 pub check_viewed-returns-clause-notes : goals.check_viewed-returns-clause-notes
 check_viewed-returns-clause-notes t c =
     let k = c.args.self.now in
-    let view = c.args.view in
+    let view = c.args.view.now in
     let scope = scope_at k c.args.strict in
     let s = inst_map_of c.args.insts.now.items in
     let r = inst_map_of c.check_kind.new.insts.items in
     let l = c.args.goal.now.line in
     let kind = expr_of c.args.goal.now.kind in
     let old = c.args.notes.now.items in
-    let begun = c.push.new.self.items in
+    let begun = c.add_note.new.notes.items in
     let more = c.check_kind.new.notes.items in
     let number = c.len-number.result in
-    let first = c.in_ok-note.note in
+    let first = c.in_ok-add_note.ensures.note in
     let note = c.end_note.new.note in
     let told = c.in_ok-end_note.ensures in
     let at : number ≡ length old = omega (arith, c.len-number.ensures) in
     let inner = c.in_ok-reach.ensures.notes in
-    let within' : number < length more = omega (arith, within_notes old begun more first _ c.in_ok-push.ensures.items inner, at) in
-    let kept = kept_note old begun more number first c.index_mut.result.now _ c.in_ok-push.ensures.items at inner within' c.index_mut.ensures.value in
-    let size = own_size scope l kind s old begun more first number c.len.result _ c.in_ok-push.ensures.items at inner (omega (arith, c.len.ensures)) refl in
-    goal_notes old begun more _ number first note _ (inner_notes scope kind s) c.in_ok-push.ensures.items at inner refl
+    let within' : number < length more = omega (arith, within_notes old begun more first _ c.in_ok-add_note.ensures.added inner, at) in
+    let kept = kept_note old begun more number first c.index_mut.result.now _ c.in_ok-add_note.ensures.added at inner within' c.index_mut.ensures.value in
+    let size = own_size scope l kind s old begun more first number c.len.result _ c.in_ok-add_note.ensures.added at inner (omega (arith, c.len.ensures)) refl in
+    goal_notes old begun more _ number first note _ (inner_notes scope kind s) c.in_ok-add_note.ensures.added at inner refl
     (own_note scope l kind (places_of view) view.outside.local.now.counts.items (places_of view) s r (inst_map_of view.before.now) (seen (places_of view) (inst_map_of c.deref-2.result.now))
     c.in_ok-reach.reach (class_told note.class) (role_of scope.program kind s) note.binds.items note.names_io note.binds_outside note.named note.size
     c.requires.view.local refl c.in_ok-reach.ensures.reaches c.requires.view.before (rw c.deref-2.ensures.value refl)
-    (ap class_told told.class ∙ (ap (λ (n : Note). n.role) kept ∙ (c.in_ok-note.ensures.class ∙ rw c.deref.ensures.value refl)))
-    told.binds told.state (told.named ∙ (ap (λ (n : Note). n.named) kept ∙ c.in_ok-note.ensures.named)) (told.size ∙ size)
+    (ap class_told told.class ∙ (ap (λ (n : Note). n.role) kept ∙ (c.in_ok-add_note.ensures.class ∙ rw c.deref.ensures.value refl)))
+    told.binds told.state (told.named ∙ (ap (λ (n : Note). n.named) kept ∙ c.in_ok-add_note.ensures.named)) (told.size ∙ size)
     (told.outside scope.all (expr_variables kind) (view_counts k view (expr_variables kind) s c.args.strict c.requires.view) c.requires.view.local))
 
 pub check_arms-loop-goal-init : goals.check_arms-loop-goal-init
 check_arms-loop-goal-init t c view = record {
   ends = [];
-  are_ends = no_ends _ _;
+  are_ends = subst (λ (j : Option Joined). Ends (occurs c.args.view.now.outside) (seen (places_of c.args.view.now) (inst_map_of c.args.insts.now.items)) j []) (sym c.requires.none) (no_ends _ _);
   leave = tt;
   rest = arms-begin _;
   known = refl;
@@ -92,7 +93,7 @@ check_arms-returns-in_err-arm-clause-reaches t c view =
 pub check_arms-loop-goal-preserved : goals.check_arms-loop-goal-preserved
 check_arms-loop-goal-preserved t c h =
     let k = c.args.self.now in
-    let view = c.args.view in
+    let view = c.args.view.now in
     let gs = c.args.goals.now in
     let vars = goals_variables gs in
     let scope = scope_at k c.args.at.strict in
@@ -106,19 +107,19 @@ check_arms-loop-goal-preserved t c h =
     let found : goal scope (goal_of g) s ≡ Ok a = rw (← inv.known) c.in_ok-arm.ensures.reaches in
     let leaves = view_leaves k view vars s scope (goal_of g) a h (among_goals gs i g c.loop-goal-test.true c.goal-item.is) found in
     let arm = c.in_ok-arm.arm in
-    let own = arm.start.local.places.items in
-    let before : inst_map_of arm.start.before.items ≡ seen own s = c.in_ok-arm.ensures.before ∙ rw inv.known refl in
-    let alone : Leaves own s r = own_leaves own arm.start.local.counts.items s scope (goal_of g) a c.in_ok-arm.ensures.local found in
+    let own = arm.start.value.local.places.items in
+    let before : inst_map_of arm.start.value.before.items ≡ seen own s = c.in_ok-arm.ensures.before ∙ rw inv.known refl in
+    let alone : Leaves own s r = own_leaves own arm.start.value.local.counts.items s scope (goal_of g) a c.in_ok-arm.ensures.local found in
     let ends = seen_ends (places_of view) inv.ends in
     record {
       ends = inv.ends ++ a ∷ [];
       are_ends =
-          subst (λ (es : List After). Ends p (seen (places_of view) s) c.in_ok-joined.joined es) (sym (seen_ends-more (places_of view) inv.ends a))
-          (ends_seen k view vars s p c.in_ok-joined.joined _ h
-          (c.in_ok-joined.ensures.ends s ends (is_arm k view vars own s r h alone) (ends_viewed k view vars s p c.loop-goal.joined ends h inv.are_ends)));
+          subst (λ (es : List After). Ends p (seen (places_of view) s) c.add_checked.new.joined es) (sym (seen_ends-more (places_of view) inv.ends a))
+          (ends_seen k view vars s p c.add_checked.new.joined _ h
+          (c.in_ok-add_checked.ensures.ends s ends (is_arm k view vars own s r h alone) (ends_viewed k view vars s p c.loop-goal.joined ends h inv.are_ends)));
       leave = all_leave-more (places_of view) s inv.ends a inv.leave leaves;
       rest = inv.rest ∙ rw add-one (arms-more scope gs i g s a inv.ends c.loop-goal-test.true c.goal-item.is found);
-      known = put_own own s r (inst_map_of arm.start.before.items) (inst_map_of c.add_checked.new.insts.items) before alone c.in_ok-joined.ensures.insts;
+      known = put_own own s r (inst_map_of arm.start.value.before.items) (inst_map_of c.add_checked.new.insts.items) before alone c.in_ok-add_checked.ensures.insts;
       noted = arms-loop scope gs i g s (notes_told c.loop-goal.notes.items) (notes_told c.check_arm.new.notes.items) _ c.loop-goal-test.true c.goal-item.is
           (rw (← inv.known) c.in_ok-arm.ensures.notes) inv.noted;
     }
@@ -126,7 +127,7 @@ check_arms-loop-goal-preserved t c h =
 pub check_arms-returns-clause-reaches : goals.check_arms-returns-clause-reaches
 check_arms-returns-clause-reaches t c h =
     let k = c.args.self.now in
-    let view = c.args.view in
+    let view = c.args.view.now in
     let gs = c.args.goals.now in
     let vars = goals_variables gs in
     let scope = scope_at k c.args.at.strict in
@@ -150,30 +151,30 @@ check_arms-returns-clause-notes t c h =
 pub check_condition-returns-then-binds-clause-reaches : goals.check_condition-returns-then-binds-clause-reaches
 check_condition-returns-then-binds-clause-reaches t c vars h among ne =
     let k = c.args.self.now in
-    let view = c.args.view in
+    let view = c.args.view.now in
     let scope = scope_at k true in
     let s = inst_map_of c.args.insts.now.items in
     let r = inst_map_of c.check.new.insts.items in
     let a = after r c.in_ok-reach.reach in
     let p = goal_of c.args.goal.now in
-    let known = ap inst_map_of c.deref-3.ensures.value ∙ (c.in_ok-after.ensures.known ∙ rw (c.deref.ensures.value, c.deref-2.ensures.value) refl) in
+    let known = ap inst_map_of c.deref.ensures.value in
     inside_binds scope c.args.line vars p s a c.in_ok-reach.ensures.reaches
     (binds_by k view vars s r true true h (view_leaves k view vars s scope p a h among c.in_ok-reach.ensures.reaches)
-    (ap (binds_some (occurs view.outside) (inst_map_of view.before.now)) (sym known) ∙ (sym c.binds_some-binds.ensures ∙ c.if-binds.true)))
+    (ap (λ m. binds_some (occurs view.outside) (inst_map_of view.before.now) (seen (places_of view) m)) (sym known) ∙ (sym c.in_ok-binds.ensures ∙ c.if-binds.true)))
 
 pub check_condition-returns-clause-reaches : goals.check_condition-returns-clause-reaches
 check_condition-returns-clause-reaches t c vars h among =
     let k = c.args.self.now in
-    let view = c.args.view in
+    let view = c.args.view.now in
     let scope = scope_at k true in
     let s = inst_map_of c.args.insts.now.items in
     let r = inst_map_of c.check.new.insts.items in
     let a = after r c.in_ok-reach.reach in
     let p = goal_of c.args.goal.now in
-    let known = ap inst_map_of c.deref-3.ensures.value ∙ (c.in_ok-after.ensures.known ∙ rw (c.deref.ensures.value, c.deref-2.ensures.value) refl) in
+    let known = ap inst_map_of c.deref.ensures.value in
     inside_by scope c.args.line vars p s a c.in_ok-reach.ensures.reaches
     (binds_by k view vars s r true false h (view_leaves k view vars s scope p a h among c.in_ok-reach.ensures.reaches)
-    (ap (binds_some (occurs view.outside) (inst_map_of view.before.now)) (sym known) ∙ (sym c.binds_some-binds.ensures ∙ c.if-binds.false)))
+    (ap (λ m. binds_some (occurs view.outside) (inst_map_of view.before.now) (seen (places_of view) m)) (sym known) ∙ (sym c.in_ok-binds.ensures ∙ c.if-binds.false)))
 
 pub check_inside-returns-in_err-check_condition-clause-reaches : goals.check_inside-returns-in_err-check_condition-clause-reaches
 check_inside-returns-in_err-check_condition-clause-reaches t c =
@@ -195,12 +196,12 @@ check_inside-returns-then-has_some-clause-reaches t c ne =
     let s = inst_map_of c.args.insts.now.items in
     once_outside scope c.args.at.line vs p s _
     (c.in_ok-check_condition.ensures.reaches vars c.requires.view (among_others (variables p) (variables p) vs (among_itself (variables p))))
-    (sym (c.has_some.ensures scope.all vars (view_counts k c.args.view vars s c.args.at.strict c.requires.view) c.requires.view.local) ∙ c.if-has_some.true)
+    (sym (c.has_some.ensures scope.all vars (view_counts k c.args.view.now vars s c.args.at.strict c.requires.view) c.requires.view.local) ∙ c.if-has_some.true)
 
 pub check_inside-returns-clause-reaches : goals.check_inside-returns-clause-reaches
 check_inside-returns-clause-reaches t c =
     let k = c.args.self.now in
-    let view = c.args.view in
+    let view = c.args.view.now in
     let scope = scope_at k c.args.at.strict in
     let vs = c.args.quantified.now in
     let p = goal_of c.args.inner.now in
@@ -236,23 +237,26 @@ pub check_kind-returns-in-Disj-clause-reaches : goals.check_kind-returns-in-Disj
 check_kind-returns-in-Disj-clause-reaches t c =
     let scope = scope_at c.args.self.now c.args.strict in
     let s = inst_map_of c.args.insts.now.items in
-    reaches_along c.check_arms.result (inst_map_of c.check_arms.new.insts.items) _ _
+    reaches_along c.check_disjunction.result (inst_map_of c.check_disjunction.new.insts.items) _ _
     (disj_is scope c.args.goal.now.line c.args.goal.now.kind c.in-Disj.arms s c.in-Disj.is
     ∙ ap (λ gs. expr scope c.args.goal.now.line (DisjGoal (gathered (goals_of gs))) s) (sym c.as_slice-in-Disj.ensures.value))
-    (c.check_arms.ensures.reaches (view_along c.args.self.now c.args.view _ _ s
+    (c.check_disjunction.ensures.reaches (view_along c.args.self.now c.args.view.now _ _ s
     (goals_variables-Disj c.args.goal.now.kind c.in-Disj.arms c.in-Disj.is ∙ ap goals_variables (sym c.as_slice-in-Disj.ensures.value)) c.requires.view))
 
 pub check_kind-returns-in-Disj-clause-notes : goals.check_kind-returns-in-Disj-clause-notes
 check_kind-returns-in-Disj-clause-notes t c =
     let scope = scope_at c.args.self.now c.args.strict in
     let s = inst_map_of c.args.insts.now.items in
-    notes_along c.check_arms.result (notes_told c.args.notes.now.items) (notes_told c.check_arms.new.notes.items) _ _
+    notes_along c.check_disjunction.result (notes_told c.args.notes.now.items) (notes_told c.check_disjunction.new.notes.items) _ _
     (arm_notes_is scope c.args.goal.now.kind c.in-Disj.arms s c.in-Disj.is ∙ ap (λ gs. arm_notes scope (gathered (goals_of gs)) s) (sym c.as_slice-in-Disj.ensures.value))
-    (c.check_arms.ensures.notes (view_along c.args.self.now c.args.view _ _ s
+    (c.check_disjunction.ensures.notes (view_along c.args.self.now c.args.view.now _ _ s
     (goals_variables-Disj c.args.goal.now.kind c.in-Disj.arms c.in-Disj.is ∙ ap goals_variables (sym c.as_slice-in-Disj.ensures.value)) c.requires.view))
 
-pub check_kind-returns-in_err-check_condition-in-If-clause-reaches : goals.check_kind-returns-in_err-check_condition-in-If-clause-reaches
-check_kind-returns-in_err-check_condition-in-If-clause-reaches t c =
+pub check_kind-check_choice-requires : goals.check_kind-check_choice-requires
+check_kind-check_choice-requires t c = (search rules, (subst (λ k. IsChoice (expr_of k)) (sym c.in-If.is) tt, c.requires.view))
+
+pub check_parts-returns-in_err-check_condition-in-If-clause-reaches : goals.check_parts-returns-in_err-check_condition-in-If-clause-reaches
+check_parts-returns-in_err-check_condition-in-If-clause-reaches t c =
     let k = c.args.self.now in
     let scope = scope_at k c.args.strict in
     let l = c.args.goal.now.line in
@@ -262,14 +266,14 @@ check_kind-returns-in_err-check_condition-in-If-clause-reaches t c =
     let h = c.in-If.then.value in
     let j = c.in-If.otherwise.value in
     let vars = three_variables (goal_of g) (goal_of h) (goal_of j) in
-    let view = view_along k c.args.view _ vars s (variables-If kind c.in-If.condition c.in-If.then c.in-If.otherwise g h j c.in-If.is c.deref.ensures refl refl) c.requires.view in
+    let view = view_along k c.args.view.now _ vars s (variables-If kind c.in-If.condition c.in-If.then c.in-If.otherwise g h j c.in-If.is c.deref.ensures refl refl) c.requires.view in
     let told = err_from_is_err_and c.from_residual.result c.from_residual.ensures.1 in
     rw (told.1, told.2)
     (λ ne. choose_is scope l kind c.in-If.condition c.in-If.then c.in-If.otherwise g h j s c.in-If.is c.deref.ensures refl refl
     ∙ condition_fault scope l (goal_of g) (goal_of h) (goal_of j) s _ (c.in_err-check_condition-in-If.ensures.reaches vars view (among_first _ _) ne))
 
-pub check_kind-returns-in_err-reach-in-If-clause-reaches : goals.check_kind-returns-in_err-reach-in-If-clause-reaches
-check_kind-returns-in_err-reach-in-If-clause-reaches t c =
+pub check_parts-returns-in_err-reach-in-If-clause-reaches : goals.check_parts-returns-in_err-reach-in-If-clause-reaches
+check_parts-returns-in_err-reach-in-If-clause-reaches t c =
     let k = c.args.self.now in
     let scope = scope_at k c.args.strict in
     let l = c.args.goal.now.line in
@@ -279,15 +283,15 @@ check_kind-returns-in_err-reach-in-If-clause-reaches t c =
     let h = c.deref-in-If.result.now in
     let j = c.in-If.otherwise.value in
     let vars = three_variables (goal_of g) (goal_of h) (goal_of j) in
-    let view = view_along k c.args.view _ vars s (variables-If kind c.in-If.condition c.in-If.then c.in-If.otherwise g h j c.in-If.is c.deref.ensures c.deref-in-If.ensures refl) c.requires.view in
+    let view = view_along k c.args.view.now _ vars s (variables-If kind c.in-If.condition c.in-If.then c.in-If.otherwise g h j c.in-If.is c.deref.ensures c.deref-in-If.ensures refl) c.requires.view in
     let first = c.in_ok-check_condition-in-If.ensures.reaches vars view (among_first _ _) in
     let told = err_from_is_err_and c.from_residual-in_err-reach-in-If.result c.from_residual-in_err-reach-in-If.ensures.1 in
     rw (told.1, told.2)
     (λ ne. choose_is scope l kind c.in-If.condition c.in-If.then c.in-If.otherwise g h j s c.in-If.is c.deref.ensures c.deref-in-If.ensures refl
     ∙ then_fault scope l (goal_of g) (goal_of h) (goal_of j) s _ _ first (c.in_err-reach-in-If.ensures.reaches ne))
 
-pub check_kind-returns-in_ok-joined-in-If-clause-reaches : goals.check_kind-returns-in_ok-joined-in-If-clause-reaches
-check_kind-returns-in_ok-joined-in-If-clause-reaches t c =
+pub check_parts-returns-clause-reaches : goals.check_parts-returns-clause-reaches
+check_parts-returns-clause-reaches t c =
     let k = c.args.self.now in
     let scope = scope_at k c.args.strict in
     let l = c.args.goal.now.line in
@@ -295,33 +299,31 @@ check_kind-returns-in_ok-joined-in-If-clause-reaches t c =
     let s = inst_map_of c.args.insts.now.items in
     let g = c.deref.result.now in
     let h = c.deref-in-If.result.now in
-    let j = c.deref-in-If-3.result.now in
+    let j = c.deref-in-If-2.result.now in
     let p = goal_of g in
     let t' = goal_of h in
     let e = goal_of j in
     let vars = three_variables p t' e in
-    let view = view_along k c.args.view _ vars s
-    (variables-If kind c.in-If.condition c.in-If.then c.in-If.otherwise g h j c.in-If.is c.deref.ensures c.deref-in-If.ensures c.deref-in-If-3.ensures) c.requires.view in
+    let view = view_along k c.args.view.now _ vars s
+    (variables-If kind c.in-If.condition c.in-If.then c.in-If.otherwise g h j c.in-If.is c.deref.ensures c.deref-in-If.ensures c.deref-in-If-2.ensures) c.requires.view in
     let a = after (inst_map_of c.check_condition.new.insts.items) c.in_ok-check_condition-in-If.field-0 in
     let first = c.in_ok-check_condition-in-If.ensures.reaches vars view (among_first _ _) in
     let b = after (inst_map_of c.check.new.insts.items) c.in_ok-reach-in-If.reach in
     let then' : goal scope t' a.known ≡ Ok b = c.in_ok-reach-in-If.ensures.reaches in
-    let leaves = views_leave k c.args.view vars s (scope_at k true) scope p t' a b view (among_first _ _) (among_second p t' e) (inside_ok (scope_at k true) l vars p s a first) then' in
-    let own = c.deref-in-If-2.result.now in
-    let same : own ≡ places_of c.args.view = c.deref-in-If-2.ensures.value in
-    let before : inst_map_of c.args.view.before.now ≡ seen own s = view.before ∙ rw same refl in
-    let alone : Leaves own s b.known = rw same leaves in
-    let now = inst_map_of c.add_arm.new.insts.items in
-    let back : now ≡ s = put_own own s b.known (inst_map_of c.args.view.before.now) now before alone c.in_ok-joined-in-If.ensures.insts in
-    let is = choose_is scope l kind c.in-If.condition c.in-If.then c.in-If.otherwise g h j s c.in-If.is c.deref.ensures c.deref-in-If.ensures c.deref-in-If-3.ensures in
-    c.check_last_arm.ensures.reaches vars (b ∷ []) (subst (λ (m : InstMap). IsViewOf k c.args.view vars m) (sym back) view) (among_third p t' e)
-    (subst (λ (m : InstMap). AllLeave (places_of c.args.view) m (b ∷ [])) (sym back) (leaves, tt))
-    (c.in_ok-joined-in-If.ensures.ends s [] (is_arm k c.args.view vars own s b.known view alone) (no_ends _ _)) (expr scope l (expr_of kind) s)
+    let leaves = views_leave k c.args.view.now vars s (scope_at k true) scope p t' a b view (among_first _ _) (among_second p t' e) (inside_ok (scope_at k true) l vars p s a first) then' in
+    let own = places_of c.args.view.now in
+    let now = inst_map_of c.add_part.new.insts.items in
+    let back : now ≡ s = put_own own s b.known (inst_map_of c.args.view.now.before.now) now view.before leaves c.in_ok-add_part-in-If.ensures.insts in
+    let is = choose_is scope l kind c.in-If.condition c.in-If.then c.in-If.otherwise g h j s c.in-If.is c.deref.ensures c.deref-in-If.ensures c.deref-in-If-2.ensures in
+    c.check_last_arm.ensures.reaches vars (b ∷ []) (subst (λ (m : InstMap). IsViewOf k c.args.view.now vars m) (sym back) view) (among_third p t' e)
+    (subst (λ (m : InstMap). AllLeave (places_of c.args.view.now) m (b ∷ [])) (sym back) (leaves, tt))
+    (c.in_ok-add_part-in-If.ensures.ends s [] (is_arm k c.args.view.now vars own s b.known view leaves)
+    (subst (λ (j : Option Joined). Ends (occurs c.args.view.now.outside) (inst_map_of c.args.view.now.before.now) j []) (sym c.requires.none) (no_ends _ _))) (expr scope l (expr_of kind) s)
     (λ d right. is ∙ choose_last scope l p t' e s now a b d first then' back right)
     (λ x wrong. is ∙ choose_fault scope l p t' e s now a b x first then' back wrong)
 
-pub check_kind-returns-in_ok-joined-in-If-clause-notes : goals.check_kind-returns-in_ok-joined-in-If-clause-notes
-check_kind-returns-in_ok-joined-in-If-clause-notes t c =
+pub check_parts-returns-clause-notes : goals.check_parts-returns-clause-notes
+check_parts-returns-clause-notes t c =
     let k = c.args.self.now in
     let scope = scope_at k c.args.strict in
     let l = c.args.goal.now.line in
@@ -329,26 +331,23 @@ check_kind-returns-in_ok-joined-in-If-clause-notes t c =
     let s = inst_map_of c.args.insts.now.items in
     let g = c.deref.result.now in
     let h = c.deref-in-If.result.now in
-    let j = c.deref-in-If-3.result.now in
+    let j = c.deref-in-If-2.result.now in
     let p = goal_of g in
     let t' = goal_of h in
     let e = goal_of j in
     let vars = three_variables p t' e in
-    let view = view_along k c.args.view _ vars s
-    (variables-If kind c.in-If.condition c.in-If.then c.in-If.otherwise g h j c.in-If.is c.deref.ensures c.deref-in-If.ensures c.deref-in-If-3.ensures) c.requires.view in
+    let view = view_along k c.args.view.now _ vars s
+    (variables-If kind c.in-If.condition c.in-If.then c.in-If.otherwise g h j c.in-If.is c.deref.ensures c.deref-in-If.ensures c.deref-in-If-2.ensures) c.requires.view in
     let a = after (inst_map_of c.check_condition.new.insts.items) c.in_ok-check_condition-in-If.field-0 in
     let first = c.in_ok-check_condition-in-If.ensures.reaches vars view (among_first _ _) in
     let b = after (inst_map_of c.check.new.insts.items) c.in_ok-reach-in-If.reach in
     let then' : goal scope t' a.known ≡ Ok b = c.in_ok-reach-in-If.ensures.reaches in
-    let leaves = views_leave k c.args.view vars s (scope_at k true) scope p t' a b view (among_first _ _) (among_second p t' e) (inside_ok (scope_at k true) l vars p s a first) then' in
-    let own = c.deref-in-If-2.result.now in
-    let same : own ≡ places_of c.args.view = c.deref-in-If-2.ensures.value in
-    let before : inst_map_of c.args.view.before.now ≡ seen own s = view.before ∙ rw same refl in
-    let alone : Leaves own s b.known = rw same leaves in
-    let now = inst_map_of c.add_arm.new.insts.items in
-    let back : now ≡ s = put_own own s b.known (inst_map_of c.args.view.before.now) now before alone c.in_ok-joined-in-If.ensures.insts in
+    let leaves = views_leave k c.args.view.now vars s (scope_at k true) scope p t' a b view (among_first _ _) (among_second p t' e) (inside_ok (scope_at k true) l vars p s a first) then' in
+    let own = places_of c.args.view.now in
+    let now = inst_map_of c.add_part.new.insts.items in
+    let back : now ≡ s = put_own own s b.known (inst_map_of c.args.view.now.before.now) now view.before leaves c.in_ok-add_part-in-If.ensures.insts in
     notes_along c.check_last_arm.result (notes_told c.args.notes.now.items) (notes_told c.check_last_arm.new.notes.items) _ _
-    (choice_notes_is scope kind c.in-If.condition c.in-If.then c.in-If.otherwise g h j s c.in-If.is c.deref.ensures c.deref-in-If.ensures c.deref-in-If-3.ensures)
+    (choice_notes_is scope kind c.in-If.condition c.in-If.then c.in-If.otherwise g h j s c.in-If.is c.deref.ensures c.deref-in-If.ensures c.deref-in-If-2.ensures)
     (choice_noted scope (scope_at k true) p t' e s now a c.check_last_arm.result _ _ _ _ (inside_ok (scope_at k true) l vars p s a first)
     c.in_ok-check_condition-in-If.ensures.notes c.in_ok-reach-in-If.ensures.notes back c.check_last_arm.ensures.notes)
 
@@ -360,7 +359,7 @@ check_last_arm-returns-in_err-reach-clause-reaches t c vars ends h among leave a
 pub check_last_arm-returns-clause-reaches : goals.check_last_arm-returns-clause-reaches
 check_last_arm-returns-clause-reaches t c vars ends h among leave are v right wrong =
     let k = c.args.self.now in
-    let view = c.args.view in
+    let view = c.args.view.now in
     let scope = scope_at k c.args.at.strict in
     let l = c.args.at.line in
     let s = inst_map_of c.args.insts.now.items in
@@ -369,17 +368,13 @@ check_last_arm-returns-clause-reaches t c vars ends h among leave are v right wr
     let d = after (inst_map_of c.check.new.insts.items) c.in_ok-reach.reach in
     let found : goal scope p s ≡ Ok d = c.in_ok-reach.ensures.reaches in
     let leaves = view_leaves k view vars s scope p d h among found in
-    let own = c.deref.result.now in
-    let same : own ≡ places = c.deref.ensures.value in
-    let before : inst_map_of view.before.now ≡ seen own s = h.before ∙ rw same refl in
-    let alone : Leaves own s d.known = rw same leaves in
-    let back = put_own own s d.known (inst_map_of view.before.now) (inst_map_of c.add_arm.new.insts.items) before alone c.in_ok-joined.ensures.insts in
-    let all = subst (λ (es : List After). Ends (occurs view.outside) (inst_map_of view.before.now) c.in_ok-joined.joined es) (sym (seen_ends-more places ends d))
-    (c.in_ok-joined.ensures.ends s (seen_ends places ends) (is_arm k view vars own s d.known h alone) are) in
+    let back = put_own places s d.known (inst_map_of view.before.now) (inst_map_of c.add_part.new.insts.items) h.before leaves c.in_ok-add_part.ensures.insts in
+    let all = subst (λ (es : List After). Ends (occurs view.outside) (inst_map_of view.before.now) c.add_part.new.joined es) (sym (seen_ends-more places ends d))
+    (c.in_ok-add_part.ensures.ends s (seen_ends places ends) (is_arm k view vars places s d.known h leaves) are) in
     let now = inst_map_of c.end_arms.new.insts.items in
     branch_end k view vars s now c.args.at.strict l (ends ++ d ∷ []) c.end_arms.result _ h (all_leave-more places s ends d leave leaves)
     (right d found)
-    (reaches_from c.end_arms.result now (inst_map_of c.add_arm.new.insts.items) s places _ back
+    (reaches_from c.end_arms.result now (inst_map_of c.add_part.new.insts.items) s places _ back
     (c.end_arms.ensures (occurs view.outside) (seen_ends places (ends ++ d ∷ [])) all (h.before ∙ ap (seen places) (sym back))))
 
 pub check_last_arm-returns-clause-notes : goals.check_last_arm-returns-clause-notes
@@ -423,9 +418,9 @@ pub check-check_viewed-reach-requires : goals.check-check_viewed-reach-requires
 check-check_viewed-reach-requires t c = (
   search rules,
   record {
-    local = c.in_ok-start.ensures.local;
-    all = c.deref-2.ensures.value;
-    before = ap inst_map_of c.deref-3.ensures.value ∙ (c.in_ok-start.ensures.before ∙ rw c.deref.ensures.value refl);
+    local = rw (c.deref-4.ensures, c.in_ok-view.ensures.local, c.deref-2.ensures) c.in_ok-start.ensures.local;
+    all = rw (c.deref-4.ensures, c.in_ok-view.ensures.all) c.deref-3.ensures.value;
+    before = rw (c.deref-4.ensures, c.in_ok-view.ensures.local, c.in_ok-view.ensures.before, c.deref-2.ensures) (c.in_ok-start.ensures.before ∙ rw c.deref.ensures.value refl);
   },
 )
 
@@ -435,15 +430,15 @@ check_viewed-check_kind-requires t c = (search rules, c.requires.view)
 pub check_kind-returns-in-Not-clause-reaches : goals.check_kind-returns-in-Not-clause-reaches
 check_kind-returns-in-Not-clause-reaches t c =
     reaches_along c.check_inside.result (inst_map_of c.check_inside.new.insts.items) _ _
-    (not_is (scope_at c.args.self.now c.args.strict) c.args.goal.now.line c.args.goal.now.kind c.in-Not.inner c.deref-in-Not.result.now (inst_map_of c.args.insts.now.items)
-    c.in-Not.is c.deref-in-Not.ensures)
+    (not_is (scope_at c.args.self.now c.args.strict) c.args.goal.now.line c.args.goal.now.kind c.in-Not.inner c.deref.result.now (inst_map_of c.args.insts.now.items)
+    c.in-Not.is c.deref.ensures)
     c.check_inside.ensures.reaches
 
 pub check_kind-returns-in-Not-clause-notes : goals.check_kind-returns-in-Not-clause-notes
 check_kind-returns-in-Not-clause-notes t c =
     notes_along c.check_inside.result (notes_told c.args.notes.now.items) (notes_told c.check_inside.new.notes.items) _ _
-    (not_notes_is (scope_at c.args.self.now c.args.strict) c.args.goal.now.kind c.in-Not.inner c.deref-in-Not.result.now (inst_map_of c.args.insts.now.items)
-    c.in-Not.is c.deref-in-Not.ensures)
+    (not_notes_is (scope_at c.args.self.now c.args.strict) c.args.goal.now.kind c.in-Not.inner c.deref.result.now (inst_map_of c.args.insts.now.items)
+    c.in-Not.is c.deref.ensures)
     c.check_inside.ensures.notes
 
 pub check_kind-returns-in-Some-clause-reaches : goals.check_kind-returns-in-Some-clause-reaches

@@ -5,7 +5,7 @@ use Rattle.md_modes.specs.Branches.{after, reachable}
 use Rattle.md_modes.specs.Joins.{IsArm, Ends, occurs}
 use Rattle.md_modes.specs.Views.{seen}
 use Rattle.md_modes.proofs.ArmLemmas.{ends_skip, ends_more}
-use Rattle.md_modes.proofs.arms.add_arm.Goals as goal
+use Rattle.md_modes.proofs.arms.with_arm.Goals as goal
 
 pub returns-then-not-reach-clause-ends : goal.returns-then-not-reach-clause-ends
 returns-then-not-reach-clause-ends c s ends arm h =
