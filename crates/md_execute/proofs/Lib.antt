@@ -4,4 +4,5 @@ pub mod Making
 pub mod Quiet
 pub mod Porting
 pub mod Stage
+pub mod Shown
 pub mod Ending
