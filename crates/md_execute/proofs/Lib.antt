@@ -6,3 +6,4 @@ pub mod Porting
 pub mod Stage
 pub mod Shown
 pub mod Ending
+pub mod Unwinding
