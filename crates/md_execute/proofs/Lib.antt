@@ -7,3 +7,7 @@ pub mod Stage
 pub mod Shown
 pub mod Ending
 pub mod Unwinding
+pub mod Rest
+pub mod Simple
+pub mod Leading
+pub mod Staying
