@@ -7,6 +7,8 @@ pub mod Stage
 pub mod Shown
 pub mod Ending
 pub mod Unwinding
+pub mod Growing
+pub mod Calling
 pub mod Rest
 pub mod Simple
 pub mod Leading
