@@ -9,6 +9,7 @@ pub mod Ending
 pub mod Unwinding
 pub mod Growing
 pub mod Calling
+pub mod Applying
 pub mod Rest
 pub mod Simple
 pub mod Leading

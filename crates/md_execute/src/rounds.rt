@@ -1,5 +1,5 @@
 // Rounds of a machine in a run. Each law is the contract of a function that does nothing.
-ghost use Rattle.std.specs.Prelude.{ℕ, List};
+ghost use Rattle.std.specs.Prelude.{List, ℕ};
 ghost use Rattle.md_hlds.specs.Hlds.{Hlds};
 ghost use Rattle.md_hlds.specs.Trace.{Items};
 ghost use Rattle.md_trace.specs.PortHistory.{IsPortHistory};
