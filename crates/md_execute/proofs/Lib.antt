@@ -10,7 +10,7 @@ pub mod Unwinding
 pub mod Growing
 pub mod Calling
 pub mod Applying
-pub mod Rest
+pub mod Building
 pub mod Simple
 pub mod Leading
 pub mod Staying

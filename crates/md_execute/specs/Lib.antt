@@ -1,1 +1,4 @@
 pub mod Standing
+pub mod Stacks
+pub mod Running
+pub mod Ran
