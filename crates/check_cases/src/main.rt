@@ -1,24 +1,21 @@
-//! Worked examples of how texts of programs are cut into tokens, read, printed, checked and laid out, and of what their
-//! goals do, as data. The standard input has the cases. The line `show` of a case names what is found of its text, and each
+//! Worked examples of how texts of programs are cut into tokens, read, printed, checked and compiled, as data. The standard input has the cases. The line `show` of a case names what is found of its text, and each
 //! case gets a line that says whether this is what the case wants.
 #![tactic(auto)]
 
 mod bindings;
-mod code;
+mod cells;
 mod det;
 mod fault;
-mod goals;
+mod flat;
 mod kinds;
 mod modes;
 mod names;
 mod pairs;
-mod passing;
 mod printed;
 mod show;
 mod spelling;
 mod tables;
 mod text;
-mod values;
 mod words;
 
 use cases::Case;

@@ -1,10 +1,7 @@
 // What is found of a case, by the words of its line `show`.
 use crate::fault::Fault;
 use crate::text::{checked_of, moded_of, program_of, program_with_body};
-use crate::{
-    bindings, code, det, goals, kinds, modes, names, pairs, passing, printed, spelling, tables,
-    values,
-};
+use crate::{bindings, cells, det, flat, kinds, modes, names, pairs, printed, spelling, tables};
 use cases::Case;
 use md_base::NoMemory;
 use md_det::DetFault;
@@ -33,12 +30,10 @@ fn show(alloc: Global, case: &Case, found: &mut String) -> Result<(), Fault> {
         "determinism" => pairs::determinism(case, found),
         "pairs" => pairs::pairs(case, found),
         "want of memory" => want_of_memory(found),
-        "comparison" => values::comparison(alloc, case, found),
-        "arm" => values::arm(alloc, case, found),
-        "passing" => passing::passing(alloc, case, found),
+        "comparison" => cells::comparison(alloc, case, found),
         "body" => show_body(alloc, case, found),
-        "modes" | "code" | "tables" => show_moded(alloc, case, found),
-        "determinisms" => show_checked(alloc, case, found),
+        "modes" | "tables" => show_moded(alloc, case, found),
+        "determinisms" | "flat" => show_checked(alloc, case, found),
         _ => show_program(alloc, case, found),
     }
 }
@@ -63,7 +58,6 @@ fn show_read(
         "names" => names::names(alloc, case, program, found),
         "kinds" => kinds::kinds(alloc, program, found),
         "bindings" => bindings::bindings(alloc, program, found),
-        "goals" => goals::goals(alloc, case, program, found),
         _ => Err(Fault::Unknown),
     }
 }
@@ -79,7 +73,6 @@ fn show_moded(alloc: Global, case: &Case, found: &mut String) -> Result<(), Faul
     let moded = moded_of(alloc, case)?;
     match case.text("show") {
         "modes" => modes::modes(&moded, found),
-        "code" => code::code(alloc, &moded, found),
         _ => tables::tables(alloc, &moded, found),
     }
 }
@@ -87,7 +80,10 @@ fn show_moded(alloc: Global, case: &Case, found: &mut String) -> Result<(), Faul
 /// Adds what is found of a program that the determinism checks accept.
 fn show_checked(alloc: Global, case: &Case, found: &mut String) -> Result<(), Fault> {
     let checked = checked_of(alloc, case)?;
-    det::determinisms(&checked, found)
+    match case.text("show") {
+        "determinisms" => det::determinisms(&checked, found),
+        _ => flat::flat(alloc, &checked, found),
+    }
 }
 
 /// Adds what is said where memory is refused, at each of the checks.

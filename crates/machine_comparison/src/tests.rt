@@ -1,7 +1,7 @@
 // Runs of programs, with what they write and how they end, and against the plain program.
 ghost use Rattle.std.specs.Prelude.{ℕ, ◌<◌, ◌^◌, IfOk};
 ghost use Rattle.md_hlds.specs.Hlds.{hlds_of};
-ghost use Rattle.md_events.specs.Laws.{IsWithinBounds};
+ghost use Rattle.md_machine.specs.Ran.{CanBeRun};
 
 mod came;
 mod examples;
@@ -22,7 +22,7 @@ use std::test::Fail;
 
 /// The checked program of a text.
 fn checked(alloc: Global, text: &[u8]) -> Result<Checked, Fail>
-    ensures { IfOk result (λ checked. (budget : ℕ) → budget < 2 ^ 32 → IsWithinBounds (hlds_of checked) budget) }
+    ensures { IfOk result (λ checked. (budget : ℕ) → budget < 2 ^ 32 → CanBeRun (hlds_of checked) budget) }
 {
     if text.len() > 1_048_576 {
         return Err(Fail::from("a short text"));

@@ -1,11 +1,16 @@
-mod FrameLemmas
-mod StepLemmas
-mod AnswerLemmas
-mod TurnLemmas
-mod CallLemmas
-mod UnfoldLemmas
-mod MadeLemmas
-mod TakenLemmas
-mod RoundLemmas
-mod EndLemmas
-mod BeginLemmas
+pub mod Following
+pub mod Keeping
+pub mod Making
+pub mod Quiet
+pub mod Porting
+pub mod Stage
+pub mod Shown
+pub mod Ending
+pub mod Unwinding
+pub mod Growing
+pub mod Calling
+pub mod Applying
+pub mod Building
+pub mod Simple
+pub mod Leading
+pub mod Staying

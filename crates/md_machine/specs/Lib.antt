@@ -1,8 +1,4 @@
-pub mod Frames
-pub mod Waits
-pub mod States
-pub mod Turns
-pub mod Calls
+pub mod Standing
+pub mod Stacks
 pub mod Running
-pub mod Begins
 pub mod Ran

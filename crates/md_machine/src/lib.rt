@@ -1,19 +1,16 @@
-//! A machine that runs every program that the checks accept, within a budget of steps, and hands each port and each
-//! allocation to a sink as it comes.
+//! Runs the code of programs: a machine over flat code that stands in a run at each of its steps.
 #![tactic(auto)]
 
 mod begin;
-mod call;
-mod charge;
-mod frame;
-mod hand;
-mod machine;
+mod grow;
 mod program;
 mod ran;
+mod rounds;
 mod run;
-mod step;
-mod unfold;
-mod wait;
+mod running;
+mod stacks;
 
 pub use program::interpret;
 pub use ran::{End, Ran};
+pub use rounds::what_is_seen_is_a_history;
+pub use run::execute;

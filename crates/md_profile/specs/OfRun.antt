@@ -1,8 +1,9 @@
 -- The profile and the view of the run of a program within a budget: those of the history of its events, over the
 -- tables of the program. The run knows neither.
-use Rattle.std.specs.Prelude.{ℕ, ◌≡◌, Bool, true, false, Some}
+use Rattle.std.specs.Prelude.{ℕ, ◌≡◌, Bool, true, false, List, Some}
 use Rattle.md_hlds.specs.Hlds.{Hlds, Procedure, procedure_called}
 use Rattle.md_hlds.specs.Run.{run, main_name, is_finished}
+use Rattle.md_reader.specs.Grammar.{Spells}
 use Rattle.md_events.specs.History.{history}
 use Rattle.md_events.specs.Laws.{IsWithinBounds}
 use Rattle.md_events.specs.Table.{site_table}
@@ -33,9 +34,11 @@ finishes Finished = true
 finishes Thrown = false
 finishes OutOfSteps = false
 
--- what is asked of a program, which the program of every accepted text meets: its run is within bounds, its tables are
--- sound, and the predicate that `main` names is the one with the io states
+-- what is asked of a program, which the program of every accepted text meets: a text spells it, its run is within bounds, its
+-- tables are sound, and the predicate that `main` names is the one with the io states
 pub record CanBeProfiled (program : Hlds) (budget : ℕ) : Type 0 where
+  pub text : List ℕ
+  pub spells : Spells text program
   pub bounds : IsWithinBounds program budget
   pub sound : IsSound (statics_of program)
   pub main : (m : ℕ × Procedure) × (procedure_called program main_name ≡ Some m) × (is_main m.1 ≡ true)

@@ -262,6 +262,8 @@ pub can_be_profiled : AcceptedTextsAreWithinBounds → MainIsCalled
     → (text : List ℕ) (program : Hlds) (steps : ℕ) → Accepts text program → length text ≤ 1048576 → steps < 2 ^ 32 → CanBeProfiled program steps
 can_be_profiled bounds mains tables text program steps a short small =
     subst (λ (p : Hlds). CanBeProfiled p steps) a.is_program (record {
+      text = text;
+      spells = a.accepted.spelled;
       bounds = bounds text a.accepted.program steps a.accepted.spelled a.accepted.modes small;
       sound =
           tables text a.accepted.program (mains text a.accepted.program a.accepted.spelled a.accepted.modes).0 a.accepted.spelled (omega (arith, short))

@@ -1,7 +1,7 @@
 // What a run came to, as the machine and the plain program tell it.
 ghost use Rattle.std.specs.Prelude.{ℕ, ◌≡◌, ◌≤◌, ◌<◌, ◌^◌, length};
 ghost use Rattle.md_hlds.specs.Hlds.{hlds_of};
-ghost use Rattle.md_events.specs.Laws.{IsWithinBounds};
+ghost use Rattle.md_machine.specs.Ran.{CanBeRun};
 
 use super::checked;
 use super::order::Order;
@@ -27,7 +27,7 @@ pub struct Came {
 
 /// The run of a program, for a sink that keeps nothing.
 fn silent(alloc: Global, checked: &Checked, budget: u32) -> Result<Ran, Fail>
-    requires { (b : ℕ) → b < 2 ^ 32 → IsWithinBounds (hlds_of checked.now) b }
+    requires { (b : ℕ) → b < 2 ^ 32 → CanBeRun (hlds_of checked.now) b }
 {
     programs_have_tables();
     let ran = interpret(alloc, checked, budget, &mut Silent)?;
@@ -48,7 +48,7 @@ pub fn counted_run(alloc: Global, text: &str, budget: u32) -> Result<(Ran, Count
 
 /// The run of a program, and its counts over all procedures.
 fn counted(alloc: Global, checked: &Checked, budget: u32) -> Result<(Ran, Counts), Fail>
-    requires { (b : ℕ) → b < 2 ^ 32 → IsWithinBounds (hlds_of checked.now) b }
+    requires { (b : ℕ) → b < 2 ^ 32 → CanBeRun (hlds_of checked.now) b }
 {
     let procs = procedures(checked);
     let mut counter = Counter::new(alloc, procs)?;
@@ -92,7 +92,7 @@ fn add_all(sums: &mut Counts, more: Counts) {
 
 /// The run of a program, and the order of its ports.
 pub fn ordered(alloc: Global, checked: &Checked, budget: u32) -> Result<Order, Fail>
-    requires { (b : ℕ) → b < 2 ^ 32 → IsWithinBounds (hlds_of checked.now) b }
+    requires { (b : ℕ) → b < 2 ^ 32 → CanBeRun (hlds_of checked.now) b }
 {
     let mut order = Order::new();
     programs_have_tables();
@@ -102,7 +102,7 @@ pub fn ordered(alloc: Global, checked: &Checked, budget: u32) -> Result<Order, F
 
 /// What a run of the machine came to, once with each sink.
 pub fn by_machine(alloc: Global, checked: &Checked, budget: u32) -> Result<Came, Fail>
-    requires { (b : ℕ) → b < 2 ^ 32 → IsWithinBounds (hlds_of checked.now) b }
+    requires { (b : ℕ) → b < 2 ^ 32 → CanBeRun (hlds_of checked.now) b }
 {
     let (ran, counts) = counted(alloc, checked, budget)?;
     let order = ordered(alloc, checked, budget)?;

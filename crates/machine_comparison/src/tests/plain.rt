@@ -1,7 +1,7 @@
 // The machine against the plain program.
 ghost use Rattle.std.specs.Prelude.{ℕ, ◌<◌, ◌^◌};
 ghost use Rattle.md_hlds.specs.Hlds.{hlds_of};
-ghost use Rattle.md_events.specs.Laws.{IsWithinBounds};
+ghost use Rattle.md_machine.specs.Ran.{CanBeRun};
 
 use super::came::{Came, by_machine, by_plain};
 use super::checked;
@@ -18,7 +18,7 @@ const ENOUGH: u32 = 20_000;
 
 /// Both come to the same within this budget.
 fn agrees(alloc: Global, checked: &Checked, budget: u32) -> Result<bool, Fail>
-    requires { (b : ℕ) → b < 2 ^ 32 → IsWithinBounds (hlds_of checked.now) b }
+    requires { (b : ℕ) → b < 2 ^ 32 → CanBeRun (hlds_of checked.now) b }
 {
     let (plain, _) = by_plain(alloc, checked, budget)?;
     let machine = by_machine(alloc, checked, budget)?;
@@ -32,7 +32,7 @@ fn agrees_within(
     checked: &Checked,
     most: u32,
 ) -> Result<Came, Fail>
-    requires { (b : ℕ) → b < 2 ^ 32 → IsWithinBounds (hlds_of checked.now) b }
+    requires { (b : ℕ) → b < 2 ^ 32 → CanBeRun (hlds_of checked.now) b }
 {
     let (plain, weight) = by_plain(rt.alloc(), checked, most)?;
     let weight = weight.min(4_000_000_000) as u32;
@@ -44,7 +44,7 @@ fn agrees_within(
 
 /// Both come to the same within each budget below this one.
 fn agrees_below(rt: &(impl Abort + AllocGlobal), checked: &Checked, most: u32) -> Result<(), Fail>
-    requires { (b : ℕ) → b < 2 ^ 32 → IsWithinBounds (hlds_of checked.now) b }
+    requires { (b : ℕ) → b < 2 ^ 32 → CanBeRun (hlds_of checked.now) b }
 {
     for budget in 0..most {
         assert!(rt; agrees(rt.alloc(), checked, budget)?, "budget {budget}");
@@ -58,7 +58,7 @@ fn agrees_below_by_few(
     checked: &Checked,
     weight: u32,
 ) -> Result<(), Fail>
-    requires { (b : ℕ) → b < 2 ^ 32 → IsWithinBounds (hlds_of checked.now) b }
+    requires { (b : ℕ) → b < 2 ^ 32 → CanBeRun (hlds_of checked.now) b }
 {
     for less in 0..3u32 {
         let budget = weight.saturating_sub(less);

@@ -6,7 +6,7 @@ use Rattle.machine_comparison.proofs.tests.came.counted.Goals as goal
 pub interpret-requires-clause-begins : goal.interpret-requires-clause-begins
 interpret-requires-clause-begins c =
     c.in_ok-counter.ensures.stands (site_table (hlds_of c.args.checked.now))
-    (c.programs_have_tables.ensures (hlds_of c.args.checked.now) (c.requires c.args.budget c.ranges.budget.fits).main)
+    (c.programs_have_tables.ensures (hlds_of c.args.checked.now) (c.requires c.args.budget c.ranges.budget.fits).bounds.main)
     (sym c.procedures-procs.ensures)
 
 pub sums-requires : goal.sums-requires

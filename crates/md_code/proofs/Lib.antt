@@ -1,5 +1,0 @@
-pub mod ExtentLemmas
-pub mod TableLemmas
-pub mod CodeLemmas
-pub mod LayoutLemmas
-mod Worked

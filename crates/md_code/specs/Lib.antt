@@ -1,4 +1,0 @@
-pub mod Extents
-pub mod Layout
-pub mod Told
-pub mod IsCode

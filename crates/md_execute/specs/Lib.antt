@@ -1,4 +1,0 @@
-pub mod Standing
-pub mod Stacks
-pub mod Running
-pub mod Ran

@@ -1,6 +1,0 @@
-pub mod ValueLemmas
-mod Sums
-mod Frames
-mod OutcomeLemmas
-mod KeyLemmas
-pub mod NameLemmas

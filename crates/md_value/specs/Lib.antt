@@ -1,4 +1,0 @@
-pub mod Values
-pub mod Arms
-pub mod Comparisons
-pub mod Outcomes
