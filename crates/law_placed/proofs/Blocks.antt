@@ -1,8 +1,8 @@
 -- The six instructions of a goal are in range.
-use Rattle.std.proofs.Common.{◌≡◌, refl, arith, ℕ, zero, suc, ◌+◌, ◌<◌, ◌≤◌, Bool, true, false, ◌&&◌, nat_lt, nat_le, List, [], ◌∷◌, ◌++◌, Option, Some, None}
+use Rattle.std.proofs.Common.{◌≡◌, refl, arith, ℕ, suc, ◌+◌, ◌<◌, ◌≤◌, Bool, true, false, nat_lt, nat_le, List, [], ◌∷◌, ◌++◌, Option, Some, None}
 use Rattle.std.proofs.lemmas.Bool.{lt-ltb, le-leb, and_from}
-use Rattle.md_hlds.specs.HldsGoal.{HldsGoal, At, GoalExpr, SimpleGoal, CallGoal, HoCallGoal, ConjGoal, DisjGoal, IfGoal, NotGoal, SomeGoal, HldsGoals, nothing, also, goal_size, goals_size}
-use Rattle.md_hlds.specs.Hlds.{Hlds, procedure_called}
+use Rattle.md_hlds.specs.HldsGoal.{At, GoalExpr, SimpleGoal, CallGoal, HoCallGoal, ConjGoal, DisjGoal, IfGoal, NotGoal, SomeGoal, HldsGoals, nothing, also, goal_size, goals_size}
+use Rattle.md_hlds.specs.Hlds.{Hlds}
 use Rattle.md_hlds.specs.Switch.{Key, IntKey, TextKey, FunctorKey}
 use Rattle.md_modes.specs.Goals.{parts_variables}
 use Rattle.md_det.specs.declared.finding.Switch.{Switch}
@@ -10,11 +10,11 @@ use Rattle.md_det.specs.Findings.{program_findings, switch_at}
 use Rattle.md_flat.specs.declared.instruction.Operation.TheVariants as act
 use Rattle.md_flat.specs.Placed.{Bounds, is_operation_placed, is_placed}
 use Rattle.md_compile.specs.Leaves.{leaves_table}
-use Rattle.md_compile.specs.Tables.{functor_number, head_at, second_at, ended_at, one_if, heights_of}
-use Rattle.md_compile.specs.Blocks.{End, Along, Joining, Holding, Denying, Exiting, Yielding, Trial, NoArm, LastArm, ArmBefore, Keeping, Place, pending_expr, cut_or_pass, join_or_pass, end_code, try_code, parts_begin, condition_code, some_code, least_functor, switch_by, shape_keys, first_trial, disjunction_code, called_weight, own_code, block}
+use Rattle.md_compile.specs.Tables.{head_at, second_at, ended_at, one_if}
+use Rattle.md_compile.specs.Blocks.{End, Along, Joining, Holding, Denying, Exiting, Yielding, Trial, NoArm, LastArm, ArmBefore, Keeping, Place, pending_expr, cut_or_pass, join_or_pass, end_code, try_code, parts_begin, condition_code, some_code, switch_by, shape_keys, first_trial, disjunction_code, own_code, block}
 use Rattle.law_placed.proofs.Numbers.{each_both, below_at}
 use Rattle.law_placed.proofs.Noted.{role_noted, switch_variable}
-use Rattle.law_placed.proofs.SimpleGoals.{ArePlaced, IsFull, Spot, goes, unused_placed, alone_placed, two_below, simple_placed}
+use Rattle.law_placed.proofs.SimpleGoals.{ArePlaced, IsFull, goes, unused_placed, alone_placed, two_below, simple_placed}
 use Rattle.law_placed.proofs.Standing.{IsIn, IsEndIn, IsTrialIn, Stands, some_size, spot_at, begins_in}
 
 -- ---- ends and trials

@@ -1,5 +1,5 @@
 -- Numbers below a bound.
-use Rattle.std.proofs.Common.{◌≡◌, refl, sym, subst, inl, inr, arith, ℕ, ◌<◌, ◌≤◌, Bool, true, false, nat_eq, nat_lt, eqb, List, [], ◌∷◌, ◌++◌, length, slice_set}
+use Rattle.std.proofs.Common.{◌≡◌, refl, ap, inl, inr, arith, ℕ, ◌<◌, ◌≤◌, Bool, true, false, nat_eq, nat_lt, eqb, List, [], ◌∷◌, ◌++◌, length, slice_set}
 use Rattle.std.proofs.lemmas.Bool.{lt-ltb, and_from, or_cases, eqb-true, ne_eqb}
 use Rattle.std.proofs.lemmas.List.Elements.{All-from_recursion, recursion_from_All, All-set}
 use Rattle.std.proofs.lemmas.Map.Steps.{length-le_from_distinct_below}
@@ -8,7 +8,7 @@ use Rattle.md_inst.specs.Instantiation.{times}
 use Rattle.md_safety.specs.Turns.{AreDistinct}
 use Rattle.md_safety.proofs.Handing.{first_times, more_times}
 use Rattle.md_flat.specs.Placed.{are_slots_placed, are_targets_placed}
-use Rattle.law_flat.proofs.Heads.{other_head, fewer_heads}
+use Rattle.law_flat.proofs.Heads.{fewer_heads}
 
 -- ---- one list and another
 
@@ -62,7 +62,10 @@ targets_placed n (t ∷ ts) h = and_from (nat_lt t n) (are_targets_placed n ts) 
 
 apart : (x : ℕ) (ys : List ℕ) → times x ys ≡ 0 → AllByRecursion (λ y. eqb x y ≡ false) ys
 apart x [] h = tt
-apart x (y ∷ ys) h = (ne_eqb x y (λ e. other_head x y ys h (sym e)), apart x ys (fewer_heads x y ys h))
+apart x (y ∷ ys) h = (
+  ne_eqb x y (λ e. let there = first_times y ys in let same : times x (y ∷ ys) ≡ times y (y ∷ ys) = ap (λ z. times z (y ∷ ys)) e in omega (arith, there, same, h)),
+  apart x ys (fewer_heads x y ys h),
+)
 
 different : (ys : List ℕ) → AreDistinct ys → IsDistinct eqb ys
 unfolding IsDistinct
