@@ -1,0 +1,9 @@
+pub mod Numbers
+pub mod Noted
+pub mod SimpleGoals
+pub mod Standing
+pub mod Blocks
+pub mod Details
+pub mod Goals
+pub mod Programs
+pub mod Worked
