@@ -14,3 +14,8 @@ pub mod Building
 pub mod Simple
 pub mod Leading
 pub mod Staying
+pub mod Grown
+pub mod Beginning
+pub mod Firsts
+pub mod Room
+pub mod Executing
