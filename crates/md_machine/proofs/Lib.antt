@@ -19,3 +19,4 @@ pub mod Beginning
 pub mod Firsts
 pub mod Room
 pub mod Executing
+pub mod Resuming

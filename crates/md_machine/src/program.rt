@@ -32,6 +32,8 @@ pub fn interpret<S: PortSink>(
     ensures front { OnErr result (StandsForFront (hlds_of checked.now) budget (S.stands_for sink.new (site_table (hlds_of checked.now)))) }
     ensures alike { S.alike sink.old sink.new }
 {
+    // A checked program has no fault of modes, as this call tells.
+    let _ = checked.program();
     let code = compile(alloc, checked)?;
     execute(alloc, &code, budget, sink)
 }
