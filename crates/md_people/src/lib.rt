@@ -1,0 +1,14 @@
+//! Pages for people as tables: what is expensive, and in which procedures and modules a name is.
+#![tactic(auto)]
+
+mod costs;
+mod find;
+mod hot;
+mod name;
+mod ranking;
+mod sort;
+mod text;
+
+pub use find::{found_modules_table, found_procs_table};
+pub use hot::hot_table;
+pub use sort::Sort;
