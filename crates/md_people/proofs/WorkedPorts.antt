@@ -14,7 +14,7 @@ no-total-is-there : sum_some (None ∷ None ∷ []) ≡ None
 no-total-is-there = refl
 
 abbrev row : (name : ℕ) (total : Option ℕ) (calls : ℕ) → PortsRow
-row name total calls = record { total = total; own = λ m. calls; last = name ∷ [] }
+row name total calls = record { total = total; own = record { calls = calls; exits = 0; fails = 0; redos = 0; allocs = 0; words = 0; excps = 0 }; last = name ∷ [] }
 
 abbrev names : List PortsRow → List (List ℕ)
 names rows = map (λ (r : PortsRow). r.last) rows

@@ -2,12 +2,11 @@
 use Rattle.std.specs.Prelude.{ℕ, ◌+◌, ◌==◌, ◌&&◌, ◌||◌, nat_lt, Bool, true, false, List, [], ◌∷◌, ◌++◌, length, map, Option, Some, None, codes, if◌then◌else◌, sum_by, unwrap_or}
 use Rattle.std.specs.List.{flat_map, range_with_len}
 use Rattle.md_base.specs.declared.measure.Measure.{Measure}
-use Rattle.md_base.specs.declared.measure.Measure.TheVariants.{Calls}
 use Rattle.md_trace.specs.Context.{same_option}
 use Rattle.md_clique.specs.Places.{places}
 use Rattle.md_cost.specs.View.{View, OfLink}
 use Rattle.md_table.specs.Table.{TableCells}
-use Rattle.md_people.specs.Counts.{own_counts, whole_of}
+use Rattle.md_people.specs.Counts.{own_counts, sums_by, whole_of}
 use Rattle.md_people.specs.Ports.{PortsRow, ports_table}
 use Rattle.md_people.specs.Words.{from_words, full_name, line_words, owner_of, proc_at, site_words}
 
@@ -23,7 +22,7 @@ sum_some (Some n ∷ totals) = Some (n + unwrap_or (sum_some totals) 0)
 abbrev pub links_row : View → Measure → (links : List ℕ) (last : List ℕ) → PortsRow
 links_row v by ls last = record {
   total = sum_some (map (λ l. v.total (OfLink l) by) ls);
-  own = λ m. sum_by (λ l. own_counts v (OfLink l) m) ls;
+  own = sums_by (λ m. sum_by (λ l. own_counts v (OfLink l) m) ls);
   last = last;
 }
 
@@ -42,7 +41,7 @@ is_above (Some n) (Some other) = nat_lt other n
 
 -- rows with a total first, the greatest first, and of equal ones, or where there is none, that of more calls
 abbrev pub comes_first : PortsRow → PortsRow → Bool
-comes_first a b = is_above a.total b.total || (same_option a.total b.total && nat_lt (b.own Calls) (a.own Calls))
+comes_first a b = is_above a.total b.total || (same_option a.total b.total && nat_lt b.own.calls a.own.calls)
 
 -- a row put behind those that come first; rows that are equal in this keep their order
 abbrev pub placed_with : PortsRow → List PortsRow → List PortsRow

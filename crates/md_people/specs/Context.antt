@@ -7,7 +7,7 @@ use Rattle.md_clique.specs.Places.{places}
 use Rattle.md_cost.specs.View.{View, OfContext, OfLink}
 use Rattle.md_table.specs.Cells.{indent_of}
 use Rattle.md_table.specs.Table.{TableCells}
-use Rattle.md_people.specs.Counts.{own_counts, whole_of}
+use Rattle.md_people.specs.Counts.{own_counts, sums_by, whole_of}
 use Rattle.md_people.specs.Ports.{PortsRow, ports_table}
 use Rattle.md_people.specs.Words.{callee_at, clique_at, clique_words, context_words, from_words, full_name, proc_at, proc_to, site_at}
 
@@ -33,7 +33,7 @@ stations v c = reverse (stations_up v (clique_at v c) c)
 abbrev pub station_row : View → Measure → (place_and_context : ℕ × ℕ) → PortsRow
 station_row v by (place, c) = record {
   total = v.total (OfContext c) by;
-  own = own_counts v (OfContext c);
+  own = sums_by (own_counts v (OfContext c));
   last = indent_of place ++ (full_name v.statics (proc_at v c) ++ (context_words c ++ clique_words (clique_at v c)));
 }
 
@@ -53,7 +53,7 @@ left_words (Some n) k = clique_words k
 abbrev pub callee_row : View → Measure → ℕ → PortsRow
 callee_row v by l = record {
   total = v.total (OfLink l) by;
-  own = own_counts v (OfLink l);
+  own = sums_by (own_counts v (OfLink l));
   last =
       full_name v.statics (proc_to v l)
       ++ (from_words v (site_at v l) ++ (context_words (callee_at v l) ++ left_words (v.total (OfLink l) by) (clique_at v (callee_at v l))));

@@ -104,7 +104,7 @@ fn costs_line(
 }
 
 /// Adds a count and its share in the whole.
-fn push_counted(cells: &mut Vec<Cell>, count: u64, whole: u64) -> Result<(), NoMemory>
+pub(crate) fn push_counted(cells: &mut Vec<Cell>, count: u64, whole: u64) -> Result<(), NoMemory>
     ensures { OnOk result (cells.new.items ≡ cells.old.items ++ counted_cells count whole) }
 {
     let alloc: Global = *cells.allocator();
@@ -114,7 +114,7 @@ fn push_counted(cells: &mut Vec<Cell>, count: u64, whole: u64) -> Result<(), NoM
 }
 
 /// Adds a cell with these words.
-fn push_words(cells: &mut Vec<Cell>, words: &[u8]) -> Result<(), NoMemory>
+pub(crate) fn push_words(cells: &mut Vec<Cell>, words: &[u8]) -> Result<(), NoMemory>
     ensures { OnOk result (cells.new.items ≡ cells.old.items ++ words.now ∷ []) }
 {
     let alloc: Global = *cells.allocator();
@@ -123,7 +123,7 @@ fn push_words(cells: &mut Vec<Cell>, words: &[u8]) -> Result<(), NoMemory>
 }
 
 /// A cell with these words.
-fn words_cell(alloc: Global, words: &[u8]) -> Result<Cell, NoMemory>
+pub(crate) fn words_cell(alloc: Global, words: &[u8]) -> Result<Cell, NoMemory>
     ensures { IfOk result (λ cell. cell ≡ words.now) }
 {
     let bytes = Vec::from_slice(alloc, words)?;

@@ -5,10 +5,12 @@ mod costs;
 mod find;
 mod hot;
 mod name;
+mod ports;
 mod ranking;
 mod sort;
 mod text;
 
 pub use find::{found_modules_table, found_procs_table};
 pub use hot::hot_table;
+pub use ports::{PortsRow, ports_table};
 pub use sort::Sort;
