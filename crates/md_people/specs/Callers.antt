@@ -59,7 +59,7 @@ abbrev pub links_to : View → (procedure : ℕ) (site : Option ℕ) → List �
 links_to v q s = places (λ x. (proc_at v x.callee == q) && same_option x.site s) v.links
 
 abbrev pub caller_rows_at : View → Measure → ℕ → (site : ℕ) → List PortsRow
-caller_rows_at v by q s = row_if_any v by (links_to v q (Some s)) (full_name v.statics (owner_of v s) ++ (line_words v s ++ site_words s))
+caller_rows_at v by q s = row_if_any v by (links_to v q (Some s)) (full_name v.statics (owner_of v.statics s) ++ (line_words v.statics s ++ site_words s))
 
 -- the root, and each site from which the procedure is called
 abbrev pub caller_rows : View → Measure → ℕ → List PortsRow
@@ -71,7 +71,7 @@ callers_table v by q = ports_table (whole_of v by) (codes "caller") (in_order (c
 -- ---- callees
 
 abbrev pub callee_rows_at : View → Measure → (site callee : ℕ) → List PortsRow
-callee_rows_at v by s r = row_if_any v by (links_to v r (Some s)) (full_name v.statics r ++ from_words v s)
+callee_rows_at v by s r = row_if_any v by (links_to v r (Some s)) (full_name v.statics r ++ from_words v.statics s)
 
 abbrev pub sites_of : View → (procedure : ℕ) → List ℕ
 sites_of v q = places (λ s. s.owner == q) v.statics.sites

@@ -1,5 +1,5 @@
 -- The page of a context: its stations from clique 0 on, and the links that start there.
-use Rattle.std.specs.Prelude.{ℕ, zero, suc, ◌==◌, List, [], ◌∷◌, ◌++◌, reverse, map, Option, Some, None, codes, if◌then◌else◌, slice_get, slice_index, unwrap_or, option_and_then}
+use Rattle.std.specs.Prelude.{ℕ, zero, suc, ◌==◌, List, [], ◌∷◌, ◌++◌, reverse, map, Some, codes, if◌then◌else◌, slice_get, slice_index, unwrap_or, option_and_then, is_some}
 use Rattle.std.specs.List.{enumerate_from}
 use Rattle.md_base.specs.declared.measure.Measure.{Measure}
 use Rattle.md_trace.specs.Context.{same_option}
@@ -9,7 +9,7 @@ use Rattle.md_table.specs.Cells.{indent_of}
 use Rattle.md_table.specs.Table.{TableCells}
 use Rattle.md_people.specs.Counts.{own_counts, sums_by, whole_of}
 use Rattle.md_people.specs.Ports.{PortsRow, ports_table}
-use Rattle.md_people.specs.Words.{callee_at, clique_at, clique_words, context_words, from_words, full_name, proc_at, proc_to, site_at}
+use Rattle.md_people.specs.Words.{clique_at, clique_words, context_words, full_name, led_by, led_words, proc_at}
 
 -- ---- stations
 
@@ -44,19 +44,12 @@ stations_table v by c = ports_table (whole_of v by) (codes "context") (map (stat
 abbrev pub links_from : View → ℕ → List ℕ
 links_from v c = places (λ x. same_option x.caller (Some c)) v.links
 
--- the clique where a link that leaves its own leads to
-abbrev pub left_words : (total : Option ℕ) (clique : ℕ) → List ℕ
-left_words None k = []
-left_words (Some n) k = clique_words k
-
 -- a link: one within its clique has no total
 abbrev pub callee_row : View → Measure → ℕ → PortsRow
 callee_row v by l = record {
   total = v.total (OfLink l) by;
   own = sums_by (own_counts v (OfLink l));
-  last =
-      full_name v.statics (proc_to v l)
-      ++ (from_words v (site_at v l) ++ (context_words (callee_at v l) ++ left_words (v.total (OfLink l) by) (clique_at v (callee_at v l))));
+  last = led_words v.statics (led_by v l) (is_some (v.total (OfLink l) by));
 }
 
 abbrev pub callees_table : View → Measure → ℕ → TableCells

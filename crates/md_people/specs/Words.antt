@@ -1,5 +1,5 @@
 -- Names and words in tables. A number that isn't there stands for 0 or for no name.
-use Rattle.std.specs.Prelude.{ℕ, List, [], Option, Some, None, ◌++◌, codes, slice_get, slice_index, unwrap_or}
+use Rattle.std.specs.Prelude.{ℕ, Bool, List, [], Option, Some, None, ◌++◌, codes, slice_get, slice_index, unwrap_or, if◌then◌else◌}
 use Rattle.std.specs.Fmt.{decimal}
 use Rattle.md_base.specs.declared.measure.Measure.{Measure}
 use Rattle.md_base.specs.declared.measure.Measure.TheVariants.{Calls, Exits, Fails, Redos, Allocs, Words, Excps}
@@ -8,6 +8,7 @@ use Rattle.md_static.specs.declared.entry.Site.{Site}
 use Rattle.md_static.specs.declared.entry.SiteKind.TheVariants.{HigherOrder}
 use Rattle.md_static.specs.Tables.{Static}
 use Rattle.md_cost.specs.View.{View, Join}
+use Rattle.md_people.specs.declared.led.Led.{Led}
 
 abbrev pub measure_word : Measure → List ℕ
 measure_word Calls = codes "calls"
@@ -54,14 +55,14 @@ abbrev pub proc_to : View → ℕ → ℕ
 proc_to v l = proc_at v (callee_at v l)
 
 -- the owner of a call site, and its line
-abbrev pub call_site : View → ℕ → Site
-call_site v s = unwrap_or (slice_get v.statics.sites s) (record { owner = 0; line = 0; kind = HigherOrder })
+abbrev pub call_site : Static → ℕ → Site
+call_site t s = unwrap_or (slice_get t.sites s) (record { owner = 0; line = 0; kind = HigherOrder })
 
-abbrev pub owner_of : View → ℕ → ℕ
-owner_of v s = (call_site v s).owner
+abbrev pub owner_of : Static → ℕ → ℕ
+owner_of t s = (call_site t s).owner
 
-abbrev pub line_at : View → ℕ → ℕ
-line_at v s = (call_site v s).line
+abbrev pub line_at : Static → ℕ → ℕ
+line_at t s = (call_site t s).line
 
 -- ---- the words
 
@@ -72,12 +73,25 @@ abbrev pub clique_words : ℕ → List ℕ
 clique_words k = codes " clique " ++ decimal k
 
 -- a line of the text, and a call site there
-abbrev pub line_words : View → (site : ℕ) → List ℕ
-line_words v s = codes " line " ++ decimal (line_at v s)
+abbrev pub line_words : Static → (site : ℕ) → List ℕ
+line_words t s = codes " line " ++ decimal (line_at t s)
 
 abbrev pub site_words : ℕ → List ℕ
 site_words s = codes " site " ++ decimal s
 
 -- from where a callee is called
-abbrev pub from_words : View → (site : ℕ) → List ℕ
-from_words v s = codes " from" ++ (line_words v s ++ site_words s)
+abbrev pub from_words : Static → (site : ℕ) → List ℕ
+from_words t s = codes " from" ++ (line_words t s ++ site_words s)
+
+-- ---- the words of a link
+
+-- the call site of a link, and the context to which it leads with its procedure and its clique
+abbrev pub led_by : View → ℕ → Led
+led_by v l = record { site = site_at v l; callee = callee_at v l; proc = proc_to v l; clique = clique_at v (callee_at v l) }
+
+-- the clique is told of a link that leaves its own
+abbrev pub left_words : (leaves : Bool) (clique : ℕ) → List ℕ
+left_words leaves k = if leaves then clique_words k else []
+
+abbrev pub led_words : Static → Led → (leaves : Bool) → List ℕ
+led_words t led leaves = full_name t led.proc ++ (from_words t led.site ++ (context_words led.callee ++ left_words leaves led.clique))

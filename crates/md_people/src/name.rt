@@ -1,5 +1,5 @@
 // Names in tables.
-ghost use Rattle.std.specs.Prelude.{◌≡◌, ◌++◌, codes, decimal, IfOk, OnOk};
+ghost use Rattle.std.specs.Prelude.{◌≡◌, ◌++◌, decimal, IfOk, OnOk};
 ghost use Rattle.md_people.specs.Words.{full_name, module_name};
 
 use itoa::Buffer;
@@ -26,7 +26,7 @@ pub(crate) fn full_name(alloc: Global, statics: &Statics, id: u32) -> Result<Vec
     Ok(name)
 }
 
-fn add_full_name(out: &mut Vec<u8>, statics: &Statics, id: u32) -> Result<(), AllocError>
+pub(crate) fn add_full_name(out: &mut Vec<u8>, statics: &Statics, id: u32) -> Result<(), AllocError>
     ensures { OnOk result (out.new.items ≡ out.old.items ++ full_name statics.now id) }
 {
     let Some(proc) = statics.procs().get(id as usize) else {
@@ -35,18 +35,19 @@ fn add_full_name(out: &mut Vec<u8>, statics: &Statics, id: u32) -> Result<(), Al
     add(out, module_name(statics, proc.module))?;
     add(out, b".")?;
     add(out, proc.name.as_bytes())?;
-    add_arity(out, proc.arity)
+    add_number(out, b"/", proc.arity as u32)
 }
 
-fn add_arity(out: &mut Vec<u8>, arity: u8) -> Result<(), AllocError>
-    ensures { OnOk result (out.new.items ≡ out.old.items ++ (codes "/" ++ decimal arity)) }
+/// Adds words, and a number behind them.
+pub(crate) fn add_number(out: &mut Vec<u8>, words: &[u8], number: u32) -> Result<(), AllocError>
+    ensures { OnOk result (out.new.items ≡ out.old.items ++ (words.now ++ decimal number)) }
 {
     let mut digits = Buffer::new();
-    add(out, b"/")?;
-    add(out, digits.format(arity).as_bytes())
+    add(out, words)?;
+    add(out, digits.format(number).as_bytes())
 }
 
-fn add(out: &mut Vec<u8>, words: &[u8]) -> Result<(), AllocError>
+pub(crate) fn add(out: &mut Vec<u8>, words: &[u8]) -> Result<(), AllocError>
     ensures { OnOk result (out.new.items ≡ out.old.items ++ words.now) }
 {
     out.extend_from_slice(words)
