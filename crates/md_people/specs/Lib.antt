@@ -1,0 +1,10 @@
+pub mod Counts
+pub mod Words
+pub mod Ranked
+pub mod Texts
+pub mod Costs
+pub mod Hot
+pub mod Find
+pub mod Ports
+pub mod Context
+pub mod Callers

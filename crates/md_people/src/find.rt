@@ -1,0 +1,95 @@
+// The procedures and modules in whose name a text is.
+ghost use Rattle.std.specs.Prelude.{◌≡◌, ◌<◌, ◌++◌, IfOk, OnOk, length};
+ghost use Rattle.md_cost.specs.FileView.{IsFileView};
+ghost use Rattle.md_cost.specs.View.{View};
+ghost use Rattle.md_people.specs.Counts.{whole_of};
+ghost use Rattle.md_people.specs.Find.{found_modules_table, found_procs_table, module_rows, proc_rows};
+
+use crate::costs::{costs_heading, module_line, proc_line, whole_of};
+use crate::name::{full_name, module_name};
+use crate::text::has_text;
+use md_base::{Measure, NoMemory, ProcId};
+use md_cost::Loaded;
+use md_table::{Cell, Line, Table};
+use std::alloc::Global;
+
+/// The procedures in whose full name the text is, in rising order, with their costs.
+pub fn found_procs_table(
+    alloc: Global,
+    loaded: &Loaded,
+    by: Measure,
+    text: &[u8],
+) -> Result<Table, NoMemory>
+    ensures { IfOk result (λ table. (v : View) → IsFileView loaded.now.profile v → table ≡ found_procs_table v by text.now) }
+{
+    let whole = whole_of(loaded, by);
+    let heading = costs_heading(alloc, by, b"procedure")?;
+    let mut rows = Vec::new(alloc);
+    for id in 0..loaded.profile().statics().procs().len() as u32 {
+        push_proc(&mut rows, loaded, by, whole, text, ProcId::new(id))?;
+    }
+    Ok(Table::from_parts(heading, rows))
+}
+
+/// The modules in whose name the text is, in rising order, with their costs.
+pub fn found_modules_table(
+    alloc: Global,
+    loaded: &Loaded,
+    by: Measure,
+    text: &[u8],
+) -> Result<Table, NoMemory>
+    ensures { IfOk result (λ table. (v : View) → IsFileView loaded.now.profile v → table ≡ found_modules_table v by text.now) }
+{
+    let whole = whole_of(loaded, by);
+    let heading = costs_heading(alloc, by, b"module")?;
+    let mut rows = Vec::new(alloc);
+    for id in 0..loaded.profile().statics().modules().len() as u32 {
+        push_module(&mut rows, loaded, by, whole, text, id)?;
+    }
+    Ok(Table::from_parts(heading, rows))
+}
+
+/// Adds the line of a procedure, where the text is in its full name.
+fn push_proc(
+    rows: &mut Vec<Line>,
+    loaded: &Loaded,
+    by: Measure,
+    whole: u64,
+    text: &[u8],
+    id: ProcId,
+) -> Result<(), NoMemory>
+    requires there { id < length loaded.now.profile.statics.procs }
+    requires whole { (v : View) → IsFileView loaded.now.profile v → whole ≡ whole_of v by }
+    ensures { (v : View) → IsFileView loaded.now.profile v → OnOk result (rows.new.items ≡ rows.old.items ++ proc_rows v by text.now id) }
+{
+    let alloc: Global = *rows.allocator();
+    let name = full_name(alloc, loaded.profile().statics(), id.number())?;
+    if has_text(text, &name) {
+        let line = proc_line(alloc, loaded, by, whole, id, Cell::from_bytes(name))?;
+        rows.push(line)?;
+    }
+    Ok(())
+}
+
+/// Adds the line of a module, where the text is in its name.
+fn push_module(
+    rows: &mut Vec<Line>,
+    loaded: &Loaded,
+    by: Measure,
+    whole: u64,
+    text: &[u8],
+    id: u32,
+) -> Result<(), NoMemory>
+    requires there { id < length loaded.now.profile.statics.modules }
+    requires whole { (v : View) → IsFileView loaded.now.profile v → whole ≡ whole_of v by }
+    ensures { (v : View) → IsFileView loaded.now.profile v → OnOk result (rows.new.items ≡ rows.old.items ++ module_rows v by text.now id) }
+{
+    let alloc: Global = *rows.allocator();
+    let name = module_name(loaded.profile().statics(), id);
+    if has_text(text, name) {
+        let name = Cell::from_bytes(Vec::from_slice(alloc, name)?);
+        let line = module_line(alloc, loaded, by, whole, id, name)?;
+        rows.push(line)?;
+    }
+    Ok(())
+}

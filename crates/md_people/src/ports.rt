@@ -1,0 +1,198 @@
+// Tables of ports.
+ghost use Rattle.std.specs.Prelude.{◌≡◌, ◌++◌, ◌∷◌, [], codes, decimal, if◌then◌else◌, map, IfOk, OnOk};
+ghost use Rattle.md_cost.specs.SumOf.{sum_of};
+ghost use Rattle.md_people.specs.Ports.{is_counted, ports_heading, ports_line, ports_table, shown_measures, total_cells};
+ghost use Rattle.md_people.specs.Words.{measure_word};
+
+use crate::costs::{push_counted, push_words, words_cell};
+use md_base::{Measure, NoMemory};
+use md_cost::Sums;
+use md_table::{Cell, Line, Table, count_cell, no_cell};
+use std::alloc::Global;
+use std::marker::Model;
+
+/// A row of a table of ports: a total, where there is one, and own counts.
+#[derive(Drop)]
+pub struct PortsRow {
+    total: Option<u64>,
+    own: Sums,
+    last: Cell,
+}
+
+impl Model for PortsRow {
+    ghost use Rattle.md_people.specs.Ports.{PortsRow};
+
+    ghost Value = { PortsRow };
+
+    ghost view = { λ row. record { total = row.total; own = row.own; last = row.last } };
+}
+
+impl PortsRow {
+    ghost use Rattle.std.specs.Prelude.{◌≡◌};
+    ghost use Rattle.md_cost.specs.SumOf.{sum_of};
+
+    /// A row of these parts. Takes no memory.
+    pub fn from_parts(total: Option<u64>, own: Sums, last: Cell) -> PortsRow
+        ensures { result ≡ record { total = total; own = own; last = last } }
+    {
+        PortsRow { total, own, last }
+    }
+
+    /// The total.
+    pub fn total(&self) -> Option<u64>
+        ensures { result ≡ self.now.total }
+    {
+        self.total
+    }
+
+    /// The own count of a measure.
+    pub fn own(&self, measure: Measure) -> u64
+        ensures { result ≡ sum_of self.now.own measure }
+    {
+        self.own.of(measure)
+    }
+
+    /// The cell of the last column.
+    pub fn last(&self) -> &Cell
+        ensures { result.now ≡ self.now.last }
+    {
+        &self.last
+    }
+}
+
+/// The table of these rows, with a column for each measure of which some row has a count.
+pub fn ports_table(
+    alloc: Global,
+    whole: u64,
+    last: &[u8],
+    rows: &[PortsRow],
+) -> Result<Table, NoMemory>
+    ensures { IfOk result (λ table. table ≡ ports_table whole last.now rows.now) }
+{
+    let shown = shown_measures(alloc, rows)?;
+    let heading = ports_heading(alloc, &shown, last)?;
+    let mut lines = Vec::new(alloc);
+    for row in rows {
+        let line = ports_line(alloc, whole, &shown, row)?;
+        lines.push(line)?;
+    }
+    Ok(Table::from_parts(heading, lines))
+}
+
+/// The measures that have a column behind calls.
+fn shown_measures(alloc: Global, rows: &[PortsRow]) -> Result<Vec<Measure>, NoMemory>
+    ensures { IfOk result (λ shown. shown.items ≡ shown_measures rows.now) }
+{
+    let mut shown = Vec::new(alloc);
+    push_counted_measure(&mut shown, rows, Measure::Exits)?;
+    push_counted_measure(&mut shown, rows, Measure::Fails)?;
+    push_counted_measure(&mut shown, rows, Measure::Redos)?;
+    push_counted_measure(&mut shown, rows, Measure::Allocs)?;
+    push_counted_measure(&mut shown, rows, Measure::Words)?;
+    push_counted_measure(&mut shown, rows, Measure::Excps)?;
+    Ok(shown)
+}
+
+/// Adds a measure, where some row has a count of it.
+fn push_counted_measure(
+    shown: &mut Vec<Measure>,
+    rows: &[PortsRow],
+    measure: Measure,
+) -> Result<(), NoMemory>
+    ensures { OnOk result (shown.new.items ≡ shown.old.items ++ (if is_counted rows.now measure then measure ∷ [] else [])) }
+{
+    if is_counted(rows, measure) {
+        shown.push(measure)?;
+    }
+    Ok(())
+}
+
+/// Whether some row has a count of this measure.
+fn is_counted(rows: &[PortsRow], measure: Measure) -> bool
+    ensures { result ≡ is_counted rows.now measure }
+{
+    for row in rows {
+        if row.own(measure) != 0 {
+            return true;
+        }
+    }
+    false
+}
+
+/// The heading, with these measures behind calls.
+fn ports_heading(alloc: Global, shown: &[Measure], last: &[u8]) -> Result<Line, NoMemory>
+    ensures { IfOk result (λ line. line ≡ ports_heading shown.now last.now) }
+{
+    let mut cells = Vec::new(alloc);
+    push_words(&mut cells, b"total")?;
+    push_words(&mut cells, b"%")?;
+    push_words(&mut cells, b"calls")?;
+    push_measures(&mut cells, shown)?;
+    Ok(Line::from_parts(cells, words_cell(alloc, last)?))
+}
+
+/// Adds the words of these measures.
+fn push_measures(cells: &mut Vec<Cell>, shown: &[Measure]) -> Result<(), NoMemory>
+    ensures { OnOk result (cells.new.items ≡ cells.old.items ++ map measure_word shown.now) }
+{
+    for measure in shown {
+        push_words(cells, measure_word(*measure))?;
+    }
+    Ok(())
+}
+
+/// The line of a row, with its own counts of these measures behind calls.
+fn ports_line(
+    alloc: Global,
+    whole: u64,
+    shown: &[Measure],
+    row: &PortsRow,
+) -> Result<Line, NoMemory>
+    ensures { IfOk result (λ line. line ≡ ports_line whole shown.now row.now) }
+{
+    let mut cells = Vec::new(alloc);
+    push_total(&mut cells, row.total(), whole)?;
+    cells.push(count_cell(alloc, row.own(Measure::Calls))?)?;
+    push_counts(&mut cells, shown, row)?;
+    Ok(Line::from_parts(cells, words_cell(alloc, row.last().as_bytes())?))
+}
+
+/// Adds a total and its share, or that there is none.
+fn push_total(cells: &mut Vec<Cell>, total: Option<u64>, whole: u64) -> Result<(), NoMemory>
+    ensures { OnOk result (cells.new.items ≡ cells.old.items ++ total_cells total whole) }
+{
+    let alloc: Global = *cells.allocator();
+    match total {
+        Some(total) => push_counted(cells, total, whole),
+        None => {
+            cells.push(no_cell(alloc)?)?;
+            cells.push(no_cell(alloc)?)?;
+            Ok(())
+        }
+    }
+}
+
+/// Adds the own counts of these measures.
+fn push_counts(cells: &mut Vec<Cell>, shown: &[Measure], row: &PortsRow) -> Result<(), NoMemory>
+    ensures { OnOk result (cells.new.items ≡ cells.old.items ++ map (λ m. decimal (sum_of row.now.own m)) shown.now) }
+{
+    for measure in shown {
+        let alloc: Global = *cells.allocator();
+        cells.push(count_cell(alloc, row.own(*measure))?)?;
+    }
+    Ok(())
+}
+
+fn measure_word(measure: Measure) -> &'static [u8]
+    ensures { result.now ≡ measure_word measure }
+{
+    match measure {
+        Measure::Calls => b"calls",
+        Measure::Exits => b"exits",
+        Measure::Fails => b"fails",
+        Measure::Redos => b"redos",
+        Measure::Allocs => b"allocs",
+        Measure::Words => b"words",
+        Measure::Excps => b"excps",
+    }
+}

@@ -1,0 +1,30 @@
+// Words, numbers and spaces, added one behind the other.
+ghost use Rattle.std.specs.Prelude.{◌≡◌, ◌++◌, decimal, OnOk, replicate};
+
+use itoa::Buffer;
+use std::alloc::AllocError;
+
+/// Adds words.
+pub(crate) fn add(out: &mut Vec<u8>, words: &[u8]) -> Result<(), AllocError>
+    ensures { OnOk result (out.new.items ≡ out.old.items ++ words.now) }
+{
+    out.extend_from_slice(words)
+}
+
+/// Adds a number in decimal.
+pub(crate) fn add_number(out: &mut Vec<u8>, number: u128) -> Result<(), AllocError>
+    ensures { OnOk result (out.new.items ≡ out.old.items ++ decimal number) }
+{
+    let mut digits = Buffer::new();
+    add(out, digits.format(number).as_bytes())
+}
+
+/// Adds spaces.
+pub(crate) fn add_spaces(out: &mut Vec<u8>, count: usize) -> Result<(), AllocError>
+    ensures { OnOk result (out.new.items ≡ out.old.items ++ replicate count 32) }
+{
+    for _place in 0..count {
+        out.push(b' ')?;
+    }
+    Ok(())
+}

@@ -1,0 +1,18 @@
+//! Tables: a heading and rows of cells in, aligned lines or HTML out; and what numbers look like in a cell.
+#![tactic(auto)]
+
+mod add;
+mod cell;
+mod html;
+mod line;
+mod number;
+mod table;
+mod text;
+mod width;
+
+pub use cell::Cell;
+pub use html::{add_escaped, add_html};
+pub use line::Line;
+pub use number::{change_cell, count_cell, indented_cell, no_cell, ratio_cell, share_cell};
+pub use table::Table;
+pub use text::add_text;
