@@ -1,0 +1,88 @@
+//! A program for measuring: `bench_machine FILE TIMES STEPS` runs the program in a file so many times within so many steps, for a
+//! sink that keeps nothing, and tells of each run how it ended and how many bytes it wrote.
+#![tactic(auto)]
+
+ghost use Rattle.std.specs.Prelude.{ℕ, ◌<◌, ◌^◌, IfSome};
+ghost use Rattle.md_hlds.specs.Hlds.{hlds_of};
+ghost use Rattle.md_machine.specs.Ran.{CanBeRun};
+
+use md_base::NoMemory;
+use md_det::{Checked, check_det};
+use md_events::programs_have_tables;
+use md_machine::{Ran, interpret};
+use md_modes::check_modes;
+use md_reader::read;
+use md_spelled::accepted_texts_are_within_bounds;
+use md_trace::Silent;
+use std::alloc::Global;
+use std::io::{self, ErrorKind};
+use std::process::ExitCode;
+use std::{env, fs};
+
+/// The longest text that is read.
+const LONGEST: usize = 1_048_576;
+
+fn main(rt: HostRuntime) -> io::Result<ExitCode> {
+    let mut words = env::args(&rt)?.skip(1);
+    let file = words.next();
+    let times = words
+        .next()
+        .and_then(|text| text.as_str().parse::<u32>().ok());
+    let steps = words
+        .next()
+        .and_then(|text| text.as_str().parse::<u32>().ok());
+    let (Some(file), Some(times), Some(steps)) = (file, times, steps) else {
+        return usage(&rt);
+    };
+    let text = fs::read(&rt, file.as_str())?;
+    runs(&rt, text.as_slice(), times, steps)
+}
+
+/// Tells of each of so many runs of the program of a text.
+fn runs(rt: &HostRuntime, text: &[u8], times: u32, steps: u32) -> io::Result<ExitCode> {
+    let alloc = rt.alloc();
+    let Some(checked) = checked(alloc, text) else {
+        return Err(ErrorKind::InvalidData.into());
+    };
+    for _ in 0..times {
+        let Ok(ran) = silent(alloc, &checked, steps) else {
+            return Err(ErrorKind::OutOfMemory.into());
+        };
+        println!(rt; "{:?}, {} bytes written", ran.end, ran.output.len())?;
+    }
+    Ok(ExitCode::SUCCESS)
+}
+
+/// The run of a program, for a sink that keeps nothing.
+fn silent(alloc: Global, checked: &Checked, steps: u32) -> Result<Ran, NoMemory>
+    requires { (b : ℕ) → b < 2 ^ 32 → CanBeRun (hlds_of checked.now) b }
+{
+    programs_have_tables();
+    interpret(alloc, checked, steps, &mut Silent)
+}
+
+/// The checked program of a text, if it is accepted and no longer than any that `mdprof` takes.
+fn checked(alloc: Global, text: &[u8]) -> Option<Checked>
+    ensures { IfSome result (λ checked. (budget : ℕ) → budget < 2 ^ 32 → CanBeRun (hlds_of checked) budget) }
+{
+    if text.len() > LONGEST {
+        return None;
+    }
+    accepted_texts_are_within_bounds();
+    let Ok(program) = read(alloc, text) else {
+        return None;
+    };
+    let Ok(moded) = check_modes(alloc, program) else {
+        return None;
+    };
+    let Ok(checked) = check_det(alloc, moded) else {
+        return None;
+    };
+    Some(checked)
+}
+
+/// Tells how the program is called.
+fn usage(rt: &HostRuntime) -> io::Result<ExitCode> {
+    eprintln!(rt; "usage: bench_machine FILE TIMES STEPS")?;
+    Ok(ExitCode::from(1))
+}
