@@ -1,4 +1,4 @@
--- The views of three small runs, and the tables that they have, worked out by hand.
+-- The views of four small runs, and the tables that they have, worked out by hand.
 use Rattle.std.proofs.Common.{◌≡◌, ℕ, ◌*◌, true, List, [], ◌∷◌, Option, Some, None, codes, refl}
 use Rattle.std.specs.Prelude.{⊤, option_and_then}
 use Rattle.std.specs.Fmt.{digits}
@@ -17,7 +17,9 @@ use Rattle.md_people.specs.declared.sort.Sort.TheVariants.{Total, Own}
 use Rattle.md_people.specs.Callers.{called_table, callers_table}
 use Rattle.md_people.specs.Context.{callees_table, stations, stations_table}
 use Rattle.md_people.specs.Find.{found_modules_table, found_procs_table}
+use Rattle.md_people.specs.Flame.{flame_text}
 use Rattle.md_people.specs.Hot.{hot_table}
+use Rattle.md_people.specs.Tree.{tree_table}
 
 unfoldable on_tables : ⊤
 unfolding text_of digits
@@ -259,3 +261,67 @@ a-higher-order-site-has-a-row-for-each-callee :
     ≡ codes "\ntotal     %  calls  exits  callee\n    2  25.0      2      2  t.add/3 from line 5 site 1\n    1  12.5      1      1  t.double/2 from line 5 site 1\n    -     -      3      3  t.drive/3 from line 5 site 2\n"
 unfolding on_tables
 a-higher-order-site-has-a-row-for-each-callee = refl
+
+-- the clique of x has two contexts, and is as deep as it stands below main
+cliques-stand-below-each-other :
+    text_of (tree_table order Calls 5)
+    ≡ codes "\ntotal      %  own  where\n    8  100.0    1  t.main/2 clique 0\n    7   87.5    3    t.x/1 from line 3 clique 1 of 2 contexts\n    4   50.0    2      t.n/0 from line 5 clique 2\n    2   25.0    2        t.r/1 from line 9 clique 3\n"
+unfolding on_tables
+cliques-stand-below-each-other = refl
+
+-- 2 of 8 are 250 thousandths, which is enough for 250 and too few for 251
+what-is-hidden-is-counted :
+    text_of (tree_table order Calls 251)
+    ≡ codes "\ntotal      %  own  where\n    8  100.0    1  t.main/2 clique 0\n    7   87.5    3    t.x/1 from line 3 clique 1 of 2 contexts\n    4   50.0    2      t.n/0 from line 5 clique 2\n    2   25.0    -        1 more\n"
+unfolding on_tables
+what-is-hidden-is-counted = refl
+
+-- of the two that drive calls one has too little, and its row stands as deep as the other's
+the-least-child-is-left-out :
+    text_of (tree_table driven Calls 200)
+    ≡ codes "\ntotal      %  own  where\n    8  100.0    1  t.main/2 clique 0\n    7   87.5    4    t.drive/3 from line 3 clique 1\n    2   25.0    2      t.add/3 from line 5 clique 2\n    1   12.5    -      1 more\n"
+unfolding on_tables
+the-least-child-is-left-out = refl
+
+-- where no child has a row, theirs stands right below the clique's
+all-children-may-be-left-out :
+    text_of (tree_table driven Calls 300)
+    ≡ codes "\ntotal      %  own  where\n    8  100.0    1  t.main/2 clique 0\n    7   87.5    4    t.drive/3 from line 3 clique 1\n    3   37.5    -      2 more\n"
+unfolding on_tables
+all-children-may-be-left-out = refl
+
+-- ---- main calls even, which calls odd, which calls even again
+
+abbrev even_own : Counted → Measure → Option ℕ
+even_own (OfContext c) Calls = slice_get (1 ∷ 3 ∷ 3 ∷ []) c
+even_own r m = None
+
+abbrev even_total : Counted → Measure → Option ℕ
+even_total (OfClique k) Calls = slice_get (7 ∷ 6 ∷ []) k
+even_total r m = None
+
+abbrev even : View
+even = record {
+  statics = record {
+    modules = codes "t" ∷ [];
+    procs = proc (codes "main") 2 ∷ proc (codes "even") 2 ∷ proc (codes "odd") 2 ∷ [];
+    sites = site 0 3 (Plain 1) ∷ site 1 5 (Plain 2) ∷ site 2 7 (Plain 1) ∷ [];
+  };
+  nodes = 0 ∷ 1 ∷ 2 ∷ [];
+  links = root ∷ link 0 0 1 ∷ link 1 1 2 ∷ link 2 2 1 ∷ [];
+  finished = true;
+  cliques = 0 ∷ 1 ∷ 1 ∷ [];
+  entries = 0 ∷ 1 ∷ [];
+  own = even_own;
+  total = even_total;
+}
+
+-- even is not above odd: both are in the clique that main enters
+a-line-for-each-context : flame_text even Calls ≡ codes "t.main/2 1\nt.main/2;t.even/2 3\nt.main/2;t.odd/2 3\n"
+unfolding on_tables
+a-line-for-each-context = refl
+
+-- contexts without own counts have no line
+nothing-burns-where-nothing-counts : flame_text even Allocs ≡ []
+unfolding on_tables
+nothing-burns-where-nothing-counts = refl

@@ -9,7 +9,7 @@ use Rattle.md_table.specs.Cells.{indent_of}
 use Rattle.md_table.specs.Table.{TableCells}
 use Rattle.md_people.specs.Counts.{own_counts, sums_by, whole_of}
 use Rattle.md_people.specs.Ports.{PortsRow, ports_table}
-use Rattle.md_people.specs.Words.{clique_at, clique_words, context_words, full_name, led_by, led_words, proc_at}
+use Rattle.md_people.specs.Words.{clique_at, led_by, led_words, proc_at, station_words}
 
 -- ---- stations
 
@@ -34,7 +34,7 @@ abbrev pub station_row : View → Measure → (place_and_context : ℕ × ℕ) �
 station_row v by (place, c) = record {
   total = v.total (OfContext c) by;
   own = sums_by (own_counts v (OfContext c));
-  last = indent_of place ++ (full_name v.statics (proc_at v c) ++ (context_words c ++ clique_words (clique_at v c)));
+  last = indent_of place ++ station_words v.statics (proc_at v c) c (clique_at v c);
 }
 
 abbrev pub stations_table : View → Measure → ℕ → TableCells

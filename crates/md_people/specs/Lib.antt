@@ -8,3 +8,5 @@ pub mod Find
 pub mod Ports
 pub mod Context
 pub mod Callers
+pub mod Tree
+pub mod Flame

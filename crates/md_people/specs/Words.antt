@@ -83,6 +83,10 @@ site_words s = codes " site " ++ decimal s
 abbrev pub from_words : Static → (site : ℕ) → List ℕ
 from_words t s = codes " from" ++ (line_words t s ++ site_words s)
 
+-- the procedure of a context, the context and its clique
+abbrev pub station_words : Static → (procedure context clique : ℕ) → List ℕ
+station_words t q c k = full_name t q ++ (context_words c ++ clique_words k)
+
 -- ---- the words of a link
 
 -- the call site of a link, and the context to which it leads with its procedure and its clique

@@ -10,6 +10,7 @@ mod name;
 mod ports;
 mod ranking;
 mod sort;
+mod station;
 mod text;
 
 pub use callee::callees_table;
@@ -17,3 +18,4 @@ pub use find::{found_modules_table, found_procs_table};
 pub use hot::hot_table;
 pub use ports::{PortsRow, ports_table};
 pub use sort::Sort;
+pub use station::stations_table;
