@@ -2,6 +2,9 @@ pub mod Orders
 pub mod Ranges
 pub mod Views
 pub mod Links
+pub mod GatheredSteps
+pub mod RowOrder
+pub mod Slots
 pub mod StationSteps
 mod WorkedTables
 mod WorkedPorts

@@ -8,7 +8,7 @@ use Rattle.md_cost.specs.View.{View, OfLink}
 use Rattle.md_table.specs.Table.{TableCells}
 use Rattle.md_people.specs.Counts.{own_counts, sums_by, whole_of}
 use Rattle.md_people.specs.Ports.{PortsRow, ports_table}
-use Rattle.md_people.specs.Words.{from_words, full_name, line_words, owner_of, proc_at, site_words}
+use Rattle.md_people.specs.Words.{caller_words, from_words, full_name, proc_at}
 
 -- ---- some links in one row
 
@@ -59,7 +59,7 @@ abbrev pub links_to : View → (procedure : ℕ) (site : Option ℕ) → List �
 links_to v q s = places (λ x. (proc_at v x.callee == q) && same_option x.site s) v.links
 
 abbrev pub caller_rows_at : View → Measure → ℕ → (site : ℕ) → List PortsRow
-caller_rows_at v by q s = row_if_any v by (links_to v q (Some s)) (full_name v.statics (owner_of v.statics s) ++ (line_words v.statics s ++ site_words s))
+caller_rows_at v by q s = row_if_any v by (links_to v q (Some s)) (caller_words v.statics s)
 
 -- the root, and each site from which the procedure is called
 abbrev pub caller_rows : View → Measure → ℕ → List PortsRow

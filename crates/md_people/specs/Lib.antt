@@ -6,7 +6,10 @@ pub mod Costs
 pub mod Hot
 pub mod Find
 pub mod Ports
+pub mod KeptRow
 pub mod Context
 pub mod Callers
+pub mod Gathered
+pub mod Order
 pub mod Tree
 pub mod Flame

@@ -79,6 +79,10 @@ line_words t s = codes " line " ++ decimal (line_at t s)
 abbrev pub site_words : ℕ → List ℕ
 site_words s = codes " site " ++ decimal s
 
+-- a site with its owner
+abbrev pub caller_words : Static → (site : ℕ) → List ℕ
+caller_words t s = full_name t (owner_of t s) ++ (line_words t s ++ site_words s)
+
 -- from where a callee is called
 abbrev pub from_words : Static → (site : ℕ) → List ℕ
 from_words t s = codes " from" ++ (line_words t s ++ site_words s)

@@ -1,5 +1,5 @@
 // The links that start in a context.
-ghost use Rattle.std.specs.Prelude.{◌≡◌, ◌<◌, Some, length, map, IfOk};
+ghost use Rattle.std.specs.Prelude.{◌≡◌, ◌<◌, ◌^◌, Some, length, map, IfOk, IfSome};
 ghost use Rattle.md_trace.specs.Context.{same_option};
 ghost use Rattle.md_cost.specs.FileView.{IsFileView};
 ghost use Rattle.md_cost.specs.View.{View, OfLink};
@@ -80,12 +80,13 @@ fn callee_row(
 }
 
 /// The total of a link, where it has one.
-fn total_of(loaded: &Loaded, by: Measure, link: CsdId) -> Option<u64>
+pub(crate) fn total_of(loaded: &Loaded, by: Measure, link: CsdId) -> Option<u128>
     requires there { link < length loaded.now.profile.links }
-    ensures { (v : View) → IsFileView loaded.now.profile v → result ≡ v.total (OfLink link) by }
+    ensures small { IfSome result (λ n. n < 2 ^ 64) }
+    ensures total { (v : View) → IsFileView loaded.now.profile v → result ≡ v.total (OfLink link) by }
 {
     match loaded.link_total(link) {
-        Some(total) => Some(total.of(by)),
+        Some(total) => Some(total.of(by) as u128),
         None => None,
     }
 }

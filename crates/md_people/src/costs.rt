@@ -1,5 +1,5 @@
 // Tables of costs.
-ghost use Rattle.std.specs.Prelude.{◌≡◌, ◌<◌, ◌++◌, ◌∷◌, [], codes, decimal, length, IfOk, OnOk};
+ghost use Rattle.std.specs.Prelude.{◌≡◌, ◌<◌, ◌^◌, ◌++◌, ◌∷◌, [], codes, decimal, length, IfOk, OnOk};
 ghost use Rattle.md_cost.specs.FileView.{IsFileView};
 ghost use Rattle.md_cost.specs.SumOf.{sum_of};
 ghost use Rattle.md_cost.specs.View.{View, OfProcedure, OfModule};
@@ -94,17 +94,18 @@ fn costs_line(
     ensures { IfOk result (λ line. line ≡ costs_line by whole (λ m. sum_of own m) (λ m. sum_of total m) last) }
 {
     let mut cells = Vec::new(alloc);
-    push_counted(&mut cells, total.of(by), whole)?;
-    push_counted(&mut cells, own.of(by), whole)?;
+    push_counted(&mut cells, total.of(by) as u128, whole)?;
+    push_counted(&mut cells, own.of(by) as u128, whole)?;
     if !is_calls(by) {
-        cells.push(count_cell(alloc, own.of(Measure::Calls))?)?;
+        cells.push(count_cell(alloc, own.of(Measure::Calls) as u128)?)?;
     }
     cells.push(ratio_cell(alloc, total.of(by), own.of(Measure::Calls))?)?;
     Ok(Line::from_parts(cells, last))
 }
 
 /// Adds a count and its share in the whole.
-pub(crate) fn push_counted(cells: &mut Vec<Cell>, count: u64, whole: u64) -> Result<(), NoMemory>
+pub(crate) fn push_counted(cells: &mut Vec<Cell>, count: u128, whole: u64) -> Result<(), NoMemory>
+    requires { count < 2 ^ 118 }
     ensures { OnOk result (cells.new.items ≡ cells.old.items ++ counted_cells count whole) }
 {
     let alloc: Global = *cells.allocator();

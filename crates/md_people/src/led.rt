@@ -2,7 +2,7 @@
 ghost use Rattle.std.specs.Prelude.{◌≡◌, ◌<◌, ◌++◌, length, unwrap_or, OnOk};
 ghost use Rattle.md_cost.specs.FileView.{IsFileView};
 ghost use Rattle.md_cost.specs.View.{View};
-ghost use Rattle.md_people.specs.Words.{from_words, led_by, led_words, left_words, line_at};
+ghost use Rattle.md_people.specs.Words.{from_words, led_by, led_words, left_words, line_at, owner_of};
 
 use crate::name::{add, add_full_name, add_number};
 use md_base::{CsdId, SiteId};
@@ -77,8 +77,18 @@ fn add_left(out: &mut Vec<u8>, leaves: bool, clique: u32) -> Result<(), AllocErr
     }
 }
 
+/// The owner of a call site.
+pub(crate) fn owner_at(statics: &Statics, site: u32) -> u32
+    ensures { result ≡ owner_of statics.now site }
+{
+    match statics.sites().get(site as usize) {
+        Some(site) => site.owner.number(),
+        None => 0,
+    }
+}
+
 /// The line of a call site.
-fn line_at(statics: &Statics, site: u32) -> u32
+pub(crate) fn line_at(statics: &Statics, site: u32) -> u32
     ensures { result ≡ line_at statics.now site }
 {
     match statics.sites().get(site as usize) {

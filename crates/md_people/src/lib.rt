@@ -2,11 +2,14 @@
 #![tactic(auto)]
 
 mod callee;
+mod caller;
 mod costs;
 mod find;
+mod gathered;
 mod hot;
 mod led;
 mod name;
+mod order;
 mod ports;
 mod ranking;
 mod sort;
@@ -14,6 +17,7 @@ mod station;
 mod text;
 
 pub use callee::callees_table;
+pub use caller::callers_table;
 pub use find::{found_modules_table, found_procs_table};
 pub use hot::hot_table;
 pub use ports::{PortsRow, ports_table};

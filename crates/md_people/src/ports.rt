@@ -1,5 +1,5 @@
 // Tables of ports.
-ghost use Rattle.std.specs.Prelude.{◌≡◌, ◌++◌, ◌∷◌, [], codes, decimal, if◌then◌else◌, map, IfOk, OnOk};
+ghost use Rattle.std.specs.Prelude.{◌≡◌, ◌<◌, ◌^◌, ◌++◌, ◌∷◌, [], codes, decimal, if◌then◌else◌, map, IfOk, IfSome, OnOk};
 ghost use Rattle.md_cost.specs.SumOf.{sum_of};
 ghost use Rattle.md_people.specs.Ports.{is_counted, ports_heading, ports_line, ports_table, shown_measures, total_cells};
 ghost use Rattle.md_people.specs.Words.{measure_word};
@@ -14,33 +14,38 @@ use std::marker::Model;
 /// A row of a table of ports: a total, where there is one, and own counts.
 #[derive(Drop)]
 pub struct PortsRow {
-    total: Option<u64>,
+    total: Option<u128>,
     own: Sums,
     last: Cell,
 }
 
 impl Model for PortsRow {
     ghost use Rattle.md_people.specs.Ports.{PortsRow};
+    ghost use Rattle.md_people.specs.KeptRow.{HasShare};
 
     ghost Value = { PortsRow };
 
     ghost view = { λ row. record { total = row.total; own = row.own; last = row.last } };
+
+    ghost invariant = { HasShare };
 }
 
 impl PortsRow {
-    ghost use Rattle.std.specs.Prelude.{◌≡◌};
+    ghost use Rattle.std.specs.Prelude.{◌≡◌, ◌<◌, ◌^◌, IfSome};
     ghost use Rattle.md_cost.specs.SumOf.{sum_of};
 
-    /// A row of these parts. Takes no memory.
-    pub fn from_parts(total: Option<u64>, own: Sums, last: Cell) -> PortsRow
+    /// A row of these parts. A total is no sum of more than 2 ^ 54 totals of 64 bits, so that its share can be told. Takes no memory.
+    pub fn from_parts(total: Option<u128>, own: Sums, last: Cell) -> PortsRow
+        requires { IfSome total (λ n. n < 2 ^ 118) }
         ensures { result ≡ record { total = total; own = own; last = last } }
     {
         PortsRow { total, own, last }
     }
 
     /// The total.
-    pub fn total(&self) -> Option<u64>
-        ensures { result ≡ self.now.total }
+    pub fn total(&self) -> Option<u128>
+        ensures total { result ≡ self.now.total }
+        ensures small { IfSome result (λ n. n < 2 ^ 118) }
     {
         self.total
     }
@@ -50,6 +55,13 @@ impl PortsRow {
         ensures { result ≡ sum_of self.now.own measure }
     {
         self.own.of(measure)
+    }
+
+    /// The own counts.
+    pub fn sums(&self) -> Sums
+        ensures { result ≡ self.now.own }
+    {
+        self.own
     }
 
     /// The cell of the last column.
@@ -152,13 +164,14 @@ fn ports_line(
 {
     let mut cells = Vec::new(alloc);
     push_total(&mut cells, row.total(), whole)?;
-    cells.push(count_cell(alloc, row.own(Measure::Calls))?)?;
+    cells.push(count_cell(alloc, row.own(Measure::Calls) as u128)?)?;
     push_counts(&mut cells, shown, row)?;
     Ok(Line::from_parts(cells, words_cell(alloc, row.last().as_bytes())?))
 }
 
 /// Adds a total and its share, or that there is none.
-fn push_total(cells: &mut Vec<Cell>, total: Option<u64>, whole: u64) -> Result<(), NoMemory>
+fn push_total(cells: &mut Vec<Cell>, total: Option<u128>, whole: u64) -> Result<(), NoMemory>
+    requires { IfSome total (λ n. n < 2 ^ 118) }
     ensures { OnOk result (cells.new.items ≡ cells.old.items ++ total_cells total whole) }
 {
     let alloc: Global = *cells.allocator();
@@ -178,7 +191,7 @@ fn push_counts(cells: &mut Vec<Cell>, shown: &[Measure], row: &PortsRow) -> Resu
 {
     for measure in shown {
         let alloc: Global = *cells.allocator();
-        cells.push(count_cell(alloc, row.own(*measure))?)?;
+        cells.push(count_cell(alloc, row.own(*measure) as u128)?)?;
     }
     Ok(())
 }

@@ -111,7 +111,7 @@ fn station_row(
         loaded.clique_of(node),
     )?;
     let last = indented_cell(alloc, place.min(DEEPEST) as u32, &words)?;
-    Ok(PortsRow::from_parts(Some(total.of(by)), own, last))
+    Ok(PortsRow::from_parts(Some(total.of(by) as u128), own, last))
 }
 
 /// Adds the name of a context's procedure, the context and its clique.

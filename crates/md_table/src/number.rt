@@ -1,5 +1,5 @@
 // What numbers look like in a cell.
-ghost use Rattle.std.specs.Prelude.{◌≡◌, ◌++◌, codes, decimal, IfOk, OnOk};
+ghost use Rattle.std.specs.Prelude.{◌≡◌, ◌<◌, ◌^◌, ◌++◌, codes, decimal, IfOk, OnOk};
 ghost use Rattle.md_table.specs.Cells.{change_words, indent_of, ratio_words, share_of, share_words, tenths_words};
 
 use crate::add::{add, add_number, add_spaces};
@@ -11,11 +11,11 @@ use std::alloc::{AllocError, Global};
 const DEEPEST: u32 = 100;
 
 /// A number in decimal.
-pub fn count_cell(alloc: Global, count: u64) -> Result<Cell, NoMemory>
+pub fn count_cell(alloc: Global, count: u128) -> Result<Cell, NoMemory>
     ensures { IfOk result (λ cell. cell ≡ decimal count) }
 {
     let mut bytes = Vec::new(alloc);
-    add_number(&mut bytes, count as u128)?;
+    add_number(&mut bytes, count)?;
     Ok(Cell::from_bytes(bytes))
 }
 
@@ -30,7 +30,8 @@ pub fn no_cell(alloc: Global) -> Result<Cell, NoMemory>
 
 /// The share of a part in the whole: how many hundredths, with one digit behind the point, rounded down. It is `0.0` where
 /// the whole is 0.
-pub fn share_cell(alloc: Global, part: u64, whole: u64) -> Result<Cell, NoMemory>
+pub fn share_cell(alloc: Global, part: u128, whole: u64) -> Result<Cell, NoMemory>
+    requires { part < 2 ^ 118 }
     ensures { IfOk result (λ cell. cell ≡ share_words part whole) }
 {
     let mut bytes = Vec::new(alloc);
@@ -70,13 +71,14 @@ pub fn indented_cell(alloc: Global, level: u32, words: &[u8]) -> Result<Cell, No
     Ok(Cell::from_bytes(bytes))
 }
 
-fn share_of(part: u64, whole: u64) -> u128
+fn share_of(part: u128, whole: u64) -> u128
+    requires { part < 2 ^ 118 }
     ensures { result ≡ share_of part whole }
 {
     if whole == 0 {
         0
     } else {
-        1000 * part as u128 / whole as u128
+        1000 * part / whole as u128
     }
 }
 
