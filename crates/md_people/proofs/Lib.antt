@@ -5,7 +5,9 @@ pub mod Links
 pub mod GatheredSteps
 pub mod RowOrder
 pub mod Slots
+pub mod Adding
 pub mod StationSteps
 mod WorkedTables
 mod WorkedPorts
 mod WorkedPrograms
+mod WorkedCompare

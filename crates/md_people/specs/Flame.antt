@@ -1,6 +1,6 @@
 -- The text of a flame graph: a line for each context with own counts, which names its stations from clique 0 on.
-use Rattle.std.specs.Prelude.{ℕ, ◌-◌, ◌==◌, nat_le, List, [], ◌∷◌, ◌++◌, length, map, take, drop, codes, if◌then◌else◌}
-use Rattle.std.specs.List.{flat_map, range_with_len}
+use Rattle.std.specs.Prelude.{ℕ, ◌-◌, ◌==◌, nat_le, not, List, [], ◌∷◌, ◌++◌, length, map, take, drop, codes, if◌then◌else◌}
+use Rattle.std.specs.List.{filter, flat_map, range_with_len}
 use Rattle.std.specs.Fmt.{decimal}
 use Rattle.md_base.specs.declared.measure.Measure.{Measure}
 use Rattle.md_cost.specs.View.{View, OfContext}
@@ -25,11 +25,12 @@ shortened names = if nat_le (length names) 200 then names else take 100 names ++
 abbrev pub station_names : View → ℕ → List (List ℕ)
 station_names v c = map (λ d. full_name v.statics (proc_at v d)) (stations v c)
 
--- a context, where it has own counts
-abbrev pub flame_line : View → Measure → ℕ → List ℕ
-flame_line v by c =
-    if own_counts v (OfContext c) by == 0 then [] else joined (shortened (station_names v c)) ++ (codes " " ++ (decimal (own_counts v (OfContext c) by) ++ codes "\n"))
+-- the contexts with own counts, in rising order
+abbrev pub burning : View → Measure → List ℕ
+burning v by = filter (λ c. not (own_counts v (OfContext c) by == 0)) (range_with_len 0 (length v.nodes))
 
--- in rising order
+abbrev pub flame_line : View → Measure → ℕ → List ℕ
+flame_line v by c = joined (shortened (station_names v c)) ++ (codes " " ++ (decimal (own_counts v (OfContext c) by) ++ codes "\n"))
+
 abbrev pub flame_text : View → Measure → List ℕ
-flame_text v by = flat_map (flame_line v by) (range_with_len 0 (length v.nodes))
+flame_text v by = flat_map (flame_line v by) (burning v by)

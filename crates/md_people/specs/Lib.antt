@@ -13,3 +13,4 @@ pub mod Gathered
 pub mod Order
 pub mod Tree
 pub mod Flame
+pub mod Compare
