@@ -8,7 +8,7 @@ use Rattle.md_cost.specs.View.{View, OfLink}
 use Rattle.md_table.specs.Table.{TableCells}
 use Rattle.md_people.specs.Counts.{own_counts, sums_by, whole_of}
 use Rattle.md_people.specs.Ports.{PortsRow, ports_table}
-use Rattle.md_people.specs.Words.{caller_words, from_words, full_name, proc_at}
+use Rattle.md_people.specs.Words.{called_words, caller_words, proc_at}
 
 -- ---- some links in one row
 
@@ -71,7 +71,7 @@ callers_table v by q = ports_table (whole_of v by) (codes "caller") (in_order (c
 -- ---- callees
 
 abbrev pub callee_rows_at : View → Measure → (site callee : ℕ) → List PortsRow
-callee_rows_at v by s r = row_if_any v by (links_to v r (Some s)) (full_name v.statics r ++ from_words v.statics s)
+callee_rows_at v by s r = row_if_any v by (links_to v r (Some s)) (called_words v.statics s r)
 
 abbrev pub sites_of : View → (procedure : ℕ) → List ℕ
 sites_of v q = places (λ s. s.owner == q) v.statics.sites

@@ -1,6 +1,7 @@
 -- The sums of some links.
 use Rattle.std.specs.Prelude.{ℕ, ◌+◌, ◌*◌, ◌^◌, ◌<◌, ◌≤◌, ◌==◌, List, [], ◌∷◌, length, map, sum_by, Option, Some, None, IfSome, if◌then◌else◌, slice_index, unwrap_or}
 use Rattle.md_base.specs.declared.measure.Measure.{Measure}
+use Rattle.md_trace.specs.Context.{same_option}
 use Rattle.md_dynamic.specs.declared.link.LinkRow.{LinkRow}
 use Rattle.md_dynamic.specs.Profile.{ProfileRows}
 use Rattle.md_cost.specs.SumOf.{sum_of}
@@ -40,3 +41,7 @@ row_of (Some g) last = record { total = g.total; own = g.own; last = last } ∷ 
 -- the slot of a link that leads to a context of the procedure: its site, or the number past the last site for the root link
 abbrev pub caller_slot : ProfileRows → (procedure : ℕ) → LinkRow → Option ℕ
 caller_slot f q r = if slice_index f.nodes r.callee == q then Some (unwrap_or r.site (length f.statics.sites)) else None
+
+-- the slot of a link at the site: the procedure to which it leads
+abbrev pub callee_slot : ProfileRows → (site : ℕ) → LinkRow → Option ℕ
+callee_slot f s r = if same_option r.site (Some s) then Some (slice_index f.nodes r.callee) else None

@@ -91,6 +91,10 @@ from_words t s = codes " from" ++ (line_words t s ++ site_words s)
 abbrev pub station_words : Static → (procedure context clique : ℕ) → List ℕ
 station_words t q c k = full_name t q ++ (context_words c ++ clique_words k)
 
+-- a procedure that is called at a site
+abbrev pub called_words : Static → (site procedure : ℕ) → List ℕ
+called_words t s r = full_name t r ++ from_words t s
+
 -- ---- the words of a link
 
 -- the call site of a link, and the context to which it leads with its procedure and its clique

@@ -59,7 +59,7 @@ pub(crate) fn add_led(
 }
 
 /// Adds from where a callee is called.
-fn add_from(out: &mut Vec<u8>, statics: &Statics, site: u32) -> Result<(), AllocError>
+pub(crate) fn add_from(out: &mut Vec<u8>, statics: &Statics, site: u32) -> Result<(), AllocError>
     ensures { OnOk result (out.new.items ≡ out.old.items ++ from_words statics.now site) }
 {
     add(out, b" from")?;

@@ -1,6 +1,7 @@
 //! Pages for people as tables: what is expensive, and in which procedures and modules a name is.
 #![tactic(auto)]
 
+mod called;
 mod callee;
 mod caller;
 mod costs;
@@ -17,6 +18,7 @@ mod sort;
 mod station;
 mod text;
 
+pub use called::called_table;
 pub use callee::callees_table;
 pub use caller::callers_table;
 pub use find::{found_modules_table, found_procs_table};
