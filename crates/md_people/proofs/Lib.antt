@@ -6,6 +6,8 @@ pub mod GatheredSteps
 pub mod RowOrder
 pub mod Slots
 pub mod Adding
+pub mod DepthSteps
+pub mod FlameSteps
 pub mod StationSteps
 mod WorkedTables
 mod WorkedPorts

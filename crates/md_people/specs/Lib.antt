@@ -14,3 +14,4 @@ pub mod Order
 pub mod Tree
 pub mod Flame
 pub mod Compare
+pub mod Depths
