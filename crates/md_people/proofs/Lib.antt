@@ -5,6 +5,7 @@ pub mod Links
 pub mod GatheredSteps
 pub mod RowOrder
 pub mod Slots
+pub mod PlainSites
 pub mod Adding
 pub mod DepthSteps
 pub mod FlameSteps

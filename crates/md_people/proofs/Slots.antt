@@ -59,7 +59,7 @@ slot_below f q r there = below (eqb (get_or f.nodes r.callee 0) q) r.site (lengt
     below true None n h = let lt : n < n + 1 = omega arith in lt
     below true (Some s) n h = let lt : s < n = h in let less : s < n + 1 = omega arith in less
 
-links_of : (f : ProfileRows) (v : View) → IsFileView f v → (q : ℕ) (s : Option ℕ) → links_to v q s ≡ places (λ (r : LinkRow). eqb (get_or f.nodes r.callee 0) q && same_option r.site s) f.links
+pub links_of : (f : ProfileRows) (v : View) → IsFileView f v → (q : ℕ) (s : Option ℕ) → links_to v q s ≡ places (λ (r : LinkRow). eqb (get_or f.nodes r.callee 0) q && same_option r.site s) f.links
 links_of f v viewed q s =
     ap (λ (js : List Join). places (λ (x : Join). eqb (proc_at v x.callee) q && same_option x.site s) js) (ap (λ (w : View). w.links) viewed.is)
     ∙ places_map (λ (x : Join). eqb (proc_at v x.callee) q && same_option x.site s) join_of f.links

@@ -2,6 +2,7 @@
 use Rattle.std.specs.Prelude.{ℕ, ◌+◌, ◌*◌, ◌^◌, ◌<◌, ◌≤◌, ◌==◌, List, [], ◌∷◌, length, map, sum_by, Option, Some, None, IfSome, if◌then◌else◌, slice_index, unwrap_or}
 use Rattle.md_base.specs.declared.measure.Measure.{Measure}
 use Rattle.md_trace.specs.Context.{same_option}
+use Rattle.md_clique.specs.Places.{places}
 use Rattle.md_dynamic.specs.declared.link.LinkRow.{LinkRow}
 use Rattle.md_dynamic.specs.Profile.{ProfileRows}
 use Rattle.md_cost.specs.SumOf.{sum_of}
@@ -45,3 +46,7 @@ caller_slot f q r = if slice_index f.nodes r.callee == q then Some (unwrap_or r.
 -- the slot of a link at the site: the procedure to which it leads
 abbrev pub callee_slot : ProfileRows → (site : ℕ) → LinkRow → Option ℕ
 callee_slot f s r = if same_option r.site (Some s) then Some (slice_index f.nodes r.callee) else None
+
+-- the links at a site
+abbrev pub links_at : View → (site : ℕ) → List ℕ
+links_at v s = places (λ x. same_option x.site (Some s)) v.links

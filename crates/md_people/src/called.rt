@@ -6,7 +6,7 @@ ghost use Rattle.md_dynamic.specs.declared.link.LinkRow.{LinkRow};
 ghost use Rattle.md_cost.specs.FileView.{IsFileView};
 ghost use Rattle.md_cost.specs.View.{View};
 ghost use Rattle.md_people.specs.Callers.{called_table, callee_rows, callee_rows_at};
-ghost use Rattle.md_people.specs.Gathered.{HasSmallTotal, callee_slot, row_of};
+ghost use Rattle.md_people.specs.Gathered.{HasSmallTotal, callee_slot, gathered_of, links_at, row_of};
 ghost use Rattle.md_people.specs.Words.{called_words};
 
 use crate::costs::whole_of;
@@ -17,12 +17,12 @@ use crate::order::in_order;
 use crate::ports::{PortsRow, ports_table};
 use md_base::{CsdId, Measure, NoMemory, ProcId, SiteId};
 use md_cost::Loaded;
-use md_static::Statics;
+use md_static::{SiteKind, Statics};
 use md_table::{Cell, Table};
 use std::alloc::{AllocError, Global};
 
 /// The table of the procedures to which links at the sites of a procedure lead, site by site, with the sums of these links. All links are
-/// looked at once for each site of the procedure.
+/// looked at once, and once more for each higher-order site of the procedure.
 pub fn called_table(
     alloc: Global,
     loaded: &Loaded,
@@ -48,16 +48,60 @@ fn callee_rows(
     ensures { IfOk result (λ rows. (v : View) → IsFileView loaded.now.profile v → rows.items ≡ callee_rows v by id) }
 {
     let sites = loaded.profile().statics().sites();
+    let slots = site_slots(alloc, loaded)?;
+    let found = gathered_by(alloc, loaded, by, &slots, sites.len())?;
     let mut rows = Vec::new(alloc);
     for site in 0..sites.len() {
         if sites[site].owner.number() == id.number() {
-            push_callees(&mut rows, loaded, by, site as u32)?;
+            push_site(&mut rows, loaded, by, site as u32, found[site])?;
         }
     }
     Ok(rows)
 }
 
-/// Adds the rows of the procedures that are called at a site.
+/// The slot of each link: its site.
+fn site_slots(alloc: Global, loaded: &Loaded) -> Result<Vec<Option<u32>>, NoMemory>
+    ensures { IfOk result (λ slots. slots.items ≡ map (λ r. r.site) loaded.now.profile.links) }
+{
+    let links = loaded.profile().links();
+    let mut slots = Vec::new(alloc);
+    for link in 0..links.len() {
+        slots.push(number_of(links[link].site))?;
+    }
+    Ok(slots)
+}
+
+fn number_of(site: Option<SiteId>) -> Option<u32>
+    ensures { result ≡ site }
+{
+    match site {
+        Some(site) => Some(site.number()),
+        None => None,
+    }
+}
+
+/// Adds the rows of the procedures that are called at a site, of whose links these are the sums: a site that is not higher-order calls one.
+fn push_site(
+    rows: &mut Vec<PortsRow>,
+    loaded: &Loaded,
+    by: Measure,
+    site: u32,
+    sum: Option<Gathered>,
+) -> Result<(), NoMemory>
+    requires there { site < length loaded.now.profile.statics.sites }
+    requires small { IfSome sum HasSmallTotal }
+    requires sum { (v : View) → IsFileView loaded.now.profile v → sum ≡ gathered_of v by (links_at v site) }
+    ensures { (v : View) → IsFileView loaded.now.profile v → OnOk result (rows.new.items ≡ rows.old.items ++ flat_map (callee_rows_at v by site) (range_with_len 0 (length v.statics.procs))) }
+{
+    let statics = loaded.profile().statics();
+    match statics.sites()[site as usize].kind {
+        SiteKind::Plain(callee) => push_callee(rows, statics, site, callee.number(), sum)?,
+        SiteKind::HigherOrder => push_callees(rows, loaded, by, site)?,
+    }
+    Ok(())
+}
+
+/// Adds the rows of the procedures that are called at a site, by a look at all links.
 fn push_callees(
     rows: &mut Vec<PortsRow>,
     loaded: &Loaded,
