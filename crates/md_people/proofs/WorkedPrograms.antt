@@ -1,8 +1,8 @@
 -- The views of four small runs, and the tables that they have, worked out by hand.
-use Rattle.std.proofs.Common.{◌≡◌, ℕ, ◌*◌, true, List, [], ◌∷◌, Option, Some, None, codes, refl}
+use Rattle.std.proofs.Common.{◌≡◌, ℕ, ◌*◌, true, List, [], ◌∷◌, map, Option, Some, None, codes, refl}
 use Rattle.std.specs.Prelude.{⊤, option_and_then}
 use Rattle.std.specs.Fmt.{digits}
-use Rattle.std.specs.List.{slice_get}
+use Rattle.std.specs.List.{range_with_len, slice_get}
 use Rattle.std.specs.Option.{option_map}
 use Rattle.md_base.specs.declared.measure.Measure.{Measure}
 use Rattle.md_base.specs.declared.measure.Measure.TheVariants.{Calls, Exits, Fails, Redos, Allocs, Words, Excps}
@@ -17,7 +17,7 @@ use Rattle.md_people.specs.declared.sort.Sort.TheVariants.{Total, Own}
 use Rattle.md_people.specs.Callers.{called_table, callers_table}
 use Rattle.md_people.specs.Context.{callees_table, stations, stations_table}
 use Rattle.md_people.specs.Find.{found_modules_table, found_procs_table}
-use Rattle.md_people.specs.Flame.{flame_text}
+use Rattle.md_people.specs.Flame.{flame_text, shortened}
 use Rattle.md_people.specs.Hot.{hot_table}
 use Rattle.md_people.specs.Tree.{tree_table}
 
@@ -325,3 +325,22 @@ a-line-for-each-context = refl
 nothing-burns-where-nothing-counts : flame_text even Allocs ≡ []
 unfolding on_tables
 nothing-burns-where-nothing-counts = refl
+
+-- 203 names, each one byte: all of 200, and of more the first 100, then `..`, then those from place 103 on
+abbrev numbered_names : (count : ℕ) → List (List ℕ)
+numbered_names count = map (λ n. n ∷ []) (range_with_len 0 count)
+
+two-hundred-names-are-told : slice_get (shortened (numbered_names 200)) 100 ≡ Some (100 ∷ [])
+two-hundred-names-are-told = refl
+
+the-hundredth-name-is-told : slice_get (shortened (numbered_names 203)) 99 ≡ Some (99 ∷ [])
+the-hundredth-name-is-told = refl
+
+a-mark-stands-for-the-names-between : slice_get (shortened (numbered_names 203)) 100 ≡ Some (codes "..")
+a-mark-stands-for-the-names-between = refl
+
+the-last-hundred-names-are-told : slice_get (shortened (numbered_names 203)) 101 ≡ Some (103 ∷ [])
+the-last-hundred-names-are-told = refl
+
+nothing-stands-behind-the-last-name : slice_get (shortened (numbered_names 203)) 201 ≡ None
+nothing-stands-behind-the-last-name = refl
