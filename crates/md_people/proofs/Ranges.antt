@@ -1,7 +1,7 @@
 -- Numbers below an end, one after the other.
-use Rattle.std.proofs.Common.{◌≡◌, ℕ, ◌+◌, ◌<◌, Bool, true, false, List, [], ◌∷◌, ◌++◌, length, get_or, map, take, refl, sym, ap, ◌∙◌, arith}
+use Rattle.std.proofs.Common.{◌≡◌, ℕ, ◌+◌, ◌-◌, suc, ◌<◌, Bool, true, false, List, [], ◌∷◌, ◌++◌, length, get_or, map, take, Option, Some, refl, sym, ap, ◌∙◌, arith}
 use Rattle.std.specs.Prelude.{All}
-use Rattle.std.specs.List.{range_with_len, flat_map, list_any}
+use Rattle.std.specs.List.{find, range_with_len, flat_map, list_any}
 use Rattle.std.proofs.lemmas.List.{append-nil, append_assoc, map_push, take_more}
 use Rattle.std.proofs.lemmas.List.Concat.{flat_map-append}
 use Rattle.std.proofs.lemmas.List.Folds.{list_any-append, list_any_at}
@@ -47,3 +47,16 @@ any_at p n i lt passes =
 
 pub none_more : (p : ℕ → Bool) (n : ℕ) → list_any p (range_with_len 0 n) ≡ false → p n ≡ false → list_any p (range_with_len 0 (n + 1)) ≡ false
 none_more p n none fails = ap (λ (xs : List ℕ). list_any p xs) (range_more n) ∙ list_any-append p (range_with_len 0 n) (n ∷ []) ∙ rw (none, fails) refl
+
+-- the first number that passes is the first one of those that are left, or this one
+pub first_of_rest : (p : ℕ → Bool) (n i : ℕ) (first : Option ℕ) → i < n → find p (range_with_len i (n - i)) ≡ first → p i ≡ false → find p (range_with_len (i + 1) (n - (i + 1))) ≡ first
+first_of_rest p n i first lt is fails =
+    let e : n - i ≡ suc (n - (i + 1)) = omega arith in
+    let on = rw e at is in
+    rw fails at on
+
+pub this_is_first : (p : ℕ → Bool) (n i : ℕ) (first : Option ℕ) → i < n → find p (range_with_len i (n - i)) ≡ first → p i ≡ true → Some i ≡ first
+this_is_first p n i first lt is passes =
+    let e : n - i ≡ suc (n - (i + 1)) = omega arith in
+    let on = rw e at is in
+    rw passes at on

@@ -1,6 +1,8 @@
 -- Names and words in tables. A number that isn't there stands for 0 or for no name.
-use Rattle.std.specs.Prelude.{ℕ, Bool, List, [], Option, Some, None, ◌++◌, codes, slice_get, slice_index, unwrap_or, if◌then◌else◌}
+use Rattle.std.specs.Prelude.{ℕ, Bool, List, [], Option, Some, None, ◌++◌, length, codes, slice_get, slice_index, unwrap_or, if◌then◌else◌}
 use Rattle.std.specs.Fmt.{decimal}
+use Rattle.std.specs.List.{find, range_with_len}
+use Rattle.std.specs.Str.{bytes_eq}
 use Rattle.md_base.specs.declared.measure.Measure.{Measure}
 use Rattle.md_base.specs.declared.measure.Measure.TheVariants.{Calls, Exits, Fails, Redos, Allocs, Words, Excps}
 use Rattle.md_static.specs.declared.entry.Proc.{Proc}
@@ -32,6 +34,10 @@ full_name_of s (Some p) = module_name s p.«module» ++ (codes "." ++ (p.name ++
 
 abbrev pub full_name : Static → ℕ → List ℕ
 full_name s q = full_name_of s (slice_get s.procs q)
+
+-- the first procedure of this full name
+abbrev pub proc_named : Static → (name : List ℕ) → Option ℕ
+proc_named s name = find (λ q. bytes_eq (full_name s q) name) (range_with_len 0 (length s.procs))
 
 -- the procedure of a context, and its clique
 abbrev pub proc_at : View → ℕ → ℕ

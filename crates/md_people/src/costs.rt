@@ -12,7 +12,7 @@ use md_table::{Cell, Line, count_cell, ratio_cell, share_cell};
 use std::alloc::Global;
 
 /// The whole, of which shares are shares: the total of clique 0.
-pub(crate) fn whole_of(loaded: &Loaded, by: Measure) -> u64
+pub fn whole_of(loaded: &Loaded, by: Measure) -> u64
     ensures { (v : View) → IsFileView loaded.now.profile v → result ≡ whole_of v by }
 {
     // it is valid and has a view, which `profile` says

@@ -1,11 +1,25 @@
 // Names in tables.
-ghost use Rattle.std.specs.Prelude.{◌≡◌, ◌++◌, decimal, IfOk, OnOk};
-ghost use Rattle.md_people.specs.Words.{full_name, module_name};
+ghost use Rattle.std.specs.Prelude.{◌≡◌, ◌<◌, ◌^◌, ◌++◌, decimal, length, IfOk, OnOk};
+ghost use Rattle.md_people.specs.Words.{full_name, module_name, proc_named};
 
 use itoa::Buffer;
-use md_base::NoMemory;
+use md_base::{NoMemory, ProcId};
 use md_static::Statics;
 use std::alloc::{AllocError, Global};
+
+/// The first procedure of this full name: its module, name and number of arguments.
+pub fn proc_named(alloc: Global, statics: &Statics, name: &[u8]) -> Result<Option<ProcId>, NoMemory>
+    requires { length statics.now.procs < 2 ^ 32 }
+    ensures { IfOk result (λ found. found ≡ proc_named statics.now name.now) }
+{
+    for id in 0..statics.procs().len() as u32 {
+        let found = full_name(alloc, statics, id)?;
+        if found.as_slice() == name {
+            return Ok(Some(ProcId::new(id)));
+        }
+    }
+    Ok(None)
+}
 
 /// The name of a module.
 pub(crate) fn module_name(statics: &Statics, id: u32) -> &[u8]

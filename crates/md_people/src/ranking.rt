@@ -13,7 +13,7 @@ use std::alloc::Global;
 use std::cmp::Reverse;
 
 /// The procedures by their totals or own counts of a measure: the greatest comes first, and of equal ones the lower number.
-pub(crate) fn ranked_procs(
+pub fn ranked_procs(
     alloc: Global,
     loaded: &Loaded,
     by: Measure,

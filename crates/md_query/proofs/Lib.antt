@@ -2,5 +2,4 @@ mod Worked
 mod WorkedPages
 pub mod ListSteps
 pub mod ViewLists
-pub mod Orders
 pub mod Within

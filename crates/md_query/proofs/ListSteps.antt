@@ -1,10 +1,10 @@
 -- One more number, place or row of a list.
-use Rattle.std.proofs.Common.{◌≡◌, ℕ, ◌+◌, ◌<◌, ◌≤◌, Bool, true, false, cond, eqb, List, [], ◌∷◌, ◌++◌, length, get_or, set, take, map, Option, Some, None, refl, sym, ap, ◌∙◌, inl, inr, arith}
+use Rattle.std.proofs.Common.{◌≡◌, ℕ, ◌+◌, ◌<◌, ◌≤◌, Bool, true, false, cond, eqb, List, [], ◌∷◌, ◌++◌, length, get_or, set, take, map, Option, Some, None, refl, sym, ap, ◌∙◌, inl, inr, subst, arith}
 use Rattle.std.specs.Prelude.{All}
-use Rattle.std.specs.List.{range_with_len}
+use Rattle.std.specs.List.{find, range_with_len}
 use Rattle.std.proofs.lemmas.Bool.{cases_Bool, cases_eq, eq-eqb, ne_eqb}
 use Rattle.std.proofs.lemmas.List.{take_more, length-take-le, map_push, append_assoc, append-nil, get_or-set_same, get_or-set_other, length-append, length-set}
-use Rattle.std.proofs.lemmas.List.Elements.{All-nil, All-cons, All-weaker}
+use Rattle.std.proofs.lemmas.List.Elements.{All-nil, All-cons, All-head, All-tail, All-weaker}
 use Rattle.std.proofs.lemmas.List.FromFn.{map-range_with_len_more, length-range_with_len, get_or-range_with_len}
 use Rattle.md_clique.specs.Places.{places_from, places}
 use Rattle.md_clique.proofs.EntryPlaces.{places_from-push}
@@ -57,6 +57,17 @@ places_there p xs = All-weaker (λ q. q < 0 + length xs) (λ q. q < length xs) (
 
 pub range_there : (n : ℕ) → All (λ q. q < n) (range_with_len 0 n)
 range_there n k d lt = let size = length-range_with_len 0 n in let at = get_or-range_with_len 0 n k d (omega arith) in omega arith
+
+-- what is found has the property that all have
+found_has : {X : Type 0} (p : X → Bool) (P : X → Type 0) (xs : List X) (x : X) → All P xs → find p xs ≡ Some x → P x
+found_has p P [] x all e = absurd (let none : None ≡ Some x = e in cc)
+found_has {X} p P (y ∷ ys) x all e = elim (cases_Bool (p y)) [
+  | inl holds ↦ (let found : Some y ≡ Some x = rw holds at e in let same : y ≡ x = cc in subst P same (All-head P y ys all))
+  | inr fails ↦ found_has p P ys x (All-tail P y ys all) (rw fails at e)
+]
+
+pub found_there : (p : ℕ → Bool) (n q : ℕ) → find p (range_with_len 0 n) ≡ Some q → q < n
+found_there p n q e = found_has p (λ (x : ℕ). x < n) (range_with_len 0 n) q (range_there n) e
 
 -- ---- how many there are of each
 

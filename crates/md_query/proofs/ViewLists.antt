@@ -1,8 +1,9 @@
 -- The lists of a view are those of its profile.
-use Rattle.std.proofs.Common.{◌≡◌, ℕ, ◌+◌, ◌<◌, Bool, eqb, List, [], ◌∷◌, length, map, Option, Some, None, refl, sym, ap, ◌∙◌, inl, inr, arith}
+use Rattle.std.proofs.Common.{◌≡◌, ℕ, ◌+◌, ◌<◌, Bool, eqb, List, [], ◌∷◌, length, map, min, take, Option, Some, None, refl, sym, ap, ◌∙◌, inl, inr, arith}
 use Rattle.std.specs.Prelude.{unwrap_or}
 use Rattle.std.proofs.lemmas.Bool.{cases_Bool, ne_eqb}
-use Rattle.std.proofs.lemmas.List.{length-map}
+use Rattle.std.specs.List.{range_with_len}
+use Rattle.std.proofs.lemmas.List.{length-map, take_min}
 use Rattle.md_base.specs.declared.measure.Measure.{Measure}
 use Rattle.md_base.specs.declared.measure.Measure.TheVariants.{Calls, Exits, Fails, Redos, Allocs, Words, Excps}
 use Rattle.md_trace.specs.Context.{same_option}
@@ -14,7 +15,9 @@ use Rattle.md_cost.specs.declared.sums.Sums.{Sums}
 use Rattle.md_cost.specs.SumOf.{sum_of}
 use Rattle.md_cost.specs.View.{View, Join, OfClique}
 use Rattle.md_cost.specs.FileView.{IsFileView, join_of}
-use Rattle.md_query.specs.PageOf.{links_from, excps_rows, menu_rows}
+use Rattle.md_people.specs.Ranked.{ranked}
+use Rattle.md_static.specs.Tables.{Static}
+use Rattle.md_query.specs.PageOf.{links_from, excps_rows, menu_rows, proc_row, count_in_proc, top_procs}
 use Rattle.md_query.specs.declared.row.Row.TheVariants as row
 use Rattle.md_query.specs.declared.row.What.TheVariants as what
 use Rattle.md_query.specs.Threads.{starts_of}
@@ -61,3 +64,12 @@ module _ (f : ProfileRows) (v : View) (is : IsFileView f v) where
   menu_told total cliques told count =
       let size : length v.links ≡ length f.links = ap (λ (xs : List Join). length xs) links_are ∙ length-map f.links join_of in
       rw (finished_is, nodes_are, size, ← count, told Calls, told Exits, told Fails, told Redos, told Allocs, told Words, told Excps) refl
+
+  -- the first procedures of the file's tables by their own counts
+  pub top_told : (by : Measure) (n shown : ℕ) (ids : List ℕ) → shown ≡ min (length ids) n → ids ≡ ranked (count_in_proc v by) (range_with_len 0 (length f.statics.procs))
+      → map (proc_row v) (take shown ids) ≡ map (proc_row v) (top_procs v by n)
+  top_told by n shown ids shown_is ids_are =
+      let few : shown ≡ min n (length ids) = omega (arith, shown_is) in
+      ap (λ (k : ℕ). map (proc_row v) (take k ids)) few
+      ∙ ap (λ (qs : List ℕ). map (proc_row v) qs) (take_min n ids)
+      ∙ ap (λ (qs : List ℕ). map (proc_row v) (take n qs)) (ids_are ∙ ap (λ (s : Static). ranked (count_in_proc v by) (range_with_len 0 (length s.procs))) (sym statics_are))

@@ -1,7 +1,7 @@
 -- The numbers of the page that a query asks for are in the profile, and no call on it is the root link.
 use Rattle.std.proofs.Common.{◌≡◌, ℕ, ◌<◌, true, eqb, List, [], ◌∷◌, ◌++◌, length, get_or, map, Option, Some, None, refl, sym, ap, ◌∙◌, inl, inr, subst, arith}
-use Rattle.std.specs.Prelude.{All, IsSomeAnd}
-use Rattle.std.specs.List.{slice_get, flat_map, AllByRecursion}
+use Rattle.std.specs.Prelude.{All, IsSomeAnd, option_and_then}
+use Rattle.std.specs.List.{slice_get, flat_map, position, AllByRecursion}
 use Rattle.std.specs.Option.{option_map}
 use Rattle.std.specs.Str.{bytes_eq}
 use Rattle.std.proofs.lemmas.Bool.{cases_Bool, cases_lt, lt-ltb, le-ltb}
@@ -17,6 +17,7 @@ use Rattle.md_dynamic.specs.Valid.{IsValid, IsRoot}
 use Rattle.md_dynamic.specs.declared.link.LinkRow.{LinkRow}
 use Rattle.md_clique.specs.Cliques.{clique_count, members_of}
 use Rattle.md_clique.specs.Entries.{is_outside}
+use Rattle.md_clique.proofs.Naming.{lt_clique_count}
 use Rattle.md_cost.specs.FileView.{IsFileView, join_of}
 use Rattle.md_cost.specs.Paths.{ends}
 use Rattle.md_cost.specs.View.{View, Join, OfClique, OfProcedure, OfModule}
@@ -24,14 +25,21 @@ use Rattle.md_cost.proofs.EntrySteps.{entry_there, place_passes}
 use Rattle.md_cost.proofs.TreeSteps.{row_at}
 use Rattle.md_cost.proofs.ValidSteps.{valid_sound}
 use Rattle.md_cost.proofs.ViewSteps.{some_cliques}
+use Rattle.md_base.specs.declared.measure.Measure.{Measure}
+use Rattle.md_table.specs.Table.{TableCells}
+use Rattle.md_people.specs.Counts.{whole_of}
+use Rattle.md_people.specs.Find.{found_modules_table, found_procs_table}
+use Rattle.md_people.specs.Hot.{hot_table}
+use Rattle.md_people.specs.Ranked.{ranked}
+use Rattle.md_people.specs.Words.{full_name, proc_named}
+use Rattle.md_people.proofs.Orders.{all_ranked}
 use Rattle.md_query.specs.declared.row.Row.{Row}
 use Rattle.md_query.specs.declared.row.Row.TheVariants as row
 use Rattle.md_query.specs.declared.row.Title.TheVariants as title
-use Rattle.md_query.specs.Asked.{Asked, Menu, Root, Clique, Procs, Top, Proc as ProcAsked, Modules, Module}
+use Rattle.md_query.specs.Asked.{Asked, Menu, Root, Clique, Procs, Top, Proc as ProcAsked, Modules, Module, Hot, Find, ProcNamed, CliqueNamed}
 use Rattle.md_query.specs.Page.{PageRows, IsCall, IsRowWithin, IsWithin}
-use Rattle.md_query.specs.PageOf.{own_of, total_of, page_of, page_with, entered_row, clique_page, module_page, excps_rows, menu_rows, link_row_at, link_row, context_row, context_rows, links_from, clique_rows, proc_row, of_row, site_row, contexts_of, sites_of, proc_rows, all_procs, count_in_proc, ranked, top_procs, procs_of_module, module_row, module_rows, all_modules, module_named}
-use Rattle.md_query.proofs.ListSteps.{places_there, range_there}
-use Rattle.md_query.proofs.Orders.{all_ranked}
+use Rattle.md_query.specs.PageOf.{own_of, total_of, page_of, page_with, entered_row, clique_page, module_page, excps_rows, menu_rows, link_row_at, link_row, context_row, context_rows, links_from, clique_rows, proc_row, of_row, site_row, contexts_of, sites_of, proc_rows, all_procs, count_in_proc, top_procs, procs_of_module, module_row, module_rows, all_modules, module_named, table_rows, proc_page, clique_at, first_clique}
+use Rattle.md_query.proofs.ListSteps.{found_there, places_there, range_there}
 use Rattle.md_query.proofs.ViewLists.{statics_are, nodes_are, links_are}
 
 all_flat : {X Y : Type 0} (P : Y → Type 0) (g : X → List Y) (xs : List X) → All (λ x. All P (g x)) xs → All P (flat_map g xs)
@@ -134,19 +142,44 @@ module _ (f : ProfileRows) (valid : IsValid f) (v : View) (is : IsFileView f v) 
   module_within k =
       opened (row.Own (own_of v (OfModule k))) (row.Total (total_of v (OfModule k))) (map (proc_row v) (procs_of_module v k)) tt tt (procs_within (procs_of_module v k) (places_there (λ (p : Proc). eqb p.module k) v.statics.procs))
 
+  -- ---- tables
+
+  tables_within : (by : Measure) (tables : List TableCells) → All P (table_rows v by tables)
+  tables_within by tables =
+      opened (row.Finished v.finished) (row.Whole by (whole_of v by)) (map (λ (t : TableCells). row.Table t) tables) tt tt (All-map P (λ (t : TableCells). row.Table t) tables (λ i d lt. tt))
+
   -- ---- the page
 
   told_within : (told page : PageRows) → Some told ≡ Some page → IsWithin f told → IsWithin f page
   told_within told page e within = let same : told ≡ page = cc in subst (λ (p : PageRows). IsWithin f p) same within
 
+  no_page : (p : PageRows) → None ≡ Some p → ⊥
+  no_page p e = cc
+
   named_within : (o : Option ℕ) (name : List ℕ) (page : PageRows) → module_named v name ≡ o → option_map (module_page v) o ≡ Some page → IsWithin f page
-  named_within None name page is_named e = absurd (none_some page e)
-    where
-      none_some : (p : PageRows) → None ≡ Some p → ⊥
-      none_some p e = cc
+  named_within None name page is_named e = absurd (no_page page e)
   named_within (Some k) name page is_named e =
       let there = position-Some (λ (m : List ℕ). bytes_eq m name) v.statics.modules k [] is_named in
       told_within (module_page v k) page e (record { title = module_there k there.0; rows = module_within k })
+
+  proc_named_within : (o : Option ℕ) (name : List ℕ) (page : PageRows) → proc_named v.statics name ≡ o → option_map (proc_page v) o ≡ Some page → IsWithin f page
+  proc_named_within None name page is_named e = absurd (no_page page e)
+  proc_named_within (Some q) name page is_named e =
+      let there = found_there (λ (q : ℕ). bytes_eq (full_name v.statics q) name) (length v.statics.procs) q is_named in
+      told_within (proc_page v q) page e (record { title = proc_there q there; rows = proc_within q })
+
+  first_clique_within : (o : Option ℕ) (q : ℕ) (page : PageRows) → position (λ (p : ℕ). eqb p q) v.nodes ≡ o → option_map (clique_page v) (option_map (clique_at v) o) ≡ Some page → IsWithin f page
+  first_clique_within None q page at e = absurd (no_page page e)
+  first_clique_within (Some c) q page at e =
+      let there = position-Some (λ (p : ℕ). eqb p q) v.nodes c 0 at in
+      let size = is.tree.cliques_are.each in
+      let same = nodes_are f v is in
+      let lt : c < length v.cliques = (let n = rw same at there.0 in omega arith) in
+      told_within (clique_page v (clique_at v c)) page e (record { title = tt; rows = clique_within (clique_at v c) (lt_clique_count v.cliques c lt) })
+
+  clique_named_within : (o : Option ℕ) (page : PageRows) → option_map (clique_page v) (option_and_then (first_clique v) o) ≡ Some page → IsWithin f page
+  clique_named_within None page e = absurd (no_page page e)
+  clique_named_within (Some q) page e = first_clique_within (position (λ (p : ℕ). eqb p q) v.nodes) q page refl e
 
   pub within_page : (q : Asked) (page : PageRows) → page_of v q ≡ Some page → IsWithin f page
   unfolding page_of
@@ -166,3 +199,7 @@ module _ (f : ProfileRows) (valid : IsValid f) (v : View) (is : IsFileView f v) 
   ]
   within_page Modules page e = told_within _ page e (record { title = tt; rows = modules_within })
   within_page (Module name) page e = named_within (module_named v name) name page refl e
+  within_page (Hot by n sort) page e = told_within _ page e (record { title = tt; rows = tables_within by (hot_table v by n sort ∷ []) })
+  within_page (Find by text) page e = told_within _ page e (record { title = tt; rows = tables_within by (found_procs_table v by text ∷ found_modules_table v by text ∷ []) })
+  within_page (ProcNamed name) page e = proc_named_within (proc_named v.statics name) name page refl e
+  within_page (CliqueNamed name) page e = clique_named_within (proc_named v.statics name) page e

@@ -5,9 +5,10 @@ use Rattle.std.specs.Str.{is_utf8, chars}
 use Rattle.std.specs.Str.Lossy.{utf8_lossy, utf8_valid_len, utf8_error_len}
 use lib.Utf8.{encode}
 use Rattle.form_urlencoded.proofs.OnLiterals.{form_urlencoded_on_literals}
-use Rattle.md_base.specs.declared.measure.Measure.TheVariants.{Excps}
+use Rattle.md_base.specs.declared.measure.Measure.TheVariants.{Calls, Words, Excps}
+use Rattle.md_people.specs.declared.sort.Sort.TheVariants.{Total, Own}
 use Rattle.md_token.specs.Literal.{number_of}
-use Rattle.md_query.specs.Asked.{query_of, Menu, Clique, Top, Proc, Module}
+use Rattle.md_query.specs.Asked.{query_of, Menu, Clique, Top, Proc, Module, Hot, Find, ProcNamed, CliqueNamed}
 
 -- what is unfolded to compute a query on a literal
 unfoldable on_literals : ⊤
@@ -53,3 +54,48 @@ plus-is-a-space = refl
 a-missing-pair-makes-no-query : query_of (codes "module") (codes "id=1") ≡ None
 unfolding on_literals
 a-missing-pair-makes-no-query = refl
+
+-- a pair with a default may be missing
+a-path-alone-asks-what-is-hot : query_of (codes "hot") [] ≡ Some (Hot Calls 30 Total)
+unfolding on_literals
+a-path-alone-asks-what-is-hot = refl
+
+each-default-may-be-replaced : query_of (codes "hot") (codes "sort=own&n=1000&by=excps") ≡ Some (Hot Excps 1000 Own)
+unfolding on_literals
+each-default-may-be-replaced = refl
+
+-- where it is there, its value counts, and the default doesn't take its place
+another-value-makes-no-query : query_of (codes "hot") (codes "sort=Own") ≡ None
+unfolding on_literals
+another-value-makes-no-query = refl
+
+nor-does-the-second-value-count : query_of (codes "hot") (codes "n=0&n=1") ≡ None
+unfolding on_literals
+nor-does-the-second-value-count = refl
+
+-- a text to look for is decoded, and isn't empty
+a-text-is-looked-for : query_of (codes "find") (codes "name=a+b&by=words") ≡ Some (Find Words (codes "a b"))
+unfolding on_literals
+a-text-is-looked-for = refl
+
+an-empty-text-is-none : query_of (codes "find") (codes "name=") ≡ None
+unfolding on_literals
+an-empty-text-is-none = refl
+
+-- a name stands in place of a number
+a-procedure-by-its-name : query_of (codes "proc") (codes "name=t.main%2F2") ≡ Some (ProcNamed (codes "t.main/2"))
+unfolding on_literals
+a-procedure-by-its-name = refl
+
+-- where there is a number, the name is no matter, and it doesn't mend the number
+a-number-comes-before-a-name : query_of (codes "clique") (codes "name=t.main/2&id=3") ≡ Some (Clique 3)
+unfolding on_literals
+a-number-comes-before-a-name = refl
+
+a-name-mends-no-number : query_of (codes "clique") (codes "name=t.main/2&id=x") ≡ None
+unfolding on_literals
+a-name-mends-no-number = refl
+
+any-text-may-be-a-name : query_of (codes "clique") (codes "name=") ≡ Some (CliqueNamed [])
+unfolding on_literals
+any-text-may-be-a-name = refl

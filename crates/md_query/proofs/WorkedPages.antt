@@ -1,5 +1,6 @@
 -- Small pages, worked out by hand: p calls q, which calls s and r; r calls q again, and s calls r in a context of its own.
 use Rattle.std.proofs.Common.{◌≡◌, ℕ, ◌*◌, true, List, [], ◌∷◌, Option, Some, None, codes, refl}
+use Rattle.std.specs.Fmt.{digits}
 use Rattle.std.specs.List.{slice_get}
 use Rattle.std.specs.Option.{option_map}
 use Rattle.std.specs.Prelude.{option_and_then}
@@ -12,10 +13,12 @@ use Rattle.md_static.specs.Tables.{Static}
 use Rattle.md_cost.specs.declared.sums.Sums.{Sums}
 use Rattle.md_cost.specs.View.{View, Join, OfLink, OfContext, OfClique, OfProcedure, OfSite, OfModule}
 use Rattle.md_cost.specs.View.{Row as Counted}
+use Rattle.md_table.specs.Table.{LineCells, TableCells}
+use Rattle.md_people.specs.declared.sort.Sort.TheVariants.{Total, Own}
 use Rattle.md_query.specs.declared.row.Row.TheVariants as row
 use Rattle.md_query.specs.declared.row.Title.TheVariants as title
 use Rattle.md_query.specs.declared.row.What.TheVariants as what
-use Rattle.md_query.specs.Asked.{Menu, Root, Clique, Procs, Top, Proc as ProcAsked, Modules, Module}
+use Rattle.md_query.specs.Asked.{Menu, Root, Clique, Procs, Top, Proc as ProcAsked, Modules, Module, Hot, Find, ProcNamed, CliqueNamed}
 use Rattle.md_query.specs.PageOf.{page_of, page_with}
 
 -- ---- a view
@@ -173,3 +176,61 @@ a-module-may-have-none = refl
 there-is-no-module-b : page_of (small 0) (Module (codes "b")) ≡ None
 unfolding page_of
 there-is-no-module-b = refl
+
+-- ---- tables
+
+abbrev costs : (total share own own_share per_call name : List ℕ) → LineCells
+costs total share own own_share per_call name = record { cells = total ∷ share ∷ own ∷ own_share ∷ per_call ∷ []; last = name }
+
+abbrev by_calls : (last : List ℕ) → List LineCells → TableCells
+by_calls last rows = record { heading = costs (codes "total") (codes "%") (codes "own") (codes "%") (codes "per call") last; rows = rows }
+
+-- shares are shares of the total of clique 0, and not of all own calls
+the-greatest-total-is-first :
+    page_of (small 0) (Hot Calls 2 Total)
+    ≡ Some (page_with (title.Hot Calls 2 Total) (row.Finished true ∷ row.Whole Calls 25
+    ∷ row.Table (by_calls (codes "procedure") (costs (codes "25") (codes "100.0") (codes "1") (codes "4.0") (codes "25.0") (codes "t.p/0") ∷ costs (codes "19") (codes "76.0") (codes "6") (codes "24.0") (codes "3.1") (codes "a.q/0") ∷ [])) ∷ []))
+unfolding page_of digits
+the-greatest-total-is-first = refl
+
+-- r has more of its own than p, and q has the lower number of two that have as much
+or-the-greatest-own-count :
+    page_of (small 0) (Hot Calls 2 Own)
+    ≡ Some (page_with (title.Hot Calls 2 Own) (row.Finished true ∷ row.Whole Calls 25
+    ∷ row.Table (by_calls (codes "procedure") (costs (codes "12") (codes "48.0") (codes "12") (codes "48.0") (codes "1.0") (codes "t.r/0") ∷ costs (codes "19") (codes "76.0") (codes "6") (codes "24.0") (codes "3.1") (codes "a.q/0") ∷ [])) ∷ []))
+unfolding page_of digits
+or-the-greatest-own-count = refl
+
+-- the text is in one full name, and is one module's name
+a-text-is-in-two-names :
+    page_of (small 0) (Find Calls (codes "a"))
+    ≡ Some (page_with (title.Find Calls (codes "a")) (row.Finished true ∷ row.Whole Calls 25
+    ∷ row.Table (by_calls (codes "procedure") (costs (codes "19") (codes "76.0") (codes "6") (codes "24.0") (codes "3.1") (codes "a.q/0") ∷ []))
+    ∷ row.Table (by_calls (codes "module") (costs (codes "19") (codes "76.0") (codes "6") (codes "24.0") (codes "3.1") (codes "a") ∷ [])) ∷ []))
+unfolding page_of digits
+a-text-is-in-two-names = refl
+
+a-text-may-be-in-none :
+    page_of (small 0) (Find Calls (codes "A"))
+    ≡ Some (page_with (title.Find Calls (codes "A")) (row.Finished true ∷ row.Whole Calls 25 ∷ row.Table (by_calls (codes "procedure") []) ∷ row.Table (by_calls (codes "module") []) ∷ []))
+unfolding page_of digits
+a-text-may-be-in-none = refl
+
+-- ---- names in place of numbers
+
+a-full-name-is-a-procedure : page_of (small 0) (ProcNamed (codes "t.r/0")) ≡ page_of (small 0) (ProcAsked 2)
+unfolding page_of digits
+a-full-name-is-a-procedure = refl
+
+a-part-of-a-name-is-none : page_of (small 0) (ProcNamed (codes "t.r")) ≡ None
+unfolding page_of digits
+a-part-of-a-name-is-none = refl
+
+-- r has the contexts 3 and 4, which are in the cliques 1 and 3
+the-first-context-says-the-clique : page_of (small 0) (CliqueNamed (codes "t.r/0")) ≡ page_of (small 0) (Clique 1)
+unfolding page_of digits
+the-first-context-says-the-clique = refl
+
+what-was-not-called-has-no-clique : page_of (record (small 0) { nodes = 0 ∷ 1 ∷ 3 ∷ [] }) (CliqueNamed (codes "t.r/0")) ≡ None
+unfolding page_of digits
+what-was-not-called-has-no-clique = refl

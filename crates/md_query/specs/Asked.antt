@@ -1,8 +1,9 @@
 -- What a path and pairs ask for.
-use Rattle.std.specs.Prelude.{ℕ, Bool, ◌||◌, List, [], Option, Some, None, codes, cond}
+use Rattle.std.specs.Prelude.{ℕ, Bool, true, false, ◌||◌, ◌==◌, List, [], length, Option, Some, None, codes, cond}
 use Rattle.std.specs.Str.{bytes_eq}
 use Rattle.md_base.specs.declared.measure.Measure.{Measure}
-use Rattle.md_query.specs.Pair.{value_of, id_in, count_in, measure_in}
+use Rattle.md_people.specs.declared.sort.Sort.{Sort}
+use Rattle.md_query.specs.Pair.{value_of, id_within, count_in, measure_in, measure_asked, count_asked, sort_asked}
 
 pub data Asked : Type 0 where
   -- what the profile is of, and how much it holds
@@ -21,10 +22,27 @@ pub data Asked : Type 0 where
   Modules : Asked
   -- a module, by its name
   Module : (name : List ℕ) → Asked
+  -- the first `n` procedures by their totals or own counts of a measure, with their shares
+  Hot : (by : Measure) (n : ℕ) (sort : Sort) → Asked
+  -- the procedures and the modules in whose name a text is, with their shares of a measure
+  Find : (by : Measure) (text : List ℕ) → Asked
+  -- a procedure, by its full name
+  ProcNamed : (name : List ℕ) → Asked
+  -- the clique of the first context of a procedure, by the full name of this
+  CliqueNamed : (name : List ℕ) → Asked
 
 abbrev pub clique_of : (id : Option ℕ) → Option Asked
 clique_of None = None
 clique_of (Some id) = Some (Clique id)
+
+abbrev pub clique_named_of : (name : Option (List ℕ)) → Option Asked
+clique_named_of None = None
+clique_named_of (Some name) = Some (CliqueNamed name)
+
+-- by its number where there is a pair for it, and else by a name
+abbrev pub clique_by : (id name : Option (List ℕ)) → Option Asked
+clique_by None name = clique_named_of name
+clique_by (Some id) name = clique_of (id_within id)
 
 abbrev pub top_of : (by : Option Measure) (n : Option ℕ) → Option Asked
 top_of (Some by) (Some n) = Some (Top by n)
@@ -34,27 +52,61 @@ abbrev pub proc_of : (id : Option ℕ) → Option Asked
 proc_of None = None
 proc_of (Some id) = Some (Proc id)
 
+abbrev pub proc_named_of : (name : Option (List ℕ)) → Option Asked
+proc_named_of None = None
+proc_named_of (Some name) = Some (ProcNamed name)
+
+abbrev pub proc_by : (id name : Option (List ℕ)) → Option Asked
+proc_by None name = proc_named_of name
+proc_by (Some id) name = proc_of (id_within id)
+
 abbrev pub module_of : (name : Option (List ℕ)) → Option Asked
 module_of None = None
 module_of (Some name) = Some (Module name)
+
+abbrev pub hot_of : (by : Option Measure) (n : Option ℕ) (sort : Option Sort) → Option Asked
+hot_of (Some by) (Some n) (Some sort) = Some (Hot by n sort)
+hot_of by n sort = None
+
+-- a text of no bytes is in every name, and asks for nothing
+abbrev pub find_of : (by : Option Measure) (text : Option (List ℕ)) → Option Asked
+find_of (Some by) (Some text) = cond (length text == 0) None (Some (Find by text))
+find_of by text = None
 
 -- what path and pairs ask for, where they are a query: a pair that its path doesn't take is no matter, and one that is missing makes no query
 unfoldable pub query_of : (path pairs : List ℕ) → Option Asked
 query_of path pairs =
     cond (bytes_eq path [] || bytes_eq path (codes "menu")) (Some Menu)
     (cond (bytes_eq path (codes "root")) (Some Root)
-    (cond (bytes_eq path (codes "clique")) (clique_of (id_in pairs))
+    (cond (bytes_eq path (codes "clique")) (clique_by (value_of (codes "id") pairs) (value_of (codes "name") pairs))
     (cond (bytes_eq path (codes "procs")) (Some Procs)
     (cond (bytes_eq path (codes "top")) (top_of (measure_in pairs) (count_in pairs))
-    (cond (bytes_eq path (codes "proc")) (proc_of (id_in pairs))
+    (cond (bytes_eq path (codes "proc")) (proc_by (value_of (codes "id") pairs) (value_of (codes "name") pairs))
     (cond (bytes_eq path (codes "modules")) (Some Modules)
-    (cond (bytes_eq path (codes "module")) (module_of (value_of (codes "name") pairs)) None)))))))
+    (cond (bytes_eq path (codes "module")) (module_of (value_of (codes "name") pairs))
+    (cond (bytes_eq path (codes "hot")) (hot_of (measure_asked pairs) (count_asked pairs) (sort_asked pairs))
+    (cond (bytes_eq path (codes "find")) (find_of (measure_asked pairs) (value_of (codes "name") pairs)) None)))))))))
 
--- the path is that of a module, whose name is one of the pairs
-abbrev pub asks_module : (path : List ℕ) → Bool
-asks_module path = bytes_eq path (codes "module")
+-- what is asked for has a text, which is kept
+abbrev pub has_text : Asked → Bool
+has_text Menu = false
+has_text Root = false
+has_text (Clique id) = false
+has_text Procs = false
+has_text (Top by n) = false
+has_text (Proc id) = false
+has_text Modules = false
+has_text (Module name) = true
+has_text (Hot by n sort) = false
+has_text (Find by text) = true
+has_text (ProcNamed name) = true
+has_text (CliqueNamed name) = true
+
+abbrev pub keeps_text : Option Asked → Bool
+keeps_text None = false
+keeps_text (Some asked) = has_text asked
 
 -- the path is one whose query takes pairs
 abbrev pub takes_pairs : (path : List ℕ) → Bool
 takes_pairs path =
-    bytes_eq path (codes "clique") || bytes_eq path (codes "top") || bytes_eq path (codes "proc") || asks_module path
+    bytes_eq path (codes "clique") || bytes_eq path (codes "top") || bytes_eq path (codes "proc") || bytes_eq path (codes "hot") || bytes_eq path (codes "find") || bytes_eq path (codes "module")

@@ -19,6 +19,8 @@ IsTitleWithin f (title.Top by n) = Unit {0}
 IsTitleWithin f (title.Proc id) = id < length f.statics.procs
 IsTitleWithin f title.Modules = Unit {0}
 IsTitleWithin f (title.Module id) = id < length f.statics.modules
+IsTitleWithin f (title.Hot by n sort) = Unit {0}
+IsTitleWithin f (title.Find by text) = Unit {0}
 
 -- a link other than the root link
 abbrev pub IsCall : ProfileRows → ℕ → Type 0
@@ -39,6 +41,8 @@ IsRowWithin f (row.Proc id own total) = id < length f.statics.procs
 IsRowWithin f (row.Of node own total) = node < length f.nodes
 IsRowWithin f (row.Site id own total) = id < length f.statics.sites
 IsRowWithin f (row.Module id procs own total) = id < length f.statics.modules
+IsRowWithin f (row.Whole by whole) = Unit {0}
+IsRowWithin f (row.Table table) = Unit {0}
 
 -- the numbers of the page are in the profile, and no call on it is the root link
 pub record IsWithin (f : ProfileRows) (page : PageRows) : Type 0 where

@@ -1,5 +1,5 @@
 -- The page that a query asks for, by a view: what it is of, and which rows it has, in which order.
-use Rattle.std.specs.Prelude.{ℕ, Bool, ◌==◌, ◌&&◌, ◌||◌, nat_lt, List, [], ◌∷◌, ◌++◌, length, map, take, Option, Some, None, slice_get, slice_index, if◌then◌else◌, unwrap_or}
+use Rattle.std.specs.Prelude.{ℕ, ◌==◌, nat_lt, List, [], ◌∷◌, ◌++◌, length, map, take, Option, Some, None, slice_get, slice_index, if◌then◌else◌, unwrap_or, option_and_then}
 use Rattle.std.specs.Str.{bytes_eq}
 use Rattle.std.specs.List.{range_with_len, position, flat_map}
 use Rattle.std.specs.Option.{option_map}
@@ -12,13 +12,20 @@ use Rattle.md_clique.specs.Places.{places}
 use Rattle.md_cost.specs.declared.sums.Sums.{Sums}
 use Rattle.md_cost.specs.View.{View, Join, OfLink, OfContext, OfClique, OfProcedure, OfSite, OfModule}
 use Rattle.md_cost.specs.View.{Row as Counted}
+use Rattle.md_table.specs.Table.{TableCells}
+use Rattle.md_people.specs.declared.sort.Sort.{Sort}
+use Rattle.md_people.specs.Counts.{whole_of}
+use Rattle.md_people.specs.Find.{found_modules_table, found_procs_table}
+use Rattle.md_people.specs.Hot.{hot_table}
+use Rattle.md_people.specs.Ranked.{ranked}
+use Rattle.md_people.specs.Words.{proc_named}
 use Rattle.md_query.specs.declared.row.Row.{Row}
 use Rattle.md_query.specs.declared.row.Row.TheVariants as row
 use Rattle.md_query.specs.declared.row.Title.{Title}
 use Rattle.md_query.specs.declared.row.Title.TheVariants as title
 use Rattle.md_query.specs.declared.row.What.{What}
 use Rattle.md_query.specs.declared.row.What.TheVariants as what
-use Rattle.md_query.specs.Asked.{Asked, Menu, Root, Clique, Procs, Top, Proc, Modules, Module}
+use Rattle.md_query.specs.Asked.{Asked, Menu, Root, Clique, Procs, Top, Proc, Modules, Module, Hot, Find, ProcNamed, CliqueNamed}
 use Rattle.md_query.specs.Page.{PageRows}
 
 -- ---- the numbers of a row of the view
@@ -105,20 +112,6 @@ proc_row v q = row.Proc q (own_of v (OfProcedure q)) (total_of v (OfProcedure q)
 abbrev pub all_procs : View → List ℕ
 all_procs v = range_with_len 0 (length v.statics.procs)
 
--- a procedure comes before another: it has more, or as many and the lower number
-abbrev pub comes_before : (count : ℕ → ℕ) → ℕ → ℕ → Bool
-comes_before count q r = nat_lt (count r) (count q) || (count q == count r && nat_lt q r)
-
--- a procedure put before the first of these that it comes before
-abbrev pub ranked_with : (count : ℕ → ℕ) → ℕ → List ℕ → List ℕ
-ranked_with count q [] = q ∷ []
-ranked_with count q (r ∷ rs) = if comes_before count q r then q ∷ r ∷ rs else r ∷ ranked_with count q rs
-
--- procedures by their counts: the greatest comes first, and of equal ones the lower number
-abbrev pub ranked : (count : ℕ → ℕ) → (procs : List ℕ) → List ℕ
-ranked count [] = []
-ranked count (q ∷ qs) = ranked_with count q (ranked count qs)
-
 -- the own count of a procedure
 abbrev pub count_in_proc : View → Measure → ℕ → ℕ
 count_in_proc v by q = unwrap_or (v.own (OfProcedure q) by) 0
@@ -157,6 +150,18 @@ module_row v k = row.Module k (length (procs_of_module v k)) (own_of v (OfModule
 abbrev pub module_rows : View → ℕ → List Row
 module_rows v k = row.Own (own_of v (OfModule k)) ∷ row.Total (total_of v (OfModule k)) ∷ map (proc_row v) (procs_of_module v k)
 
+-- ---- tables
+
+-- whether the run was finished, the whole of the measure, and tables
+abbrev pub table_rows : View → Measure → List TableCells → List Row
+table_rows v by tables = row.Finished v.finished ∷ row.Whole by (whole_of v by) ∷ map (λ t. row.Table t) tables
+
+abbrev pub hot_rows : View → Measure → ℕ → Sort → List Row
+hot_rows v by n sort = table_rows v by (hot_table v by n sort ∷ [])
+
+abbrev pub find_rows : View → Measure → (text : List ℕ) → List Row
+find_rows v by text = table_rows v by (found_procs_table v by text ∷ found_modules_table v by text ∷ [])
+
 -- ---- the page
 
 abbrev pub page_with : Title → List Row → PageRows
@@ -164,6 +169,16 @@ page_with t rows = record { title = t; rows = rows }
 
 abbrev pub clique_page : View → ℕ → PageRows
 clique_page v k = page_with (title.Clique k) (clique_rows v k)
+
+-- the clique of the first context of a procedure
+abbrev pub clique_at : View → (context : ℕ) → ℕ
+clique_at v c = slice_index v.cliques c
+
+abbrev pub first_clique : View → (procedure : ℕ) → Option ℕ
+first_clique v q = option_map (clique_at v) (position (λ p. p == q) v.nodes)
+
+abbrev pub proc_page : View → ℕ → PageRows
+proc_page v q = page_with (title.Proc q) (proc_rows v q)
 
 abbrev pub module_page : View → ℕ → PageRows
 module_page v k = page_with (title.Module k) (module_rows v k)
@@ -185,3 +200,7 @@ page_of v (Top by n) = Some (page_with (title.Top by n) (map (proc_row v) (top_p
 page_of v (Proc q) = if nat_lt q (length v.statics.procs) then Some (page_with (title.Proc q) (proc_rows v q)) else None
 page_of v Modules = Some (page_with title.Modules (map (module_row v) (all_modules v)))
 page_of v (Module name) = option_map (module_page v) (module_named v name)
+page_of v (Hot by n sort) = Some (page_with (title.Hot by n sort) (hot_rows v by n sort))
+page_of v (Find by text) = Some (page_with (title.Find by text) (find_rows v by text))
+page_of v (ProcNamed name) = option_map (proc_page v) (proc_named v.statics name)
+page_of v (CliqueNamed name) = option_map (clique_page v) (option_and_then (first_clique v) (proc_named v.statics name))

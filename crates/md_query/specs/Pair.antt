@@ -7,6 +7,8 @@ use Rattle.std.specs.Char.{is_ascii_digit}
 use Rattle.form_urlencoded.specs.Form.{raw_pairs, decode, IsPlainText}
 use Rattle.md_base.specs.declared.measure.Measure.{Measure}
 use Rattle.md_base.specs.declared.measure.Measure.TheVariants.{Calls, Exits, Fails, Redos, Allocs, Words, Excps}
+use Rattle.md_people.specs.declared.sort.Sort.{Sort}
+use Rattle.md_people.specs.declared.sort.Sort.TheVariants.{Total, Own}
 use Rattle.md_token.specs.Literal.{number_of}
 
 -- ---- texts
@@ -52,8 +54,8 @@ abbrev pub number_in : (name : List ℕ) (least most : ℕ) (pairs : List ℕ) �
 number_in name least most pairs = number_from least most (value_of name pairs)
 
 -- the number of a clique or of a procedure
-abbrev pub id_in : (pairs : List ℕ) → Option ℕ
-id_in pairs = number_in (codes "id") 0 4294967295 pairs
+abbrev pub id_within : List ℕ → Option ℕ
+id_within text = number_within 0 4294967295 text
 
 -- how many procedures are to be listed
 abbrev pub count_in : (pairs : List ℕ) → Option ℕ
@@ -78,3 +80,32 @@ measure_from (Some name) = measure_named name
 
 abbrev pub measure_in : (pairs : List ℕ) → Option Measure
 measure_in pairs = measure_from (value_of (codes "by") pairs)
+
+-- ---- pairs with a default: one that is missing has it, and one that is there with another value makes no query
+
+-- by which measure
+abbrev pub measure_or : (default : Measure) → Option (List ℕ) → Option Measure
+measure_or default None = Some default
+measure_or default (Some name) = measure_named name
+
+abbrev pub measure_asked : (pairs : List ℕ) → Option Measure
+measure_asked pairs = measure_or Calls (value_of (codes "by") pairs)
+
+-- how many rows
+abbrev pub number_or : (default least most : ℕ) → Option (List ℕ) → Option ℕ
+number_or default least most None = Some default
+number_or default least most (Some text) = number_within least most text
+
+abbrev pub count_asked : (pairs : List ℕ) → Option ℕ
+count_asked pairs = number_or 30 1 1000 (value_of (codes "n") pairs)
+
+-- by totals or by own counts
+abbrev pub sort_named : List ℕ → Option Sort
+sort_named name = cond (bytes_eq name (codes "total")) (Some Total) (cond (bytes_eq name (codes "own")) (Some Own) None)
+
+abbrev pub sort_or : (default : Sort) → Option (List ℕ) → Option Sort
+sort_or default None = Some default
+sort_or default (Some name) = sort_named name
+
+abbrev pub sort_asked : (pairs : List ℕ) → Option Sort
+sort_asked pairs = sort_or Total (value_of (codes "sort") pairs)

@@ -5,7 +5,7 @@ use Rattle.std.specs.declared.alloc.Global.{Global}
 use Rattle.std.specs.declared.borrow.CowStr.{CowStr}
 use Rattle.md_query.specs.declared.query.Query.{Query}
 use Rattle.md_query.specs.declared.query.Query.TheVariants as query
-use Rattle.md_query.specs.Asked.{Asked, Menu, Root, Clique, Procs, Top, Proc, Modules, Module}
+use Rattle.md_query.specs.Asked.{Asked, Menu, Root, Clique, Procs, Top, Proc, Modules, Module, Hot, Find, ProcNamed, CliqueNamed}
 
 abbrev pub asked : Query → Asked
 asked query.Menu = Menu
@@ -16,6 +16,10 @@ asked (query.Top by n) = Top by n
 asked (query.Proc id) = Proc id
 asked query.Modules = Modules
 asked (query.Module name) = Module name
+asked (query.Hot by n sort) = Hot by n sort
+asked (query.Find by text) = Find by text
+asked (query.ProcNamed name) = ProcNamed name
+asked (query.CliqueNamed name) = CliqueNamed name
 
 abbrev pub asked_told : Option Query → Option Asked
 asked_told None = None

@@ -1,21 +1,24 @@
 // The page that a query asks for.
-ghost use Rattle.std.specs.Prelude.{◌≡◌, Err, Some, None, IfOk};
+ghost use Rattle.std.specs.Prelude.{◌≡◌, ◌<◌, length, Err, Some, None, IfOk};
+ghost use Rattle.std.specs.Option.{option_map};
 ghost use Rattle.md_cost.specs.FileView.{IsFileView};
 ghost use Rattle.md_cost.specs.View.{View};
 ghost use Rattle.md_query.specs.declared.answer.PageFault.TheVariants as fault;
-ghost use Rattle.md_query.specs.Asked.{Root, Clique, Proc, Module};
+ghost use Rattle.md_query.specs.Asked.{Root, Clique, Proc, Module, ProcNamed, CliqueNamed};
 ghost use Rattle.md_query.specs.Page.{IsWithin};
-ghost use Rattle.md_query.specs.PageOf.{page_of};
+ghost use Rattle.md_query.specs.PageOf.{page_of, clique_page, first_clique};
 ghost use Rattle.md_query.specs.Told.{asked};
 
-use crate::lists::module_named;
+use crate::lists::{first_context, module_named};
 use crate::pages::{
     clique_page, menu_page, module_page, modules_page, proc_page, procs_page, top_page,
 };
 use crate::query::Query;
 use crate::row::Page;
+use crate::tables::{find_page, hot_page};
 use md_base::{NoMemory, ProcId};
 use md_cost::Loaded;
+use md_people::proc_named;
 use std::alloc::Global;
 use std::error::Error;
 use std::fmt;
@@ -75,6 +78,10 @@ fn found_page(alloc: Global, loaded: &Loaded, query: &Query) -> Result<Option<Pa
         Query::Proc(id) => find_proc(alloc, loaded, *id),
         Query::Modules => Ok(Some(modules_page(alloc, loaded)?)),
         Query::Module(name) => find_module(alloc, loaded, name.as_bytes()),
+        Query::Hot { by, n, sort } => Ok(Some(hot_page(alloc, loaded, *by, *n, *sort)?)),
+        Query::Find { by, text } => Ok(Some(find_page(alloc, loaded, *by, text)?)),
+        Query::ProcNamed(name) => find_proc_named(alloc, loaded, name.as_bytes()),
+        Query::CliqueNamed(name) => find_clique_named(alloc, loaded, name.as_bytes()),
     }
 }
 
@@ -117,6 +124,42 @@ fn find_module(alloc: Global, loaded: &Loaded, name: &[u8]) -> Result<Option<Pag
     match module_named(loaded.profile().statics().modules(), name) {
         Some(id) => {
             let page = module_page(alloc, loaded, id)?;
+            Ok(Some(page))
+        }
+        None => Ok(None),
+    }
+}
+
+/// The page of the procedure of a full name, if it is there.
+fn find_proc_named(alloc: Global, loaded: &Loaded, name: &[u8]) -> Result<Option<Page>, NoMemory>
+    ensures { IfOk result (λ found. (v : View) → IsFileView loaded.now.profile v → found ≡ page_of v (ProcNamed name.now)) }
+{
+    match proc_named(alloc, loaded.profile().statics(), name)? {
+        Some(id) => {
+            let page = proc_page(alloc, loaded, id)?;
+            Ok(Some(page))
+        }
+        None => Ok(None),
+    }
+}
+
+/// The page of the clique of the first context of the procedure of a full name, if it is there.
+fn find_clique_named(alloc: Global, loaded: &Loaded, name: &[u8]) -> Result<Option<Page>, NoMemory>
+    ensures { IfOk result (λ found. (v : View) → IsFileView loaded.now.profile v → found ≡ page_of v (CliqueNamed name.now)) }
+{
+    match proc_named(alloc, loaded.profile().statics(), name)? {
+        Some(id) => find_first_clique(alloc, loaded, id),
+        None => Ok(None),
+    }
+}
+
+/// The page of the clique of a procedure's first context, if it has one.
+fn find_first_clique(alloc: Global, loaded: &Loaded, id: ProcId) -> Result<Option<Page>, NoMemory>
+    ensures { IfOk result (λ found. (v : View) → IsFileView loaded.now.profile v → found ≡ option_map (clique_page v) (first_clique v id)) }
+{
+    match first_context(loaded.profile().nodes(), id) {
+        Some(node) => {
+            let page = clique_page(alloc, loaded, loaded.clique_of(node))?;
             Ok(Some(page))
         }
         None => Ok(None),

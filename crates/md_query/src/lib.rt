@@ -1,5 +1,5 @@
 //! What a page is asked for by, a path and pairs of names and values as in the address `clique?id=1`, and what is on the
-//! page: rows with the numbers of a profile.
+//! page: rows with the numbers of a profile, and tables.
 #![tactic(auto)]
 
 mod answer;
@@ -8,10 +8,10 @@ mod lists;
 mod pages;
 mod pair;
 mod query;
-mod ranking;
 mod read;
 mod row;
 mod rows;
+mod tables;
 mod threads;
 
 pub use answer::{PageFault, page};

@@ -4,7 +4,7 @@ ghost use Rattle.std.specs.List.{range_with_len, position};
 ghost use Rattle.std.specs.Str.{bytes_eq};
 ghost use Rattle.md_clique.specs.Places.{places};
 
-use md_base::{Name, NoMemory, ProcId};
+use md_base::{Name, NoMemory, PdId, ProcId};
 use md_static::{Proc, Site};
 use std::alloc::Global;
 
@@ -31,6 +31,24 @@ pub fn contexts_of(alloc: Global, nodes: &[ProcId], id: ProcId) -> Result<Vec<u3
         }
     }
     Ok(found)
+}
+
+/// The first context of a procedure.
+pub fn first_context(nodes: &[ProcId], id: ProcId) -> Option<PdId>
+    requires { length nodes.now < 2 ^ 32 }
+    ensures { result ≡ position (λ p. p == id) nodes.now }
+{
+    match first_place(nodes, id) {
+        Some(node) => Some(PdId::new(node as u32)),
+        None => None,
+    }
+}
+
+/// The first of these places where a procedure stands.
+fn first_place(nodes: &[ProcId], id: ProcId) -> Option<usize>
+    ensures { result ≡ position (λ p. p == id) nodes.now }
+{
+    nodes.iter().position(|found| found.number() == id.number())
 }
 
 /// The call sites of a procedure, in rising order.

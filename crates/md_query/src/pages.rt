@@ -8,12 +8,12 @@ ghost use Rattle.md_query.specs.PageOf.{page_with, menu_rows, clique_page, proc_
 
 use crate::listing::{push_context, push_contexts, push_modules, push_procs, push_sites};
 use crate::lists::{contexts_of, numbers_below, procs_of_module, sites_of};
-use crate::ranking::ranked_procs;
 use crate::row::{Page, Row, Title, What};
 use crate::rows::entered_row;
 use crate::threads::thread_links;
 use md_base::{Measure, NoMemory, ProcId};
 use md_cost::Loaded;
+use md_people::{Sort, ranked_procs};
 use std::alloc::Global;
 
 /// What the profile is of, and how much it holds.
@@ -76,7 +76,7 @@ pub fn top_page(alloc: Global, loaded: &Loaded, by: Measure, n: u32) -> Result<P
 {
     // it is valid and has a view, which `profile` says
     let _profile = loaded.profile();
-    let ids = ranked_procs(alloc, loaded, by)?;
+    let ids = ranked_procs(alloc, loaded, by, Sort::Own)?;
     let shown = ids.len().min(n as usize);
     let mut rows = Vec::with_capacity(alloc, shown)?;
     push_procs(&mut rows, loaded, &ids[..shown])?;

@@ -1,12 +1,13 @@
 // The values of pairs: texts, numbers and measures.
-ghost use Rattle.std.specs.Prelude.{◌≡◌, ℕ, IfOk, IsOk};
+ghost use Rattle.std.specs.Prelude.{◌≡◌, ℕ, true, is_some, IfOk, IfErr, IsOk};
 ghost use Rattle.std.specs.List.{list_all};
 ghost use Rattle.std.specs.Char.{is_ascii_digit};
-ghost use Rattle.md_query.specs.Pair.{ArePlain, value_of, number_in, number_within, within, is_number, measure_in, measure_named};
+ghost use Rattle.md_query.specs.Pair.{ArePlain, value_of, number_in, number_within, within, is_number, measure_in, measure_named, measure_asked, count_asked, sort_asked, sort_named};
 ghost use Rattle.md_query.specs.Told.{text_told};
 
 use form_urlencoded::{decode, raw_pairs};
-use md_base::{Measure, NoMemory};
+use md_base::{Measure, NoMemory, Text};
+use md_people::Sort;
 use md_token::number_of;
 use std::alloc::Global;
 use std::borrow::CowStr;
@@ -28,6 +29,17 @@ pub(crate) fn value_of<'a>(
         }
     }
     Ok(None)
+}
+
+/// A copy of the value of the first pair with this name.
+pub(crate) fn text_in(alloc: Global, name: &str, pairs: &[u8]) -> Result<Option<Text>, NoMemory>
+    ensures text { IfOk result (λ found. found ≡ value_of name.now pairs.now) }
+    ensures plain { ArePlain pairs.now → IfErr result (λ _. is_some (value_of name.now pairs.now) ≡ true) }
+{
+    match value_of(alloc, name, pairs)? {
+        Some(text) => Ok(Some(Text::from_bytes(alloc, text.as_bytes())?)),
+        None => Ok(None),
+    }
 }
 
 /// The number of the first pair with this name, where it is one from `least` to `most`.
@@ -68,6 +80,39 @@ pub(crate) fn measure_in(alloc: Global, pairs: &[u8]) -> Result<Option<Measure>,
     match value_of(alloc, "by", pairs)? {
         Some(name) => Ok(measure_named(name.as_str())),
         None => Ok(None),
+    }
+}
+
+/// The measure that the first pair `by` names, or calls where there is no such pair.
+pub(crate) fn measure_asked(alloc: Global, pairs: &[u8]) -> Result<Option<Measure>, NoMemory>
+    ensures measure { IfOk result (λ found. found ≡ measure_asked pairs.now) }
+    ensures plain { ArePlain pairs.now → IsOk result }
+{
+    match value_of(alloc, "by", pairs)? {
+        Some(name) => Ok(measure_named(name.as_str())),
+        None => Ok(Some(Measure::Calls)),
+    }
+}
+
+/// How many rows the first pair `n` asks for, or 30 where there is no such pair.
+pub(crate) fn count_asked(alloc: Global, pairs: &[u8]) -> Result<Option<u32>, NoMemory>
+    ensures count { IfOk result (λ found. found ≡ count_asked pairs.now) }
+    ensures plain { ArePlain pairs.now → IsOk result }
+{
+    match value_of(alloc, "n", pairs)? {
+        Some(text) => Ok(number_within(1, 1000, text.as_bytes())),
+        None => Ok(Some(30)),
+    }
+}
+
+/// What the first pair `sort` names, or totals where there is no such pair.
+pub(crate) fn sort_asked(alloc: Global, pairs: &[u8]) -> Result<Option<Sort>, NoMemory>
+    ensures sort { IfOk result (λ found. found ≡ sort_asked pairs.now) }
+    ensures plain { ArePlain pairs.now → IsOk result }
+{
+    match value_of(alloc, "sort", pairs)? {
+        Some(name) => Ok(sort_named(name.as_str())),
+        None => Ok(Some(Sort::Total)),
     }
 }
 
@@ -114,6 +159,19 @@ fn measure_named(name: &str) -> Option<Measure>
         Some(Measure::Words)
     } else if name == "excps" {
         Some(Measure::Excps)
+    } else {
+        None
+    }
+}
+
+/// What is sorted by, by its name.
+fn sort_named(name: &str) -> Option<Sort>
+    ensures { result ≡ sort_named name.now }
+{
+    if name == "total" {
+        Some(Sort::Total)
+    } else if name == "own" {
+        Some(Sort::Own)
     } else {
         None
     }

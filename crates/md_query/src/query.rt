@@ -1,5 +1,6 @@
 // What can be asked for.
 use md_base::{Measure, NoMemory, Text};
+use md_people::Sort;
 
 /// What is asked for.
 #[derive(Debug, Drop)]
@@ -20,6 +21,14 @@ pub enum Query {
     Modules,
     /// A module, by its name.
     Module(Text),
+    /// The first `n` procedures by their totals or own counts of a measure, with their shares.
+    Hot { by: Measure, n: u32, sort: Sort },
+    /// The procedures and the modules in whose name a text is, with their shares of a measure.
+    Find { by: Measure, text: Text },
+    /// A procedure, by its full name.
+    ProcNamed(Text),
+    /// The clique of the first context of a procedure, by the full name of this.
+    CliqueNamed(Text),
 }
 
 /// Why there is no query.

@@ -2,25 +2,28 @@
 ghost use Rattle.std.specs.Prelude.{◌≡◌, ◌||◌, [], Some, None, true, codes, IfOk, IfErr, IsOk, Err};
 ghost use Rattle.std.specs.Str.{bytes_eq};
 ghost use Rattle.md_query.specs.declared.query.QueryFault.TheVariants as fault;
-ghost use Rattle.md_query.specs.Asked.{query_of, takes_pairs, asks_module, clique_of, top_of, proc_of, module_of};
-ghost use Rattle.md_query.specs.Pair.{ArePlain, value_of, id_in, measure_in, count_in};
+ghost use Rattle.md_query.specs.Asked.{query_of, takes_pairs, keeps_text, clique_by, top_of, proc_by, module_of, hot_of, find_of};
+ghost use Rattle.md_query.specs.Pair.{ArePlain, value_of, measure_in, count_in, measure_asked, count_asked, sort_asked};
 ghost use Rattle.md_query.specs.Told.{asked, asked_told};
 
-use crate::pair::{measure_in, number_in, value_of};
+use crate::pair::{
+    count_asked, measure_asked, measure_in, number_in, number_within, sort_asked, text_in, value_of,
+};
 use crate::query::{Query, QueryFault};
-use md_base::{NoMemory, Text};
+use md_base::{Measure, NoMemory, Text};
+use md_people::Sort;
 use std::alloc::Global;
 
 /// The most procedures that `top` lists.
 const MOST_LISTED: u32 = 1000;
 
 /// The query that path and pairs spell. `BadQuery` exactly where they are none. `NoMemory` only where the path is one
-/// that takes pairs, and where nothing of these is to be decoded, only at a module, whose name is kept.
+/// that takes pairs, and where nothing of these is to be decoded, only at a query that keeps a text.
 pub fn read_query(alloc: Global, path: &[u8], pairs: &[u8]) -> Result<Query, QueryFault>
     ensures query { IfOk result (λ query. query_of path.now pairs.now ≡ Some (asked query)) }
     ensures bad { result ≡ Err fault.BadQuery → query_of path.now pairs.now ≡ None }
     ensures memory { result ≡ Err fault.NoMemory → takes_pairs path.now ≡ true }
-    ensures plain { result ≡ Err fault.NoMemory → ArePlain pairs.now → asks_module path.now ≡ true }
+    ensures plain { result ≡ Err fault.NoMemory → ArePlain pairs.now → keeps_text (query_of path.now pairs.now) ≡ true }
 {
     match found(alloc, path, pairs)? {
         Some(query) => Ok(query),
@@ -33,7 +36,7 @@ pub fn read_query(alloc: Global, path: &[u8], pairs: &[u8]) -> Result<Query, Que
 fn found(alloc: Global, path: &[u8], pairs: &[u8]) -> Result<Option<Query>, NoMemory>
     ensures query { IfOk result (λ found. asked_told found ≡ query_of path.now pairs.now) }
     ensures memory { IfErr result (λ _. takes_pairs path.now ≡ true) }
-    ensures plain { IfErr result (λ _. ArePlain pairs.now → asks_module path.now ≡ true) }
+    ensures plain { IfErr result (λ _. ArePlain pairs.now → keeps_text (query_of path.now pairs.now) ≡ true) }
 {
     if is_menu(path) {
         Ok(Some(Query::Menu))
@@ -51,6 +54,10 @@ fn found(alloc: Global, path: &[u8], pairs: &[u8]) -> Result<Option<Query>, NoMe
         Ok(Some(Query::Modules))
     } else if path == b"module".as_slice() {
         module_query(alloc, pairs)
+    } else if path == b"hot".as_slice() {
+        hot_query(alloc, pairs)
+    } else if path == b"find".as_slice() {
+        find_query(alloc, pairs)
     } else {
         Ok(None)
     }
@@ -65,11 +72,17 @@ fn is_menu(path: &[u8]) -> bool
 
 /// The query for a clique, by its pairs.
 fn clique_query(alloc: Global, pairs: &[u8]) -> Result<Option<Query>, NoMemory>
-    ensures query { IfOk result (λ found. asked_told found ≡ clique_of (id_in pairs.now)) }
-    ensures plain { ArePlain pairs.now → IsOk result }
+    ensures query { IfOk result (λ found. asked_told found ≡ clique_by (value_of (codes "id") pairs.now) (value_of (codes "name") pairs.now)) }
+    ensures plain { ArePlain pairs.now → IfErr result (λ _. keeps_text (clique_by (value_of (codes "id") pairs.now) (value_of (codes "name") pairs.now)) ≡ true) }
 {
-    match number_in(alloc, "id", 0, u32::MAX, pairs)? {
-        Some(id) => Ok(Some(Query::Clique(id))),
+    if let Some(id) = value_of(alloc, "id", pairs)? {
+        return match number_within(0, u32::MAX, id.as_bytes()) {
+            Some(id) => Ok(Some(Query::Clique(id))),
+            None => Ok(None),
+        };
+    }
+    match text_in(alloc, "name", pairs)? {
+        Some(name) => Ok(Some(Query::CliqueNamed(name))),
         None => Ok(None),
     }
 }
@@ -90,24 +103,68 @@ fn top_query(alloc: Global, pairs: &[u8]) -> Result<Option<Query>, NoMemory>
 
 /// The query for a procedure, by its pairs.
 fn proc_query(alloc: Global, pairs: &[u8]) -> Result<Option<Query>, NoMemory>
-    ensures query { IfOk result (λ found. asked_told found ≡ proc_of (id_in pairs.now)) }
-    ensures plain { ArePlain pairs.now → IsOk result }
+    ensures query { IfOk result (λ found. asked_told found ≡ proc_by (value_of (codes "id") pairs.now) (value_of (codes "name") pairs.now)) }
+    ensures plain { ArePlain pairs.now → IfErr result (λ _. keeps_text (proc_by (value_of (codes "id") pairs.now) (value_of (codes "name") pairs.now)) ≡ true) }
 {
-    match number_in(alloc, "id", 0, u32::MAX, pairs)? {
-        Some(id) => Ok(Some(Query::Proc(id))),
+    if let Some(id) = value_of(alloc, "id", pairs)? {
+        return match number_within(0, u32::MAX, id.as_bytes()) {
+            Some(id) => Ok(Some(Query::Proc(id))),
+            None => Ok(None),
+        };
+    }
+    match text_in(alloc, "name", pairs)? {
+        Some(name) => Ok(Some(Query::ProcNamed(name))),
         None => Ok(None),
     }
 }
 
 /// The query for a module, by its pairs.
 fn module_query(alloc: Global, pairs: &[u8]) -> Result<Option<Query>, NoMemory>
-    ensures { IfOk result (λ found. asked_told found ≡ module_of (value_of (codes "name") pairs.now)) }
+    ensures query { IfOk result (λ found. asked_told found ≡ module_of (value_of (codes "name") pairs.now)) }
+    ensures plain { ArePlain pairs.now → IfErr result (λ _. keeps_text (module_of (value_of (codes "name") pairs.now)) ≡ true) }
 {
-    match value_of(alloc, "name", pairs)? {
-        Some(name) => {
-            let name = Text::from_bytes(alloc, name.as_bytes())?;
-            Ok(Some(Query::Module(name)))
-        }
+    match text_in(alloc, "name", pairs)? {
+        Some(name) => Ok(Some(Query::Module(name))),
         None => Ok(None),
     }
+}
+
+/// The query for the procedures that cost most, by its pairs.
+fn hot_query(alloc: Global, pairs: &[u8]) -> Result<Option<Query>, NoMemory>
+    ensures query { IfOk result (λ found. asked_told found ≡ hot_of (measure_asked pairs.now) (count_asked pairs.now) (sort_asked pairs.now)) }
+    ensures plain { ArePlain pairs.now → IsOk result }
+{
+    let by = measure_asked(alloc, pairs)?;
+    let n = count_asked(alloc, pairs)?;
+    let sort = sort_asked(alloc, pairs)?;
+    Ok(hot_with(by, n, sort))
+}
+
+/// The query for the procedures that cost most, where each of its pairs has a value.
+fn hot_with(by: Option<Measure>, n: Option<u32>, sort: Option<Sort>) -> Option<Query>
+    ensures { asked_told result ≡ hot_of by n sort }
+{
+    Some(Query::Hot {
+        by: by?,
+        n: n?,
+        sort: sort?,
+    })
+}
+
+/// The query for what has a text in its name, by its pairs. A text of no bytes asks for nothing.
+fn find_query(alloc: Global, pairs: &[u8]) -> Result<Option<Query>, NoMemory>
+    ensures query { IfOk result (λ found. asked_told found ≡ find_of (measure_asked pairs.now) (value_of (codes "name") pairs.now)) }
+    ensures plain { ArePlain pairs.now → IfErr result (λ _. keeps_text (find_of (measure_asked pairs.now) (value_of (codes "name") pairs.now)) ≡ true) }
+{
+    let Some(by) = measure_asked(alloc, pairs)? else {
+        return Ok(None);
+    };
+    let Some(text) = value_of(alloc, "name", pairs)? else {
+        return Ok(None);
+    };
+    if text.as_bytes().is_empty() {
+        return Ok(None);
+    }
+    let text = Text::from_bytes(alloc, text.as_bytes())?;
+    Ok(Some(Query::Find { by, text }))
 }

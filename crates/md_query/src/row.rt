@@ -1,10 +1,12 @@
 // Pages: what is on them, before it is a text.
-use md_base::{CsdId, Measure, PdId, ProcId, SiteId};
+use md_base::{CsdId, Measure, PdId, ProcId, SiteId, Text};
 use md_cost::Sums;
+use md_people::Sort;
+use md_table::Table;
 use std::marker::Model;
 
 /// What a page is of.
-#[derive(Clone, Copy, PartialEq, Eq)]
+#[derive(Drop)]
 pub enum Title {
     /// What the profile is of, and how much it holds.
     Menu,
@@ -20,6 +22,10 @@ pub enum Title {
     Modules,
     /// A module, by its number.
     Module(u32),
+    /// The first `n` procedures by their totals or own counts of a measure, with their shares.
+    Hot { by: Measure, n: u32, sort: Sort },
+    /// The procedures and the modules in whose name a text is, with their shares of a measure.
+    Find { by: Measure, text: Text },
 }
 
 /// What a number on the menu counts.
@@ -38,7 +44,7 @@ pub enum What {
 }
 
 /// A row of a page.
-#[derive(PartialEq, Eq, Drop)]
+#[derive(Drop)]
 pub enum Row {
     /// The module of which the profile is.
     Main {
@@ -102,6 +108,12 @@ pub enum Row {
         own: Sums,
         total: Sums,
     },
+    /// The whole of a measure, of which shares are shares.
+    Whole {
+        by: Measure,
+        whole: u64,
+    },
+    Table(Table),
 }
 
 /// A page: what it is of, and its rows from top to bottom.
@@ -129,11 +141,20 @@ impl Page {
         Page { title, rows }
     }
 
-    /// What the page is of.
-    pub fn title(&self) -> Title
-        ensures { result ≡ self.now.title }
+    /// Takes the page apart. Takes no memory.
+    pub fn into_parts(self) -> (Title, Vec<Row>)
+        ensures title { result.0 ≡ self.title }
+        ensures rows { result.1.items ≡ self.rows }
     {
-        self.title
+        let Page { title, rows } = self;
+        (title, rows)
+    }
+
+    /// What the page is of.
+    pub fn title(&self) -> &Title
+        ensures { result.now ≡ self.now.title }
+    {
+        &self.title
     }
 
     /// The rows, from top to bottom.

@@ -8,6 +8,9 @@ use Rattle.md_base.specs.declared.measure.Measure.TheVariants as measure
 use Rattle.md_static.specs.declared.entry.SiteKind.TheVariants.{Plain, HigherOrder}
 use Rattle.md_cost.specs.declared.sums.Sums.{Sums}
 use Rattle.md_cost.specs.View.{View}
+use Rattle.md_table.specs.Html as html
+use Rattle.md_table.specs.Table as table
+use Rattle.md_people.specs.declared.sort.Sort.TheVariants.{Own}
 use Rattle.md_query.specs.declared.row.Row.TheVariants as row
 use Rattle.md_query.specs.declared.row.Title.TheVariants as title
 use Rattle.md_query.specs.declared.row.What.TheVariants as what
@@ -16,10 +19,10 @@ use Rattle.md_render.specs.declared.form.Form.TheVariants.{Text, Html}
 use Rattle.md_render.specs.Lines.{row_words, title_words}
 use Rattle.md_render.specs.Names.{Names, names_of}
 use Rattle.md_render.specs.Text.{text_of}
-use Rattle.md_render.specs.Html.{html_of}
+use Rattle.md_render.specs.Html.{html_of, title_html}
 
 unfoldable on_pages : ⊤
-unfolding text_of html_of digits percent_encode percent_encode_byte should_percent_encode
+unfolding text_of html_of table.text_of html.html_of digits percent_encode percent_encode_byte should_percent_encode
 on_pages = tt
 
 -- t.main/2, which calls a_b.step/0, which calls itself by a closure
@@ -148,6 +151,19 @@ a-title-of-a-module : title_words view.statics (title.Module 1) ≡ codes "mdpro
 unfolding on_pages view names few most
 a-title-of-a-module = refl
 
+a-title-of-what-is-hot : title_words view.statics (title.Hot measure.Words 1000 Own) ≡ codes "mdprof hot words 1000 own"
+unfolding on_pages view names few most
+a-title-of-what-is-hot = refl
+
+-- line feeds, bytes past `~` and letters with accents aren't printed
+a-title-of-a-text : title_words view.statics (title.Find measure.Calls (10 ∷ 32 ∷ 60 ∷ 126 ∷ 127 ∷ 195 ∷ [])) ≡ codes "mdprof find calls ? <~??"
+unfolding on_pages view names few most
+a-title-of-a-text = refl
+
+it-is-escaped-in-html : title_html view.statics (title.Find measure.Calls (codes "<i>")) ≡ codes "mdprof find calls &lt;i&gt;"
+unfolding on_pages view names few most
+it-is-escaped-in-html = refl
+
 -- ---- whole pages
 
 -- the menu of a run of one call
@@ -172,3 +188,22 @@ a-menu-in-html = refl
 its-length : length (html_of view menu) ≡ 379
 unfolding on_pages view menu
 its-length = refl
+
+-- a page with a table of one row
+hot : PageRows
+hot = record {
+  title = title.Hot measure.Calls 1 Own;
+  rows =
+      row.Finished false ∷ row.Whole measure.Calls 10
+      ∷ row.Table (record { heading = record { cells = codes "own" ∷ []; last = codes "procedure" }; rows = record { cells = codes "7" ∷ []; last = codes "t.<>/2" } ∷ [] }) ∷ [];
+}
+
+-- an empty line stands before the table, and none behind it
+a-table-has-lines-of-its-own : text_of view hot ≡ codes "mdprof hot calls 1 own\nfinished no\ncalls 10\n\nown  procedure\n  7  t.<>/2\n"
+unfolding on_pages view hot
+a-table-has-lines-of-its-own = refl
+
+a-table-in-html : html_of view hot
+    ≡ codes "<!DOCTYPE html>\n<html><head><meta charset=\"utf-8\"><title>mdprof hot calls 1 own</title></head><body>\n<h1>mdprof hot calls 1 own</h1>\n<pre>\nfinished no\ncalls 10\n</pre>\n<table>\n<tr><th>own</th><th>procedure</th></tr>\n<tr><td>7</td><td>t.&lt;&gt;/2</td></tr>\n</table>\n<pre>\n</pre>\n<p><a href=\"/\">menu</a> <a href=\"/root\">root</a> <a href=\"/procs\">procs</a> <a href=\"/modules\">modules</a></p>\n</body></html>\n"
+unfolding on_pages view hot
+a-table-in-html = refl

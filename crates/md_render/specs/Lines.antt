@@ -14,7 +14,7 @@ use Rattle.md_cost.specs.declared.sums.Sums.{Sums}
 use Rattle.md_render.specs.declared.form.Form.{Form}
 use Rattle.md_render.specs.declared.form.Form.TheVariants.{Text}
 use Rattle.md_render.specs.Names.{Names, module_name, full_name, caller_at, callee_at, clique_at}
-use Rattle.md_render.specs.Words.{clique_words, proc_words, module_words, measure_word, what_word, counts_words, own_words, both_words, context_words, placed_words, link_words}
+use Rattle.md_render.specs.Words.{clique_words, proc_words, module_words, measure_word, sort_word, shown, what_word, counts_words, own_words, both_words, context_words, placed_words, link_words, table_words}
 
 -- ---- the title
 
@@ -26,6 +26,8 @@ title_words s (title.Top by n) = codes "mdprof top " ++ (measure_word by ++ (cod
 title_words s (title.Proc q) = codes "mdprof proc " ++ (decimal q ++ (codes " " ++ full_name s q))
 title_words s title.Modules = codes "mdprof modules"
 title_words s (title.Module k) = codes "mdprof module " ++ module_name s k
+title_words s (title.Hot by n sort) = codes "mdprof hot " ++ (measure_word by ++ (codes " " ++ (decimal n ++ (codes " " ++ sort_word sort))))
+title_words s (title.Find by text) = codes "mdprof find " ++ (measure_word by ++ (codes " " ++ shown text))
 
 -- ---- the rows
 
@@ -81,13 +83,20 @@ row_words form n (row.Proc q own total) = named_words form n.statics q ++ both_w
 row_words form n (row.Of c own total) = context_of_words form n c ++ both_words own total
 row_words form n (row.Site s own total) = site_words form n.statics s ++ both_words own total
 row_words form n (row.Module k procs own total) = module_size_words form (module_name n.statics k) procs ++ both_words own total
+row_words form n (row.Whole by whole) = measure_word by ++ (codes " " ++ decimal whole)
+row_words form n (row.Table table) = table_words form table
 
 -- the line of a procedure with these costs, as text
 abbrev pub proc_line : Static → ℕ → (own total : Sums) → List ℕ
 proc_line s q own total = (named_words Text s q ++ both_words own total) ++ 10 ∷ []
 
+-- each row is a line; a table has lines of its own, which are ended
+abbrev pub line_end : Row → List ℕ
+line_end (row.Table table) = []
+line_end r = 10 ∷ []
+
 abbrev pub row_line : Form → Names → Row → List ℕ
-row_line form n r = row_words form n r ++ 10 ∷ []
+row_line form n r = row_words form n r ++ line_end r
 
 abbrev pub row_lines : Form → Names → List Row → List ℕ
 row_lines form n rows = flat_map (row_line form n) rows

@@ -1,11 +1,16 @@
 -- The words of which rows are made. A clique, a procedure and a module are plain words in a text, and anchors in HTML.
-use Rattle.std.specs.Prelude.{ℕ, ◌==◌, List, [], ◌++◌, codes, if◌then◌else◌}
+use Rattle.std.specs.Prelude.{ℕ, ◌==◌, ◌&&◌, nat_le, List, [], ◌++◌, map, codes, if◌then◌else◌}
 use Rattle.std.specs.Fmt.{decimal}
 use Rattle.percent_encoding.specs.Percent.{percent_encode}
 use Rattle.percent_encoding.specs.declared.ascii_set.TheConstants.{NON_ALPHANUMERIC}
 use Rattle.md_base.specs.declared.measure.Measure.{Measure}
 use Rattle.md_base.specs.declared.measure.Measure.TheVariants.{Calls, Exits, Fails, Redos, Allocs, Words, Excps}
 use Rattle.md_cost.specs.declared.sums.Sums.{Sums}
+use Rattle.md_table.specs.Table.{TableCells}
+use Rattle.md_table.specs.Table as text
+use Rattle.md_table.specs.Html as html
+use Rattle.md_people.specs.declared.sort.Sort.{Sort}
+use Rattle.md_people.specs.declared.sort.Sort.TheVariants.{Total, Own}
 use Rattle.md_query.specs.declared.row.What.{What}
 use Rattle.md_query.specs.declared.row.What.TheVariants as what
 use Rattle.md_render.specs.declared.form.Form.{Form}
@@ -38,6 +43,17 @@ measure_word Redos = codes "redos"
 measure_word Allocs = codes "allocs"
 measure_word Words = codes "words"
 measure_word Excps = codes "excps"
+
+abbrev pub sort_word : Sort → List ℕ
+sort_word Total = codes "total"
+sort_word Own = codes "own"
+
+-- a text of any bytes as it stands in a title: those that aren't printed are told as `?`
+abbrev pub shown_byte : ℕ → ℕ
+shown_byte byte = if nat_le 32 byte && nat_le byte 126 then byte else 63
+
+abbrev pub shown : List ℕ → List ℕ
+shown text = map shown_byte text
 
 abbrev pub what_word : What → List ℕ
 what_word what.Contexts = codes "contexts"
@@ -80,3 +96,10 @@ placed_words form n c = context_words n c ++ (codes " " ++ clique_words form (cl
 -- a link, with its call site
 abbrev pub link_words : Names → ℕ → List ℕ
 link_words n l = codes "link " ++ (decimal l ++ (codes " site " ++ decimal (site_at n l)))
+
+-- ---- tables
+
+-- a table with all its lines; in HTML it stands between two parts of the text that is laid out already
+abbrev pub table_words : Form → TableCells → List ℕ
+table_words Text table = text.text_of table
+table_words Html table = codes "</pre>\n" ++ (html.html_of table ++ codes "<pre>\n")

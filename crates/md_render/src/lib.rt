@@ -6,6 +6,7 @@ mod line;
 mod lookup;
 mod number;
 mod place;
+mod table;
 mod title;
 mod whole;
 

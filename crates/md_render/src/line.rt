@@ -1,21 +1,22 @@
 // The lines of a page, one for each row.
 ghost use Rattle.std.specs.Prelude.{◌≡◌, ◌++◌, codes, decimal, OnOk};
 ghost use Rattle.md_render.specs.Kept.{names_in};
-ghost use Rattle.md_render.specs.Lines.{finished_words, entered_words, leaving_words, inside_words, context_of_words, named_words, called_words, site_words, module_size_words, row_words, row_lines, proc_line};
+ghost use Rattle.md_render.specs.Lines.{finished_words, entered_words, leaving_words, inside_words, context_of_words, named_words, called_words, site_words, module_size_words, row_words, line_end, row_lines, proc_line};
 ghost use Rattle.md_render.specs.Names.{caller_at};
 
 use crate::form::{Form, add_clique, add_module, add_proc};
 use crate::lookup::{callee_at, caller_at, clique_at, module_name, site_of};
 use crate::number::{add, add_both, add_counts, add_number, add_own};
 use crate::place::{add_context, add_full_name, add_link, add_placed};
-use crate::title::what_word;
+use crate::table::add_table;
+use crate::title::{measure_word, what_word};
 use md_base::{CsdId, PdId, ProcId, SiteId};
 use md_cost::{Loaded, Sums};
 use md_query::Row;
 use md_static::{SiteKind, Statics};
 use std::alloc::AllocError;
 
-/// Adds a line for each row.
+/// Adds a line for each row, and the lines of each table.
 pub(crate) fn add_lines(
     out: &mut Vec<u8>,
     form: Form,
@@ -26,7 +27,7 @@ pub(crate) fn add_lines(
 {
     for row in rows {
         add_row(out, form, loaded, row)?;
-        out.push(b'\n')?;
+        add_end(out, row)?;
     }
     Ok(())
 }
@@ -103,6 +104,21 @@ fn add_row(out: &mut Vec<u8>, form: Form, loaded: &Loaded, row: &Row) -> Result<
             add_module_size(out, form, module_name(statics, *id), *procs)?;
             add_both(out, *own, *total)
         }
+        Row::Whole { by, whole } => {
+            add(out, measure_word(*by))?;
+            add_number(out, b" ", *whole)
+        }
+        Row::Table(table) => add_table(out, form, table),
+    }
+}
+
+/// Ends the line of a row. The lines of a table are ended.
+fn add_end(out: &mut Vec<u8>, row: &Row) -> Result<(), AllocError>
+    ensures { OnOk result (out.new.items ≡ out.old.items ++ line_end row.now) }
+{
+    match row {
+        Row::Table(_) => Ok(()),
+        _ => add(out, b"\n"),
     }
 }
 

@@ -1,34 +1,56 @@
 // The title of a page.
 ghost use Rattle.std.specs.Prelude.{◌≡◌, ◌++◌, codes, decimal, OnOk};
+ghost use Rattle.md_render.specs.Html.{title_html};
 ghost use Rattle.md_render.specs.Lines.{title_words};
 ghost use Rattle.md_render.specs.Names.{full_name};
-ghost use Rattle.md_render.specs.Words.{measure_word, what_word};
+ghost use Rattle.md_render.specs.Words.{measure_word, shown, shown_byte, sort_word, what_word};
 
 use crate::lookup::module_name;
 use crate::number::{add, add_number};
 use crate::place::add_full_name;
 use md_base::Measure;
+use md_people::Sort;
 use md_query::{Title, What};
 use md_static::Statics;
-use std::alloc::AllocError;
+use md_table::add_escaped;
+use std::alloc::{AllocError, Global};
 
 /// Adds what a page is of.
 pub(crate) fn add_title(
     out: &mut Vec<u8>,
     statics: &Statics,
-    title: Title,
+    title: &Title,
 ) -> Result<(), AllocError>
-    ensures { OnOk result (out.new.items ≡ out.old.items ++ title_words statics.now title) }
+    ensures { OnOk result (out.new.items ≡ out.old.items ++ title_words statics.now title.now) }
 {
     match title {
         Title::Menu => add(out, b"mdprof menu"),
-        Title::Clique(clique) => add_number(out, b"mdprof clique ", clique as u64),
+        Title::Clique(clique) => add_number(out, b"mdprof clique ", *clique as u64),
         Title::Procs => add(out, b"mdprof procs"),
-        Title::Top { by, n } => add_first(out, by, n),
-        Title::Proc(id) => add_proc_title(out, statics, id),
+        Title::Top { by, n } => add_first(out, *by, *n),
+        Title::Proc(id) => add_proc_title(out, statics, *id),
         Title::Modules => add(out, b"mdprof modules"),
-        Title::Module(id) => add_module_title(out, module_name(statics, id)),
+        Title::Module(id) => add_module_title(out, module_name(statics, *id)),
+        Title::Hot { by, n, sort } => add_hot(out, *by, *n, *sort),
+        Title::Find { by, text } => add_find(out, *by, text.as_bytes()),
     }
+}
+
+/// Adds what a page is of, as it stands in HTML.
+pub(crate) fn add_title_html(
+    out: &mut Vec<u8>,
+    statics: &Statics,
+    title: &Title,
+) -> Result<(), AllocError>
+    ensures { OnOk result (out.new.items ≡ out.old.items ++ title_html statics.now title.now) }
+{
+    let Title::Find { .. } = title else {
+        return add_title(out, statics, title);
+    };
+    let alloc: Global = *out.allocator();
+    let mut words = Vec::new(alloc);
+    add_title(&mut words, statics, title)?;
+    add_escaped(out, &words)
 }
 
 /// What a number on the menu counts.
@@ -75,7 +97,57 @@ fn add_module_title(out: &mut Vec<u8>, name: &[u8]) -> Result<(), AllocError>
     add(out, name)
 }
 
-fn measure_word(measure: Measure) -> &'static [u8]
+/// Adds the title of the procedures that cost most.
+fn add_hot(out: &mut Vec<u8>, by: Measure, n: u32, sort: Sort) -> Result<(), AllocError>
+    ensures { OnOk result (out.new.items ≡ out.old.items ++ (codes "mdprof hot " ++ (measure_word by ++ (codes " " ++ (decimal n ++ (codes " " ++ sort_word sort)))))) }
+{
+    add(out, b"mdprof hot ")?;
+    add(out, measure_word(by))?;
+    add_number(out, b" ", n as u64)?;
+    add(out, b" ")?;
+    add(out, sort_word(sort))
+}
+
+/// Adds the title of what has a text in its name.
+fn add_find(out: &mut Vec<u8>, by: Measure, text: &[u8]) -> Result<(), AllocError>
+    ensures { OnOk result (out.new.items ≡ out.old.items ++ (codes "mdprof find " ++ (measure_word by ++ (codes " " ++ shown text.now)))) }
+{
+    add(out, b"mdprof find ")?;
+    add(out, measure_word(by))?;
+    add(out, b" ")?;
+    add_shown(out, text)
+}
+
+/// Adds a text; bytes that aren't printed are told as `?`.
+fn add_shown(out: &mut Vec<u8>, text: &[u8]) -> Result<(), AllocError>
+    ensures { OnOk result (out.new.items ≡ out.old.items ++ shown text.now) }
+{
+    for byte in text {
+        out.push(shown_byte(*byte))?;
+    }
+    Ok(())
+}
+
+fn shown_byte(byte: u8) -> u8
+    ensures { result ≡ shown_byte byte }
+{
+    if 32 <= byte && byte <= 126 {
+        byte
+    } else {
+        b'?'
+    }
+}
+
+fn sort_word(sort: Sort) -> &'static [u8]
+    ensures { result.now ≡ sort_word sort }
+{
+    match sort {
+        Sort::Total => b"total",
+        Sort::Own => b"own",
+    }
+}
+
+pub(crate) fn measure_word(measure: Measure) -> &'static [u8]
     ensures { result.now ≡ measure_word measure }
 {
     match measure {

@@ -2,14 +2,13 @@
 ghost use Rattle.std.specs.Prelude.{◌≡◌, ◌++◌, OnOk, IfOk};
 ghost use Rattle.md_cost.specs.FileView.{IsFileView};
 ghost use Rattle.md_cost.specs.View.{View};
-ghost use Rattle.md_render.specs.Html.{html_of, head_words, foot_words};
-ghost use Rattle.md_render.specs.Lines.{title_words};
+ghost use Rattle.md_render.specs.Html.{html_of, head_words, foot_words, title_html};
 ghost use Rattle.md_render.specs.Text.{text_of};
 
 use crate::form::Form;
 use crate::line::add_lines;
 use crate::number::add;
-use crate::title::add_title;
+use crate::title::{add_title, add_title_html};
 use md_base::NoMemory;
 use md_cost::Loaded;
 use md_query::{Page, Title};
@@ -52,16 +51,16 @@ fn add_html(out: &mut Vec<u8>, loaded: &Loaded, page: &Page) -> Result<(), Alloc
 }
 
 /// Adds what comes before the lines, with the title in two places.
-fn add_head(out: &mut Vec<u8>, statics: &Statics, title: Title) -> Result<(), AllocError>
-    ensures { OnOk result (out.new.items ≡ out.old.items ++ head_words (title_words statics.now title)) }
+fn add_head(out: &mut Vec<u8>, statics: &Statics, title: &Title) -> Result<(), AllocError>
+    ensures { OnOk result (out.new.items ≡ out.old.items ++ head_words (title_html statics.now title.now)) }
 {
     add(
         out,
         b"<!DOCTYPE html>\n<html><head><meta charset=\"utf-8\"><title>",
     )?;
-    add_title(out, statics, title)?;
+    add_title_html(out, statics, title)?;
     add(out, b"</title></head><body>\n<h1>")?;
-    add_title(out, statics, title)?;
+    add_title_html(out, statics, title)?;
     add(out, b"</h1>\n<pre>\n")
 }
 

@@ -32,7 +32,10 @@ fn add_page(
     out: &mut String,
 ) -> Result<(), AllocError> {
     match page(alloc, loaded, query) {
-        Ok(page) => add_rows(alloc, case, loaded, page.title(), out),
+        Ok(page) => {
+            let (title, _rows) = page.into_parts();
+            add_rows(alloc, case, loaded, title, out)
+        }
         Err(fault) => add_shown(alloc, &fault, out),
     }
 }

@@ -18,3 +18,11 @@ returns-in_ok-top_page-in-Top c = λ v is. rw c.in-Top.is (ap (λ (p : PageRows)
 pub returns-in_ok-modules_page-in-Modules : goal.returns-in_ok-modules_page-in-Modules
 unfolding page_of
 returns-in_ok-modules_page-in-Modules c = λ v is. rw c.in-Modules.is (ap (λ (p : PageRows). Some p) (c.in_ok-modules_page-in-Modules.ensures v is))
+
+pub returns-in_ok-hot_page-in-Hot : goal.returns-in_ok-hot_page-in-Hot
+unfolding page_of
+returns-in_ok-hot_page-in-Hot c = λ v is. rw c.in-Hot.is (ap (λ (p : PageRows). Some p) (c.in_ok-hot_page-in-Hot.ensures v is))
+
+pub returns-in_ok-find_page-in-Find : goal.returns-in_ok-find_page-in-Find
+unfolding page_of
+returns-in_ok-find_page-in-Find c = λ v is. rw c.in-Find.is (ap (λ (p : PageRows). Some p) (c.in_ok-find_page-in-Find.ensures v is))

@@ -15,17 +15,17 @@ pub returns-then-is_menu-clause-query : goal.returns-then-is_menu-clause-query
 unfolding query_of
 returns-then-is_menu-clause-query c = grind (arith, common_steps)
 
-pub returns-else-eq-7-clause-memory : goal.returns-else-eq-7-clause-memory
+pub returns-else-eq-9-clause-memory : goal.returns-else-eq-9-clause-memory
 unfolding query_of
-returns-else-eq-7-clause-memory c = grind (arith, common_steps)
+returns-else-eq-9-clause-memory c = grind (arith, common_steps)
 
-pub returns-else-eq-7-clause-plain : goal.returns-else-eq-7-clause-plain
+pub returns-else-eq-9-clause-plain : goal.returns-else-eq-9-clause-plain
 unfolding query_of
-returns-else-eq-7-clause-plain c = grind (arith, common_steps)
+returns-else-eq-9-clause-plain c = grind (arith, common_steps)
 
-pub returns-else-eq-7-clause-query : goal.returns-else-eq-7-clause-query
+pub returns-else-eq-9-clause-query : goal.returns-else-eq-9-clause-query
 unfolding query_of
-returns-else-eq-7-clause-query c = grind (arith, common_steps)
+returns-else-eq-9-clause-query c = grind (arith, common_steps)
 
 pub returns-then-eq-3-clause-memory : goal.returns-then-eq-3-clause-memory
 unfolding query_of
@@ -110,3 +110,27 @@ returns-then-eq-clause-plain c = grind (arith, common_steps)
 pub returns-then-eq-clause-query : goal.returns-then-eq-clause-query
 unfolding query_of
 returns-then-eq-clause-query c = grind (arith, common_steps)
+
+pub returns-then-eq-8-clause-memory : goal.returns-then-eq-8-clause-memory
+unfolding query_of
+returns-then-eq-8-clause-memory c = grind (arith, common_steps)
+
+pub returns-then-eq-8-clause-plain : goal.returns-then-eq-8-clause-plain
+unfolding query_of
+returns-then-eq-8-clause-plain c = grind (arith, common_steps)
+
+pub returns-then-eq-8-clause-query : goal.returns-then-eq-8-clause-query
+unfolding query_of
+returns-then-eq-8-clause-query c = grind (arith, common_steps)
+
+pub returns-then-eq-9-clause-memory : goal.returns-then-eq-9-clause-memory
+unfolding query_of
+returns-then-eq-9-clause-memory c = grind (arith, common_steps)
+
+pub returns-then-eq-9-clause-plain : goal.returns-then-eq-9-clause-plain
+unfolding query_of
+returns-then-eq-9-clause-plain c = grind (arith, common_steps)
+
+pub returns-then-eq-9-clause-query : goal.returns-then-eq-9-clause-query
+unfolding query_of
+returns-then-eq-9-clause-query c = grind (arith, common_steps)

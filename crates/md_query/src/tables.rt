@@ -1,0 +1,60 @@
+// Pages of tables.
+ghost use Rattle.std.specs.Prelude.{◌≡◌, [], IfOk};
+ghost use Rattle.md_cost.specs.FileView.{IsFileView};
+ghost use Rattle.md_cost.specs.View.{View};
+ghost use Rattle.md_query.specs.declared.row.Title.TheVariants as title;
+ghost use Rattle.md_query.specs.PageOf.{page_with, find_rows, hot_rows, table_rows};
+
+use crate::row::{Page, Row, Title};
+use md_base::{Measure, NoMemory, Text};
+use md_cost::Loaded;
+use md_people::{Sort, found_modules_table, found_procs_table, hot_table, whole_of};
+use std::alloc::Global;
+
+/// The first procedures by their totals or own counts of a measure, with their shares.
+pub fn hot_page(
+    alloc: Global,
+    loaded: &Loaded,
+    by: Measure,
+    n: u32,
+    sort: Sort,
+) -> Result<Page, NoMemory>
+    ensures { IfOk result (λ page. (v : View) → IsFileView loaded.now.profile v → page ≡ page_with (title.Hot by n sort) (hot_rows v by n sort)) }
+{
+    let table = hot_table(alloc, loaded, by, n, sort)?;
+    let mut rows = first_rows(alloc, loaded, by)?;
+    rows.push(Row::Table(table))?;
+    Ok(Page::from_parts(Title::Hot { by, n, sort }, rows))
+}
+
+/// The procedures and the modules in whose name the text is, with their shares of a measure.
+pub fn find_page(alloc: Global, loaded: &Loaded, by: Measure, text: &Text) -> Result<Page, NoMemory>
+    ensures { IfOk result (λ page. (v : View) → IsFileView loaded.now.profile v → page ≡ page_with (title.Find by text.now) (find_rows v by text.now)) }
+{
+    let rows = find_rows(alloc, loaded, by, text.as_bytes())?;
+    let text = text.copy(alloc)?;
+    Ok(Page::from_parts(Title::Find { by, text }, rows))
+}
+
+fn find_rows(alloc: Global, loaded: &Loaded, by: Measure, text: &[u8]) -> Result<Vec<Row>, NoMemory>
+    ensures { IfOk result (λ rows. (v : View) → IsFileView loaded.now.profile v → rows.items ≡ find_rows v by text.now) }
+{
+    let mut rows = first_rows(alloc, loaded, by)?;
+    let procs = found_procs_table(alloc, loaded, by, text)?;
+    rows.push(Row::Table(procs))?;
+    let modules = found_modules_table(alloc, loaded, by, text)?;
+    rows.push(Row::Table(modules))?;
+    Ok(rows)
+}
+
+/// Whether the run was finished, and the whole of the measure.
+fn first_rows(alloc: Global, loaded: &Loaded, by: Measure) -> Result<Vec<Row>, NoMemory>
+    ensures { IfOk result (λ rows. (v : View) → IsFileView loaded.now.profile v → rows.items ≡ table_rows v by []) }
+{
+    let finished = loaded.profile().finished();
+    let whole = whole_of(loaded, by);
+    let mut rows = Vec::new(alloc);
+    rows.push(Row::Finished(finished))?;
+    rows.push(Row::Whole { by, whole })?;
+    Ok(rows)
+}
