@@ -14,6 +14,7 @@ pub mod Building
 pub mod Simple
 pub mod Leading
 pub mod Staying
+pub mod Passing
 pub mod Grown
 pub mod Beginning
 pub mod Firsts

@@ -1,4 +1,5 @@
 pub mod Standing
 pub mod Stacks
 pub mod Running
+pub mod Ways
 pub mod Ran
