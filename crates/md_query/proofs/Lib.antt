@@ -3,3 +3,4 @@ mod WorkedPages
 pub mod ListSteps
 pub mod ViewLists
 pub mod Within
+pub mod Plain

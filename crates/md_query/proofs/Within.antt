@@ -27,6 +27,8 @@ use Rattle.md_cost.proofs.ValidSteps.{valid_sound}
 use Rattle.md_cost.proofs.ViewSteps.{some_cliques}
 use Rattle.md_base.specs.declared.measure.Measure.{Measure}
 use Rattle.md_table.specs.Table.{TableCells}
+use Rattle.md_people.specs.Callers.{called_table, callers_table}
+use Rattle.md_people.specs.Context.{callees_table, stations_table}
 use Rattle.md_people.specs.Counts.{whole_of}
 use Rattle.md_people.specs.Find.{found_modules_table, found_procs_table}
 use Rattle.md_people.specs.Hot.{hot_table}
@@ -36,9 +38,9 @@ use Rattle.md_people.proofs.Orders.{all_ranked}
 use Rattle.md_query.specs.declared.row.Row.{Row}
 use Rattle.md_query.specs.declared.row.Row.TheVariants as row
 use Rattle.md_query.specs.declared.row.Title.TheVariants as title
-use Rattle.md_query.specs.Asked.{Asked, Menu, Root, Clique, Procs, Top, Proc as ProcAsked, Modules, Module, Hot, Find, ProcNamed, CliqueNamed}
+use Rattle.md_query.specs.Asked.{Asked, Menu, Root, Clique, Procs, Top, Proc as ProcAsked, Modules, Module, Hot, Find, Context, Callers, CallersNamed, ProcNamed, CliqueNamed}
 use Rattle.md_query.specs.Page.{PageRows, IsCall, IsRowWithin, IsWithin}
-use Rattle.md_query.specs.PageOf.{own_of, total_of, page_of, page_with, entered_row, clique_page, module_page, excps_rows, menu_rows, link_row_at, link_row, context_row, context_rows, links_from, clique_rows, proc_row, of_row, site_row, contexts_of, sites_of, proc_rows, all_procs, count_in_proc, top_procs, procs_of_module, module_row, module_rows, all_modules, module_named, table_rows, proc_page, clique_at, first_clique}
+use Rattle.md_query.specs.PageOf.{own_of, total_of, page_of, page_with, entered_row, clique_page, module_page, excps_rows, menu_rows, link_row_at, link_row, context_row, context_rows, links_from, clique_rows, proc_row, of_row, site_row, contexts_of, sites_of, proc_rows, all_procs, count_in_proc, top_procs, procs_of_module, module_row, module_rows, all_modules, module_named, table_rows, context_page, callers_page, proc_page, clique_at, first_clique}
 use Rattle.md_query.proofs.ListSteps.{found_there, places_there, range_there}
 use Rattle.md_query.proofs.ViewLists.{statics_are, nodes_are, links_are}
 
@@ -168,6 +170,14 @@ module _ (f : ProfileRows) (valid : IsValid f) (v : View) (is : IsFileView f v) 
       let there = found_there (λ (q : ℕ). bytes_eq (full_name v.statics q) name) (length v.statics.procs) q is_named in
       told_within (proc_page v q) page e (record { title = proc_there q there; rows = proc_within q })
 
+  callers_within : (by : Measure) (q : ℕ) → q < length v.statics.procs → IsWithin f (callers_page v by q)
+  callers_within by q lt = record { title = proc_there q lt; rows = tables_within by (callers_table v by q ∷ called_table v by q ∷ []) }
+
+  callers_named_within : (by : Measure) (o : Option ℕ) (name : List ℕ) (page : PageRows) → proc_named v.statics name ≡ o → option_map (callers_page v by) o ≡ Some page → IsWithin f page
+  callers_named_within by None name page is_named e = absurd (no_page page e)
+  callers_named_within by (Some q) name page is_named e =
+      told_within (callers_page v by q) page e (callers_within by q (found_there (λ (q : ℕ). bytes_eq (full_name v.statics q) name) (length v.statics.procs) q is_named))
+
   first_clique_within : (o : Option ℕ) (q : ℕ) (page : PageRows) → position (λ (p : ℕ). eqb p q) v.nodes ≡ o → option_map (clique_page v) (option_map (clique_at v) o) ≡ Some page → IsWithin f page
   first_clique_within None q page at e = absurd (no_page page e)
   first_clique_within (Some c) q page at e =
@@ -201,5 +211,14 @@ module _ (f : ProfileRows) (valid : IsValid f) (v : View) (is : IsFileView f v) 
   within_page (Module name) page e = named_within (module_named v name) name page refl e
   within_page (Hot by n sort) page e = told_within _ page e (record { title = tt; rows = tables_within by (hot_table v by n sort ∷ []) })
   within_page (Find by text) page e = told_within _ page e (record { title = tt; rows = tables_within by (found_procs_table v by text ∷ found_modules_table v by text ∷ []) })
+  within_page (Context by c) page e = elim (cases_lt c (length v.nodes)) [
+    | inl lt ↦ told_within (context_page v by c) page (rw (lt-ltb c (length v.nodes) lt) at e) (record { title = rw (nodes_are f v is) at lt; rows = tables_within by (stations_table v by c ∷ callees_table v by c ∷ []) })
+    | inr le ↦ (let none : None ≡ Some page = rw (le-ltb c (length v.nodes) le) at e in cc)
+  ]
+  within_page (Callers by q) page e = elim (cases_lt q (length v.statics.procs)) [
+    | inl lt ↦ told_within (callers_page v by q) page (rw (lt-ltb q (length v.statics.procs) lt) at e) (callers_within by q lt)
+    | inr le ↦ (let none : None ≡ Some page = rw (le-ltb q (length v.statics.procs) le) at e in cc)
+  ]
+  within_page (CallersNamed by name) page e = callers_named_within by (proc_named v.statics name) name page refl e
   within_page (ProcNamed name) page e = proc_named_within (proc_named v.statics name) name page refl e
   within_page (CliqueNamed name) page e = clique_named_within (proc_named v.statics name) page e

@@ -5,14 +5,14 @@ use Rattle.std.specs.Str.{is_utf8, chars}
 use Rattle.std.specs.Str.Lossy.{utf8_lossy, utf8_valid_len, utf8_error_len}
 use lib.Utf8.{encode}
 use Rattle.form_urlencoded.proofs.OnLiterals.{form_urlencoded_on_literals}
-use Rattle.md_base.specs.declared.measure.Measure.TheVariants.{Calls, Words, Excps}
+use Rattle.md_base.specs.declared.measure.Measure.TheVariants.{Calls, Fails, Words, Excps}
 use Rattle.md_people.specs.declared.sort.Sort.TheVariants.{Total, Own}
 use Rattle.md_token.specs.Literal.{number_of}
-use Rattle.md_query.specs.Asked.{query_of, Menu, Clique, Top, Proc, Module, Hot, Find, ProcNamed, CliqueNamed}
+use Rattle.md_query.specs.Asked.{query_of, table_of, Menu, Clique, Top, Proc, Module, Hot, Find, Context, Callers, CallersNamed, ProcNamed, CliqueNamed}
 
 -- what is unfolded to compute a query on a literal
 unfoldable on_literals : ⊤
-unfolding query_of form_urlencoded_on_literals utf8_lossy utf8_valid_len utf8_error_len is_utf8 chars encode number_of
+unfolding query_of table_of form_urlencoded_on_literals utf8_lossy utf8_valid_len utf8_error_len is_utf8 chars encode number_of
 on_literals = tt
 
 -- a path alone
@@ -81,6 +81,28 @@ a-text-is-looked-for = refl
 an-empty-text-is-none : query_of (codes "find") (codes "name=") ≡ None
 unfolding on_literals
 an-empty-text-is-none = refl
+
+-- where there is a number, the name is no matter, even where it is no number
+callers-by-name : query_of (codes "callers") (codes "name=t.q/1&by=fails") ≡ Some (CallersNamed Fails (codes "t.q/1"))
+unfolding on_literals
+callers-by-name = refl
+
+callers-by-number : query_of (codes "callers") (codes "name=t.q/1&id=3") ≡ Some (Callers Calls 3)
+unfolding on_literals
+callers-by-number = refl
+
+callers-by-no-number : query_of (codes "callers") (codes "name=t.q/1&id=x") ≡ None
+unfolding on_literals
+callers-by-no-number = refl
+
+-- a context has no name, and no default
+a-context-by-number : query_of (codes "context") (codes "id=0") ≡ Some (Context Calls 0)
+unfolding on_literals
+a-context-by-number = refl
+
+no-context-by-name : query_of (codes "context") (codes "name=t.q/1") ≡ None
+unfolding on_literals
+no-context-by-name = refl
 
 -- a name stands in place of a number
 a-procedure-by-its-name : query_of (codes "proc") (codes "name=t.main%2F2") ≡ Some (ProcNamed (codes "t.main/2"))

@@ -3,7 +3,7 @@ use Rattle.std.specs.Prelude.{ℕ, Bool, true, false, ◌||◌, ◌==◌, List, 
 use Rattle.std.specs.Str.{bytes_eq}
 use Rattle.md_base.specs.declared.measure.Measure.{Measure}
 use Rattle.md_people.specs.declared.sort.Sort.{Sort}
-use Rattle.md_query.specs.Pair.{value_of, id_within, count_in, measure_in, measure_asked, count_asked, sort_asked}
+use Rattle.md_query.specs.Pair.{value_of, id_in, id_within, count_in, measure_in, measure_asked, count_asked, sort_asked}
 
 pub data Asked : Type 0 where
   -- what the profile is of, and how much it holds
@@ -26,6 +26,12 @@ pub data Asked : Type 0 where
   Hot : (by : Measure) (n : ℕ) (sort : Sort) → Asked
   -- the procedures and the modules in whose name a text is, with their shares of a measure
   Find : (by : Measure) (text : List ℕ) → Asked
+  -- a context, by its number, with its stations and the links that start there
+  Context : (by : Measure) (id : ℕ) → Asked
+  -- the callers of a procedure, by its number, and what it calls
+  Callers : (by : Measure) (id : ℕ) → Asked
+  -- the same of the procedure of a full name
+  CallersNamed : (by : Measure) (name : List ℕ) → Asked
   -- a procedure, by its full name
   ProcNamed : (name : List ℕ) → Asked
   -- the clique of the first context of a procedure, by the full name of this
@@ -73,6 +79,31 @@ abbrev pub find_of : (by : Option Measure) (text : Option (List ℕ)) → Option
 find_of (Some by) (Some text) = cond (length text == 0) None (Some (Find by text))
 find_of by text = None
 
+abbrev pub context_of : (by : Option Measure) (id : Option ℕ) → Option Asked
+context_of (Some by) (Some id) = Some (Context by id)
+context_of by id = None
+
+abbrev pub callers_of : Measure → (id : Option ℕ) → Option Asked
+callers_of by None = None
+callers_of by (Some id) = Some (Callers by id)
+
+abbrev pub callers_named_of : Measure → (name : Option (List ℕ)) → Option Asked
+callers_named_of by None = None
+callers_named_of by (Some name) = Some (CallersNamed by name)
+
+abbrev pub callers_by : (by : Option Measure) (id name : Option (List ℕ)) → Option Asked
+callers_by None id name = None
+callers_by (Some by) None name = callers_named_of by name
+callers_by (Some by) (Some id) name = callers_of by (id_within id)
+
+-- a page of tables
+unfoldable pub table_of : (path pairs : List ℕ) → Option Asked
+table_of path pairs =
+    cond (bytes_eq path (codes "hot")) (hot_of (measure_asked pairs) (count_asked pairs) (sort_asked pairs))
+    (cond (bytes_eq path (codes "find")) (find_of (measure_asked pairs) (value_of (codes "name") pairs))
+    (cond (bytes_eq path (codes "context")) (context_of (measure_asked pairs) (id_in pairs))
+    (cond (bytes_eq path (codes "callers")) (callers_by (measure_asked pairs) (value_of (codes "id") pairs) (value_of (codes "name") pairs)) None)))
+
 -- what path and pairs ask for, where they are a query: a pair that its path doesn't take is no matter, and one that is missing makes no query
 unfoldable pub query_of : (path pairs : List ℕ) → Option Asked
 query_of path pairs =
@@ -83,9 +114,7 @@ query_of path pairs =
     (cond (bytes_eq path (codes "top")) (top_of (measure_in pairs) (count_in pairs))
     (cond (bytes_eq path (codes "proc")) (proc_by (value_of (codes "id") pairs) (value_of (codes "name") pairs))
     (cond (bytes_eq path (codes "modules")) (Some Modules)
-    (cond (bytes_eq path (codes "module")) (module_of (value_of (codes "name") pairs))
-    (cond (bytes_eq path (codes "hot")) (hot_of (measure_asked pairs) (count_asked pairs) (sort_asked pairs))
-    (cond (bytes_eq path (codes "find")) (find_of (measure_asked pairs) (value_of (codes "name") pairs)) None)))))))))
+    (cond (bytes_eq path (codes "module")) (module_of (value_of (codes "name") pairs)) (table_of path pairs))))))))
 
 -- what is asked for has a text, which is kept
 abbrev pub has_text : Asked → Bool
@@ -99,6 +128,9 @@ has_text Modules = false
 has_text (Module name) = true
 has_text (Hot by n sort) = false
 has_text (Find by text) = true
+has_text (Context by id) = false
+has_text (Callers by id) = false
+has_text (CallersNamed by name) = true
 has_text (ProcNamed name) = true
 has_text (CliqueNamed name) = true
 
@@ -109,4 +141,4 @@ keeps_text (Some asked) = has_text asked
 -- the path is one whose query takes pairs
 abbrev pub takes_pairs : (path : List ℕ) → Bool
 takes_pairs path =
-    bytes_eq path (codes "clique") || bytes_eq path (codes "top") || bytes_eq path (codes "proc") || bytes_eq path (codes "hot") || bytes_eq path (codes "find") || bytes_eq path (codes "module")
+    bytes_eq path (codes "clique") || bytes_eq path (codes "top") || bytes_eq path (codes "proc") || bytes_eq path (codes "hot") || bytes_eq path (codes "find") || bytes_eq path (codes "context") || bytes_eq path (codes "callers") || bytes_eq path (codes "module")

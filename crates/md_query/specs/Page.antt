@@ -10,7 +10,7 @@ pub record PageRows : Type 0 where
   pub title : Title
   pub rows : List Row
 
--- the procedure, or the module, of the title is there
+-- the procedure, the module or the context of the title is there
 abbrev pub IsTitleWithin : ProfileRows → Title → Type 0
 IsTitleWithin f title.Menu = Unit {0}
 IsTitleWithin f (title.Clique id) = Unit {0}
@@ -21,6 +21,8 @@ IsTitleWithin f title.Modules = Unit {0}
 IsTitleWithin f (title.Module id) = id < length f.statics.modules
 IsTitleWithin f (title.Hot by n sort) = Unit {0}
 IsTitleWithin f (title.Find by text) = Unit {0}
+IsTitleWithin f (title.Context by node proc) = node < length f.nodes
+IsTitleWithin f (title.Callers by id) = id < length f.statics.procs
 
 -- a link other than the root link
 abbrev pub IsCall : ProfileRows → ℕ → Type 0

@@ -18,14 +18,16 @@ use Rattle.md_people.specs.Counts.{whole_of}
 use Rattle.md_people.specs.Find.{found_modules_table, found_procs_table}
 use Rattle.md_people.specs.Hot.{hot_table}
 use Rattle.md_people.specs.Ranked.{ranked}
-use Rattle.md_people.specs.Words.{proc_named}
+use Rattle.md_people.specs.Callers.{called_table, callers_table}
+use Rattle.md_people.specs.Context.{callees_table, stations_table}
+use Rattle.md_people.specs.Words.{proc_at, proc_named}
 use Rattle.md_query.specs.declared.row.Row.{Row}
 use Rattle.md_query.specs.declared.row.Row.TheVariants as row
 use Rattle.md_query.specs.declared.row.Title.{Title}
 use Rattle.md_query.specs.declared.row.Title.TheVariants as title
 use Rattle.md_query.specs.declared.row.What.{What}
 use Rattle.md_query.specs.declared.row.What.TheVariants as what
-use Rattle.md_query.specs.Asked.{Asked, Menu, Root, Clique, Procs, Top, Proc, Modules, Module, Hot, Find, ProcNamed, CliqueNamed}
+use Rattle.md_query.specs.Asked.{Asked, Menu, Root, Clique, Procs, Top, Proc, Modules, Module, Hot, Find, Context, Callers, CallersNamed, ProcNamed, CliqueNamed}
 use Rattle.md_query.specs.Page.{PageRows}
 
 -- ---- the numbers of a row of the view
@@ -170,6 +172,12 @@ page_with t rows = record { title = t; rows = rows }
 abbrev pub clique_page : View → ℕ → PageRows
 clique_page v k = page_with (title.Clique k) (clique_rows v k)
 
+abbrev pub context_page : View → Measure → ℕ → PageRows
+context_page v by c = page_with (title.Context by c (proc_at v c)) (table_rows v by (stations_table v by c ∷ callees_table v by c ∷ []))
+
+abbrev pub callers_page : View → Measure → ℕ → PageRows
+callers_page v by q = page_with (title.Callers by q) (table_rows v by (callers_table v by q ∷ called_table v by q ∷ []))
+
 -- the clique of the first context of a procedure
 abbrev pub clique_at : View → (context : ℕ) → ℕ
 clique_at v c = slice_index v.cliques c
@@ -190,7 +198,7 @@ all_modules v = range_with_len 0 (length v.statics.modules)
 abbrev pub module_named : View → List ℕ → Option ℕ
 module_named v name = position (λ m. bytes_eq m name) v.statics.modules
 
--- there is none where the query's clique, procedure or module isn't in the view
+-- there is none where the query's clique, context, procedure or module isn't in the view
 unfoldable pub page_of : View → Asked → Option PageRows
 page_of v Menu = Some (page_with title.Menu (menu_rows v))
 page_of v Root = Some (clique_page v 0)
@@ -202,5 +210,8 @@ page_of v Modules = Some (page_with title.Modules (map (module_row v) (all_modul
 page_of v (Module name) = option_map (module_page v) (module_named v name)
 page_of v (Hot by n sort) = Some (page_with (title.Hot by n sort) (hot_rows v by n sort))
 page_of v (Find by text) = Some (page_with (title.Find by text) (find_rows v by text))
+page_of v (Context by c) = if nat_lt c (length v.nodes) then Some (context_page v by c) else None
+page_of v (Callers by q) = if nat_lt q (length v.statics.procs) then Some (callers_page v by q) else None
+page_of v (CallersNamed by name) = option_map (callers_page v by) (proc_named v.statics name)
 page_of v (ProcNamed name) = option_map (proc_page v) (proc_named v.statics name)
 page_of v (CliqueNamed name) = option_map (clique_page v) (option_and_then (first_clique v) (proc_named v.statics name))

@@ -53,6 +53,10 @@ number_from least most (Some text) = number_within least most text
 abbrev pub number_in : (name : List ℕ) (least most : ℕ) (pairs : List ℕ) → Option ℕ
 number_in name least most pairs = number_from least most (value_of name pairs)
 
+-- the number of a context
+abbrev pub id_in : (pairs : List ℕ) → Option ℕ
+id_in pairs = number_in (codes "id") 0 4294967295 pairs
+
 -- the number of a clique or of a procedure
 abbrev pub id_within : List ℕ → Option ℕ
 id_within text = number_within 0 4294967295 text

@@ -4,7 +4,7 @@ ghost use Rattle.std.specs.Option.{option_map};
 ghost use Rattle.md_cost.specs.FileView.{IsFileView};
 ghost use Rattle.md_cost.specs.View.{View};
 ghost use Rattle.md_query.specs.declared.answer.PageFault.TheVariants as fault;
-ghost use Rattle.md_query.specs.Asked.{Root, Clique, Proc, Module, ProcNamed, CliqueNamed};
+ghost use Rattle.md_query.specs.Asked.{Root, Clique, Proc, Module, Context, Callers, CallersNamed, ProcNamed, CliqueNamed};
 ghost use Rattle.md_query.specs.Page.{IsWithin};
 ghost use Rattle.md_query.specs.PageOf.{page_of, clique_page, first_clique};
 ghost use Rattle.md_query.specs.Told.{asked};
@@ -15,8 +15,8 @@ use crate::pages::{
 };
 use crate::query::Query;
 use crate::row::Page;
-use crate::tables::{find_page, hot_page};
-use md_base::{NoMemory, ProcId};
+use crate::tables::{callers_page, context_page, find_page, hot_page};
+use md_base::{Measure, NoMemory, PdId, ProcId};
 use md_cost::Loaded;
 use md_people::proc_named;
 use std::alloc::Global;
@@ -26,7 +26,7 @@ use std::fmt;
 /// Why there is no page.
 #[derive(Clone, Copy, Debug, PartialEq, Eq)]
 pub enum PageFault {
-    /// The clique, the procedure or the module isn't in the profile.
+    /// The clique, the context, the procedure or the module isn't in the profile.
     NoSuchPage,
     NoMemory,
 }
@@ -51,7 +51,7 @@ impl From<NoMemory> for PageFault {
 }
 
 /// The page that a query asks for, whose numbers are those of the view of the profile. `NoSuchPage` exactly where the
-/// query's clique, procedure or module isn't in the profile.
+/// query's clique, context, procedure or module isn't in the profile.
 pub fn page(alloc: Global, loaded: &Loaded, query: &Query) -> Result<Page, PageFault>
     ensures page { (v : View) → IsFileView loaded.now.profile v → IfOk result (λ page. page_of v (asked query.now) ≡ Some page) }
     ensures none { result ≡ Err fault.NoSuchPage → (v : View) → IsFileView loaded.now.profile v → page_of v (asked query.now) ≡ None }
@@ -80,6 +80,11 @@ fn found_page(alloc: Global, loaded: &Loaded, query: &Query) -> Result<Option<Pa
         Query::Module(name) => find_module(alloc, loaded, name.as_bytes()),
         Query::Hot { by, n, sort } => Ok(Some(hot_page(alloc, loaded, *by, *n, *sort)?)),
         Query::Find { by, text } => Ok(Some(find_page(alloc, loaded, *by, text)?)),
+        Query::Context { by, id } => find_context(alloc, loaded, *by, *id),
+        Query::Callers { by, id } => find_callers(alloc, loaded, *by, *id),
+        Query::CallersNamed { by, name } => {
+            find_callers_named(alloc, loaded, *by, name.as_bytes())
+        }
         Query::ProcNamed(name) => find_proc_named(alloc, loaded, name.as_bytes()),
         Query::CliqueNamed(name) => find_clique_named(alloc, loaded, name.as_bytes()),
     }
@@ -124,6 +129,56 @@ fn find_module(alloc: Global, loaded: &Loaded, name: &[u8]) -> Result<Option<Pag
     match module_named(loaded.profile().statics().modules(), name) {
         Some(id) => {
             let page = module_page(alloc, loaded, id)?;
+            Ok(Some(page))
+        }
+        None => Ok(None),
+    }
+}
+
+/// The page of a context, if it is there.
+fn find_context(
+    alloc: Global,
+    loaded: &Loaded,
+    by: Measure,
+    id: u32,
+) -> Result<Option<Page>, NoMemory>
+    ensures { IfOk result (λ found. (v : View) → IsFileView loaded.now.profile v → found ≡ page_of v (Context by id)) }
+{
+    if id as usize >= loaded.profile().nodes().len() {
+        return Ok(None);
+    }
+    let page = context_page(alloc, loaded, by, PdId::new(id))?;
+    Ok(Some(page))
+}
+
+/// The page of a procedure's callers, if it is there.
+fn find_callers(
+    alloc: Global,
+    loaded: &Loaded,
+    by: Measure,
+    id: u32,
+) -> Result<Option<Page>, NoMemory>
+    ensures { IfOk result (λ found. (v : View) → IsFileView loaded.now.profile v → found ≡ page_of v (Callers by id)) }
+{
+    if id as usize >= loaded.profile().statics().procs().len() {
+        return Ok(None);
+    }
+    let page = callers_page(alloc, loaded, by, ProcId::new(id))?;
+    Ok(Some(page))
+}
+
+/// The page of the callers of the procedure of a full name, if it is there.
+fn find_callers_named(
+    alloc: Global,
+    loaded: &Loaded,
+    by: Measure,
+    name: &[u8],
+) -> Result<Option<Page>, NoMemory>
+    ensures { IfOk result (λ found. (v : View) → IsFileView loaded.now.profile v → found ≡ page_of v (CallersNamed by name.now)) }
+{
+    match proc_named(alloc, loaded.profile().statics(), name)? {
+        Some(id) => {
+            let page = callers_page(alloc, loaded, by, id)?;
             Ok(Some(page))
         }
         None => Ok(None),

@@ -25,6 +25,12 @@ pub enum Query {
     Hot { by: Measure, n: u32, sort: Sort },
     /// The procedures and the modules in whose name a text is, with their shares of a measure.
     Find { by: Measure, text: Text },
+    /// A context, by its number, with its stations and the links that start there.
+    Context { by: Measure, id: u32 },
+    /// The callers of a procedure, by its number, and what it calls.
+    Callers { by: Measure, id: u32 },
+    /// The same of the procedure of a full name.
+    CallersNamed { by: Measure, name: Text },
     /// A procedure, by its full name.
     ProcNamed(Text),
     /// The clique of the first context of a procedure, by the full name of this.

@@ -2,8 +2,8 @@
 ghost use Rattle.std.specs.Prelude.{◌≡◌, ◌||◌, [], Some, None, true, codes, IfOk, IfErr, IsOk, Err};
 ghost use Rattle.std.specs.Str.{bytes_eq};
 ghost use Rattle.md_query.specs.declared.query.QueryFault.TheVariants as fault;
-ghost use Rattle.md_query.specs.Asked.{query_of, takes_pairs, keeps_text, clique_by, top_of, proc_by, module_of, hot_of, find_of};
-ghost use Rattle.md_query.specs.Pair.{ArePlain, value_of, measure_in, count_in, measure_asked, count_asked, sort_asked};
+ghost use Rattle.md_query.specs.Asked.{query_of, table_of, takes_pairs, keeps_text, clique_by, top_of, proc_by, module_of, hot_of, find_of, context_of, callers_by};
+ghost use Rattle.md_query.specs.Pair.{ArePlain, value_of, id_in, measure_in, count_in, measure_asked, count_asked, sort_asked};
 ghost use Rattle.md_query.specs.Told.{asked, asked_told};
 
 use crate::pair::{
@@ -54,10 +54,26 @@ fn found(alloc: Global, path: &[u8], pairs: &[u8]) -> Result<Option<Query>, NoMe
         Ok(Some(Query::Modules))
     } else if path == b"module".as_slice() {
         module_query(alloc, pairs)
-    } else if path == b"hot".as_slice() {
+    } else {
+        found_table(alloc, path, pairs)
+    }
+}
+
+/// The query for a page of tables, or `None` exactly where path and pairs are none.
+#[tactic(auto, unfolding(crate::specs::Asked::table_of))]
+fn found_table(alloc: Global, path: &[u8], pairs: &[u8]) -> Result<Option<Query>, NoMemory>
+    ensures query { IfOk result (λ found. asked_told found ≡ table_of path.now pairs.now) }
+    ensures memory { IfErr result (λ _. takes_pairs path.now ≡ true) }
+    ensures plain { IfErr result (λ _. ArePlain pairs.now → keeps_text (table_of path.now pairs.now) ≡ true) }
+{
+    if path == b"hot".as_slice() {
         hot_query(alloc, pairs)
     } else if path == b"find".as_slice() {
         find_query(alloc, pairs)
+    } else if path == b"context".as_slice() {
+        context_query(alloc, pairs)
+    } else if path == b"callers".as_slice() {
+        callers_query(alloc, pairs)
     } else {
         Ok(None)
     }
@@ -167,4 +183,38 @@ fn find_query(alloc: Global, pairs: &[u8]) -> Result<Option<Query>, NoMemory>
     }
     let text = Text::from_bytes(alloc, text.as_bytes())?;
     Ok(Some(Query::Find { by, text }))
+}
+
+/// The query for a context, by its pairs.
+fn context_query(alloc: Global, pairs: &[u8]) -> Result<Option<Query>, NoMemory>
+    ensures query { IfOk result (λ found. asked_told found ≡ context_of (measure_asked pairs.now) (id_in pairs.now)) }
+    ensures plain { ArePlain pairs.now → IsOk result }
+{
+    let Some(by) = measure_asked(alloc, pairs)? else {
+        return Ok(None);
+    };
+    match number_in(alloc, "id", 0, u32::MAX, pairs)? {
+        Some(id) => Ok(Some(Query::Context { by, id })),
+        None => Ok(None),
+    }
+}
+
+/// The query for the callers of a procedure, by its pairs.
+fn callers_query(alloc: Global, pairs: &[u8]) -> Result<Option<Query>, NoMemory>
+    ensures query { IfOk result (λ found. asked_told found ≡ callers_by (measure_asked pairs.now) (value_of (codes "id") pairs.now) (value_of (codes "name") pairs.now)) }
+    ensures plain { ArePlain pairs.now → IfErr result (λ _. keeps_text (callers_by (measure_asked pairs.now) (value_of (codes "id") pairs.now) (value_of (codes "name") pairs.now)) ≡ true) }
+{
+    let Some(by) = measure_asked(alloc, pairs)? else {
+        return Ok(None);
+    };
+    if let Some(id) = value_of(alloc, "id", pairs)? {
+        return match number_within(0, u32::MAX, id.as_bytes()) {
+            Some(id) => Ok(Some(Query::Callers { by, id })),
+            None => Ok(None),
+        };
+    }
+    match text_in(alloc, "name", pairs)? {
+        Some(name) => Ok(Some(Query::CallersNamed { by, name })),
+        None => Ok(None),
+    }
 }

@@ -26,6 +26,10 @@ pub enum Title {
     Hot { by: Measure, n: u32, sort: Sort },
     /// The procedures and the modules in whose name a text is, with their shares of a measure.
     Find { by: Measure, text: Text },
+    /// A context of a procedure, by the numbers of both.
+    Context { by: Measure, node: u32, proc: u32 },
+    /// The callers of a procedure, and what it calls.
+    Callers { by: Measure, id: u32 },
 }
 
 /// What a number on the menu counts.

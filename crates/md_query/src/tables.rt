@@ -1,14 +1,19 @@
 // Pages of tables.
-ghost use Rattle.std.specs.Prelude.{◌≡◌, [], IfOk};
+ghost use Rattle.std.specs.Prelude.{◌≡◌, ◌<◌, [], ◌∷◌, length, IfOk};
 ghost use Rattle.md_cost.specs.FileView.{IsFileView};
 ghost use Rattle.md_cost.specs.View.{View};
 ghost use Rattle.md_query.specs.declared.row.Title.TheVariants as title;
-ghost use Rattle.md_query.specs.PageOf.{page_with, find_rows, hot_rows, table_rows};
+ghost use Rattle.md_people.specs.Callers.{called_table, callers_table};
+ghost use Rattle.md_people.specs.Context.{callees_table, stations_table};
+ghost use Rattle.md_query.specs.PageOf.{page_with, callers_page, context_page, find_rows, hot_rows, table_rows};
 
 use crate::row::{Page, Row, Title};
-use md_base::{Measure, NoMemory, Text};
+use md_base::{Measure, NoMemory, PdId, ProcId, Text};
 use md_cost::Loaded;
-use md_people::{Sort, found_modules_table, found_procs_table, hot_table, whole_of};
+use md_people::{
+    Sort, called_table, callees_table, callers_table, found_modules_table, found_procs_table,
+    hot_table, stations_table, whole_of,
+};
 use std::alloc::Global;
 
 /// The first procedures by their totals or own counts of a measure, with their shares.
@@ -44,6 +49,71 @@ fn find_rows(alloc: Global, loaded: &Loaded, by: Measure, text: &[u8]) -> Result
     rows.push(Row::Table(procs))?;
     let modules = found_modules_table(alloc, loaded, by, text)?;
     rows.push(Row::Table(modules))?;
+    Ok(rows)
+}
+
+/// A context: its stations, and the links that start there.
+pub fn context_page(alloc: Global, loaded: &Loaded, by: Measure, id: PdId) -> Result<Page, NoMemory>
+    requires there { id < length loaded.now.profile.nodes }
+    ensures { IfOk result (λ page. (v : View) → IsFileView loaded.now.profile v → page ≡ context_page v by id) }
+{
+    let proc = loaded.profile().nodes()[id.number() as usize];
+    let rows = context_rows(alloc, loaded, by, id)?;
+    let title = Title::Context {
+        by,
+        node: id.number(),
+        proc: proc.number(),
+    };
+    Ok(Page::from_parts(title, rows))
+}
+
+fn context_rows(
+    alloc: Global,
+    loaded: &Loaded,
+    by: Measure,
+    id: PdId,
+) -> Result<Vec<Row>, NoMemory>
+    requires there { id < length loaded.now.profile.nodes }
+    ensures { IfOk result (λ rows. (v : View) → IsFileView loaded.now.profile v → rows.items ≡ table_rows v by (stations_table v by id ∷ callees_table v by id ∷ [])) }
+{
+    let mut rows = first_rows(alloc, loaded, by)?;
+    let stations = stations_table(alloc, loaded, by, id)?;
+    rows.push(Row::Table(stations))?;
+    let callees = callees_table(alloc, loaded, by, id)?;
+    rows.push(Row::Table(callees))?;
+    Ok(rows)
+}
+
+/// The callers of a procedure, and what it calls.
+pub fn callers_page(
+    alloc: Global,
+    loaded: &Loaded,
+    by: Measure,
+    id: ProcId,
+) -> Result<Page, NoMemory>
+    ensures { IfOk result (λ page. (v : View) → IsFileView loaded.now.profile v → page ≡ callers_page v by id) }
+{
+    let rows = callers_rows(alloc, loaded, by, id)?;
+    let title = Title::Callers {
+        by,
+        id: id.number(),
+    };
+    Ok(Page::from_parts(title, rows))
+}
+
+fn callers_rows(
+    alloc: Global,
+    loaded: &Loaded,
+    by: Measure,
+    id: ProcId,
+) -> Result<Vec<Row>, NoMemory>
+    ensures { IfOk result (λ rows. (v : View) → IsFileView loaded.now.profile v → rows.items ≡ table_rows v by (callers_table v by id ∷ called_table v by id ∷ [])) }
+{
+    let mut rows = first_rows(alloc, loaded, by)?;
+    let callers = callers_table(alloc, loaded, by, id)?;
+    rows.push(Row::Table(callers))?;
+    let called = called_table(alloc, loaded, by, id)?;
+    rows.push(Row::Table(called))?;
     Ok(rows)
 }
 

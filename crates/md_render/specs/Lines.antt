@@ -2,6 +2,7 @@
 use Rattle.std.specs.Prelude.{ℕ, Bool, List, [], ◌∷◌, ◌++◌, Option, Some, None, codes, if◌then◌else◌, slice_get}
 use Rattle.std.specs.List.{flat_map}
 use Rattle.std.specs.Fmt.{decimal}
+use Rattle.md_base.specs.declared.measure.Measure.{Measure}
 use Rattle.md_static.specs.Tables.{Static}
 use Rattle.md_static.specs.declared.entry.Site.{Site}
 use Rattle.md_static.specs.declared.entry.SiteKind.{SiteKind}
@@ -18,6 +19,10 @@ use Rattle.md_render.specs.Words.{clique_words, proc_words, module_words, measur
 
 -- ---- the title
 
+-- a number by a measure, and a procedure's full name
+abbrev pub numbered_words : Static → (words : List ℕ) → Measure → (number proc : ℕ) → List ℕ
+numbered_words s words by n q = words ++ (measure_word by ++ (codes " " ++ (decimal n ++ (codes " " ++ full_name s q))))
+
 abbrev pub title_words : Static → Title → List ℕ
 title_words s title.Menu = codes "mdprof menu"
 title_words s (title.Clique k) = codes "mdprof clique " ++ decimal k
@@ -27,6 +32,8 @@ title_words s (title.Proc q) = codes "mdprof proc " ++ (decimal q ++ (codes " " 
 title_words s title.Modules = codes "mdprof modules"
 title_words s (title.Module k) = codes "mdprof module " ++ module_name s k
 title_words s (title.Hot by n sort) = codes "mdprof hot " ++ (measure_word by ++ (codes " " ++ (decimal n ++ (codes " " ++ sort_word sort))))
+title_words s (title.Context by c q) = numbered_words s (codes "mdprof context ") by c q
+title_words s (title.Callers by q) = numbered_words s (codes "mdprof callers ") by q q
 title_words s (title.Find by text) = codes "mdprof find " ++ (measure_word by ++ (codes " " ++ shown text))
 
 -- ---- the rows

@@ -1,7 +1,7 @@
 // The title of a page.
 ghost use Rattle.std.specs.Prelude.{◌≡◌, ◌++◌, codes, decimal, OnOk};
 ghost use Rattle.md_render.specs.Html.{title_html};
-ghost use Rattle.md_render.specs.Lines.{title_words};
+ghost use Rattle.md_render.specs.Lines.{numbered_words, title_words};
 ghost use Rattle.md_render.specs.Names.{full_name};
 ghost use Rattle.md_render.specs.Words.{measure_word, shown, shown_byte, sort_word, what_word};
 
@@ -33,6 +33,12 @@ pub(crate) fn add_title(
         Title::Module(id) => add_module_title(out, module_name(statics, *id)),
         Title::Hot { by, n, sort } => add_hot(out, *by, *n, *sort),
         Title::Find { by, text } => add_find(out, *by, text.as_bytes()),
+        Title::Context { by, node, proc } => {
+            add_numbered(out, statics, b"mdprof context ", *by, *node, *proc)
+        }
+        Title::Callers { by, id } => {
+            add_numbered(out, statics, b"mdprof callers ", *by, *id, *id)
+        }
     }
 }
 
@@ -106,6 +112,24 @@ fn add_hot(out: &mut Vec<u8>, by: Measure, n: u32, sort: Sort) -> Result<(), All
     add_number(out, b" ", n as u64)?;
     add(out, b" ")?;
     add(out, sort_word(sort))
+}
+
+/// Adds the title of a number by a measure, with a procedure's full name.
+fn add_numbered(
+    out: &mut Vec<u8>,
+    statics: &Statics,
+    words: &[u8],
+    by: Measure,
+    number: u32,
+    proc: u32,
+) -> Result<(), AllocError>
+    ensures { OnOk result (out.new.items ≡ out.old.items ++ numbered_words statics.now words.now by number proc) }
+{
+    add(out, words)?;
+    add(out, measure_word(by))?;
+    add_number(out, b" ", number as u64)?;
+    add(out, b" ")?;
+    add_full_name(out, statics, proc)
 }
 
 /// Adds the title of what has a text in its name.
