@@ -41,6 +41,12 @@ class Check:
     def folder(self, name):
         return f"{ROOT}/crates/{name}"
 
+    def kept(self, name):
+        """Where what was checked of a crate is kept."""
+        kept = f"{self.folder(name)}/out/over/kept"
+        os.makedirs(kept, exist_ok=True)
+        return kept
+
     def rlib(self, name):
         """The built library: the kit's, that of the other clone, or one that is built here."""
         if name not in self.uses:
@@ -51,7 +57,7 @@ class Check:
             return there
         if not os.path.isdir(here):
             print(f"building {name}", flush=True)
-            self.rattle(name, "build", "--statements", "-o", here)
+            self.rattle(name, "build", "--incremental", self.kept(name), "-o", here)
         return here
 
     def is_same(self, name):
@@ -114,9 +120,7 @@ def main():
     if given.program:
         check.program(given.crate)
     else:
-        kept = f"{check.folder(given.crate)}/out/over/kept"
-        os.makedirs(kept, exist_ok=True)
-        check.rattle(given.crate, "check", "--incremental", kept, *flags)
+        check.rattle(given.crate, "check", "--incremental", check.kept(given.crate), *flags)
 
 
 if __name__ == "__main__":

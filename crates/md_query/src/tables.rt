@@ -67,12 +67,7 @@ pub fn context_page(alloc: Global, loaded: &Loaded, by: Measure, id: PdId) -> Re
     Ok(Page::from_parts(title, rows))
 }
 
-fn context_rows(
-    alloc: Global,
-    loaded: &Loaded,
-    by: Measure,
-    id: PdId,
-) -> Result<Vec<Row>, NoMemory>
+fn context_rows(alloc: Global, loaded: &Loaded, by: Measure, id: PdId) -> Result<Vec<Row>, NoMemory>
     requires there { id < length loaded.now.profile.nodes }
     ensures { IfOk result (λ rows. (v : View) → IsFileView loaded.now.profile v → rows.items ≡ table_rows v by (stations_table v by id ∷ callees_table v by id ∷ [])) }
 {
