@@ -8,7 +8,7 @@ use lib.Utf8.{encode}
 use Rattle.form_urlencoded.proofs.OnLiterals.{form_urlencoded_on_literals}
 use Rattle.percent_encoding.proofs.OnLiterals.{percent_encoding_on_literals}
 use Rattle.md_token.specs.Literal.{number_of}
-use Rattle.md_query.specs.Asked.{query_of, Menu, Clique, Procs}
+use Rattle.md_query.specs.Asked.{query_of, table_of, Menu, Clique, Procs}
 use Rattle.md_cost.specs.View.{View}
 use Rattle.md_http.specs.Message.{Html, Refuses, response_of}
 use Rattle.md_http.specs.Response.{asked_by, path_part, query_part, answer_to}
@@ -16,7 +16,7 @@ use Rattle.md_http.specs.declared.message.Refusal.TheVariants.{BadRequest, NotFo
 
 -- what is unfolded to compute on a literal
 unfoldable on_literals : ⊤
-unfolding query_of form_urlencoded_on_literals percent_encoding_on_literals utf8_lossy utf8_valid_len utf8_error_len is_utf8 chars encode number_of
+unfolding query_of table_of form_urlencoded_on_literals percent_encoding_on_literals utf8_lossy utf8_valid_len utf8_error_len is_utf8 chars encode number_of
 on_literals = tt
 
 -- a target ends its path at the first `?`

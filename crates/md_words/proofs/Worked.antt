@@ -8,7 +8,7 @@ use Rattle.form_urlencoded.proofs.OnLiterals.{form_urlencoded_on_literals}
 use Rattle.md_base.specs.declared.measure.Measure.TheVariants.{Words}
 use Rattle.md_token.specs.Literal.{number_of}
 use Rattle.md_query.specs.Asked as query
-use Rattle.md_query.specs.Asked.{query_of}
+use Rattle.md_query.specs.Asked.{query_of, table_of}
 use Rattle.md_words.specs.Form.{form, Check, Run, Report, Page, Gen, Migrate, Feedback, Dump, Undump, Cover, Sum}
 
 -- what is unfolded to compute a command on literals
