@@ -13,7 +13,7 @@ use Rattle.md_words.specs.Form.{form, Check, Run, Report, Page, Gen, Migrate, Fe
 
 -- what is unfolded to compute a command on literals
 unfoldable on_words : ⊤
-unfolding form query_of form_urlencoded_on_literals utf8_lossy utf8_valid_len utf8_error_len is_utf8 chars encode number_of
+unfolding form query_of table_of form_urlencoded_on_literals utf8_lossy utf8_valid_len utf8_error_len is_utf8 chars encode number_of
 on_words = tt
 
 -- ---- options
