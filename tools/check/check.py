@@ -55,10 +55,19 @@ class Check:
         here = f"{self.folder(name)}/out/over/{name}.rlib"
         if self.is_same(name) and os.path.isdir(there):
             return there
-        if not os.path.isdir(here):
+        if not os.path.isdir(here) or self.is_stale(name, here):
             print(f"building {name}", flush=True)
             self.rattle(name, "build", "--incremental", self.kept(name), "-o", here)
         return here
+
+    def is_stale(self, name, here):
+        """Whether a source of a crate, or a library that was built here for it, is newer than the library built of it."""
+        below = [self.rlib(it) for it in self.uses[name] if it in self.uses]
+        times = [os.path.getmtime(it) for it in below if it.startswith(ROOT)]
+        for part in ("src", "specs", "proofs"):
+            for at, _, names in os.walk(f"{self.folder(name)}/{part}"):
+                times += [os.path.getmtime(os.path.join(at, it)) for it in names]
+        return max(times) > os.path.getmtime(here)
 
     def is_same(self, name):
         """Whether both clones have the same sources of a crate and of those below it."""
