@@ -15,6 +15,7 @@ pub mod Simple
 pub mod Leading
 pub mod Staying
 pub mod Passing
+mod WorkedWays
 pub mod Grown
 pub mod Beginning
 pub mod Firsts

@@ -18,7 +18,8 @@ use std::alloc::Global;
 /// to the sink. The output and the end are those of the definition of the run, and the sink, which stood for the empty history
 /// over the program's call sites, stands then for that of the run's events; after want of memory, for that of a front of
 /// them. Time grows with the weight of the run and its ports; memory grows with the depth of calls, the open choices and the
-/// values built, and not with turns or events. `NoMemory` also comes where a run makes 2^64 - 1 steps.
+/// values built, and not with turns or events. `NoMemory` also comes where code, cells, frames, choices or words want a number of
+/// more than 32 bits, and where a run makes 2^64 - 1 steps.
 pub fn interpret<S: PortSink>(
     alloc: Global,
     checked: &Checked,
