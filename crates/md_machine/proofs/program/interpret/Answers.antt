@@ -1,4 +1,4 @@
-use Rattle.md_hlds.specs.Hlds.{Hlds, hlds_of}
+use Rattle.md_hlds.specs.Hlds.{hlds_of}
 use Rattle.md_machine.specs.Standing.{IsOf}
 use Rattle.md_machine.proofs.Executing.{ok_by, on_ok_by, on_err_by}
 use Rattle.md_machine.proofs.program.interpret.Goals as goal
