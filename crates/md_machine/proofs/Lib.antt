@@ -15,10 +15,12 @@ pub mod Simple
 pub mod Leading
 pub mod Staying
 pub mod Passing
-mod WorkedWays
 pub mod Grown
 pub mod Beginning
 pub mod Firsts
 pub mod Room
 pub mod Executing
+pub mod Begun
+pub mod Folding
+pub mod Stepping
 pub mod Resuming

@@ -1,5 +1,4 @@
 pub mod Standing
 pub mod Stacks
 pub mod Running
-pub mod Ways
 pub mod Ran

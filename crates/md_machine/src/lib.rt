@@ -9,7 +9,6 @@ mod rounds;
 mod run;
 mod running;
 mod stacks;
-mod ways;
 
 pub use program::interpret;
 pub use ran::{End, Ran};

@@ -1,5 +1,5 @@
 // The run of a program that the checks accept.
-ghost use Rattle.std.specs.Prelude.{[], IfOk, OnOk, OnErr};
+ghost use Rattle.std.specs.Prelude.{[], ◌<◌, IfOk, OnOk, OnErr};
 ghost use Rattle.md_hlds.specs.Hlds.{hlds_of};
 ghost use Rattle.md_hlds.specs.Run.{run};
 ghost use Rattle.md_events.specs.History.{history};
@@ -9,8 +9,10 @@ ghost use Rattle.md_machine.specs.Ran.{CanBeRun, IsRunOf, StandsForFront};
 use crate::ran::Ran;
 use crate::run::execute;
 use md_base::NoMemory;
+use law_placed::code_is_placed;
 use md_compile::compile;
 use md_det::Checked;
+use md_fold::fold;
 use md_trace::PortSink;
 use std::alloc::Global;
 
@@ -36,5 +38,13 @@ pub fn interpret<S: PortSink>(
     // A checked program has no fault of modes, as this call tells.
     let _ = checked.program();
     let code = compile(alloc, checked)?;
-    execute(alloc, &code, budget, sink)
+    code_is_placed();
+    fits(code.reach);
+    let folded = fold(alloc, code)?;
+    execute(alloc, &folded, budget, sink)
 }
+
+/// A number of 32 bits is below 2^32.
+fn fits(number: u32)
+    ensures { number < 4294967296 }
+{}
