@@ -8,8 +8,8 @@ ghost use Rattle.md_machine.specs.Ran.{CanBeRun, IsRunOf, StandsForFront};
 
 use crate::ran::Ran;
 use crate::run::execute;
-use md_base::NoMemory;
 use law_placed::code_is_placed;
+use md_base::NoMemory;
 use md_compile::compile;
 use md_det::Checked;
 use md_fold::fold;

@@ -1,5 +1,4 @@
 use Rattle.md_hlds.specs.Hlds.{hlds_of}
-use Rattle.md_flat.specs.Placed.{ArePlaced}
 use Rattle.md_machine.specs.Running.{IsFoldedOf}
 use Rattle.md_machine.proofs.Executing.{ok_by, on_ok_by, on_err_by}
 use Rattle.md_machine.proofs.program.interpret.Goals as goal
