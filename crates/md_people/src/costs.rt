@@ -104,7 +104,7 @@ fn costs_line(
 }
 
 /// Adds a count and its share in the whole.
-pub(crate) fn push_counted(cells: &mut Vec<Cell>, count: u128, whole: u64) -> Result<(), NoMemory>
+pub fn push_counted(cells: &mut Vec<Cell>, count: u128, whole: u64) -> Result<(), NoMemory>
     requires { count < 2 ^ 118 }
     ensures { OnOk result (cells.new.items ≡ cells.old.items ++ counted_cells count whole) }
 {
@@ -115,7 +115,7 @@ pub(crate) fn push_counted(cells: &mut Vec<Cell>, count: u128, whole: u64) -> Re
 }
 
 /// Adds a cell with these words.
-pub(crate) fn push_words(cells: &mut Vec<Cell>, words: &[u8]) -> Result<(), NoMemory>
+pub fn push_words(cells: &mut Vec<Cell>, words: &[u8]) -> Result<(), NoMemory>
     ensures { OnOk result (cells.new.items ≡ cells.old.items ++ words.now ∷ []) }
 {
     let alloc: Global = *cells.allocator();
@@ -124,7 +124,7 @@ pub(crate) fn push_words(cells: &mut Vec<Cell>, words: &[u8]) -> Result<(), NoMe
 }
 
 /// A cell with these words.
-pub(crate) fn words_cell(alloc: Global, words: &[u8]) -> Result<Cell, NoMemory>
+pub fn words_cell(alloc: Global, words: &[u8]) -> Result<Cell, NoMemory>
     ensures { IfOk result (λ cell. cell ≡ words.now) }
 {
     let bytes = Vec::from_slice(alloc, words)?;

@@ -1,0 +1,11 @@
+//! The cliques of a profile as a tree for people: a row for each clique whose total is large enough, below its parent.
+#![tactic(auto)]
+
+mod branch;
+mod child;
+mod entry;
+mod row;
+mod scale;
+mod tree;
+
+pub use tree::tree_table;
