@@ -25,6 +25,8 @@ pub(crate) fn children_of(
     ensures children { IfOk result (λ children. AreChildren (clique_count loaded.now.cliques) children.items) }
     ensures view { IfOk result (λ children. (v : View) → IsFileView loaded.now.profile v → AreChildrenOf v by children.items) }
 {
+    // it is valid and has a tree, which `profile` says
+    let _profile = loaded.profile();
     let mut children = counted(alloc, loaded, by)?;
     children.sort_unstable();
     Ok(children)

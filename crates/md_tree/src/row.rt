@@ -63,6 +63,8 @@ fn clique_own(loaded: &Loaded, by: Measure, clique: u32) -> u128
     requires there { clique < clique_count loaded.now.cliques }
     ensures { (v : View) → IsFileView loaded.now.profile v → result ≡ clique_own v by clique }
 {
+    // it is valid and has a tree, which `profile` says
+    let _profile = loaded.profile();
     let mut sum = 0;
     for node in loaded.members(clique) {
         sum += loaded.node_own(PdId::new(*node)).of(by) as u128;

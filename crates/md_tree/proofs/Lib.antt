@@ -1,0 +1,6 @@
+pub mod Left
+pub mod Parents
+pub mod Ranges
+pub mod Sorting
+pub mod Rows
+pub mod Work
