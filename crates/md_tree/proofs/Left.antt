@@ -44,6 +44,7 @@ module _ (cs : List Child) (b : Branch) (c : Child) (there : b.place < length cs
   is_next its = record {
     there = there;
     at = slice_get_read cs (length cs) b.place c refl there at;
+    its = its;
     left =
         ap (λ (xs : List Child). filter (λ (d : Child). eqb d.0 b.parent) xs) (drop_more cs b.place c there)
         ∙ ap (λ (x : Child). filter (λ (d : Child). eqb d.0 b.parent) (x ∷ drop (b.place + 1) cs)) (sym at)

@@ -4,3 +4,4 @@ pub mod Ranges
 pub mod Sorting
 pub mod Rows
 pub mod Work
+pub mod Steps

@@ -1,5 +1,5 @@
 -- The children of all cliques, sorted: those of each clique stand in the order of the tree.
-use Rattle.std.proofs.Common.{◌≡◌, ℕ, zero, suc, ◌+◌, ◌-◌, ◌<◌, ◌≤◌, Bool, true, false, ◌&&◌, eqb, ltb, cond, List, [], ◌∷◌, length, get_or, map, refl, sym, ap, ◌∙◌, inl, inr, arith}
+use Rattle.std.proofs.Common.{◌≡◌, ℕ, zero, suc, ◌+◌, ◌-◌, ◌^◌, ◌<◌, ◌≤◌, Bool, true, false, ◌&&◌, eqb, ltb, cond, List, [], ◌∷◌, length, get_or, map, refl, sym, ap, ◌∙◌, inl, inr, arith}
 use Rattle.std.specs.Prelude.{All}
 use Rattle.std.specs.List.{filter, range_with_len, sum_by}
 use Rattle.std.specs.List.Sorted.{IsNonDecreasingBy, IsPermutation, IsSortedBy}
@@ -151,9 +151,10 @@ sum_through {X} f g h (x ∷ xs) all =
 
 -- ---- what a sort of all cliques but clique 0 gives
 
-module _ (n : ℕ) (some : 0 < n) (before after : List Child) (are : map (λ (c : Child). c.2) before ≡ range_with_len 1 (n - 1)) (lower : All (λ (c : Child). (c.0 < c.2) × (c.2 < n)) before) (moved : IsPermutation before after) (sorted : IsSortedBy less after) where
+module _ (n : ℕ) (some : 0 < n) (small : n < 2 ^ 32) (before after : List Child) (are : map (λ (c : Child). c.2) before ≡ range_with_len 1 (n - 1)) (lower : All (λ (c : Child). (c.0 < c.2) × (c.2 < n)) before) (moved : IsPermutation before after) (sorted : IsSortedBy less after) where
   pub sorted_children : AreChildren n after
   sorted_children = record {
+    small = small;
     few =
         (let size = length_permutation before after moved in
         let each : length (map (λ (c : Child). c.2) before) ≡ n - 1 = ap (λ (xs : List ℕ). length xs) are ∙ length-range_with_len 1 (n - 1) in

@@ -54,6 +54,7 @@ past_hidden b total = record b { place = b.place + 1; hidden = b.hidden + 1; sum
 pub record IsNext (cs : List Child) (b : Branch) (c : Child) : Type 0 where
   pub there : b.place < length cs
   pub at : slice_get cs b.place ≡ Some c
+  pub its : c.0 ≡ b.parent
   pub left : left_of cs b ≡ c ∷ left_of cs (past b)
 
 -- ---- how much is left to do

@@ -1,5 +1,5 @@
 -- The children of all cliques, in one list by their parents.
-use Rattle.std.specs.Prelude.{ℕ, ◌≡◌, ◌<◌, ◌==◌, All, List, length, map}
+use Rattle.std.specs.Prelude.{ℕ, ◌≡◌, ◌<◌, ◌^◌, ◌==◌, All, List, length, map}
 use Rattle.std.specs.List.{filter}
 use Rattle.std.specs.List.Sorted.{IsNonDecreasingBy}
 use Rattle.std.specs.declared.cmp.Reverse.{Reverse}
@@ -15,8 +15,9 @@ Child = ℕ × Reverse ℕ × ℕ
 abbrev pub cliques_below : List Child → (parent : ℕ) → List ℕ
 cliques_below cs k = map (λ c. c.2) (filter (λ c. c.0 == k) cs)
 
--- the list of a tree of so many cliques: fewer than these, by their parents, which have lower numbers
+-- the list of a tree of so many cliques, of which there are fewer than 2 ^ 32: it has fewer, by their parents, which have lower numbers
 pub record AreChildren (count : ℕ) (cs : List Child) : Type 0 where
+  pub small : count < 2 ^ 32
   pub few : length cs < count
   pub by_parent : IsNonDecreasingBy (λ c. c.0) cs
   pub lower : All (λ c. (c.0 < c.2) × (c.2 < count)) cs

@@ -1,5 +1,5 @@
 // The children of all cliques.
-ghost use Rattle.std.specs.Prelude.{◌≡◌, ◌<◌, ◌-◌, All, IfOk, map};
+ghost use Rattle.std.specs.Prelude.{◌≡◌, ◌<◌, ◌-◌, ◌^◌, All, IfOk, map};
 ghost use Rattle.std.specs.List.{range_with_len};
 ghost use Rattle.md_clique.specs.Cliques.{clique_count};
 ghost use Rattle.md_cost.specs.FileView.{IsFileView};
@@ -34,6 +34,7 @@ pub(crate) fn children_of(
 
 /// Each clique but clique 0 with its parent and its total.
 fn counted(alloc: Global, loaded: &Loaded, by: Measure) -> Result<Vec<Child>, NoMemory>
+    ensures few { clique_count loaded.now.cliques < 2 ^ 32 }
     ensures cliques { IfOk result (λ children. map (λ c. c.2) children.items ≡ range_with_len 1 (clique_count loaded.now.cliques - 1)) }
     ensures lower { IfOk result (λ children. All (λ c. (c.0 < c.2) × (c.2 < clique_count loaded.now.cliques)) children.items) }
     ensures view { IfOk result (λ children. (v : View) → IsFileView loaded.now.profile v → All (λ c. (c.0 ≡ parent_of v c.2) × (c.1.0 ≡ clique_total v by c.2)) children.items) }

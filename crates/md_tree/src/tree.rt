@@ -49,11 +49,11 @@ fn tree_rows(
     // it is valid and has a tree, which `profile` says
     let _profile = loaded.profile();
     let mut rows = Vec::new(alloc);
-    let mut open = Vec::new(alloc);
+    let mut branches = Vec::new(alloc);
     rows.push(clique_row(alloc, loaded, scale, 0, 0)?)?;
-    open.push(branch_below(children, 0, 1))?;
-    while let Some(branch) = open.pop() {
-        go_on(&mut rows, &mut open, loaded, scale, children, branch)?;
+    branches.push(branch_below(children, 0, 1))?;
+    while let Some(branch) = branches.pop() {
+        go_on(&mut rows, &mut branches, loaded, scale, children, branch)?;
     }
     Ok(rows)
 }
@@ -62,7 +62,7 @@ fn tree_rows(
 /// have none.
 fn go_on(
     rows: &mut Vec<Line>,
-    open: &mut Vec<Branch>,
+    branches: &mut Vec<Branch>,
     loaded: &Loaded,
     scale: Scale,
     children: &[Child],
@@ -72,10 +72,10 @@ fn go_on(
     requires children { AreChildren (clique_count loaded.now.cliques) children.now }
     requires view { (v : View) → IsFileView loaded.now.profile v → AreChildrenOf v scale.by children.now }
     requires branch { IsBranch (clique_count loaded.now.cliques) children.now branch }
-    requires open { All (IsBranch (clique_count loaded.now.cliques) children.now) open.old.items }
-    ensures rows { (v : View) → IsFileView loaded.now.profile v → OnOk result (rows.new.items ++ open_rows v scale.by scale.least children.now open.new.items ≡ rows.old.items ++ (branch_rows v scale.by scale.least children.now branch ++ open_rows v scale.by scale.least children.now open.old.items)) }
-    ensures open { OnOk result (All (IsBranch (clique_count loaded.now.cliques) children.now) open.new.items) }
-    ensures work { OnOk result (open_work children.now (clique_count loaded.now.cliques) open.new.items < branch_work children.now (clique_count loaded.now.cliques) branch + open_work children.now (clique_count loaded.now.cliques) open.old.items) }
+    requires branches { All (IsBranch (clique_count loaded.now.cliques) children.now) branches.old.items }
+    ensures rows { (v : View) → IsFileView loaded.now.profile v → OnOk result (rows.new.items ++ open_rows v scale.by scale.least children.now branches.new.items ≡ rows.old.items ++ (branch_rows v scale.by scale.least children.now branch ++ open_rows v scale.by scale.least children.now branches.old.items)) }
+    ensures branches { OnOk result (All (IsBranch (clique_count loaded.now.cliques) children.now) branches.new.items) }
+    ensures work { OnOk result (open_work children.now (clique_count loaded.now.cliques) branches.new.items < branch_work children.now (clique_count loaded.now.cliques) branch + open_work children.now (clique_count loaded.now.cliques) branches.old.items) }
 {
     // it is valid and has a tree, which `profile` says
     let _profile = loaded.profile();
@@ -85,10 +85,10 @@ fn go_on(
     if is_shown(scale, total.0) {
         let row = clique_row(*rows.allocator(), loaded, scale, branch.level, clique)?;
         rows.push(row)?;
-        open.push(past(branch))?;
-        open.push(branch_below(children, clique, branch.level + 1))?;
+        branches.push(past(branch))?;
+        branches.push(branch_below(children, clique, branch.level + 1))?;
     } else {
-        open.push(past_hidden(branch, total.0))?;
+        branches.push(past_hidden(branch, total.0))?;
     }
     Ok(())
 }

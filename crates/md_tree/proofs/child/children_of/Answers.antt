@@ -11,7 +11,7 @@ returns-clause-children c =
     let sound = (valid_sound l.profile c.profile-profile.ensures.valid).links in
     let some = some_cliques l.profile sound l.cliques l.entries c.profile-profile.ensures.loaded.tree in
     let told = c.in_ok-children.ensures in
-    sorted_children (clique_count l.cliques) some c.in_ok-children.children.items c.sort_unstable.new.self.items told.cliques told.lower c.sort_unstable.ensures.permutation c.sort_unstable.ensures.sorted
+    sorted_children (clique_count l.cliques) some c.counted.ensures.few c.in_ok-children.children.items c.sort_unstable.new.self.items told.cliques told.lower c.sort_unstable.ensures.permutation c.sort_unstable.ensures.sorted
 
 pub returns-clause-view : goal.returns-clause-view
 returns-clause-view c = λ v viewed.
@@ -21,4 +21,4 @@ returns-clause-view c = λ v viewed.
     let some = some_cliques l.profile sound l.cliques l.entries tree in
     let count = ap (λ (ks : List ℕ). clique_count ks) (sym (view_cliques l.profile sound l.cliques l.entries tree v viewed)) in
     let told = c.in_ok-children.ensures in
-    sorted_of_view (clique_count l.cliques) some c.in_ok-children.children.items c.sort_unstable.new.self.items told.cliques told.lower c.sort_unstable.ensures.permutation c.sort_unstable.ensures.sorted v c.args.by count (told.view v viewed)
+    sorted_of_view (clique_count l.cliques) some c.counted.ensures.few c.in_ok-children.children.items c.sort_unstable.new.self.items told.cliques told.lower c.sort_unstable.ensures.permutation c.sort_unstable.ensures.sorted v c.args.by count (told.view v viewed)

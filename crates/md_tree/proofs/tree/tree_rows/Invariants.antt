@@ -10,9 +10,9 @@ use Rattle.md_tree.proofs.tree.tree_rows.Given as goal
 -- the rows so far, and those of the branches under way
 abbrev pub invariant-loop-branch : goal.invariant-loop-branch
 invariant-loop-branch l = record {
-  rows : (v : View) → IsFileView l.loaded.profile v → l.rows.items ++ open_rows v l.scale.by l.scale.least l.children l.open.items ≡ rows_from v l.scale.by l.scale.least (clique_count v.cliques) 0 0;
-  open : All (IsBranch (clique_count l.loaded.cliques) l.children) l.open.items;
+  rows : (v : View) → IsFileView l.loaded.profile v → l.rows.items ++ open_rows v l.scale.by l.scale.least l.children l.branches.items ≡ rows_from v l.scale.by l.scale.least (clique_count v.cliques) 0 0;
+  branches : All (IsBranch (clique_count l.loaded.cliques) l.children) l.branches.items;
 }
 
 abbrev pub decreases-loop-branch : goal.decreases-loop-branch
-decreases-loop-branch l = open_work l.children (clique_count l.loaded.cliques) l.open.items
+decreases-loop-branch l = open_work l.children (clique_count l.loaded.cliques) l.branches.items
