@@ -7,9 +7,9 @@ use Rattle.std.proofs.lemmas.Bool.{eq-eqb, eqb-true, ltb-true, ltb-false, ne_eqb
 use Rattle.std.proofs.lemmas.List.{drop_more, get_or-drop, get_or-take, get_or_default, length-drop, length-take-le, take-append-drop}
 use Rattle.std.proofs.lemmas.List.Elements.{All-head, All-tail, filter-append}
 use Rattle.std.proofs.lemmas.Option.{get_or_from_slice_get, slice_get_read}
-use Rattle.md_tree.specs.Branches.{IsNext, left_of, past}
-use Rattle.md_tree.specs.Children.{Child, cliques_below}
-use Rattle.md_tree.specs.declared.branch.Branch.{Branch}
+use Rattle.md_tree.specs.declared.rest.Rest.{Rest}
+use Rattle.md_tree.specs.Children.{Child}
+use Rattle.md_tree.specs.Rests.{IsNext, left_of}
 
 -- no child of a clique is among those of others
 none_of : (k : ℕ) (cs : List Child) → All (λ (c : Child). c.0 ≡ k → ⊥) cs → filter (λ (c : Child). eqb c.0 k) cs ≡ []
@@ -38,34 +38,34 @@ module _ (k place : ℕ) (cs : List Child) (within : place ≤ length cs) where
       ∙ filter-append (λ (c : Child). eqb c.0 k) (take place cs) (drop place cs)
       ∙ ap (λ (xs : List Child). xs ++ filter (λ (c : Child). eqb c.0 k) (drop place cs)) none)
 
-module _ (cs : List Child) (b : Branch) (c : Child) (there : b.place < length cs) (at : c ≡ get_or cs b.place c) where
+module _ (cs : List Child) (r : Rest) (c : Child) (there : r.place < length cs) (at : c ≡ get_or cs r.place c) where
   -- the child at its place is the next one
-  pub is_next : c.0 ≡ b.parent → IsNext cs b c
+  pub is_next : c.0 ≡ r.parent → IsNext cs r c
   is_next its = record {
     there = there;
-    at = slice_get_read cs (length cs) b.place c refl there at;
+    at = slice_get_read cs (length cs) r.place c refl there at;
     its = its;
     left =
-        ap (λ (xs : List Child). filter (λ (d : Child). eqb d.0 b.parent) xs) (drop_more cs b.place c there)
-        ∙ ap (λ (x : Child). filter (λ (d : Child). eqb d.0 b.parent) (x ∷ drop (b.place + 1) cs)) (sym at)
-        ∙ rw (eq-eqb c.0 b.parent its) refl;
+        ap (λ (xs : List Child). filter (λ (d : Child). eqb d.0 r.parent) xs) (drop_more cs r.place c there)
+        ∙ ap (λ (x : Child). filter (λ (d : Child). eqb d.0 r.parent) (x ∷ drop (r.place + 1) cs)) (sym at)
+        ∙ rw (eq-eqb c.0 r.parent its) refl;
   }
 
   -- where another one's stands there, none is left
-  pub none_left : IsNonDecreasingBy (λ (d : Child). d.0) cs → All (λ (d : Child). b.parent ≤ d.0) (drop b.place cs) → (c.0 ≡ b.parent → ⊥) → left_of cs b ≡ []
+  pub none_left : IsNonDecreasingBy (λ (d : Child). d.0) cs → All (λ (d : Child). r.parent ≤ d.0) (drop r.place cs) → (c.0 ≡ r.parent → ⊥) → left_of cs r ≡ []
   none_left up low other =
-      let size = length-drop b.place cs in
-      let begin : b.place + 0 ≡ b.place = omega arith in
-      let here : (get_or (drop b.place cs) 0 c).0 ≡ c.0 = ap (λ (x : Child). x.0) (get_or-drop b.place cs 0 c ∙ ap (λ (n : ℕ). get_or cs n c) begin ∙ sym at) in
-      let first : b.parent ≤ (get_or (drop b.place cs) 0 c).0 = low 0 c (omega arith) in
-      none_of b.parent (drop b.place cs) (λ i d lt e.
-      (let later : (get_or cs b.place d).0 ≤ (get_or cs (b.place + i) d).0 = up b.place (b.place + i) d (omega arith) (omega arith) in
-      let from : (get_or cs b.place d).0 ≡ c.0 = ap (λ (x : Child). x.0) (get_or_default cs b.place d c there ∙ sym at) in
-      let to : (get_or (drop b.place cs) i d).0 ≡ (get_or cs (b.place + i) d).0 = ap (λ (x : Child). x.0) (get_or-drop b.place cs i d) in
+      let size = length-drop r.place cs in
+      let begin : r.place + 0 ≡ r.place = omega arith in
+      let here : (get_or (drop r.place cs) 0 c).0 ≡ c.0 = ap (λ (x : Child). x.0) (get_or-drop r.place cs 0 c ∙ ap (λ (n : ℕ). get_or cs n c) begin ∙ sym at) in
+      let first : r.parent ≤ (get_or (drop r.place cs) 0 c).0 = low 0 c (omega arith) in
+      none_of r.parent (drop r.place cs) (λ i d lt e.
+      (let later : (get_or cs r.place d).0 ≤ (get_or cs (r.place + i) d).0 = up r.place (r.place + i) d (omega arith) (omega arith) in
+      let from : (get_or cs r.place d).0 ≡ c.0 = ap (λ (x : Child). x.0) (get_or_default cs r.place d c there ∙ sym at) in
+      let to : (get_or (drop r.place cs) i d).0 ≡ (get_or cs (r.place + i) d).0 = ap (λ (x : Child). x.0) (get_or-drop r.place cs i d) in
       other (omega arith)))
 
 -- what holds of each child holds of the next one
-pub of_next : (P : Child → Type 0) (cs : List Child) (b : Branch) (c : Child) → All P cs → IsNext cs b c → P c
-of_next P cs b c all next =
-    let is : get_or cs b.place c ≡ c = get_or_from_slice_get cs b.place c c next.at in
-    rw is at (all b.place c next.there)
+pub of_next : (P : Child → Type 0) (cs : List Child) (r : Rest) (c : Child) → All P cs → IsNext cs r c → P c
+of_next P cs r c all next =
+    let is : get_or cs r.place c ≡ c = get_or_from_slice_get cs r.place c c next.at in
+    rw is at (all r.place c next.there)

@@ -4,4 +4,5 @@ pub mod Ranges
 pub mod Sorting
 pub mod Rows
 pub mod Work
+pub mod RestSteps
 pub mod Steps

@@ -5,8 +5,8 @@ use Rattle.std.specs.List.{sum_by}
 use Rattle.std.proofs.lemmas.Bool.{cases_eq, eq-eqb, ne_eqb}
 use Rattle.std.proofs.lemmas.List.Elements.{All-cons, All-head, All-nil, All-tail, All-weaker}
 use Rattle.std.proofs.lemmas.List.Sums.{sum_by-cons}
-use Rattle.md_tree.specs.Branches.{work_below}
 use Rattle.md_tree.specs.Children.{Child, cliques_below}
+use Rattle.md_tree.specs.Rests.{work_below}
 
 sum_agree : (f g : ℕ → ℕ) (ks : List ℕ) → All (λ k. f k ≡ g k) ks → sum_by f ks ≡ sum_by g ks
 sum_agree f g [] all = refl

@@ -1,5 +1,5 @@
--- Branches of the tree under way: the children of a clique that are still to be looked at, and what was left out of those before.
-use Rattle.std.specs.Prelude.{ℕ, zero, suc, ◌≡◌, ◌<◌, ◌≤◌, ◌+◌, ◌*◌, ◌^◌, ◌==◌, All, not, List, [], ◌∷◌, ◌++◌, length, map, reverse, drop, slice_get, Some, sum_by, codes, if◌then◌else◌}
+-- Branches of the tree under way: the children of a clique that are still to be looked at, and how many of those before have no row.
+use Rattle.std.specs.Prelude.{ℕ, ◌≤◌, ◌+◌, ◌*◌, ◌^◌, ◌==◌, not, List, [], ◌∷◌, ◌++◌, length, reverse, sum_by, codes, if◌then◌else◌}
 use Rattle.std.specs.Fmt.{decimal}
 use Rattle.std.specs.List.{filter, flat_map}
 use Rattle.md_base.specs.declared.measure.Measure.{Measure}
@@ -11,14 +11,8 @@ use Rattle.md_people.specs.Costs.{counted_cells, line_of}
 use Rattle.md_people.specs.Counts.{whole_of}
 use Rattle.md_people.specs.Tree.{clique_total, is_shown, rows_from}
 use Rattle.md_tree.specs.declared.branch.Branch.{Branch}
-use Rattle.md_tree.specs.Children.{Child, cliques_below}
-
--- the children that are left
-abbrev pub left_of : List Child → Branch → List Child
-left_of cs b = filter (λ c. c.0 == b.parent) (drop b.place cs)
-
-abbrev pub cliques_left : List Child → Branch → List ℕ
-cliques_left cs b = map (λ c. c.2) (left_of cs b)
+use Rattle.md_tree.specs.Children.{Child}
+use Rattle.md_tree.specs.Rests.{IsRest, cliques_left, past, rest_work}
 
 -- the row of so many children that have none of their own, with the sum of their totals; where there are none there is no row
 abbrev pub more_row : (whole level count sum : ℕ) → LineCells
@@ -37,44 +31,25 @@ rows_of_left v by least level n sum ks =
     ++ more_of v by level (n + length (hidden_among v by least ks)) (sum + sum_by (clique_total v by) (hidden_among v by least ks))
 
 abbrev pub branch_rows : View → Measure → (least : ℕ) → List Child → Branch → List LineCells
-branch_rows v by least cs b = rows_of_left v by least b.level b.hidden b.sum (cliques_left cs b)
+branch_rows v by least cs b = rows_of_left v by least b.level b.hidden b.sum (cliques_left cs b.rest)
 
 -- of branches under way the last one comes first
 abbrev pub open_rows : View → Measure → (least : ℕ) → List Child → List Branch → List LineCells
 open_rows v by least cs bs = flat_map (branch_rows v by least cs) (reverse bs)
 
--- past the child at its place, which has a row of its own, or none
-abbrev pub past : Branch → Branch
-past b = record b { place = b.place + 1 }
+-- past the child at its place: it has a row of its own, or none
+abbrev pub past_shown : Branch → Branch
+past_shown b = record b { rest = past b.rest }
 
 abbrev pub past_hidden : Branch → (total : ℕ) → Branch
-past_hidden b total = record b { place = b.place + 1; hidden = b.hidden + 1; sum = b.sum + total }
-
--- the child that stands at its place is the first that is left
-pub record IsNext (cs : List Child) (b : Branch) (c : Child) : Type 0 where
-  pub there : b.place < length cs
-  pub at : slice_get cs b.place ≡ Some c
-  pub its : c.0 ≡ b.parent
-  pub left : left_of cs b ≡ c ∷ left_of cs (past b)
-
--- ---- how much is left to do
-
--- a clique with all that is below it, in so many levels
-abbrev pub work_below : List Child → (levels : ℕ) → ℕ → ℕ
-work_below cs zero k = 0
-work_below cs (suc n) k = 2 + sum_by (work_below cs n) (cliques_below cs k)
-
-abbrev pub branch_work : List Child → (levels : ℕ) → Branch → ℕ
-branch_work cs n b = 1 + sum_by (work_below cs n) (cliques_left cs b)
+past_hidden b total = record b { rest = past b.rest; hidden = b.hidden + 1; sum = b.sum + total }
 
 abbrev pub open_work : List Child → (levels : ℕ) → List Branch → ℕ
-open_work cs n bs = sum_by (branch_work cs n) bs
+open_work cs n bs = sum_by (λ b. rest_work cs n b.rest) bs
 
--- a branch of a tree of so many cliques: before its place there are no more of its children than were looked at
+-- a branch of a tree of so many cliques: no more of its children have no row than stand before its place
 pub record IsBranch (count : ℕ) (cs : List Child) (b : Branch) : Type 0 where
-  pub parent : b.parent < count
-  pub place : b.place ≤ length cs
-  pub level : b.level ≤ b.parent + 1
-  pub past : All (λ c. b.parent ≤ c.0) (drop b.place cs)
-  pub hidden : b.hidden ≤ b.place
+  pub rest : IsRest count cs b.rest
+  pub level : b.level ≤ b.rest.parent + 1
+  pub hidden : b.hidden ≤ b.rest.place
   pub sum : b.sum ≤ b.hidden * 2 ^ 64

@@ -1,79 +1,56 @@
 // Branches of the tree under way.
-ghost use Rattle.std.specs.Prelude.{◌≡◌, ◌<◌, ◌≤◌, ◌+◌, ◌^◌, [], All, MatchOption, drop, length};
+ghost use Rattle.std.specs.Prelude.{◌≡◌, ◌<◌, ◌+◌, ◌^◌};
 ghost use Rattle.std.specs.List.Sorted.{IsNonDecreasingBy};
-ghost use Rattle.md_tree.specs.Branches.{IsNext, cliques_left, left_of, past, past_hidden};
-ghost use Rattle.md_tree.specs.Children.{cliques_below};
+ghost use Rattle.md_tree.specs.Branches.{past_hidden, past_shown};
+ghost use Rattle.md_tree.specs.Rests.{IsWhole};
 
 use crate::child::Child;
+use crate::rest::{Rest, past, rest_below};
 
-/// The children of a clique that are still to be looked at: those in the list of all children from a place on. Of those before it so
-/// many have no row, with this sum of totals.
+/// The children of a clique that are still to be looked at, at their level. Of those before so many have no row, with this sum of
+/// totals.
 #[derive(Clone, Copy)]
 pub(crate) struct Branch {
-    pub parent: u32,
+    pub rest: Rest,
     pub level: u32,
-    pub place: usize,
     pub hidden: u32,
     pub sum: u128,
 }
 
-/// The children of a clique, at this level.
+/// All children of a clique, at this level.
 pub(crate) fn branch_below(children: &[Child], parent: u32, level: u32) -> Branch
     requires by_parent { IsNonDecreasingBy (λ c. c.0) children.now }
-    ensures parent { result.parent ≡ parent }
-    ensures level { result.level ≡ level }
-    ensures hidden { result.hidden ≡ 0 }
-    ensures sum { result.sum ≡ 0 }
-    ensures place { result.place ≤ length children.now }
-    ensures past { All (λ c. parent ≤ c.0) (drop result.place children.now) }
-    ensures cliques { cliques_left children.now result ≡ cliques_below children.now parent }
+    ensures rest { IsWhole children.now parent result.rest }
+    ensures branch { result ≡ record { rest = result.rest; level = level; hidden = 0; sum = 0 } }
 {
     Branch {
-        parent,
+        rest: rest_below(children, parent),
         level,
-        place: children.partition_point(|child| child.0 < parent),
         hidden: 0,
         sum: 0,
     }
 }
 
-/// The first child that is left.
-pub(crate) fn next_child(children: &[Child], branch: Branch) -> Option<Child>
-    requires by_parent { IsNonDecreasingBy (λ c. c.0) children.now }
-    requires past { All (λ c. branch.parent ≤ c.0) (drop branch.place children.now) }
-    ensures { MatchOption result (left_of children.now branch ≡ []) (λ c. IsNext children.now branch c) }
-{
-    if branch.place >= children.len() {
-        return None;
-    }
-    let child = children[branch.place];
-    if child.0 == branch.parent {
-        Some(child)
-    } else {
-        None
-    }
-}
-
 /// The branch past a child that has a row.
-pub(crate) fn past(branch: Branch) -> Branch
-    requires { branch.place + 1 < 2 ^ 64 }
-    ensures { result ≡ past branch }
+pub(crate) fn past_shown(branch: Branch) -> Branch
+    requires { branch.rest.place + 1 < 2 ^ 64 }
+    ensures { result ≡ past_shown branch }
 {
     Branch {
-        place: branch.place + 1,
+        rest: past(branch.rest),
         ..branch
     }
 }
 
 /// The branch past a child of this total that has no row.
 pub(crate) fn past_hidden(branch: Branch, total: u64) -> Branch
-    requires place { branch.place + 1 < 2 ^ 64 }
+    requires place { branch.rest.place + 1 < 2 ^ 64 }
     requires hidden { branch.hidden + 1 < 2 ^ 32 }
     requires sum { branch.sum + total < 2 ^ 128 }
     ensures { result ≡ past_hidden branch total }
 {
     Branch {
-        place: branch.place + 1,
+        rest: past(branch.rest),
         hidden: branch.hidden + 1,
         sum: branch.sum + total as u128,
         ..branch

@@ -4,6 +4,7 @@
 mod branch;
 mod child;
 mod entry;
+mod rest;
 mod row;
 mod scale;
 mod tree;

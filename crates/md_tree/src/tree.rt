@@ -5,11 +5,13 @@ ghost use Rattle.md_cost.specs.FileView.{IsFileView};
 ghost use Rattle.md_cost.specs.View.{View};
 ghost use Rattle.md_people.specs.Counts.{whole_of};
 ghost use Rattle.md_people.specs.Tree.{rows_from, tree_table};
-ghost use Rattle.md_tree.specs.Branches.{IsBranch, branch_rows, branch_work, open_rows, open_work};
+ghost use Rattle.md_tree.specs.Branches.{IsBranch, branch_rows, open_rows, open_work};
 ghost use Rattle.md_tree.specs.Children.{AreChildren, AreChildrenOf};
+ghost use Rattle.md_tree.specs.Rests.{rest_work};
 
-use crate::branch::{Branch, branch_below, next_child, past, past_hidden};
+use crate::branch::{Branch, branch_below, past_hidden, past_shown};
 use crate::child::{Child, children_of};
+use crate::rest::next_child;
 use crate::row::{clique_row, is_shown, push_more, tree_heading};
 use crate::scale::{Scale, scale_of};
 use md_base::{Measure, NoMemory};
@@ -75,17 +77,17 @@ fn go_on(
     requires branches { All (IsBranch (clique_count loaded.now.cliques) children.now) branches.old.items }
     ensures rows { (v : View) → IsFileView loaded.now.profile v → OnOk result (rows.new.items ++ open_rows v scale.by scale.least children.now branches.new.items ≡ rows.old.items ++ (branch_rows v scale.by scale.least children.now branch ++ open_rows v scale.by scale.least children.now branches.old.items)) }
     ensures branches { OnOk result (All (IsBranch (clique_count loaded.now.cliques) children.now) branches.new.items) }
-    ensures work { OnOk result (open_work children.now (clique_count loaded.now.cliques) branches.new.items < branch_work children.now (clique_count loaded.now.cliques) branch + open_work children.now (clique_count loaded.now.cliques) branches.old.items) }
+    ensures work { OnOk result (open_work children.now (clique_count loaded.now.cliques) branches.new.items < rest_work children.now (clique_count loaded.now.cliques) branch.rest + open_work children.now (clique_count loaded.now.cliques) branches.old.items) }
 {
     // it is valid and has a tree, which `profile` says
     let _profile = loaded.profile();
-    let Some((_parent, total, clique)) = next_child(children, branch) else {
+    let Some((_parent, total, clique)) = next_child(children, branch.rest) else {
         return push_more(rows, scale, branch.level, branch.hidden, branch.sum);
     };
     if is_shown(scale, total.0) {
         let row = clique_row(*rows.allocator(), loaded, scale, branch.level, clique)?;
         rows.push(row)?;
-        branches.push(past(branch))?;
+        branches.push(past_shown(branch))?;
         branches.push(branch_below(children, clique, branch.level + 1))?;
     } else {
         branches.push(past_hidden(branch, total.0))?;
