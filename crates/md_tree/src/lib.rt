@@ -4,9 +4,11 @@
 mod branch;
 mod child;
 mod entry;
+mod picture;
 mod rest;
 mod row;
 mod scale;
 mod tree;
 
+pub use picture::{CliqueBox, clique_boxes};
 pub use tree::tree_table;
