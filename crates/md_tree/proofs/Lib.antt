@@ -6,3 +6,6 @@ pub mod Rows
 pub mod Work
 pub mod RestSteps
 pub mod Steps
+pub mod Widths
+pub mod Boxes
+pub mod TwigSteps

@@ -102,7 +102,7 @@ module _ (v : View) (by : Measure) (least : ℕ) (cs : List Child) where
   open_push bs b = ap (λ (xs : List Branch). flat_map (branch_rows v by least cs) xs) (reverse-append bs (b ∷ []))
 
   module _ (are : AreChildren (clique_count v.cliques) cs) (told : AreChildrenOf v by cs) where
-    lower_told : AreLower v by least
+    pub lower_told : AreLower v by least
     lower_told k lt = All-same (λ (j : ℕ). (k < j) × (j < clique_count v.cliques)) (children v by k) (cliques_below cs k) (sym (told.below k)) (below_lower (clique_count v.cliques) k cs are.lower)
 
     pub whole_rows : (k level : ℕ) (r : Rest) → k < clique_count v.cliques → IsWhole cs k r
