@@ -9,3 +9,5 @@ pub mod Steps
 pub mod Widths
 pub mod Boxes
 pub mod TwigSteps
+pub mod Within
+pub mod Apart

@@ -1,10 +1,10 @@
 -- The picture of the cliques as a tree: a box for each clique that has a row, as wide as its part of the whole, below its parent's.
-use Rattle.std.specs.Prelude.{ℕ, zero, suc, ◌≡◌, ◌<◌, ◌≤◌, ◌+◌, ◌*◌, ◌/◌, ◌==◌, All, AllPairs, List, [], ◌∷◌, ◌++◌, length, Option, Some, None, if◌then◌else◌, slice_get}
+use Rattle.std.specs.Prelude.{ℕ, zero, suc, ◌≡◌, ◌<◌, ◌≤◌, ◌+◌, ◌*◌, ◌/◌, ◌==◌, List, [], ◌∷◌, ◌++◌, length, Option, Some, None, if◌then◌else◌, slice_get}
 use Rattle.md_base.specs.declared.measure.Measure.{Measure}
 use Rattle.md_clique.specs.Cliques.{clique_count}
 use Rattle.md_cost.specs.View.{View}
 use Rattle.md_people.specs.Counts.{whole_of}
-use Rattle.md_people.specs.Tree.{clique_total, shown_children}
+use Rattle.md_people.specs.Tree.{clique_total, parent_of, shown_children}
 use Rattle.md_tree.specs.declared.picture.CliqueBox.{CliqueBox}
 
 -- a part of the whole in millionths of it, rounded down
@@ -40,9 +40,18 @@ pub record IsWithin (outer inner : CliqueBox) : Type 0 where
   pub left : outer.left ≤ inner.left
   pub right : inner.left + inner.width ≤ outer.left + outer.width
 
--- a box lies within that of its parent, which has the place that it says
-abbrev pub HasParent : List CliqueBox → CliqueBox → Type 0
-HasParent bs b = (p : ℕ) → b.parent ≡ Some p → (outer : CliqueBox) × (slice_get bs p ≡ Some outer) × IsWithin outer b
+-- a box lies within that of its clique's parent, which has the place that it says
+pub record HasParent (v : View) (bs : List CliqueBox) (b : CliqueBox) : Type 0 where
+  pub place : ℕ
+  pub outer : CliqueBox
+  pub parent : b.parent ≡ Some place
+  pub there : slice_get bs place ≡ Some outer
+  pub its : outer.clique ≡ parent_of v b.clique
+  pub within : IsWithin outer b
+
+-- but for that of clique 0
+abbrev pub IsHeld : View → List CliqueBox → CliqueBox → Type 0
+IsHeld v bs b = 0 < b.level → HasParent v bs b
 
 -- of two boxes of one level the first ends where the second begins, or before
 abbrev pub IsBeside : CliqueBox → CliqueBox → Type 0

@@ -4,11 +4,13 @@
 mod branch;
 mod child;
 mod entry;
+mod laws;
 mod picture;
 mod rest;
 mod row;
 mod scale;
 mod tree;
 
+pub use laws::{boxes_lie_within, boxes_stand_apart};
 pub use picture::{CliqueBox, clique_boxes};
 pub use tree::tree_table;

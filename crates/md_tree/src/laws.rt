@@ -1,0 +1,18 @@
+// Laws over the definition of the picture alone. Each is the contract of a function that does nothing.
+ghost use Rattle.std.specs.Prelude.{ℕ, All, AllPairs};
+ghost use Rattle.md_base.specs.declared.measure.Measure.{Measure};
+ghost use Rattle.md_dynamic.specs.Profile.{ProfileRows};
+ghost use Rattle.md_dynamic.specs.Valid.{IsValid};
+ghost use Rattle.md_cost.specs.FileView.{IsFileView};
+ghost use Rattle.md_cost.specs.View.{View};
+ghost use Rattle.md_tree.specs.Picture.{IsBeside, IsHeld, picture};
+
+/// Each box but that of clique 0 lies within the box of its clique's parent, a level below it.
+pub fn boxes_lie_within()
+    ensures { (f : ProfileRows) (v : View) (by : Measure) (least : ℕ) → IsValid f → IsFileView f v → All (IsHeld v (picture v by least)) (picture v by least) }
+{}
+
+/// No two boxes of one level overlap: they stand from left to right.
+pub fn boxes_stand_apart()
+    ensures { (f : ProfileRows) (v : View) (by : Measure) (least : ℕ) → IsValid f → IsFileView f v → AllPairs IsBeside (picture v by least) }
+{}
