@@ -1,5 +1,5 @@
 -- Boxes of one level stand from left to right: all that is below a clique lies between the edges of its box.
-use Rattle.std.proofs.Common.{◌≡◌, ℕ, zero, suc, ◌+◌, ◌<◌, ◌≤◌, List, [], ◌∷◌, ◌++◌, length, Option, Some, None, refl, sym, ap, ◌∙◌, inl, inr, arith}
+use Rattle.std.proofs.Common.{ℕ, zero, suc, ◌+◌, ◌≤◌, List, [], ◌∷◌, ◌++◌, length, Option, Some, None, inl, inr, arith}
 use Rattle.std.specs.Prelude.{All}
 use Rattle.std.specs.List.{AllPairs, sum_by}
 use Rattle.std.proofs.lemmas.Bool.{cases_eq, eq-eqb, ne_eqb}
@@ -60,11 +60,12 @@ module _ (v : View) (by : Measure) (least : ℕ) (fit : (k : ℕ) → sum_by (wi
       let others = boxes_beside (width_of v by) (boxes_from v by least n level parent) (left + width_of v by k) (place + length first) ks in
       let split = sum_by-cons (width_of v by) k ks in
       let one = draws left place k in
-      let rest = beside_apart n level parent draws (left + width_of v by k) (place + length first) ks in
-      (All-append (IsBetween level left (left + sum_by (width_of v by) (k ∷ ks))) first others
-      (between_wider level level left edge left (left + sum_by (width_of v by) (k ∷ ks)) (omega arith) (omega arith) (omega arith) first one.0)
-      (between_wider level level edge (edge + sum_by (width_of v by) ks) left (left + sum_by (width_of v by) (k ∷ ks)) (omega arith) (omega arith) (omega arith) others rest.0),
-      apart_append edge level level left (edge + sum_by (width_of v by) ks) first others one.1 rest.1 one.0 rest.0)
+      let rest = beside_apart n level parent draws (left + width_of v by k) (place + length first) ks in (
+        All-append (IsBetween level left (left + sum_by (width_of v by) (k ∷ ks))) first others
+            (between_wider level level left edge left (left + sum_by (width_of v by) (k ∷ ks)) (omega arith) (omega arith) (omega arith) first one.0)
+            (between_wider level level edge (edge + sum_by (width_of v by) ks) left (left + sum_by (width_of v by) (k ∷ ks)) (omega arith) (omega arith) (omega arith) others rest.0),
+        apart_append edge level level left (edge + sum_by (width_of v by) ks) first others one.1 rest.1 one.0 rest.0,
+      )
 
   all_apart : (n level : ℕ) (parent : Option ℕ) → Draws n level parent
   all_apart zero level parent left place k = (All-nil (IsBetween level left (left + width_of v by k)), tt)
@@ -75,10 +76,11 @@ module _ (v : View) (by : Measure) (least : ℕ) (fit : (k : ℕ) → sum_by (wi
       let within = fit k in
       let its : IsBetween level left (left + width_of v by k) box = record { deep = omega arith; left = omega arith; right = omega arith } in
       let beside : All (IsBeside box) others =
-      All-weaker (IsBetween (suc level) left (left + sum_by (width_of v by) (shown_children v by least k))) (IsBeside box) (λ b is same. (let deep = is.deep in absurd (omega arith))) others below.0 in
-      (All-cons (IsBetween level left (left + width_of v by k)) box others its
-      (between_wider (suc level) level left (left + sum_by (width_of v by) (shown_children v by least k)) left (left + width_of v by k) (omega arith) (omega arith) (omega arith) others below.0),
-      (beside, below.1))
+      All-weaker (IsBetween (suc level) left (left + sum_by (width_of v by) (shown_children v by least k))) (IsBeside box) (λ b is same. (let deep = is.deep in absurd (omega arith))) others below.0 in (
+        All-cons (IsBetween level left (left + width_of v by k)) box others its
+            (between_wider (suc level) level left (left + sum_by (width_of v by) (shown_children v by least k)) left (left + width_of v by k) (omega arith) (omega arith) (omega arith) others below.0),
+        (beside, below.1),
+      )
 
 pub boxes_apart : (f : ProfileRows) (v : View) (by : Measure) (least : ℕ) → IsValid f → IsFileView f v → AllPairs IsBeside (picture v by least)
 boxes_apart f v by least valid viewed = elim (cases_eq (whole_of v by) 0) as (λ _. AllPairs IsBeside (picture v by least)) [

@@ -11,3 +11,5 @@ pub mod Boxes
 pub mod TwigSteps
 pub mod Within
 pub mod Apart
+mod WorkedTree
+mod WorkedPicture

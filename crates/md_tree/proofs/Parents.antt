@@ -1,7 +1,6 @@
 -- The parent of a clique.
-use Rattle.std.proofs.Common.{◌≡◌, ℕ, ◌+◌, ◌<◌, ◌≤◌, List, length, get_or, refl, sym, ap, ◌∙◌, arith}
+use Rattle.std.proofs.Common.{◌≡◌, ℕ, List, length, get_or, ap, ◌∙◌}
 use Rattle.md_dynamic.specs.Profile.{ProfileRows}
-use Rattle.md_clique.specs.Cliques.{clique_count}
 use Rattle.md_cost.specs.FileView.{IsFileView}
 use Rattle.md_cost.specs.Paths.{start_of}
 use Rattle.md_cost.specs.Sound.{AreSound}
@@ -9,7 +8,7 @@ use Rattle.md_cost.specs.Tree.{IsTree}
 use Rattle.md_cost.specs.View.{View}
 use Rattle.md_people.specs.Context.{entered_from}
 use Rattle.md_people.specs.Tree.{parent_of}
-use Rattle.md_people.proofs.StationSteps.{clique_told, entered_told, start_lower}
+use Rattle.md_people.proofs.StationSteps.{clique_told, entered_told}
 
 module _ (f : ProfileRows) (sound : AreSound (length f.nodes) f.links) (cliques found : List ℕ) (tree : IsTree (length f.nodes) f.links cliques found) (v : View) (viewed : IsFileView f v) where
   pub parent_told : (k : ℕ) → parent_of v k ≡ get_or cliques (start_of f.links found k) 0

@@ -1,10 +1,10 @@
 -- The children of all cliques, sorted: those of each clique stand in the order of the tree.
-use Rattle.std.proofs.Common.{◌≡◌, ℕ, zero, suc, ◌+◌, ◌-◌, ◌^◌, ◌<◌, ◌≤◌, Bool, true, false, ◌&&◌, eqb, ltb, cond, List, [], ◌∷◌, length, get_or, map, refl, sym, ap, ◌∙◌, inl, inr, arith}
+use Rattle.std.proofs.Common.{◌≡◌, ℕ, suc, ◌+◌, ◌-◌, ◌^◌, ◌<◌, ◌≤◌, Bool, true, false, eqb, cond, List, [], ◌∷◌, length, get_or, map, refl, sym, ap, ◌∙◌, inl, inr, arith}
 use Rattle.std.specs.Prelude.{All}
 use Rattle.std.specs.List.{filter, range_with_len, sum_by}
 use Rattle.std.specs.List.Sorted.{IsNonDecreasingBy, IsPermutation, IsSortedBy}
 use Rattle.std.specs.Ordering.{is_lt, nat_cmp, ordering_then}
-use Rattle.std.proofs.lemmas.Bool.{cases_Bool, cases_eq, cases_lt, cases_order, eq-eqb, eqb-true, le-ltb, lt-ltb, ne_eqb}
+use Rattle.std.proofs.lemmas.Bool.{cases_Bool, cases_eq, cases_lt, eq-eqb, le-ltb, lt-ltb, ne_eqb}
 use Rattle.std.proofs.lemmas.List.{length-map}
 use Rattle.std.proofs.lemmas.List.Elements.{All-head, All-tail}
 use Rattle.std.proofs.lemmas.List.FromFn.{length-range_with_len}
@@ -14,7 +14,6 @@ use Rattle.md_base.specs.declared.measure.Measure.{Measure}
 use Rattle.md_clique.specs.Cliques.{clique_count}
 use Rattle.md_cost.specs.View.{View}
 use Rattle.md_people.specs.Tree.{children, clique_total, is_child, parent_of}
-use Rattle.md_people.specs.Ranked.{ranked}
 use Rattle.md_people.proofs.Orders.{IsAhead, InOrder, Leads, ahead_through, one_of, one_order, order_ranked, times, times_ranked}
 use Rattle.md_tree.specs.Children.{AreChildren, AreChildrenOf, Child, cliques_below}
 

@@ -1,5 +1,5 @@
 -- What a step does to the twigs under way.
-use Rattle.std.proofs.Common.{◌≡◌, ℕ, suc, ◌+◌, ◌^◌, ◌<◌, ◌≤◌, true, false, List, [], ◌∷◌, ◌++◌, length, reverse, Some, refl, sym, ap, ◌∙◌, arith}
+use Rattle.std.proofs.Common.{◌≡◌, ℕ, ◌+◌, ◌^◌, ◌<◌, ◌≤◌, true, false, List, [], ◌∷◌, ◌++◌, length, reverse, Some, refl, sym, ap, ◌∙◌, arith}
 use Rattle.std.specs.Prelude.{All}
 use Rattle.std.specs.List.{filter, sum_by}
 use Rattle.std.proofs.lemmas.List.{append_assoc, length-append, length_push, reverse-append}
@@ -12,13 +12,13 @@ use Rattle.md_clique.specs.Cliques.{clique_count}
 use Rattle.md_cost.specs.FileView.{IsFileView}
 use Rattle.md_cost.specs.View.{View}
 use Rattle.md_people.specs.Counts.{whole_of}
-use Rattle.md_people.specs.Tree.{children, is_shown, shown_children}
+use Rattle.md_people.specs.Tree.{is_shown, shown_children}
 use Rattle.md_tree.specs.declared.picture.CliqueBox.{CliqueBox}
 use Rattle.md_tree.specs.declared.picture.Twig.{Twig}
 use Rattle.md_tree.specs.declared.rest.Rest.{Rest}
 use Rattle.md_tree.specs.Children.{AreChildren, AreChildrenOf, Child}
 use Rattle.md_tree.specs.Picture.{boxes_beside, boxes_from, width_of}
-use Rattle.md_tree.specs.Rests.{IsNext, IsWhole, cliques_left, past}
+use Rattle.md_tree.specs.Rests.{IsNext, IsWhole, cliques_left}
 use Rattle.md_tree.specs.Twigs.{Fits, IsTwig, all_work, open_boxes, past_box, shown_left, twig_boxes, twig_work}
 use Rattle.md_tree.proofs.Boxes.{box_of, boxes_below}
 use Rattle.md_tree.proofs.RestSteps.{next_left, next_lower, next_there, past_rest, whole_rest, work_of_next, work_past}

@@ -1,5 +1,5 @@
 -- Boxes side by side are no wider together than their parent's: parts that are each rounded down add up to no more than their sum.
-use Rattle.std.proofs.Common.{◌≡◌, ℕ, ◌+◌, ◌*◌, ◌/◌, ◌<◌, ◌≤◌, Bool, true, false, List, [], ◌∷◌, refl, ap, ◌∙◌, inl, inr, arith}
+use Rattle.std.proofs.Common.{◌≡◌, ℕ, ◌+◌, ◌*◌, ◌/◌, ◌<◌, ◌≤◌, Bool, List, [], ◌∷◌, refl, ap, ◌∙◌, inl, inr, arith}
 use Rattle.std.specs.List.{filter, sum_by}
 use Rattle.std.proofs.lemmas.Bool.{cases_Bool}
 use Rattle.std.proofs.lemmas.Nat.{div-mul-add, le-div}
@@ -11,7 +11,7 @@ use Rattle.md_cost.specs.FileView.{IsFileView}
 use Rattle.md_cost.specs.View.{View}
 use Rattle.md_cost.proofs.ValidSteps.{valid_sound}
 use Rattle.md_people.specs.Counts.{whole_of}
-use Rattle.md_people.specs.Tree.{children, clique_own, clique_total, is_shown, shown_children}
+use Rattle.md_people.specs.Tree.{children, clique_total, is_shown, shown_children}
 use Rattle.md_people.proofs.Adding.{adds_up}
 use Rattle.md_tree.specs.Picture.{millionths, width_of}
 

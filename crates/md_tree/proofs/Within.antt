@@ -1,8 +1,8 @@
 -- Each box lies within that of its parent: it begins where the ones before it end, and together they are no wider than their parent's.
-use Rattle.std.proofs.Common.{◌≡◌, ℕ, zero, suc, ◌+◌, ◌<◌, ◌≤◌, Bool, true, false, ◌&&◌, eqb, ltb, List, [], ◌∷◌, ◌++◌, length, Option, Some, None, refl, sym, ap, ◌∙◌, inl, inr, arith}
+use Rattle.std.proofs.Common.{◌≡◌, ℕ, zero, suc, ◌+◌, ◌≤◌, Bool, true, false, ◌&&◌, eqb, ltb, List, [], ◌∷◌, ◌++◌, length, Option, Some, None, refl, sym, ap, ◌∙◌, inl, inr, arith}
 use Rattle.std.specs.Prelude.{All}
 use Rattle.std.specs.List.{filter, range_with_len, slice_get, sum_by}
-use Rattle.std.proofs.lemmas.Bool.{cases_eq, eqb-true, eq-eqb, ne_eqb, cases_Bool}
+use Rattle.std.proofs.lemmas.Bool.{cases_eq, eqb-true, eq-eqb, ne_eqb}
 use Rattle.std.proofs.lemmas.List.{append_assoc, append-nil, length-append, length_push}
 use Rattle.std.proofs.lemmas.List.Elements.{All-append, All-cons, All-filter, All-head, All-nil, All-tail, All-weaker, filter_passes}
 use Rattle.std.proofs.lemmas.List.Sums.{sum_by-cons}
@@ -16,7 +16,7 @@ use Rattle.md_people.specs.Counts.{whole_of}
 use Rattle.md_people.specs.Tree.{children, clique_total, is_child, is_shown, parent_of, shown_children}
 use Rattle.md_people.proofs.Orders.{all_ranked}
 use Rattle.md_tree.specs.declared.picture.CliqueBox.{CliqueBox}
-use Rattle.md_tree.specs.Picture.{HasParent, IsHeld, boxes_beside, boxes_from, picture, width_of}
+use Rattle.md_tree.specs.Picture.{IsHeld, boxes_beside, boxes_from, picture, width_of}
 use Rattle.md_tree.proofs.Boxes.{box_of}
 use Rattle.md_tree.proofs.Widths.{widths_within}
 

@@ -52,10 +52,7 @@ pub(crate) fn clique_row(
     push_counted(&mut cells, total as u128, scale.whole)?;
     cells.push(count_cell(alloc, own)?)?;
     let words = where_words(alloc, loaded, clique)?;
-    Ok(Line::from_parts(
-        cells,
-        indented_cell(alloc, level, &words)?,
-    ))
+    Ok(Line::from_parts(cells, indented_cell(alloc, level, &words)?))
 }
 
 /// The sum of the own counts of a clique's contexts.
@@ -92,13 +89,7 @@ pub(crate) fn push_more(
 }
 
 /// The row of children that have none of their own.
-fn more_row(
-    alloc: Global,
-    whole: u64,
-    level: u32,
-    count: u32,
-    sum: u128,
-) -> Result<Line, NoMemory>
+fn more_row(alloc: Global, whole: u64, level: u32, count: u32, sum: u128) -> Result<Line, NoMemory>
     requires { sum < 2 ^ 118 }
     ensures { IfOk result (λ line. line ≡ more_row whole level count sum) }
 {
@@ -106,10 +97,7 @@ fn more_row(
     push_counted(&mut cells, sum, whole)?;
     push_words(&mut cells, b"-")?;
     let words = more_words(alloc, count)?;
-    Ok(Line::from_parts(
-        cells,
-        indented_cell(alloc, level, &words)?,
-    ))
+    Ok(Line::from_parts(cells, indented_cell(alloc, level, &words)?))
 }
 
 /// How many children have no row.

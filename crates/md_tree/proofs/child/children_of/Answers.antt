@@ -1,4 +1,4 @@
-use Rattle.std.proofs.Common.{◌≡◌, ℕ, List, sym, ap}
+use Rattle.std.proofs.Common.{ℕ, List, sym, ap}
 use Rattle.md_clique.specs.Cliques.{clique_count}
 use Rattle.md_cost.proofs.ValidSteps.{valid_sound}
 use Rattle.md_cost.proofs.ViewSteps.{some_cliques, view_cliques}

@@ -1,7 +1,6 @@
 use Rattle.std.proofs.Common.{◌≡◌, ℕ, ◌<◌, ◌+◌, ◌-◌, ◌≤◌, List, [], ◌∷◌, ◌++◌, Option, map, sym, ap, ◌∙◌, arith}
 use Rattle.std.specs.Prelude.{unwrap_or}
 use Rattle.std.specs.List.{range_with_len}
-use Rattle.std.specs.declared.cmp.Reverse.{Reverse}
 use Rattle.std.proofs.lemmas.List.{map_push}
 use Rattle.std.proofs.lemmas.List.Elements.{All-push}
 use Rattle.md_clique.specs.Cliques.{clique_count}
@@ -29,7 +28,8 @@ loop-clique-preserved c =
           ∙ sym (range_from_more 1 (k - 1)) ∙ ap (λ (n : ℕ). range_with_len 1 n) (sym next);
       lower = rw c.in_ok-push.ensures.items (All-push (λ (x : Child). (x.0 < x.2) × (x.2 < clique_count l.cliques)) c.loop-clique.children.items child c.loop-clique.invariant.lower (is_lower, few));
       view = λ v is.
-          rw c.in_ok-push.ensures.items (All-push (λ (x : Child). (x.0 ≡ parent_of v x.2) × (x.1.0 ≡ clique_total v c.args.by x.2)) c.loop-clique.children.items child (c.loop-clique.invariant.view v is)
-          (c.parent_of-parent.ensures.view v is,
-          c.of-total.ensures ∙ sym (ap (λ (o : Option ℕ). unwrap_or o 0) (c.clique_total.ensures v c.args.by is))));
+          rw c.in_ok-push.ensures.items (All-push (λ (x : Child). (x.0 ≡ parent_of v x.2) × (x.1.0 ≡ clique_total v c.args.by x.2)) c.loop-clique.children.items child (c.loop-clique.invariant.view v is) (
+            c.parent_of-parent.ensures.view v is,
+            c.of-total.ensures ∙ sym (ap (λ (o : Option ℕ). unwrap_or o 0) (c.clique_total.ensures v c.args.by is)),
+          ));
     }

@@ -1,4 +1,4 @@
-use Rattle.std.proofs.Common.{◌≡◌, ◌<◌, ℕ, get_or, sym, ap, ◌∙◌, arith}
+use Rattle.std.proofs.Common.{◌≡◌, ℕ, get_or, sym, ap, ◌∙◌, arith}
 use Rattle.md_cost.specs.Paths.{start_of}
 use Rattle.md_cost.proofs.ValidSteps.{valid_sound}
 use Rattle.md_people.proofs.StationSteps.{start_lower}

@@ -1,4 +1,4 @@
-use Rattle.std.proofs.Common.{◌≡◌, ◌<◌, length, arith}
+use Rattle.std.proofs.Common.{◌≡◌, length, arith}
 use Rattle.md_clique.proofs.Sizes.{size_within}
 use Rattle.md_tree.proofs.entry.where_words.Goals as goal
 

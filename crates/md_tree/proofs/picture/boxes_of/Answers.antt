@@ -1,5 +1,4 @@
-use Rattle.std.proofs.Common.{◌≡◌, ◌<◌, ◌≤◌, ◌+◌, ◌++◌, ◌∷◌, [], ℕ, List, Some, None, length, reverse, refl, sym, ap, ◌∙◌, arith}
-use Rattle.std.specs.Prelude.{All}
+use Rattle.std.proofs.Common.{◌≡◌, ◌<◌, ◌++◌, ◌∷◌, [], ℕ, List, Some, None, length, reverse, sym, ap, ◌∙◌, arith}
 use Rattle.std.specs.List.{filter, sum_by}
 use Rattle.std.proofs.lemmas.List.{append-nil, nil_from_length, reverse-append}
 use Rattle.std.proofs.lemmas.List.Elements.{All-cons, All-nil, All-pop}
@@ -15,7 +14,7 @@ use Rattle.md_tree.specs.Children.{AreChildren}
 use Rattle.md_tree.specs.Picture.{boxes_beside, boxes_from, width_of}
 use Rattle.md_tree.specs.Rests.{cliques_left}
 use Rattle.md_tree.specs.Twigs.{Fits, IsTwig, all_work, open_boxes, twig_boxes, twig_work}
-use Rattle.md_tree.proofs.Boxes.{box_of, boxes_below}
+use Rattle.md_tree.proofs.Boxes.{boxes_below}
 use Rattle.md_tree.proofs.RestSteps.{whole_rest}
 use Rattle.md_tree.proofs.Steps.{lower_told}
 use Rattle.md_tree.proofs.Widths.{whole_width, widths_within}

@@ -1,15 +1,14 @@
-use Rattle.std.proofs.Common.{◌≡◌, ◌<◌, ◌≤◌, ◌+◌, ◌++◌, ◌∷◌, [], ℕ, List, length, Some, Bool, true, false, sym, ap, ◌∙◌, arith}
+use Rattle.std.proofs.Common.{◌≡◌, ◌<◌, ◌++◌, ◌∷◌, [], ℕ, List, length, Some, sym, ap, ◌∙◌, arith}
 use Rattle.md_clique.specs.Cliques.{clique_count}
 use Rattle.md_cost.proofs.ViewSteps.{view_cliques}
 use Rattle.md_cost.proofs.ValidSteps.{valid_sound}
 use Rattle.md_people.specs.Counts.{whole_of}
-use Rattle.md_people.specs.Tree.{clique_total, is_shown}
+use Rattle.md_people.specs.Tree.{clique_total}
 use Rattle.md_tree.specs.declared.picture.CliqueBox.{CliqueBox}
 use Rattle.md_tree.specs.declared.picture.Twig.{Twig}
 use Rattle.md_tree.specs.Children.{AreChildren, Child}
 use Rattle.md_tree.specs.Picture.{millionths, width_of}
 use Rattle.md_tree.specs.Rests.{IsNext}
-use Rattle.md_tree.specs.Twigs.{past_box}
 use Rattle.md_tree.proofs.Boxes.{box_of}
 use Rattle.md_tree.proofs.Left.{of_next}
 use Rattle.md_tree.proofs.TwigSteps.{fewer_hidden, fewer_shown, fits_hidden, fits_next, fits_shown, open_hidden, open_shown, room_below, twigs_hidden, twigs_shown}

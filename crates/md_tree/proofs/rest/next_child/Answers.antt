@@ -1,4 +1,4 @@
-use Rattle.std.proofs.Common.{get_or, refl, sym}
+use Rattle.std.proofs.Common.{get_or}
 use Rattle.std.proofs.lemmas.List.{get_or_default}
 use Rattle.md_tree.specs.Children.{Child}
 use Rattle.md_tree.proofs.Left.{is_next, none_left}

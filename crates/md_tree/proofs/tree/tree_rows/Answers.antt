@@ -1,13 +1,11 @@
-use Rattle.std.proofs.Common.{◌≡◌, ◌<◌, ◌+◌, ◌++◌, ◌∷◌, [], ℕ, List, Some, length, refl, sym, ap, ◌∙◌, arith}
-use Rattle.std.specs.Prelude.{All}
+use Rattle.std.proofs.Common.{◌≡◌, ◌<◌, ◌++◌, ◌∷◌, [], ℕ, List, Some, sym, ap, ◌∙◌, arith}
 use Rattle.std.proofs.lemmas.List.{append-nil, nil_from_length}
-use Rattle.std.proofs.lemmas.List.Elements.{All-cons, All-nil, All-same, All-pop}
+use Rattle.std.proofs.lemmas.List.Elements.{All-cons, All-nil, All-pop}
 use Rattle.std.proofs.lemmas.List.Sums.{sum_by_push}
 use Rattle.md_clique.specs.Cliques.{clique_count}
 use Rattle.md_cost.proofs.ViewSteps.{some_cliques, view_cliques}
 use Rattle.md_cost.proofs.ValidSteps.{valid_sound}
 use Rattle.md_table.specs.Table.{LineCells}
-use Rattle.md_people.specs.Tree.{clique_row}
 use Rattle.md_tree.specs.declared.branch.Branch.{Branch}
 use Rattle.md_tree.specs.Children.{AreChildren}
 use Rattle.md_tree.specs.Branches.{IsBranch, branch_rows, open_rows, open_work}

@@ -1,8 +1,7 @@
-use Rattle.std.proofs.Common.{◌≡◌, ℕ, List, refl, sym, ap, ◌∙◌}
+use Rattle.std.proofs.Common.{ℕ, refl, ap, ◌∙◌}
 use Rattle.md_base.specs.declared.measure.Measure.{Measure}
 use Rattle.md_clique.specs.Cliques.{clique_count}
-use Rattle.md_table.specs.Table.{LineCells, TableCells}
-use Rattle.md_people.specs.Tree.{rows_from, tree_heading}
+use Rattle.md_people.specs.Tree.{rows_from}
 use Rattle.md_tree.proofs.tree.tree_table.Goals as goal
 
 pub tree_rows-requires-clause-view : goal.tree_rows-requires-clause-view
