@@ -11,5 +11,6 @@ pub mod Boxes
 pub mod TwigSteps
 pub mod Within
 pub mod Apart
+pub mod RowsOfBoxes
 mod WorkedTree
 mod WorkedPicture

@@ -3,9 +3,11 @@ use Rattle.std.specs.Prelude.{ℕ, zero, suc, ◌≡◌, ◌<◌, ◌≤◌, ◌
 use Rattle.md_base.specs.declared.measure.Measure.{Measure}
 use Rattle.md_clique.specs.Cliques.{clique_count}
 use Rattle.md_cost.specs.View.{View}
+use Rattle.md_table.specs.Table.{LineCells}
 use Rattle.md_people.specs.Counts.{whole_of}
-use Rattle.md_people.specs.Tree.{clique_total, parent_of, shown_children}
+use Rattle.md_people.specs.Tree.{clique_row, clique_total, parent_of, shown_children}
 use Rattle.md_tree.specs.declared.picture.CliqueBox.{CliqueBox}
+use Rattle.md_tree.specs.Branches.{more_row}
 
 -- a part of the whole in millionths of it, rounded down
 abbrev pub millionths : (part whole : ℕ) → ℕ
@@ -56,3 +58,9 @@ IsHeld v bs b = 0 < b.level → HasParent v bs b
 -- of two boxes of one level the first ends where the second begins, or before
 abbrev pub IsBeside : CliqueBox → CliqueBox → Type 0
 IsBeside a b = a.level ≡ b.level → a.left + a.width ≤ b.left
+
+-- The rows of a tree beside its boxes: each box has its row, in the same order, and the other rows are those of cliques that have none.
+pub data AreRowsOf (v : View) (by : Measure) : List CliqueBox → List LineCells → Type 0 where
+  no_rows : AreRowsOf v by [] []
+  of_box : (b : CliqueBox) (bs : List CliqueBox) (rows : List LineCells) → AreRowsOf v by bs rows → AreRowsOf v by (b ∷ bs) (clique_row v by b.level b.clique ∷ rows)
+  of_others : (level n sum : ℕ) (bs : List CliqueBox) (rows : List LineCells) → AreRowsOf v by bs rows → AreRowsOf v by bs (more_row (whole_of v by) level n sum ∷ rows)

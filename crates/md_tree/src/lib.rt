@@ -11,6 +11,6 @@ mod row;
 mod scale;
 mod tree;
 
-pub use laws::{boxes_lie_within, boxes_stand_apart};
+pub use laws::{boxes_lie_within, boxes_stand_apart, each_box_has_its_row};
 pub use picture::{CliqueBox, clique_boxes};
 pub use tree::tree_table;
