@@ -1,6 +1,6 @@
 -- The rows and the boxes of a small tree, worked out by hand. Cliques 1, 2 and 4 are below clique 0, clique 3 is below 1, and clique 5
 -- below 2; each has one context, of the same number.
-use Rattle.std.proofs.Common.{◌≡◌, ℕ, ◌*◌, true, List, [], ◌∷◌, ◌++◌, Option, Some, None, codes, length, refl}
+use Rattle.std.proofs.Common.{◌≡◌, ℕ, ◌*◌, true, List, [], ◌∷◌, Option, Some, None, codes, refl}
 use Rattle.std.specs.Prelude.{⊤}
 use Rattle.std.specs.Fmt.{digits}
 use Rattle.std.specs.List.{slice_get}

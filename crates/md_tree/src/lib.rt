@@ -12,5 +12,5 @@ mod scale;
 mod tree;
 
 pub use laws::{boxes_lie_within, boxes_stand_apart, each_box_has_its_row};
-pub use picture::{CliqueBox, clique_boxes};
+pub use picture::{CliqueBox, shown_cliques};
 pub use tree::tree_table;

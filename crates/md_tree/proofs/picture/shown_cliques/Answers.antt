@@ -4,7 +4,7 @@ use Rattle.md_base.specs.declared.measure.Measure.{Measure}
 use Rattle.md_clique.specs.Cliques.{clique_count}
 use Rattle.md_people.specs.Counts.{whole_of}
 use Rattle.md_tree.specs.Picture.{boxes_from}
-use Rattle.md_tree.proofs.picture.clique_boxes.Goals as goal
+use Rattle.md_tree.proofs.picture.shown_cliques.Goals as goal
 
 pub boxes_of-requires-clause-view : goal.boxes_of-requires-clause-view
 boxes_of-requires-clause-view c = λ v viewed. rw (c.scale_of-scale.ensures.by, c.deref.ensures.value) (c.in_ok-children.ensures.view v viewed)
