@@ -12,5 +12,7 @@ pub mod TwigSteps
 pub mod Within
 pub mod Apart
 pub mod RowsOfBoxes
+pub mod Lower
+pub mod Complete
 mod WorkedTree
 mod WorkedPicture

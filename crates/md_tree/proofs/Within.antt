@@ -30,7 +30,7 @@ second_holds true b both = both
 second_holds false b both = cc
 
 -- the children of a clique have it as their parent
-own_children : (v : View) (by : Measure) (k : ℕ) → All (λ (j : ℕ). parent_of v j ≡ k) (children v by k)
+pub own_children : (v : View) (by : Measure) (k : ℕ) → All (λ (j : ℕ). parent_of v j ≡ k) (children v by k)
 own_children v by k =
     all_ranked (clique_total v by) (λ (j : ℕ). parent_of v j ≡ k) (filter (is_child v k) (range_with_len 0 (clique_count v.cliques)))
     (All-weaker (λ (j : ℕ). is_child v k j ≡ true) (λ (j : ℕ). parent_of v j ≡ k)

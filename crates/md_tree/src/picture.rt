@@ -44,7 +44,7 @@ pub(crate) struct Twig {
 
 /// The boxes of the cliques that have a row in the tree of the same measure and thousandths, in the order of the rows: each as wide
 /// as its total in millionths of the whole, children from left to right in their parent's box. There are none where the whole is 0.
-/// Takes O(C log C) steps for C cliques, and a stack of its own, however deep the tree.
+/// Takes O(C log C) steps for C cliques, beside one for each context, and a stack of its own, however deep the tree.
 pub fn shown_cliques(
     alloc: Global,
     loaded: &Loaded,

@@ -12,7 +12,7 @@ use crate::scale::Scale;
 use md_base::{Measure, NoMemory, PdId};
 use md_cost::Loaded;
 use md_people::{add_number, push_counted, push_words, words_cell};
-use md_table::{Cell, Line, count_cell, indented_cell};
+use md_table::{Line, count_cell, indented_cell};
 use std::alloc::Global;
 
 /// The heading of the tree.

@@ -21,7 +21,8 @@ use std::alloc::Global;
 
 /// The table of the cliques as a tree: depth first, with a row for clique 0, for each other clique whose total is at least so many
 /// thousandths of the whole and, unless all are asked for by 0, at least 1, and behind the rows of a clique's children one for those
-/// that have none. Takes O(C log C) steps for C cliques beside the bytes of the rows, and a stack of its own, however deep the tree.
+/// that have none. Takes O(C log C) steps for C cliques, beside one for each context, each link and each byte of the rows, and a stack
+/// of its own, however deep the tree.
 pub fn tree_table(
     alloc: Global,
     loaded: &Loaded,
