@@ -1,0 +1,13 @@
+-- Lines of what is told.
+use Rattle.std.specs.Prelude.{ℕ, Some, codes}
+use Rattle.md_people.specs.Compare.{apart, compared_line}
+use Rattle.md_table.specs.Table.{LineCells}
+use Rattle.md_compare.specs.Cost.{own_in, total_in}
+use Rattle.md_compare.specs.declared.told.Told.{Told}
+
+-- the line of the whole, whose own count is its total
+abbrev pub whole_line : (old new : ℕ) → LineCells
+whole_line old new = compared_line old (apart (Some old) (Some new)) (Some old) (Some new) (Some old) (Some new) (codes "all")
+
+abbrev pub told_line : (whole : ℕ) → Told → LineCells
+told_line whole told = compared_line whole told.difference.0 (own_in told.old) (own_in told.new) (total_in told.old) (total_in told.new) told.name.items
