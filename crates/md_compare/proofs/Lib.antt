@@ -1,0 +1,3 @@
+pub mod NamedSteps
+pub mod ToldSteps
+pub mod NameOrder

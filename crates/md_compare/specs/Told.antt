@@ -36,12 +36,12 @@ name_in told = told.name.items
 
 -- an entry has what is kept under its name
 pub record IsToldBy (both : Both) (told : Told) : Type 0 where
-  pub difference : told.difference.0 ≡ difference_in both told.name.items
+  pub apart : told.difference.0 ≡ difference_in both told.name.items
   pub old : told.old ≡ cost_at both.old told.name.items
   pub new : told.new ≡ cost_at both.new told.name.items
 
 -- an entry has what its name costs in two profiles
-pub record IsToldOf (old new : View) (by : Measure) (told : Told) : Type 0 where
-  pub difference : told.difference.0 ≡ difference old new by told.name.items
-  pub old : told.old ≡ cost_named old by told.name.items
-  pub new : told.new ≡ cost_named new by told.name.items
+pub record IsToldOf (v w : View) (by : Measure) (told : Told) : Type 0 where
+  pub apart : told.difference.0 ≡ difference v w by told.name.items
+  pub old : told.old ≡ cost_named v by told.name.items
+  pub new : told.new ≡ cost_named w by told.name.items
