@@ -1,3 +1,4 @@
 pub mod NamedSteps
 pub mod ToldSteps
 pub mod NameOrder
+pub mod LineSteps

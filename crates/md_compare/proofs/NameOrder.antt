@@ -5,6 +5,7 @@ use Rattle.std.specs.Cmp.Lexicographic.{slice_cmp}
 use Rattle.std.specs.Prelude.{All}
 use Rattle.std.specs.List.{sum_by}
 use Rattle.std.specs.List.Sorted.{IsPermutation, IsSortedBy}
+use Rattle.std.specs.Option.{option_cmp}
 use Rattle.std.specs.Ordering.{is_eq, is_gt, is_lt, nat_cmp, ordering_reverse, ordering_then}
 use Rattle.std.proofs.lemmas.Bool.{cases_Bool, cases_eq, cases_lt, eq-eqb, le-ltb, lt-ltb, ne_eqb}
 use Rattle.std.proofs.lemmas.Cmp.{back_total, nat_cmp_total, nat_list_cmp_total, on_total, then_total, tied_back, tied_itself, upto}
@@ -16,6 +17,7 @@ use Rattle.md_base.specs.declared.measure.Measure.{Measure}
 use Rattle.md_cost.specs.View.{View}
 use Rattle.md_people.specs.Compare.{difference, named_with, names_in_order, precedes}
 use Rattle.md_compare.specs.Told.{IsToldOf, name_in}
+use Rattle.md_compare.specs.declared.cost.Cost.{Cost}
 use Rattle.md_compare.specs.declared.told.Told.{Told}
 
 is_equal : (o : Ordering) → is_eq o ≡ true → o ≡ Equal
@@ -242,3 +244,11 @@ module _ (v w : View) (by : Measure) where
     sorted_names names before after are told moved sorted =
         one_order order order_total order_exact (map name_in after) (names_in_order v w by names) (order_from after sorted told) (names_ordered names) (λ z.
         sum_by-IsPermutation (is_one z) (map name_in before) (map name_in after) (IsPermutation-map name_in before after moved) ∙ ap (how_often z) are ∙ sym (often_in_order z names))
+
+-- ---- names that tie are not told apart by what they cost
+
+abbrev cost_cmp : Cost → Cost → Ordering
+cost_cmp x y = ordering_then (nat_cmp x.own y.own) (nat_cmp x.total y.total)
+
+abbrev pub by_costs : Told → Told → Ordering
+by_costs x y = ordering_then (option_cmp cost_cmp x.old y.old) (option_cmp cost_cmp x.new y.new)

@@ -1,0 +1,28 @@
+-- The lines of names that are told are those of the definition.
+use Rattle.std.proofs.Common.{◌≡◌, ℕ, Bool, List, [], ◌∷◌, map, Option, Some, refl, sym, ap, ◌∙◌}
+use Rattle.std.specs.Prelude.{All}
+use Rattle.std.proofs.lemmas.List.Elements.{All-head, All-tail}
+use Rattle.md_base.specs.declared.measure.Measure.{Measure}
+use Rattle.md_cost.specs.View.{View}
+use Rattle.md_people.specs.Compare.{compared_line, difference, name_row, own_named, total_named, told_names, whole_row}
+use Rattle.md_people.specs.Counts.{whole_of}
+use Rattle.md_table.specs.Table.{LineCells}
+use Rattle.md_compare.specs.Cost.{cost_named, own_in, total_in}
+use Rattle.md_compare.specs.Lines.{told_line, whole_line}
+use Rattle.md_compare.specs.Told.{IsToldOf, name_in}
+use Rattle.md_compare.specs.declared.told.Told.{Told}
+use Rattle.md_compare.proofs.ToldSteps.{own_told, total_told}
+
+module _ (v w : View) (by : Measure) (whole : ℕ) (whole_is : whole ≡ whole_of v by) where
+  line_told : (x : Told) → IsToldOf v w by x → told_line whole x ≡ name_row v w by x.name.items
+  line_told x is =
+      let name = x.name.items in
+      rw (is.apart, is.old, is.new, own_told v by name, own_told w by name, total_told v by name, total_told w by name, whole_is) refl
+
+  pub lines_told : (xs : List Told) → All (IsToldOf v w by) xs → map (told_line whole) xs ≡ map (name_row v w by) (map name_in xs)
+  lines_told [] all = refl
+  lines_told (x ∷ xs) all =
+      rw (line_told x (All-head (IsToldOf v w by) x xs all), lines_told xs (All-tail (IsToldOf v w by) x xs all)) refl
+
+pub whole_told : (v w : View) (by : Measure) (old new : ℕ) → old ≡ whole_of v by → new ≡ whole_of w by → whole_line old new ≡ whole_row v w by
+whole_told v w by old new a b = ap (λ (n : ℕ). whole_line n new) a ∙ ap (λ (n : ℕ). whole_line (whole_of v by) n) b
