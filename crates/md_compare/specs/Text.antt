@@ -16,6 +16,6 @@ abbrev pub finished_words : (profile : List ℕ) → Bool → List ℕ
 finished_words profile finished = profile ++ (if finished then codes " finished yes\n" else codes " finished no\n")
 
 -- the title, a line for each profile, and the table
-unfoldable pub compare_text : (old new : View) → Measure → (least : ℕ) → List ℕ
+abbrev pub compare_text : (old new : View) → Measure → (least : ℕ) → List ℕ
 compare_text old new by least =
     title_words by least ++ (finished_words (codes "old") old.finished ++ (finished_words (codes "new") new.finished ++ text_of (compare_table old new by least)))
