@@ -97,7 +97,7 @@ pub name_put : (v : View) (by : Measure) (i : ℕ) (old new : BTreeMap Key Cost)
     → new.entries ≡ insert_entry order old.entries key x → ((name : List ℕ) → cost_at old name ≡ cost_from v by (i + 1) name) → (name : List ℕ) → cost_at new name ≡ cost_from v by i name
 name_put v by i old new key x lt key_is x_is put before name =
     let test : is_under name key ≡ same_name (full_name v.statics i) name =
-        is_eq-slice_cmp name key.items ∙ ap (λ (bytes : List ℕ). bytes_eq name bytes) key_is ∙ nat_list_eq_equiv.symm name (full_name v.statics i) in
+    is_eq-slice_cmp name key.items ∙ ap (λ (bytes : List ℕ). bytes_eq name bytes) key_is ∙ nat_list_eq_equiv.symm name (full_name v.statics i) in
     ap (λ (es : List (Key × Cost)). lookup (is_under name) es) put
     ∙ put_under name key x old.entries
     ∙ ap (λ (o : Option Cost). cond (is_under name key) (Some x) o) (before name)

@@ -81,7 +81,7 @@ module _ (v w : View) (by : Measure) (both : Both) (old : AreCostsOf v by both.o
       let fresh : List ℕ → Bool = λ (name : List ℕ). not (list_any (same_name name) (names_of v)) in
       let left : filter p (names_in s) ≡ filter r (names_of v) = filter_agree p r (told_is margin whole) (names_in s) ∙ ap (λ (u : Static). filter r (names_in u)) (sym vs) in
       let right : filter p (filter (is_new_in both) (names_in t)) ≡ filter r (filter fresh (names_of w)) =
-          filter_agree p r (told_is margin whole) (filter (is_new_in both) (names_in t)) ∙ ap (filter r) (filter_agree (is_new_in both) fresh new_is (names_in t) ∙ ap (λ (u : Static). filter fresh (names_in u)) (sym wt)) in
+      filter_agree p r (told_is margin whole) (filter (is_new_in both) (names_in t)) ∙ ap (filter r) (filter_agree (is_new_in both) fresh new_is (names_in t) ∙ ap (λ (u : Static). filter fresh (names_in u)) (sym wt)) in
       ap (λ (xs : Names). xs ++ filter p (filter (is_new_in both) (names_in t))) left ∙ ap (λ (xs : Names). filter r (names_of v) ++ xs) right ∙ sym (filter-append r (names_of v) (filter fresh (names_of w)))
 
   -- each entry has what its name costs in both

@@ -40,8 +40,14 @@ fn whole_line(alloc: Global, old: u64, new: u64) -> Result<Line, NoMemory>
     ensures { IfOk result (λ line. line ≡ whole_line old new) }
 {
     let difference = apart(Some(old), Some(new));
-    let old_cost = Some(Cost { own: old, total: old });
-    let new_cost = Some(Cost { own: new, total: new });
+    let old_cost = Some(Cost {
+        own: old,
+        total: old,
+    });
+    let new_cost = Some(Cost {
+        own: new,
+        total: new,
+    });
     compared_line(alloc, old, difference, old_cost, new_cost, b"all")
 }
 

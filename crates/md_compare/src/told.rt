@@ -63,12 +63,7 @@ pub(crate) fn told_names(
 }
 
 /// What each name costs in both profiles.
-fn both_costs(
-    alloc: Global,
-    old: &Loaded,
-    new: &Loaded,
-    by: Measure,
-) -> Result<Both, NoMemory>
+fn both_costs(alloc: Global, old: &Loaded, new: &Loaded, by: Measure) -> Result<Both, NoMemory>
     ensures old { IfOk result (λ both. (v : View) → IsFileView old.now.profile v → AreCostsOf v by both.old) }
     ensures new { IfOk result (λ both. (w : View) → IsFileView new.now.profile w → AreCostsOf w by both.new) }
 {
@@ -97,12 +92,7 @@ fn all_told(
 }
 
 /// Adds those names of the old profile that have a row.
-fn add_old(
-    told: &mut Vec<Told>,
-    both: &Both,
-    margin: Margin,
-    old: &Statics,
-) -> Result<(), NoMemory>
+fn add_old(told: &mut Vec<Told>, both: &Both, margin: Margin, old: &Statics) -> Result<(), NoMemory>
     requires few { length old.now.procs < 2 ^ 32 }
     ensures names { OnOk result (map name_in told.new.items ≡ map name_in told.old.items ++ filter (is_told_in both.now margin) (names_in old.now)) }
     ensures each { OnOk result (All (IsToldBy both.now) told.old.items → All (IsToldBy both.now) told.new.items) }
@@ -115,12 +105,7 @@ fn add_old(
 }
 
 /// Adds those names that the new profile alone has and that have a row.
-fn add_new(
-    told: &mut Vec<Told>,
-    both: &Both,
-    margin: Margin,
-    new: &Statics,
-) -> Result<(), NoMemory>
+fn add_new(told: &mut Vec<Told>, both: &Both, margin: Margin, new: &Statics) -> Result<(), NoMemory>
     requires few { length new.now.procs < 2 ^ 32 }
     ensures names { OnOk result (map name_in told.new.items ≡ map name_in told.old.items ++ filter (is_told_in both.now margin) (filter (is_new_in both.now) (names_in new.now))) }
     ensures each { OnOk result (All (IsToldBy both.now) told.old.items → All (IsToldBy both.now) told.new.items) }
