@@ -2,3 +2,4 @@ pub mod NamedSteps
 pub mod ToldSteps
 pub mod NameOrder
 pub mod LineSteps
+mod WorkedText
