@@ -2,4 +2,6 @@ pub mod NamedSteps
 pub mod ToldSteps
 pub mod NameOrder
 pub mod LineSteps
+pub mod FullNames
+pub mod OneRow
 mod WorkedText

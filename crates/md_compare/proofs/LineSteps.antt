@@ -1,13 +1,11 @@
 -- The lines of names that are told are those of the definition.
-use Rattle.std.proofs.Common.{◌≡◌, ℕ, Bool, List, [], ◌∷◌, map, Option, Some, refl, sym, ap, ◌∙◌}
+use Rattle.std.proofs.Common.{◌≡◌, ℕ, List, [], ◌∷◌, map, refl, ap, ◌∙◌}
 use Rattle.std.specs.Prelude.{All}
 use Rattle.std.proofs.lemmas.List.Elements.{All-head, All-tail}
 use Rattle.md_base.specs.declared.measure.Measure.{Measure}
 use Rattle.md_cost.specs.View.{View}
-use Rattle.md_people.specs.Compare.{compared_line, difference, name_row, own_named, total_named, told_names, whole_row}
+use Rattle.md_people.specs.Compare.{name_row, whole_row}
 use Rattle.md_people.specs.Counts.{whole_of}
-use Rattle.md_table.specs.Table.{LineCells}
-use Rattle.md_compare.specs.Cost.{cost_named, own_in, total_in}
 use Rattle.md_compare.specs.Lines.{told_line, whole_line}
 use Rattle.md_compare.specs.Told.{IsToldOf, name_in}
 use Rattle.md_compare.specs.declared.told.Told.{Told}

@@ -1,6 +1,6 @@
 -- What is told of names in two profiles.
-use Rattle.std.proofs.Common.{◌≡◌, ℕ, ◌+◌, Bool, true, false, not, ◌||◌, List, [], ◌∷◌, ◌++◌, length, map, Option, Some, None, append_assoc, refl, sym, ap, ◌∙◌, inl, inr, arith}
-use Rattle.std.specs.Prelude.{All, is_some, ◌&&◌, nat_le, nat_lt, ◌*◌, max}
+use Rattle.std.proofs.Common.{◌≡◌, ℕ, ◌+◌, Bool, not, List, [], ◌∷◌, ◌++◌, length, map, Option, Some, None, append_assoc, refl, sym, ap, ◌∙◌, inl, inr, arith}
+use Rattle.std.specs.Prelude.{All, is_some}
 use Rattle.std.specs.Cmp.Lexicographic.{nat_list_eq_equiv}
 use Rattle.std.specs.List.{filter, list_any, range_with_len, slice_get}
 use Rattle.std.specs.Option.{option_map}
@@ -9,13 +9,13 @@ use Rattle.std.proofs.lemmas.List.Elements.{All-weaker, filter-append, filter_ag
 use Rattle.std.proofs.lemmas.List.FromFn.{map-range_with_len_more}
 use Rattle.md_base.specs.declared.measure.Measure.{Measure}
 use Rattle.md_cost.specs.View.{View}
-use Rattle.md_people.specs.Compare.{all_names, apart, difference, is_told, names_of, own_named, proc_named, same_name, total_named}
+use Rattle.md_people.specs.Compare.{all_names, difference, is_told, names_of, own_named, proc_named, same_name, total_named}
 use Rattle.md_people.specs.Counts.{whole_of}
 use Rattle.md_people.specs.Words.{full_name}
 use Rattle.md_static.specs.Tables.{Static}
 use Rattle.md_compare.specs.Cost.{cost_named, cost_of, difference_of, own_in, total_in}
-use Rattle.md_compare.specs.Named.{AreCostsOf, cost_at}
-use Rattle.md_compare.specs.Told.{IsToldBy, IsToldOf, difference_in, is_new_in, is_passed, is_told_in, names_in}
+use Rattle.md_compare.specs.Named.{AreCostsOf}
+use Rattle.md_compare.specs.Told.{IsToldBy, IsToldOf, difference_in, is_new_in, is_told_in, names_in}
 use Rattle.md_compare.specs.declared.cost.Cost.{Cost}
 use Rattle.md_compare.specs.declared.told.Both.{Both}
 use Rattle.md_compare.specs.declared.told.Margin.{Margin}

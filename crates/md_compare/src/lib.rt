@@ -2,11 +2,13 @@
 #![tactic(auto)]
 
 mod cost;
+mod laws;
 mod line;
 mod named;
 mod table;
 mod text;
 mod told;
 
+pub use laws::{a_name_has_one_row, a_profile_is_as_itself, full_names_differ};
 pub use table::compare_table;
 pub use text::compare_text;

@@ -1,8 +1,8 @@
-use Rattle.std.proofs.Common.{◌≡◌, ℕ, Bool, List, [], ◌++◌, append_assoc, sym, ap, ◌∙◌, codes}
+use Rattle.std.proofs.Common.{◌≡◌, ℕ, Bool, List, ◌++◌, append_assoc, sym, ap, ◌∙◌, codes}
 use Rattle.md_cost.specs.View.{View}
 use Rattle.md_people.specs.Compare.{compare_table}
 use Rattle.md_table.specs.Table.{TableCells, text_of}
-use Rattle.md_compare.specs.Text.{compare_text, finished_words, title_words}
+use Rattle.md_compare.specs.Text.{finished_words, title_words}
 use Rattle.md_compare.proofs.text.compare_text.Goals as goal
 
 -- four parts, added one behind the other

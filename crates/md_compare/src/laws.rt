@@ -1,0 +1,24 @@
+// Laws of full names and of the table. Each is the contract of a function that does nothing.
+ghost use Rattle.std.specs.Prelude.{ℕ, ◌≡◌, ◌≢◌, ◌∷◌, [], AllPairs};
+ghost use Rattle.md_base.specs.declared.measure.Measure.{Measure};
+ghost use Rattle.md_cost.specs.View.{View};
+ghost use Rattle.md_people.specs.Compare.{compare_table, told_names, whole_row};
+ghost use Rattle.md_static.specs.Sound.{IsSound};
+ghost use Rattle.md_static.specs.Tables.{Static};
+ghost use Rattle.md_compare.specs.Told.{names_in};
+
+/// The full names of a program's procedures differ: no module's name has a point in it, and no procedure's name a slash. So procedures
+/// that are joined by their full names are joined one by one.
+pub fn full_names_differ()
+    ensures { (s : Static) → IsSound s → AllPairs (λ name other. name ≢ other) (names_in s) }
+{}
+
+/// No name has two rows.
+pub fn a_name_has_one_row()
+    ensures { (v w : View) (by : Measure) (least : ℕ) → IsSound v.statics → IsSound w.statics → AllPairs (λ name other. name ≢ other) (told_names v w by least) }
+{}
+
+/// Of a profile and itself nothing is told but the whole.
+pub fn a_profile_is_as_itself()
+    ensures { (v : View) (by : Measure) (least : ℕ) → (compare_table v v by least).rows ≡ whole_row v v by ∷ [] }
+{}
