@@ -1,5 +1,5 @@
 // What a procedure costs by a measure.
-ghost use Rattle.std.specs.Prelude.{◌≡◌, ◌<◌, ◌≤◌, length};
+ghost use Rattle.std.specs.Prelude.{◌≡◌, ◌<◌, length};
 ghost use Rattle.md_cost.specs.FileView.{IsFileView};
 ghost use Rattle.md_cost.specs.View.{View};
 ghost use Rattle.md_people.specs.Compare.{apart};

@@ -1,5 +1,5 @@
 // Lines of the table.
-ghost use Rattle.std.specs.Prelude.{◌≡◌, ◌++◌, ◌∷◌, [], codes, IfOk, OnOk};
+ghost use Rattle.std.specs.Prelude.{◌≡◌, ◌++◌, IfOk, OnOk};
 ghost use Rattle.md_people.specs.Compare.{both_cells, compare_heading, compared_line, count_words};
 ghost use Rattle.md_compare.specs.Cost.{own_in, total_in};
 
