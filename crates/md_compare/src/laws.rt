@@ -2,15 +2,13 @@
 ghost use Rattle.std.specs.Prelude.{ℕ, ◌≡◌, ◌≢◌, ◌∷◌, [], AllPairs};
 ghost use Rattle.md_base.specs.declared.measure.Measure.{Measure};
 ghost use Rattle.md_cost.specs.View.{View};
-ghost use Rattle.md_people.specs.Compare.{compare_table, told_names, whole_row};
+ghost use Rattle.md_people.specs.Compare.{compare_table, names_of, told_names, whole_row};
 ghost use Rattle.md_static.specs.Sound.{IsSound};
-ghost use Rattle.md_static.specs.Tables.{Static};
-ghost use Rattle.md_compare.specs.Told.{names_in};
 
 /// The full names of a program's procedures differ: no module's name has a point in it, and no procedure's name a slash. So procedures
 /// that are joined by their full names are joined one by one.
 pub fn full_names_differ()
-    ensures { (s : Static) → IsSound s → AllPairs (λ name other. name ≢ other) (names_in s) }
+    ensures { (v : View) → IsSound v.statics → AllPairs (λ name other. name ≢ other) (names_of v) }
 {}
 
 /// No name has two rows.
