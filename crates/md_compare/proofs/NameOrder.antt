@@ -20,7 +20,7 @@ use Rattle.md_compare.specs.Told.{IsToldOf, name_in}
 use Rattle.md_compare.specs.declared.cost.Cost.{Cost}
 use Rattle.md_compare.specs.declared.told.Told.{Told}
 
-is_equal : (o : Ordering) → is_eq o ≡ true → o ≡ Equal
+pub is_equal : (o : Ordering) → is_eq o ≡ true → o ≡ Equal
 is_equal Less e = cc
 is_equal Equal e = refl
 is_equal Greater e = cc
@@ -35,7 +35,7 @@ turned Less e = cc
 turned Equal e = refl
 turned Greater e = refl
 
-neither_way : (o : Ordering) → is_gt o ≡ false → is_gt (ordering_reverse o) ≡ false → is_eq o ≡ true
+pub neither_way : (o : Ordering) → is_gt o ≡ false → is_gt (ordering_reverse o) ≡ false → is_eq o ≡ true
 neither_way Less a b = cc
 neither_way Equal a b = refl
 neither_way Greater a b = cc
@@ -143,22 +143,22 @@ before_told m n o = elim (cases_lt m n) [
 
 module _ (v w : View) (by : Measure) where
   -- the greater difference comes first, and of equal ones the lower name
-  abbrev order : List ℕ → List ℕ → Ordering
+  abbrev pub order : List ℕ → List ℕ → Ordering
   order x y = ordering_then (nat_cmp (difference v w by y) (difference v w by x)) (slice_cmp nat_cmp x y)
 
-  order_total : IsTotalOrder order
+  pub order_total : IsTotalOrder order
   order_total = then_total (back_total (on_total (difference v w by) nat_cmp_total)) nat_list_cmp_total
 
-  order_exact : CmpEqualImpliesEq order
+  pub order_exact : CmpEqualImpliesEq order
   order_exact x y e = exact_bytes x y (second_equal (nat_cmp (difference v w by y) (difference v w by x)) (slice_cmp nat_cmp x y) e)
 
-  abbrev Ahead : List ℕ → List ℕ → Type 0
+  abbrev pub Ahead : List ℕ → List ℕ → Type 0
   Ahead = IsAhead order order_total order_exact
 
-  abbrev LeadsAll : List ℕ → List (List ℕ) → Type 0
+  abbrev pub LeadsAll : List ℕ → List (List ℕ) → Type 0
   LeadsAll = Leads order order_total order_exact
 
-  abbrev AreInOrder : List (List ℕ) → Type 0
+  abbrev pub AreInOrder : List (List ℕ) → Type 0
   AreInOrder = InOrder order order_total order_exact
 
   abbrev how_often : List ℕ → List (List ℕ) → ℕ
@@ -170,7 +170,7 @@ module _ (v w : View) (by : Measure) where
   behind : (x y : List ℕ) → is_lt (order x y) ≡ false → Ahead y x
   behind x y e = ap is_gt (order_total.antisymm y x) ∙ turned (order x y) e
 
-  decide : (x y : List ℕ) → ((precedes v w by x y ≡ true) × Ahead x y) ⊎ ((precedes v w by x y ≡ false) × Ahead y x)
+  pub decide : (x y : List ℕ) → ((precedes v w by x y ≡ true) × Ahead x y) ⊎ ((precedes v w by x y ≡ false) × Ahead y x)
   decide x y =
       let told : precedes v w by x y ≡ is_lt (order x y) = before_told (difference v w by y) (difference v w by x) (slice_cmp nat_cmp x y) in
       elim (cases_Bool (is_lt (order x y))) [
@@ -192,7 +192,7 @@ module _ (v w : View) (by : Measure) where
     | inr d ↦ rw d.0 (leads_with y x ys d.1 o.0, order_with x ys o.1)
   ]
 
-  names_ordered : (xs : List (List ℕ)) → AreInOrder (names_in_order v w by xs)
+  pub names_ordered : (xs : List (List ℕ)) → AreInOrder (names_in_order v w by xs)
   names_ordered [] = tt
   names_ordered (x ∷ xs) = order_with x (names_in_order v w by xs) (names_ordered xs)
 

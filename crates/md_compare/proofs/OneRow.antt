@@ -1,7 +1,8 @@
--- Names that differ are told once each, and of one profile none is told.
-use Rattle.std.proofs.Common.{◌≡◌, ℕ, suc, ◌<◌, Bool, true, false, not, List, [], ◌∷◌, ◌++◌, length, get_or, map, refl, sym, ap, inl, inr, arith}
+-- Names that differ are told once each and in order, and of one profile none is told.
+use Rattle.std.proofs.Common.{◌≡◌, ℕ, suc, ◌<◌, Bool, true, false, not, List, [], ◌∷◌, ◌++◌, length, get_or, map, refl, sym, ap, ◌∙◌, inl, inr, arith}
 use Rattle.std.specs.Prelude.{◌≢◌, All, AllPairs, Option}
 use Rattle.std.specs.List.{filter, list_any}
+use Rattle.std.specs.Ordering.{is_gt}
 use Rattle.std.proofs.lemmas.Bool.{and_right, cases_Bool}
 use Rattle.std.proofs.lemmas.List.Elements.{All-append, All-cons, All-head, All-nil, All-tail, All-weaker, filter_passes}
 use Rattle.std.proofs.lemmas.List.Folds.{list_any_at}
@@ -12,6 +13,7 @@ use Rattle.md_cost.specs.View.{View}
 use Rattle.md_people.specs.Compare.{all_names, apart, compare_table, difference, is_told, name_row, named_with, names_in_order, names_of, precedes, same_name, told_names, whole_row}
 use Rattle.md_static.specs.Sound.{IsSound}
 use Rattle.md_compare.proofs.FullNames.{names_differ}
+use Rattle.md_compare.proofs.NameOrder.{Ahead, AreInOrder, LeadsAll, decide, is_equal, names_ordered, neither_way, order, order_exact, order_total}
 
 abbrev Name : Type 0
 Name = List ℕ
@@ -80,6 +82,31 @@ module _ (v w : View) (by : Measure) where
 
   pub told_once : (least : ℕ) → IsSound v.statics → IsSound w.statics → Differ (told_names v w by least)
   told_once least old new = differ_in_order (filter (is_told v w by least) (all_names v w)) (AllPairs-filter (λ (m n : Name). m ≢ n) (is_told v w by least) (all_names v w) (names_once old new))
+
+-- ---- the order of the rows
+
+module _ (v w : View) (by : Measure) where
+  -- of two names that differ, the one that isn't behind the other precedes it
+  ahead_precedes : (x y : Name) → Ahead v w by x y → x ≢ y → precedes v w by x y ≡ true
+  ahead_precedes x y ahead other = elim (decide v w by x y) [
+    | inl d ↦ d.0
+    | inr d ↦ (
+        let tie = neither_way (order v w by x y) ahead (sym (ap is_gt ((order_total v w by).antisymm y x)) ∙ d.1) in
+        absurd (other (order_exact v w by x y (is_equal (order v w by x y) tie))))
+  ]
+
+  first_precedes : (x : Name) (ys : List Name) → LeadsAll v w by x ys → IsFresh x ys → All (λ (y : Name). precedes v w by x y ≡ true) ys
+  first_precedes x [] leads fresh = All-nil (λ (y : Name). precedes v w by x y ≡ true)
+  first_precedes x (y ∷ ys) leads fresh =
+      All-cons (λ (z : Name). precedes v w by x z ≡ true) y ys (ahead_precedes x y leads.0 (All-head (λ (z : Name). x ≢ z) y ys fresh)) (first_precedes x ys leads.1 (All-tail (λ (z : Name). x ≢ z) y ys fresh))
+
+  each_precedes : (xs : List Name) → AreInOrder v w by xs → Differ xs → AllPairs (λ (x y : Name). precedes v w by x y ≡ true) xs
+  each_precedes [] ordered pairs = λ i j d low lt. absurd (omega arith)
+  each_precedes (x ∷ xs) ordered pairs =
+      AllPairs-cons (λ (m n : Name). precedes v w by m n ≡ true) x xs (first_precedes x xs ordered.0 (first_fresh x xs pairs)) (each_precedes xs ordered.1 (rest_differ x xs pairs))
+
+  pub rows_ordered : (least : ℕ) → IsSound v.statics → IsSound w.statics → AllPairs (λ (x y : Name). precedes v w by x y ≡ true) (told_names v w by least)
+  rows_ordered least old new = each_precedes (told_names v w by least) (names_ordered v w by (filter (is_told v w by least) (all_names v w))) (told_once v w by least old new)
 
 -- ---- one profile
 

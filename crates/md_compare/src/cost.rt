@@ -37,9 +37,7 @@ pub(crate) fn difference_of(old: Option<Cost>, new: Option<Cost>) -> u64
 pub(crate) fn apart(old: Option<u64>, new: Option<u64>) -> u64
     ensures { result ≡ apart old new }
 {
-    let old = old.unwrap_or(0);
-    let new = new.unwrap_or(0);
-    if new < old { old - new } else { new - old }
+    old.unwrap_or(0).abs_diff(new.unwrap_or(0))
 }
 
 pub(crate) fn own_in(cost: Option<Cost>) -> Option<u64>

@@ -1,8 +1,8 @@
 // Laws of full names and of the table. Each is the contract of a function that does nothing.
-ghost use Rattle.std.specs.Prelude.{ℕ, ◌≡◌, ◌≢◌, ◌∷◌, [], AllPairs};
+ghost use Rattle.std.specs.Prelude.{ℕ, ◌≡◌, ◌≢◌, ◌∷◌, [], AllPairs, IsTrue};
 ghost use Rattle.md_base.specs.declared.measure.Measure.{Measure};
 ghost use Rattle.md_cost.specs.View.{View};
-ghost use Rattle.md_people.specs.Compare.{compare_table, names_of, told_names, whole_row};
+ghost use Rattle.md_people.specs.Compare.{compare_table, names_of, precedes, told_names, whole_row};
 ghost use Rattle.md_static.specs.Sound.{IsSound};
 
 /// The full names of a program's procedures differ: no module's name has a point in it, and no procedure's name a slash. So procedures
@@ -14,6 +14,11 @@ pub fn full_names_differ()
 /// No name has two rows.
 pub fn a_name_has_one_row()
     ensures { (v w : View) (by : Measure) (least : ℕ) → IsSound v.statics → IsSound w.statics → AllPairs (λ name other. name ≢ other) (told_names v w by least) }
+{}
+
+/// Each row precedes all later ones: by the greater difference, and of equal ones by the name that is lower by its bytes.
+pub fn rows_stand_in_order()
+    ensures { (v w : View) (by : Measure) (least : ℕ) → IsSound v.statics → IsSound w.statics → AllPairs (λ name other. IsTrue (precedes v w by name other)) (told_names v w by least) }
 {}
 
 /// Of a profile and itself nothing is told but the whole.

@@ -9,6 +9,8 @@ mod table;
 mod text;
 mod told;
 
-pub use laws::{a_name_has_one_row, a_profile_is_as_itself, full_names_differ};
+pub use laws::{
+    a_name_has_one_row, a_profile_is_as_itself, full_names_differ, rows_stand_in_order,
+};
 pub use table::compare_table;
 pub use text::compare_text;
