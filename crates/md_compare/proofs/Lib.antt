@@ -4,4 +4,5 @@ pub mod NameOrder
 pub mod LineSteps
 pub mod FullNames
 pub mod OneRow
+pub mod Rows
 mod WorkedText
