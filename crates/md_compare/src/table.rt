@@ -3,7 +3,7 @@ ghost use Rattle.std.specs.Prelude.{◌≡◌, ◌++◌, IfOk, OnOk, map};
 ghost use Rattle.md_cost.specs.FileView.{IsFileView};
 ghost use Rattle.md_cost.specs.View.{View};
 ghost use Rattle.md_people.specs.Compare.{compare_table};
-ghost use Rattle.md_compare.specs.Lines.{told_line, whole_line};
+ghost use Rattle.md_compare.specs.Lines.{told_line, told_rows, told_table, whole_line};
 
 use crate::cost::{Cost, apart};
 use crate::line::{compare_heading, compared_line};
@@ -28,11 +28,26 @@ pub fn compare_table(
 {
     let whole = whole_of(old, by);
     let told = told_names(alloc, old, new, by, Margin { least, whole })?;
+    told_table(alloc, whole, whole_of(new, by), &told)
+}
+
+/// The table of these names.
+fn told_table(alloc: Global, old: u64, new: u64, told: &[Told]) -> Result<Table, NoMemory>
+    ensures { IfOk result (λ table. table ≡ told_table old new told.now) }
+{
     let heading = compare_heading(alloc)?;
-    let mut rows = Vec::new(alloc);
-    rows.push(whole_line(alloc, whole, whole_of(new, by))?)?;
-    push_rows(&mut rows, whole, &told)?;
+    let rows = told_rows(alloc, old, new, told)?;
     Ok(Table::from_parts(heading, rows))
+}
+
+/// The row of the whole, and one for each of these names.
+fn told_rows(alloc: Global, old: u64, new: u64, told: &[Told]) -> Result<Vec<Line>, NoMemory>
+    ensures { IfOk result (λ rows. rows.items ≡ told_rows old new told.now) }
+{
+    let mut rows = Vec::new(alloc);
+    rows.push(whole_line(alloc, old, new)?)?;
+    push_rows(&mut rows, old, told)?;
+    Ok(rows)
 }
 
 /// The line of the whole.

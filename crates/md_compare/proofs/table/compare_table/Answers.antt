@@ -1,22 +1,24 @@
-use Rattle.std.proofs.Common.{◌≡◌, List, [], ◌∷◌, ◌++◌, map, ap, ◌∙◌}
-use Rattle.md_people.specs.Compare.{name_row, told_names, whole_row}
-use Rattle.md_table.specs.Table.{LineCells}
-use Rattle.md_compare.specs.Lines.{told_line}
-use Rattle.md_compare.proofs.LineSteps.{lines_told, whole_told}
+use Rattle.std.proofs.Common.{◌≡◌, List, map, ap, ◌∙◌}
+use Rattle.std.specs.Prelude.{All}
+use Rattle.std.proofs.lemmas.List.Elements.{All-same}
+use Rattle.std.proofs.lemmas.Result.{IfOk-weaker}
+use Rattle.md_cost.specs.FileView.{IsFileView}
+use Rattle.md_cost.specs.View.{View}
+use Rattle.md_people.specs.Compare.{compare_table}
+use Rattle.md_table.specs.Table.{TableCells}
+use Rattle.md_compare.specs.Lines.{told_table}
+use Rattle.md_compare.specs.Told.{IsToldOf, name_in}
+use Rattle.md_compare.proofs.LineSteps.{table_told}
 use Rattle.md_compare.proofs.table.compare_table.Goals as goal
 
 pub returns : goal.returns
-returns c = λ v w is_v is_w.
-    let by = c.args.by in
-    let whole = c.whole_of-whole.result in
-    let lines : map (told_line whole) c.deref.result.now ≡ map (name_row v w by) (told_names v w by c.args.least) =
-    ap (map (told_line whole)) c.deref.ensures.value
-    ∙ lines_told v w by whole (c.whole_of-whole.ensures v is_v) c.in_ok-told.told.items (c.in_ok-told.ensures.each v w is_v is_w)
-    ∙ ap (map (name_row v w by)) (c.in_ok-told.ensures.names v w is_v is_w) in
-    let first : c.in_ok-whole_line.field-0 ≡ whole_row v w by =
-    c.in_ok-whole_line.ensures ∙ whole_told v w by whole c.whole_of.result (c.whole_of-whole.ensures v is_v) (c.whole_of.ensures w is_w) in
-    let rows : c.push_rows.new.rows.items ≡ whole_row v w by ∷ map (name_row v w by) (told_names v w by c.args.least) =
-    c.in_ok-push_rows.ensures
-    ∙ ap (λ (xs : List LineCells). xs ++ map (told_line whole) c.deref.result.now) (c.in_ok-push.ensures.items ∙ ap (λ (xs : List LineCells). xs ++ c.in_ok-whole_line.field-0 ∷ []) c.new-rows.ensures.items)
-    ∙ (λ i. first i ∷ lines i) in
-    c.from_parts.ensures ∙ (λ i. record { heading = c.in_ok-heading.ensures i; rows = rows i })
+returns c =
+    let told = c.deref.result.now in
+    IfOk-weaker c.told_table.result (λ (table : TableCells). table ≡ told_table c.whole_of-whole.result c.whole_of.result told)
+    (λ (table : TableCells). (v w : View) → IsFileView c.args.old.now.profile v → IsFileView c.args.new.now.profile w → table ≡ compare_table v w c.args.by c.args.least)
+    (λ table is v w is_v is_w.
+    is
+    ∙ table_told v w c.args.by c.args.least c.whole_of-whole.result c.whole_of.result told (c.whole_of-whole.ensures v is_v) (c.whole_of.ensures w is_w)
+    (All-same (IsToldOf v w c.args.by) told c.in_ok-told.told.items c.deref.ensures.value (c.in_ok-told.ensures.each v w is_v is_w))
+    (ap (map name_in) c.deref.ensures.value ∙ c.in_ok-told.ensures.names v w is_v is_w))
+    c.told_table.ensures
