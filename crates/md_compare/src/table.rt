@@ -16,7 +16,7 @@ use std::alloc::Global;
 
 /// Two profiles by a measure: a row for the whole, and one for each name of a procedure whose own counts or totals are apart by at least
 /// `least` thousandths of the old whole, and by at least 1; the greatest difference comes first. Takes time in the order of n log n
-/// comparisons of names, for n procedures in both, and memory for the names of both.
+/// comparisons of names, for n procedures in both, and memory for the names of both. `NoMemory` where memory is refused.
 pub fn compare_table(
     alloc: Global,
     old: &Loaded,

@@ -12,7 +12,8 @@ use md_people::measure_word;
 use md_table::{Table, add_text};
 use std::alloc::{AllocError, Global};
 
-/// What is compared, whether the runs were finished, and the table of two profiles (`compare_table`) in lines that end in LF.
+/// What is compared, whether the runs were finished, and the table of two profiles (`compare_table`) in lines that end in LF. Takes what
+/// the table takes, and memory for the text. `NoMemory` where memory is refused.
 pub fn compare_text(
     alloc: Global,
     old: &Loaded,
