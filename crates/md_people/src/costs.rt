@@ -114,7 +114,7 @@ pub fn push_counted(cells: &mut Vec<Cell>, count: u128, whole: u64) -> Result<()
     Ok(())
 }
 
-/// Adds a cell with these words.
+/// Adds a cell with these words. Takes memory for them.
 pub fn push_words(cells: &mut Vec<Cell>, words: &[u8]) -> Result<(), NoMemory>
     ensures { OnOk result (cells.new.items ≡ cells.old.items ++ words.now ∷ []) }
 {
@@ -123,7 +123,7 @@ pub fn push_words(cells: &mut Vec<Cell>, words: &[u8]) -> Result<(), NoMemory>
     Ok(())
 }
 
-/// A cell with these words.
+/// A cell with these words. Takes memory for them.
 pub fn words_cell(alloc: Global, words: &[u8]) -> Result<Cell, NoMemory>
     ensures { IfOk result (λ cell. cell ≡ words.now) }
 {

@@ -31,8 +31,8 @@ pub(crate) fn module_name(statics: &Statics, id: u32) -> &[u8]
     }
 }
 
-/// A procedure's module, name and number of arguments.
-pub(crate) fn full_name(alloc: Global, statics: &Statics, id: u32) -> Result<Vec<u8>, NoMemory>
+/// A procedure's module, name and number of arguments. A number of no procedure has no name. Takes memory for the name.
+pub fn full_name(alloc: Global, statics: &Statics, id: u32) -> Result<Vec<u8>, NoMemory>
     ensures { IfOk result (λ name. name.items ≡ full_name statics.now id) }
 {
     let mut name = Vec::new(alloc);
