@@ -249,13 +249,13 @@ module _ (f : ProfileRows) (sound : AreSound (length f.nodes) f.links) (cliques 
   own_told : (c : ℕ) → own_counts v (OfContext c) by ≡ leading c
   own_told c = ap (λ (o : Option ℕ). unwrap_or o 0) (view_own f sound cliques found tree v viewed (OfContext c) by)
 
-  child_told : (k j : ℕ) → is_child v k j ≡ (ltb 0 j && eqb (get_or cliques (start_of f.links found j) 0) k)
+  pub child_told : (k j : ℕ) → is_child v k j ≡ (ltb 0 j && eqb (get_or cliques (start_of f.links found j) 0) k)
   child_told k j =
       ap (λ (p : ℕ). ltb 0 j && eqb p k) (
       clique_told f sound cliques found tree v viewed (entered_from v j)
       ∙ ap (λ (c : ℕ). get_or cliques c 0) (entered_told f sound cliques found tree v viewed j))
 
-  cliques_told : clique_count v.cliques ≡ clique_count cliques
+  pub cliques_told : clique_count v.cliques ≡ clique_count cliques
   cliques_told = ap (λ (ks : List ℕ). clique_count ks) (view_cliques f sound cliques found tree v viewed)
 
   one_child : (w k x : ℕ) → x < clique_count cliques → sum_by (λ j. cond (eqb x j) w 0) (children v by k) ≡ cond (ltb 0 x && eqb (get_or cliques (start_of f.links found x) 0) k) w 0

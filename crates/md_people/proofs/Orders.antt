@@ -18,10 +18,10 @@ one_of z x = cond (eqb x z) 1 0
 abbrev pub times : ℕ → List ℕ → ℕ
 times z xs = sum_by (one_of z) xs
 
-same_one : (z x : ℕ) → x ≡ z → one_of z x ≡ 1
+pub same_one : (z x : ℕ) → x ≡ z → one_of z x ≡ 1
 same_one z x e = ap (λ (b : Bool). cond b 1 0) (eq-eqb x z e)
 
-other_one : (z x : ℕ) → (x ≡ z → ⊥) → one_of z x ≡ 0
+pub other_one : (z x : ℕ) → (x ≡ z → ⊥) → one_of z x ≡ 0
 other_one z x ne = ap (λ (b : Bool). cond b 1 0) (ne_eqb x z ne)
 
 module _ (count : ℕ → ℕ) where
@@ -38,7 +38,7 @@ module _ (count : ℕ → ℕ) where
   InOrder [] = Unit {0}
   InOrder (x ∷ xs) = Leads x xs × InOrder xs
 
-  ahead_through : (x y z : ℕ) → IsAhead x y → IsAhead y z → IsAhead x z
+  pub ahead_through : (x y z : ℕ) → IsAhead x y → IsAhead y z → IsAhead x z
   ahead_through x y z a b =
       let am = a.more in let bm = b.more in record {
         more = omega arith;
@@ -119,7 +119,7 @@ module _ (count : ℕ → ℕ) where
     | inr d ↦ rw d.0 (leads_with r q rs d.1 o.0, order_with q rs o.1)
   ]
 
-  order_ranked : (qs : List ℕ) → InOrder (ranked count qs)
+  pub order_ranked : (qs : List ℕ) → InOrder (ranked count qs)
   order_ranked [] = tt
   order_ranked (q ∷ qs) = order_with q (ranked count qs) (order_ranked qs)
 
@@ -132,7 +132,7 @@ module _ (count : ℕ → ℕ) where
         | inr d ↦ (let rest = times_with z q rs in let more = sum_by-cons (one_of z) r (ranked_with count q rs) in rw d.0 (omega arith))
       ]
 
-  times_ranked : (z : ℕ) (qs : List ℕ) → times z (ranked count qs) ≡ times z qs
+  pub times_ranked : (z : ℕ) (qs : List ℕ) → times z (ranked count qs) ≡ times z qs
   times_ranked z [] = refl
   times_ranked z (q ∷ qs) = let rest = times_ranked z qs in let with_q = times_with z q (ranked count qs) in let split = sum_by-cons (one_of z) q qs in omega arith
 

@@ -104,7 +104,7 @@ fn costs_line(
 }
 
 /// Adds a count and its share in the whole.
-pub(crate) fn push_counted(cells: &mut Vec<Cell>, count: u128, whole: u64) -> Result<(), NoMemory>
+pub fn push_counted(cells: &mut Vec<Cell>, count: u128, whole: u64) -> Result<(), NoMemory>
     requires { count < 2 ^ 118 }
     ensures { OnOk result (cells.new.items ≡ cells.old.items ++ counted_cells count whole) }
 {
@@ -114,8 +114,8 @@ pub(crate) fn push_counted(cells: &mut Vec<Cell>, count: u128, whole: u64) -> Re
     Ok(())
 }
 
-/// Adds a cell with these words.
-pub(crate) fn push_words(cells: &mut Vec<Cell>, words: &[u8]) -> Result<(), NoMemory>
+/// Adds a cell with these words. Takes memory for them.
+pub fn push_words(cells: &mut Vec<Cell>, words: &[u8]) -> Result<(), NoMemory>
     ensures { OnOk result (cells.new.items ≡ cells.old.items ++ words.now ∷ []) }
 {
     let alloc: Global = *cells.allocator();
@@ -123,8 +123,8 @@ pub(crate) fn push_words(cells: &mut Vec<Cell>, words: &[u8]) -> Result<(), NoMe
     Ok(())
 }
 
-/// A cell with these words.
-pub(crate) fn words_cell(alloc: Global, words: &[u8]) -> Result<Cell, NoMemory>
+/// A cell with these words. Takes memory for them.
+pub fn words_cell(alloc: Global, words: &[u8]) -> Result<Cell, NoMemory>
     ensures { IfOk result (λ cell. cell ≡ words.now) }
 {
     let bytes = Vec::from_slice(alloc, words)?;

@@ -12,7 +12,7 @@ use std::alloc::AllocError;
 
 /// The call site of a link, and the context to which it leads with its procedure and its clique, by their numbers.
 #[derive(Clone, Copy)]
-pub(crate) struct Led {
+pub struct Led {
     pub site: u32,
     pub callee: u32,
     pub proc: u32,
@@ -20,7 +20,7 @@ pub(crate) struct Led {
 }
 
 /// Where a link leads to.
-pub(crate) fn led_by(loaded: &Loaded, link: CsdId) -> Led
+pub fn led_by(loaded: &Loaded, link: CsdId) -> Led
     requires { link < length loaded.now.profile.links }
     ensures { (v : View) → IsFileView loaded.now.profile v → result ≡ led_by v link }
 {
@@ -88,7 +88,7 @@ pub(crate) fn owner_at(statics: &Statics, site: u32) -> u32
 }
 
 /// The line of a call site.
-pub(crate) fn line_at(statics: &Statics, site: u32) -> u32
+pub fn line_at(statics: &Statics, site: u32) -> u32
     ensures { result ≡ line_at statics.now site }
 {
     match statics.sites().get(site as usize) {

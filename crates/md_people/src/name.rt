@@ -31,8 +31,8 @@ pub(crate) fn module_name(statics: &Statics, id: u32) -> &[u8]
     }
 }
 
-/// A procedure's module, name and number of arguments.
-pub(crate) fn full_name(alloc: Global, statics: &Statics, id: u32) -> Result<Vec<u8>, NoMemory>
+/// A procedure's module, name and number of arguments. A number of no procedure has no name. Takes memory for the name.
+pub fn full_name(alloc: Global, statics: &Statics, id: u32) -> Result<Vec<u8>, NoMemory>
     ensures { IfOk result (λ name. name.items ≡ full_name statics.now id) }
 {
     let mut name = Vec::new(alloc);
@@ -40,7 +40,8 @@ pub(crate) fn full_name(alloc: Global, statics: &Statics, id: u32) -> Result<Vec
     Ok(name)
 }
 
-pub(crate) fn add_full_name(out: &mut Vec<u8>, statics: &Statics, id: u32) -> Result<(), AllocError>
+/// Adds the full name of a procedure.
+pub fn add_full_name(out: &mut Vec<u8>, statics: &Statics, id: u32) -> Result<(), AllocError>
     ensures { OnOk result (out.new.items ≡ out.old.items ++ full_name statics.now id) }
 {
     let Some(proc) = statics.procs().get(id as usize) else {
@@ -53,7 +54,7 @@ pub(crate) fn add_full_name(out: &mut Vec<u8>, statics: &Statics, id: u32) -> Re
 }
 
 /// Adds words, and a number behind them.
-pub(crate) fn add_number(out: &mut Vec<u8>, words: &[u8], number: u32) -> Result<(), AllocError>
+pub fn add_number(out: &mut Vec<u8>, words: &[u8], number: u32) -> Result<(), AllocError>
     ensures { OnOk result (out.new.items ≡ out.old.items ++ (words.now ++ decimal number)) }
 {
     let mut digits = Buffer::new();

@@ -196,7 +196,8 @@ fn push_counts(cells: &mut Vec<Cell>, shown: &[Measure], row: &PortsRow) -> Resu
     Ok(())
 }
 
-fn measure_word(measure: Measure) -> &'static [u8]
+/// The lower-case name of a measure.
+pub fn measure_word(measure: Measure) -> &'static [u8]
     ensures { result.now ≡ measure_word measure }
 {
     match measure {

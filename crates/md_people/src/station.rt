@@ -57,7 +57,7 @@ pub(crate) fn stations_of(alloc: Global, loaded: &Loaded, node: PdId) -> Result<
 }
 
 /// Where the link that enters a clique starts.
-pub(crate) fn entered_from(loaded: &Loaded, clique: u32) -> PdId
+pub fn entered_from(loaded: &Loaded, clique: u32) -> PdId
     requires there { clique < clique_count loaded.now.cliques }
     ensures { result ≡ start_of loaded.now.profile.links loaded.now.entries clique }
 {

@@ -1,0 +1,15 @@
+use Rattle.std.specs.List.{filter}
+use Rattle.std.proofs.Common.{List, ℕ, map}
+use Rattle.md_compare.specs.Told.{is_new_in, is_told_in, name_in}
+use Rattle.md_compare.proofs.ToldSteps.{names_more, twice_filtered}
+use Rattle.md_compare.proofs.told.add_new.Goals as goal
+
+pub loop-id-preserved : goal.loop-id-preserved
+loop-id-preserved c =
+    let p = is_told_in c.args.both.now c.args.margin in
+    let q = is_new_in c.args.both.now in
+    record {
+      names = names_more (λ (xs : List (List ℕ)). filter p (filter q xs)) (twice_filtered p q) c.args.new.now c.loop-id.id c.in_ok-full_name.field-0.items (map name_in c.args.told.now.items) (map name_in c.loop-id.told.items)
+          (map name_in c.add_new_name.new.told.items) c.loop-id.invariant.names c.in_ok-add_new_name.ensures.names c.in_ok-full_name.ensures;
+      each = λ all. c.in_ok-add_new_name.ensures.each (c.loop-id.invariant.each all);
+    }

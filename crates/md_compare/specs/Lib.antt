@@ -1,0 +1,5 @@
+pub mod Cost
+pub mod Named
+pub mod Told
+pub mod Lines
+pub mod Text
