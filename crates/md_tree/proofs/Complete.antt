@@ -1,7 +1,7 @@
 -- Each clique of a total that is large enough has a box: its parent's total is no less, so all cliques above it have boxes too.
 use Rattle.std.proofs.Common.{◌≡◌, ℕ, zero, suc, ◌+◌, ◌*◌, ◌<◌, ◌≤◌, Bool, true, false, ◌&&◌, ◌||◌, eqb, ltb, leb, List, [], ◌∷◌, ◌++◌, length, map, Option, Some, None, refl, ap, ◌∙◌, inl, inr, arith}
-use Rattle.std.specs.List.{Contains, filter, range_with_len, sum_by}
-use Rattle.std.proofs.lemmas.Bool.{cases_Bool, cases_eq, cases_lt, eq-eqb, le-leb, leb-true, lt-ltb, ltb-true, ne_eqb}
+use Rattle.std.specs.List.{filter, range_with_len, sum_by}
+use Rattle.std.proofs.lemmas.Bool.{cases_Bool, cases_eq, cases_lt, eq-eqb, le-leb, leb-true, lt-ltb, ltb-true}
 use Rattle.std.proofs.lemmas.List.{map-append}
 use Rattle.std.proofs.lemmas.List.Sums.{sum_by-append, sum_by-cons}
 use Rattle.md_base.specs.declared.measure.Measure.{Measure}
@@ -17,14 +17,14 @@ use Rattle.md_people.proofs.Adding.{adds_up}
 use Rattle.md_people.proofs.Orders.{one_of, other_one, same_one, times, times_ranked}
 use Rattle.md_people.proofs.StationSteps.{start_lower}
 use Rattle.md_tree.specs.declared.picture.CliqueBox.{CliqueBox}
-use Rattle.md_tree.specs.Picture.{boxes_beside, boxes_from, picture, width_of}
+use Rattle.md_tree.specs.Picture.{boxes_beside, boxes_from, width_of}
 use Rattle.md_tree.proofs.Boxes.{boxes_below}
 use Rattle.md_tree.proofs.Parents.{parent_told}
 use Rattle.md_tree.proofs.Rows.{AreLower}
 
 -- ---- a number that is in a list
 
-abbrev IsIn : ℕ → List ℕ → Type 0
+abbrev pub IsIn : ℕ → List ℕ → Type 0
 IsIn k ks = 0 < times k ks
 
 in_range : (i n k : ℕ) → i ≤ k → k < i + n → IsIn k (range_with_len i n)
@@ -68,21 +68,12 @@ le_sum f k (j ∷ ks) is =
       | inr other ↦ (let none = other_one k j other in let rest = le_sum f k ks (omega arith) in omega arith)
     ]
 
-contained : (k : ℕ) (ks : List ℕ) → IsIn k ks → Contains ks k
-contained k [] is = absurd (omega arith)
-contained k (j ∷ ks) is =
-    let split = sum_by-cons (one_of k) j ks in
-    elim (cases_eq j k) as (λ _. Contains (j ∷ ks) k) [
-      | inl here ↦ (0, omega arith, here)
-      | inr other ↦ (let none = other_one k j other in let rest = contained k ks (omega arith) in (suc rest.0, (let lt = rest.1 in omega arith), rest.2))
-    ]
-
 -- ---- a clique that has a box
 
-abbrev HasBox : ℕ → List CliqueBox → Type 0
+abbrev pub HasBox : ℕ → List CliqueBox → Type 0
 HasBox k bs = IsIn k (map (λ (b : CliqueBox). b.clique) bs)
 
-has_append : (k : ℕ) (firsts bs : List CliqueBox) → times k (map (λ (b : CliqueBox). b.clique) (firsts ++ bs)) ≡ times k (map (λ (b : CliqueBox). b.clique) firsts) + times k (map (λ (b : CliqueBox). b.clique) bs)
+pub has_append : (k : ℕ) (firsts bs : List CliqueBox) → times k (map (λ (b : CliqueBox). b.clique) (firsts ++ bs)) ≡ times k (map (λ (b : CliqueBox). b.clique) firsts) + times k (map (λ (b : CliqueBox). b.clique) bs)
 has_append k firsts bs = ap (λ (ks : List ℕ). times k ks) (map-append (λ (b : CliqueBox). b.clique) firsts bs) ∙ sum_by-append (one_of k) (map (λ (b : CliqueBox). b.clique) firsts) (map (λ (b : CliqueBox). b.clique) bs)
 
 has_beside : (width : ℕ → ℕ) (boxes : (left place k : ℕ) → List CliqueBox) (j k : ℕ) → ((left place : ℕ) → HasBox k (boxes left place j)) → (left place : ℕ) (ks : List ℕ) → IsIn j ks → HasBox k (boxes_beside width boxes left place ks)
@@ -159,7 +150,8 @@ module _ (f : ProfileRows) (valid : IsValid f) (v : View) (viewed : IsFileView f
     | inr none ↦ (let first : k ≡ 0 = omega arith in rw first (at_once 0))
   ]
 
-  pub has_box : (k : ℕ) → 0 < whole_of v by → k < clique_count v.cliques → is_shown v by least k ≡ true → Contains (map (λ (b : CliqueBox). b.clique) (picture v by least)) k
-  has_box k some lt shown =
-      rw (ne_eqb (whole_of v by) 0 (λ e. absurd (omega arith))) (
-      contained k (map (λ (b : CliqueBox). b.clique) (boxes_from v by least (clique_count v.cliques) 0 None 0 0 0)) (reached (omega arith) (reach (suc k) k (omega arith) lt shown) 0 None 0 0))
+  pub has_box : (k : ℕ) → k < clique_count v.cliques → is_shown v by least k ≡ true → HasBox k (boxes_from v by least (clique_count v.cliques) 0 None 0 0 0)
+  has_box k lt shown = reached (omega arith) (reach (suc k) k (omega arith) lt shown) 0 None 0 0
+
+  pub first_has_box : 0 < clique_count v.cliques → HasBox 0 (boxes_from v by least (clique_count v.cliques) 0 None 0 0 0)
+  first_has_box lt = reached lt (at_once 0) 0 None 0 0

@@ -6,7 +6,7 @@ use Rattle.std.proofs.lemmas.List.Elements.{All-same, All-tail}
 use Rattle.std.proofs.lemmas.List.Sums.{sum_by-cons}
 use Rattle.md_tree.specs.declared.rest.Rest.{Rest}
 use Rattle.md_tree.specs.Children.{AreChildren, Child, cliques_below}
-use Rattle.md_tree.specs.Rests.{IsNext, IsRest, IsWhole, cliques_left, past, rest_work, work_below}
+use Rattle.md_tree.specs.Rests.{IsNext, IsRest, HasAllOf, cliques_left, past, rest_work, work_below}
 use Rattle.md_tree.proofs.Left.{of_next}
 use Rattle.md_tree.proofs.Work.{work_on}
 
@@ -15,7 +15,7 @@ pub next_left : (cs : List Child) (r : Rest) (c : Child) → IsNext cs r c → c
 next_left cs r c next = ap (λ (xs : List Child). map (λ (x : Child). x.2) xs) next.left
 
 module _ (n : ℕ) (cs : List Child) (are : AreChildren n cs) where
-  pub whole_rest : (k : ℕ) (r : Rest) → IsWhole cs k r → k < n → IsRest n cs r
+  pub whole_rest : (k : ℕ) (r : Rest) → HasAllOf cs k r → k < n → IsRest n cs r
   whole_rest k r whole lt =
       let its = whole.parent in record {
         parent = omega arith;
@@ -44,7 +44,7 @@ module _ (n : ℕ) (cs : List Child) (are : AreChildren n cs) where
       omega arith
 
   -- there is less left to do past a child and below it
-  pub work_of_next : (r below : Rest) (c : Child) → IsNext cs r c → IsWhole cs c.2 below → rest_work cs n r ≡ 1 + (rest_work cs n below + rest_work cs n (past r))
+  pub work_of_next : (r below : Rest) (c : Child) → IsNext cs r c → HasAllOf cs c.2 below → rest_work cs n r ≡ 1 + (rest_work cs n below + rest_work cs n (past r))
   work_of_next r below c next whole =
       let work = work_on n cs are.lower c.2 (next_there r c next) in
       let split = sum_by-cons (work_below cs n) c.2 (cliques_left cs (past r)) in

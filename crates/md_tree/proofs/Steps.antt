@@ -14,7 +14,7 @@ use Rattle.md_tree.specs.declared.branch.Branch.{Branch}
 use Rattle.md_tree.specs.declared.rest.Rest.{Rest}
 use Rattle.md_tree.specs.Branches.{IsBranch, branch_rows, open_rows, open_work, past_hidden, past_shown, rows_of_left}
 use Rattle.md_tree.specs.Children.{AreChildren, AreChildrenOf, Child, cliques_below}
-use Rattle.md_tree.specs.Rests.{IsNext, IsWhole, cliques_left, past, rest_work}
+use Rattle.md_tree.specs.Rests.{IsNext, HasAllOf, cliques_left, past, rest_work}
 use Rattle.md_tree.proofs.Left.{of_next}
 use Rattle.md_tree.proofs.RestSteps.{next_left, next_lower, next_there, past_rest, whole_rest, work_of_next, work_past}
 use Rattle.md_tree.proofs.Rows.{AreLower, rows_below, rows_of_hidden, rows_of_shown}
@@ -62,7 +62,7 @@ module _ (n : ℕ) (cs : List Child) (are : AreChildren n cs) (b : Branch) (is :
         sum = omega arith;
       }
 
-  below_branch : (below : Rest) → IsWhole cs c.2 below → IsBranch n cs (branch_at b below)
+  below_branch : (below : Rest) → HasAllOf cs c.2 below → IsBranch n cs (branch_at b below)
   below_branch below whole =
       let low = next_lower n cs are b.rest c next in
       let its = whole.parent in
@@ -74,7 +74,7 @@ module _ (n : ℕ) (cs : List Child) (are : AreChildren n cs) (b : Branch) (is :
       }
 
   module _ (before after : List Branch) (all : All (IsBranch n cs) before) where
-    pub branches_shown : (d : Branch) → IsWhole cs c.2 d.rest → d ≡ branch_at b d.rest → after ≡ (before ++ past_shown b ∷ []) ++ d ∷ [] → All (IsBranch n cs) after
+    pub branches_shown : (d : Branch) → HasAllOf cs c.2 d.rest → d ≡ branch_at b d.rest → after ≡ (before ++ past_shown b ∷ []) ++ d ∷ [] → All (IsBranch n cs) after
     branches_shown d whole d_is after_is =
         let at : IsBranch n cs d = rw d_is (below_branch d.rest whole) in
         rw after_is (All-push (IsBranch n cs) (before ++ past_shown b ∷ []) d (All-push (IsBranch n cs) before (past_shown b) all past_branch) at)
@@ -82,7 +82,7 @@ module _ (n : ℕ) (cs : List Child) (are : AreChildren n cs) (b : Branch) (is :
     pub branches_hidden : (total : ℕ) → total < 2 ^ 64 → after ≡ before ++ past_hidden b total ∷ [] → All (IsBranch n cs) after
     branches_hidden total small after_is = rw after_is (All-push (IsBranch n cs) before (past_hidden b total) all (hidden_branch total small))
 
-    pub less_shown : (d : Branch) → IsWhole cs c.2 d.rest → after ≡ (before ++ past_shown b ∷ []) ++ d ∷ [] → open_work cs n after < rest_work cs n b.rest + open_work cs n before
+    pub less_shown : (d : Branch) → HasAllOf cs c.2 d.rest → after ≡ (before ++ past_shown b ∷ []) ++ d ∷ [] → open_work cs n after < rest_work cs n b.rest + open_work cs n before
     less_shown d whole after_is =
         let work = work_of_next n cs are b.rest d.rest c next whole in
         let first = sum_by_push (λ (x : Branch). rest_work cs n x.rest) before (past_shown b) in
@@ -105,13 +105,13 @@ module _ (v : View) (by : Measure) (least : ℕ) (cs : List Child) where
     pub lower_told : AreLower v by least
     lower_told k lt = All-same (λ (j : ℕ). (k < j) × (j < clique_count v.cliques)) (children v by k) (cliques_below cs k) (sym (told.below k)) (below_lower (clique_count v.cliques) k cs are.lower)
 
-    pub whole_rows : (k level : ℕ) (r : Rest) → k < clique_count v.cliques → IsWhole cs k r
+    pub whole_rows : (k level : ℕ) (r : Rest) → k < clique_count v.cliques → HasAllOf cs k r
         → rows_from v by least (clique_count v.cliques) level k ≡ clique_row v by level k ∷ rows_of_left v by least (level + 1) 0 0 (cliques_left cs r)
     whole_rows k level r lt whole =
         rows_below v by least lower_told level k lt
         ∙ ap (λ (ks : List ℕ). clique_row v by level k ∷ rows_of_left v by least (level + 1) 0 0 ks) (sym (whole.cliques ∙ told.below k))
 
-    rows_shown : (b : Branch) (below : Rest) (c : Child) → IsNext cs b.rest c → IsWhole cs c.2 below → is_shown v by least c.2 ≡ true
+    rows_shown : (b : Branch) (below : Rest) (c : Child) → IsNext cs b.rest c → HasAllOf cs c.2 below → is_shown v by least c.2 ≡ true
         → branch_rows v by least cs b ≡ (clique_row v by b.level c.2 ∷ branch_rows v by least cs (branch_at b below)) ++ branch_rows v by least cs (past_shown b)
     rows_shown b below c next whole shown =
         let there = (of_next (λ (x : Child). (x.0 < x.2) × (x.2 < clique_count v.cliques)) cs b.rest c are.lower next).1 in
@@ -125,7 +125,7 @@ module _ (v : View) (by : Measure) (least : ℕ) (cs : List Child) where
         ∙ rows_of_hidden v by least b.level b.hidden b.sum c.2 (cliques_left cs (past b.rest)) hidden
         ∙ ap (λ (t : ℕ). rows_of_left v by least b.level (b.hidden + 1) (b.sum + t) (cliques_left cs (past b.rest))) (sym total_is)
 
-    pub step_shown : (b d : Branch) (c : Child) (row : LineCells) (rows new : List LineCells) (before after : List Branch) → IsNext cs b.rest c → IsWhole cs c.2 d.rest → d ≡ branch_at b d.rest → is_shown v by least c.2 ≡ true
+    pub step_shown : (b d : Branch) (c : Child) (row : LineCells) (rows new : List LineCells) (before after : List Branch) → IsNext cs b.rest c → HasAllOf cs c.2 d.rest → d ≡ branch_at b d.rest → is_shown v by least c.2 ≡ true
         → row ≡ clique_row v by b.level c.2 → new ≡ rows ++ row ∷ [] → after ≡ (before ++ past_shown b ∷ []) ++ d ∷ []
         → new ++ open_rows v by least cs after ≡ rows ++ (branch_rows v by least cs b ++ open_rows v by least cs before)
     step_shown b d c row rows new before after next whole d_is shown row_is new_is after_is =

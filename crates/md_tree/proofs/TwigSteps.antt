@@ -18,7 +18,7 @@ use Rattle.md_tree.specs.declared.picture.Twig.{Twig}
 use Rattle.md_tree.specs.declared.rest.Rest.{Rest}
 use Rattle.md_tree.specs.Children.{AreChildren, AreChildrenOf, Child}
 use Rattle.md_tree.specs.Picture.{boxes_beside, boxes_from, width_of}
-use Rattle.md_tree.specs.Rests.{IsNext, IsWhole, cliques_left}
+use Rattle.md_tree.specs.Rests.{IsNext, HasAllOf, cliques_left}
 use Rattle.md_tree.specs.Twigs.{Fits, IsTwig, all_work, open_boxes, past_box, shown_left, twig_boxes, twig_work}
 use Rattle.md_tree.proofs.Boxes.{box_of, boxes_below}
 use Rattle.md_tree.proofs.RestSteps.{next_left, next_lower, next_there, past_rest, whole_rest, work_of_next, work_past}
@@ -41,7 +41,7 @@ module _ (n : ℕ) (cs : List Child) (are : AreChildren n cs) (t : Twig) (is : I
   past_twig : (w : ℕ) → IsTwig n cs (past_box t w)
   past_twig w = record { rest = past_rest n cs are t.rest c next is.rest; level = is.level }
 
-  below_twig : (below : Rest) (place : ℕ) → IsWhole cs c.2 below → IsTwig n cs (twig_at t below place)
+  below_twig : (below : Rest) (place : ℕ) → HasAllOf cs c.2 below → IsTwig n cs (twig_at t below place)
   below_twig below place whole =
       let low = next_lower n cs are t.rest c next in
       let its = whole.parent in
@@ -51,7 +51,7 @@ module _ (n : ℕ) (cs : List Child) (are : AreChildren n cs) (t : Twig) (is : I
       }
 
   module _ (before after : List Twig) (all : All (IsTwig n cs) before) where
-    pub twigs_shown : (d : Twig) (w place : ℕ) → IsWhole cs c.2 d.rest → d ≡ twig_at t d.rest place → after ≡ (before ++ past_box t w ∷ []) ++ d ∷ [] → All (IsTwig n cs) after
+    pub twigs_shown : (d : Twig) (w place : ℕ) → HasAllOf cs c.2 d.rest → d ≡ twig_at t d.rest place → after ≡ (before ++ past_box t w ∷ []) ++ d ∷ [] → All (IsTwig n cs) after
     twigs_shown d w place whole d_is after_is =
         let at : IsTwig n cs d = rw d_is (below_twig d.rest place whole) in
         rw after_is (All-push (IsTwig n cs) (before ++ past_box t w ∷ []) d (All-push (IsTwig n cs) before (past_box t w) all (past_twig w)) at)
@@ -59,7 +59,7 @@ module _ (n : ℕ) (cs : List Child) (are : AreChildren n cs) (t : Twig) (is : I
     pub twigs_hidden : after ≡ before ++ past_box t 0 ∷ [] → All (IsTwig n cs) after
     twigs_hidden after_is = rw after_is (All-push (IsTwig n cs) before (past_box t 0) all (past_twig 0))
 
-    pub fewer_shown : (d : Twig) (w : ℕ) → IsWhole cs c.2 d.rest → after ≡ (before ++ past_box t w ∷ []) ++ d ∷ [] → all_work cs n after < twig_work cs n t + all_work cs n before
+    pub fewer_shown : (d : Twig) (w : ℕ) → HasAllOf cs c.2 d.rest → after ≡ (before ++ past_box t w ∷ []) ++ d ∷ [] → all_work cs n after < twig_work cs n t + all_work cs n before
     fewer_shown d w whole after_is =
         let work = work_of_next n cs are t.rest d.rest c next whole in
         let first = sum_by_push (twig_work cs n) before (past_box t w) in
@@ -107,7 +107,7 @@ module _ (v : View) (by : Measure) (least : ℕ) (cs : List Child) (t : Twig) (c
       let split = sum_by-cons (width_of v by) c.2 (shown_left v by least cs (past_box t 0)) in
       omega arith
 
-  module _ (are : AreChildren (clique_count v.cliques) cs) (told : AreChildrenOf v by cs) (d : Twig) (place : ℕ) (whole : IsWhole cs c.2 d.rest) (d_is : d ≡ twig_at t d.rest place) (shown : is_shown v by least c.2 ≡ true) where
+  module _ (are : AreChildren (clique_count v.cliques) cs) (told : AreChildrenOf v by cs) (d : Twig) (place : ℕ) (whole : HasAllOf cs c.2 d.rest) (d_is : d ≡ twig_at t d.rest place) (shown : is_shown v by least c.2 ≡ true) where
     shown_below : filter (is_shown v by least) (cliques_left cs d.rest) ≡ shown_children v by least c.2
     shown_below = ap (λ (ks : List ℕ). filter (is_shown v by least) ks) (whole.cliques ∙ told.below c.2)
 

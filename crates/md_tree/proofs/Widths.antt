@@ -32,7 +32,7 @@ sum_of_parts f w (k ∷ ks) some =
     let all : (1000000 * f k + 1000000 * sum_by f ks) / w ≡ millionths (sum_by f (k ∷ ks)) w = ap (λ (n : ℕ). n / w) same in
     omega arith
 
-sum_of_some : (f : ℕ → ℕ) (p : ℕ → Bool) (ks : List ℕ) → sum_by f (filter p ks) ≤ sum_by f ks
+pub sum_of_some : (f : ℕ → ℕ) (p : ℕ → Bool) (ks : List ℕ) → sum_by f (filter p ks) ≤ sum_by f ks
 sum_of_some f p [] = omega arith
 sum_of_some f p (k ∷ ks) =
     let rest = sum_of_some f p ks in

@@ -27,8 +27,8 @@ pub record IsRest (count : ℕ) (cs : List Child) (r : Rest) : Type 0 where
   pub place : r.place ≤ length cs
   pub past : All (λ c. r.parent ≤ c.0) (drop r.place cs)
 
--- all children of clique k
-pub record IsWhole (cs : List Child) (k : ℕ) (r : Rest) : Type 0 where
+-- all children of clique k are left
+pub record HasAllOf (cs : List Child) (k : ℕ) (r : Rest) : Type 0 where
   pub parent : r.parent ≡ k
   pub place : r.place ≤ length cs
   pub past : All (λ c. k ≤ c.0) (drop r.place cs)

@@ -2,7 +2,7 @@
 ghost use Rattle.std.specs.Prelude.{◌≡◌, ◌<◌, ◌+◌, ◌^◌};
 ghost use Rattle.std.specs.List.Sorted.{IsNonDecreasingBy};
 ghost use Rattle.md_tree.specs.Branches.{past_hidden, past_shown};
-ghost use Rattle.md_tree.specs.Rests.{IsWhole};
+ghost use Rattle.md_tree.specs.Rests.{HasAllOf};
 
 use crate::child::Child;
 use crate::rest::{Rest, past, rest_below};
@@ -20,7 +20,7 @@ pub(crate) struct Branch {
 /// All children of a clique, at this level.
 pub(crate) fn branch_below(children: &[Child], parent: u32, level: u32) -> Branch
     requires by_parent { IsNonDecreasingBy (λ c. c.0) children.now }
-    ensures rest { IsWhole children.now parent result.rest }
+    ensures rest { HasAllOf children.now parent result.rest }
     ensures branch { result ≡ record { rest = result.rest; level = level; hidden = 0; sum = 0 } }
 {
     Branch {

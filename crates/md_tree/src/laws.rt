@@ -1,5 +1,5 @@
 // Laws over the definitions of the tree and of its picture alone. Each is the contract of a function that does nothing.
-ghost use Rattle.std.specs.Prelude.{ℕ, ◌≡◌, ◌<◌, All, AllPairs, Contains, map, true};
+ghost use Rattle.std.specs.Prelude.{ℕ, ◌≡◌, ◌<◌, ◌==◌, ◌||◌, if◌then◌else◌, All, AllPairs, count_by};
 ghost use Rattle.md_base.specs.declared.measure.Measure.{Measure};
 ghost use Rattle.md_dynamic.specs.Profile.{ProfileRows};
 ghost use Rattle.md_dynamic.specs.Valid.{IsValid};
@@ -25,8 +25,8 @@ pub fn each_box_has_its_row()
     ensures { (v : View) (by : Measure) (least : ℕ) → 0 < whole_of v by → AreRowsOf v by (picture v by least) (tree_table v by least).rows }
 {}
 
-/// Where the whole isn't 0, each clique of a total that is large enough has a box, and so a row: its parent's total is no less, so that
-/// none is left out with its parent.
-pub fn each_clique_of_enough_has_a_box()
-    ensures { (f : ProfileRows) (v : View) (by : Measure) (least k : ℕ) → IsValid f → IsFileView f v → 0 < whole_of v by → k < clique_count v.cliques → is_shown v by least k ≡ true → Contains (map (λ b. b.clique) (picture v by least)) k }
+/// Where the whole isn't 0, clique 0 and each other clique of a total that is large enough have one box, and so one row, and no other
+/// clique has any. The total of a clique's parent is no less than its own, so that none is left out with its parent.
+pub fn each_clique_of_enough_has_one_box()
+    ensures { (f : ProfileRows) (v : View) (by : Measure) (least k : ℕ) → IsValid f → IsFileView f v → 0 < whole_of v by → k < clique_count v.cliques → count_by (λ b. b.clique == k) (picture v by least) ≡ (if (k == 0) || is_shown v by least k then 1 else 0) }
 {}

@@ -12,7 +12,7 @@ mod scale;
 mod tree;
 
 pub use laws::{
-    boxes_lie_within, boxes_stand_apart, each_box_has_its_row, each_clique_of_enough_has_a_box,
+    boxes_lie_within, boxes_stand_apart, each_box_has_its_row, each_clique_of_enough_has_one_box,
 };
 pub use picture::{CliqueBox, shown_cliques};
 pub use tree::tree_table;

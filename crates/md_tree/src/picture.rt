@@ -7,7 +7,7 @@ ghost use Rattle.md_cost.specs.View.{View};
 ghost use Rattle.md_people.specs.Counts.{whole_of};
 ghost use Rattle.md_tree.specs.Children.{AreChildren, AreChildrenOf};
 ghost use Rattle.md_tree.specs.Picture.{boxes_from, millionths, picture};
-ghost use Rattle.md_tree.specs.Rests.{IsWhole};
+ghost use Rattle.md_tree.specs.Rests.{HasAllOf};
 ghost use Rattle.md_tree.specs.Twigs.{Fits, IsTwig, all_work, open_boxes, past_box, twig_work};
 
 use crate::child::{Child, children_of};
@@ -96,7 +96,7 @@ fn boxes_of(
 /// All children of a clique, at this level, whose box has this place and this left edge.
 fn twig_below(children: &[Child], parent: u32, level: u32, place: usize, left: u32) -> Twig
     requires by_parent { IsNonDecreasingBy (λ c. c.0) children.now }
-    ensures rest { IsWhole children.now parent result.rest }
+    ensures rest { HasAllOf children.now parent result.rest }
     ensures twig { result ≡ record { rest = result.rest; level = level; place = place; left = left } }
 {
     Twig {

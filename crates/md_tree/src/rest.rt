@@ -1,7 +1,7 @@
 // The children of a clique that are still to be looked at.
 ghost use Rattle.std.specs.Prelude.{◌≡◌, ◌≤◌, ◌+◌, ◌<◌, ◌^◌, [], All, MatchOption, drop};
 ghost use Rattle.std.specs.List.Sorted.{IsNonDecreasingBy};
-ghost use Rattle.md_tree.specs.Rests.{IsNext, IsWhole, left_of, past};
+ghost use Rattle.md_tree.specs.Rests.{IsNext, HasAllOf, left_of, past};
 
 use crate::child::Child;
 
@@ -12,10 +12,10 @@ pub(crate) struct Rest {
     pub place: usize,
 }
 
-/// All children of a clique. Takes no more steps than the list of all children has digits.
+/// All children of a clique. Takes O(log C) steps for C cliques.
 pub(crate) fn rest_below(children: &[Child], parent: u32) -> Rest
     requires by_parent { IsNonDecreasingBy (λ c. c.0) children.now }
-    ensures { IsWhole children.now parent result }
+    ensures { HasAllOf children.now parent result }
 {
     Rest {
         parent,
