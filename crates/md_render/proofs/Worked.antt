@@ -155,6 +155,10 @@ a-title-of-what-is-hot : title_words view.statics (title.Hot measure.Words 1000 
 unfolding on_pages view names few most
 a-title-of-what-is-hot = refl
 
+a-title-of-a-tree : title_words view.statics (title.Tree measure.Words 0) ≡ codes "mdprof tree words 0"
+unfolding on_pages view names few most
+a-title-of-a-tree = refl
+
 -- line feeds, bytes past `~` and letters with accents aren't printed
 a-title-of-a-text : title_words view.statics (title.Find measure.Calls (10 ∷ 32 ∷ 60 ∷ 126 ∷ 127 ∷ 195 ∷ [])) ≡ codes "mdprof find calls ? <~??"
 unfolding on_pages view names few most
