@@ -8,7 +8,7 @@ use Rattle.form_urlencoded.proofs.OnLiterals.{form_urlencoded_on_literals}
 use Rattle.md_base.specs.declared.measure.Measure.TheVariants.{Calls, Fails, Words, Excps}
 use Rattle.md_people.specs.declared.sort.Sort.TheVariants.{Total, Own}
 use Rattle.md_token.specs.Literal.{number_of}
-use Rattle.md_query.specs.Asked.{query_of, table_of, Menu, Clique, Top, Proc, Module, Hot, Tree, Find, Context, Callers, CallersNamed, ProcNamed, CliqueNamed}
+use Rattle.md_query.specs.Asked.{query_of, table_of, Menu, Clique, Top, Proc, Module, Hot, Tree, Flame, Find, Context, Callers, CallersNamed, ProcNamed, CliqueNamed}
 
 -- what is unfolded to compute a query on a literal
 unfoldable on_literals : ⊤
@@ -85,6 +85,11 @@ nothing-may-be-enough = refl
 no-more-than-the-whole-is-enough : query_of (codes "tree") (codes "least=1001") ≡ None
 unfolding on_literals
 no-more-than-the-whole-is-enough = refl
+
+-- a flame graph has one thousandth as its least
+a-path-alone-asks-for-a-flame-graph : query_of (codes "flame") (codes "n=7") ≡ Some (Flame Calls 1)
+unfolding on_literals
+a-path-alone-asks-for-a-flame-graph = refl
 
 -- a text to look for is decoded, and isn't empty
 a-text-is-looked-for : query_of (codes "find") (codes "name=a+b&by=words") ≡ Some (Find Words (codes "a b"))

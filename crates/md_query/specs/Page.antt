@@ -21,6 +21,7 @@ IsTitleWithin f title.Modules = Unit {0}
 IsTitleWithin f (title.Module id) = id < length f.statics.modules
 IsTitleWithin f (title.Hot by n sort) = Unit {0}
 IsTitleWithin f (title.Tree by least) = Unit {0}
+IsTitleWithin f (title.Flame by least) = Unit {0}
 IsTitleWithin f (title.Find by text) = Unit {0}
 IsTitleWithin f (title.Context by node proc) = node < length f.nodes
 IsTitleWithin f (title.Callers by id) = id < length f.statics.procs

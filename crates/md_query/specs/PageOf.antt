@@ -28,7 +28,7 @@ use Rattle.md_query.specs.declared.row.Title.{Title}
 use Rattle.md_query.specs.declared.row.Title.TheVariants as title
 use Rattle.md_query.specs.declared.row.What.{What}
 use Rattle.md_query.specs.declared.row.What.TheVariants as what
-use Rattle.md_query.specs.Asked.{Asked, Menu, Root, Clique, Procs, Top, Proc, Modules, Module, Hot, Tree, Find, Context, Callers, CallersNamed, ProcNamed, CliqueNamed}
+use Rattle.md_query.specs.Asked.{Asked, Menu, Root, Clique, Procs, Top, Proc, Modules, Module, Hot, Tree, Flame, Find, Context, Callers, CallersNamed, ProcNamed, CliqueNamed}
 use Rattle.md_query.specs.Page.{PageRows}
 
 -- ---- the numbers of a row of the view
@@ -202,6 +202,7 @@ all_modules v = range_with_len 0 (length v.statics.modules)
 abbrev pub module_named : View → List ℕ → Option ℕ
 module_named v name = position (λ m. bytes_eq m name) v.statics.modules
 
+-- a flame graph has no rows: its text and its picture are of the whole profile
 -- there is none where the query's clique, context, procedure or module isn't in the view
 unfoldable pub page_of : View → Asked → Option PageRows
 page_of v Menu = Some (page_with title.Menu (menu_rows v))
@@ -214,6 +215,7 @@ page_of v Modules = Some (page_with title.Modules (map (module_row v) (all_modul
 page_of v (Module name) = option_map (module_page v) (module_named v name)
 page_of v (Hot by n sort) = Some (page_with (title.Hot by n sort) (hot_rows v by n sort))
 page_of v (Tree by least) = Some (page_with (title.Tree by least) (tree_rows v by least))
+page_of v (Flame by least) = Some (page_with (title.Flame by least) [])
 page_of v (Find by text) = Some (page_with (title.Find by text) (find_rows v by text))
 page_of v (Context by c) = if nat_lt c (length v.nodes) then Some (context_page v by c) else None
 page_of v (Callers by q) = if nat_lt q (length v.statics.procs) then Some (callers_page v by q) else None

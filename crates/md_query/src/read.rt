@@ -2,7 +2,7 @@
 ghost use Rattle.std.specs.Prelude.{◌≡◌, ◌||◌, [], Some, None, true, codes, IfOk, IfErr, IsOk, Err};
 ghost use Rattle.std.specs.Str.{bytes_eq};
 ghost use Rattle.md_query.specs.declared.query.QueryFault.TheVariants as fault;
-ghost use Rattle.md_query.specs.Asked.{query_of, table_of, takes_pairs, keeps_text, clique_by, top_of, proc_by, module_of, hot_of, tree_of, find_of, context_of, callers_by};
+ghost use Rattle.md_query.specs.Asked.{query_of, table_of, takes_pairs, keeps_text, clique_by, top_of, proc_by, module_of, hot_of, tree_of, flame_of, find_of, context_of, callers_by};
 ghost use Rattle.md_query.specs.Pair.{ArePlain, value_of, id_in, measure_in, count_in, measure_asked, count_asked, sort_asked, least_asked};
 ghost use Rattle.md_query.specs.Told.{asked, asked_told};
 
@@ -77,6 +77,8 @@ fn found_table(alloc: Global, path: &[u8], pairs: &[u8]) -> Result<Option<Query>
         callers_query(alloc, pairs)
     } else if path == b"tree".as_slice() {
         tree_query(alloc, pairs)
+    } else if path == b"flame".as_slice() {
+        flame_query(alloc, pairs)
     } else {
         Ok(None)
     }
@@ -185,6 +187,26 @@ fn tree_with(by: Option<Measure>, least: Option<u32>) -> Option<Query>
     ensures { asked_told result ≡ tree_of by least }
 {
     Some(Query::Tree {
+        by: by?,
+        least: least?,
+    })
+}
+
+/// The query for a flame graph, by its pairs.
+fn flame_query(alloc: Global, pairs: &[u8]) -> Result<Option<Query>, NoMemory>
+    ensures query { IfOk result (λ found. asked_told found ≡ flame_of (measure_asked pairs.now) (least_asked 1 pairs.now)) }
+    ensures plain { ArePlain pairs.now → IsOk result }
+{
+    let by = measure_asked(alloc, pairs)?;
+    let least = least_asked(alloc, 1, pairs)?;
+    Ok(flame_with(by, least))
+}
+
+/// The query for a flame graph, where each of its pairs has a value.
+fn flame_with(by: Option<Measure>, least: Option<u32>) -> Option<Query>
+    ensures { asked_told result ≡ flame_of by least }
+{
+    Some(Query::Flame {
         by: by?,
         least: least?,
     })

@@ -43,6 +43,13 @@ pub fn tree_page(alloc: Global, loaded: &Loaded, by: Measure, least: u32) -> Res
     Ok(Page::from_parts(Title::Tree { by, least }, rows))
 }
 
+/// A flame graph, which has no rows. Takes no memory.
+pub fn flame_page(alloc: Global, by: Measure, least: u32) -> Page
+    ensures { result ≡ page_with (title.Flame by least) [] }
+{
+    Page::from_parts(Title::Flame { by, least }, Vec::new(alloc))
+}
+
 /// The procedures and the modules in whose name the text is, with their shares of a measure.
 pub fn find_page(alloc: Global, loaded: &Loaded, by: Measure, text: &Text) -> Result<Page, NoMemory>
     ensures { IfOk result (λ page. (v : View) → IsFileView loaded.now.profile v → page ≡ page_with (title.Find by text.now) (find_rows v by text.now)) }

@@ -16,13 +16,16 @@ use Rattle.md_query.specs.declared.row.Title.TheVariants as title
 use Rattle.md_query.specs.declared.row.What.TheVariants as what
 use Rattle.md_query.specs.Page.{PageRows}
 use Rattle.md_render.specs.declared.form.Form.TheVariants.{Text, Html}
+use Rattle.md_tree.specs.declared.picture.CliqueBox.{CliqueBox}
+use Rattle.md_render.specs.declared.icicle.Cost.{Cost}
+use Rattle.md_render.specs.Icicle.{drawn_words, edge_words, icicle_words, label_words, levels_of, more_words}
 use Rattle.md_render.specs.Lines.{row_words, title_words}
 use Rattle.md_render.specs.Names.{Names, names_of}
 use Rattle.md_render.specs.Text.{text_of}
 use Rattle.md_render.specs.Html.{html_of, title_html}
 
 unfoldable on_pages : ⊤
-unfolding text_of html_of table.text_of html.html_of digits percent_encode percent_encode_byte should_percent_encode
+unfolding text_of html_of icicle_words table.text_of html.html_of digits percent_encode percent_encode_byte should_percent_encode
 on_pages = tt
 
 -- t.main/2, which calls a_b.step/0, which calls itself by a closure
@@ -211,3 +214,62 @@ a-table-in-html : html_of view hot
     ≡ codes "<!DOCTYPE html>\n<html><head><meta charset=\"utf-8\"><title>mdprof hot calls 1 own</title></head><body>\n<h1>mdprof hot calls 1 own</h1>\n<pre>\nfinished no\ncalls 10\n</pre>\n<table>\n<tr><th>own</th><th>procedure</th></tr>\n<tr><td>7</td><td>t.&lt;&gt;/2</td></tr>\n</table>\n<pre>\n</pre>\n<p><a href=\"/\">menu</a> <a href=\"/root\">root</a> <a href=\"/procs\">procs</a> <a href=\"/modules\">modules</a></p>\n</body></html>\n"
 unfolding on_pages view hot
 a-table-in-html = refl
+
+-- ---- flame graphs
+
+-- digits behind the point aren't left out
+edges : edge_words 1000000 ≡ codes "1000.000"
+unfolding on_pages
+edges = refl
+
+a-small-edge : edge_words 12007 ≡ codes "12.007"
+unfolding on_pages
+a-small-edge = refl
+
+-- a box at level 2, and what its clique costs
+third : CliqueBox
+third = record { clique = 3; level = 2; parent = Some 1; left = 125000; width = 37500 }
+
+cost : Cost
+cost = record { by = measure.Redos; total = 3; whole = 80; own = 2 }
+
+-- four letters have room beside the left edge, and what is cut is the text and not its escapes
+a-box-holds-a-part-of-its-text : drawn_words third (codes "t.<>/2 clique 3") cost
+    ≡ codes "<a href=\"/clique?id=3\"><title>t.&lt;&gt;/2 clique 3: 3 redos, 3.7 %, own 2</title><rect x=\"125.000\" y=\"40\" width=\"37.500\" height=\"19\"/><text x=\"127.000\" y=\"54\">t.&lt;&gt;</text></a>\n"
+unfolding on_pages third cost
+a-box-holds-a-part-of-its-text = refl
+
+-- one letter needs 9300 millionths
+a-narrow-box-holds-nothing : label_words (record third { width = 9299 }) (codes "t.r/0") ≡ []
+unfolding on_pages third
+a-narrow-box-holds-nothing = refl
+
+or-one-letter : label_words (record third { width = 9300 }) (codes "t.r/0") ≡ codes "<text x=\"127.000\" y=\"54\">t</text>"
+unfolding on_pages third
+or-one-letter = refl
+
+-- level 0 is one of them, and the last box needn't be the deepest
+there-are-three-levels : levels_of (record third { level = 0 } ∷ third ∷ record third { level = 1 } ∷ []) ≡ 3
+unfolding third
+there-are-three-levels = refl
+
+none-is-left-out : more_words 0 ≡ []
+unfolding on_pages
+none-is-left-out = refl
+
+three-are-left-out : more_words 3 ≡ codes "<p>3 more</p>\n"
+unfolding on_pages
+three-are-left-out = refl
+
+-- where there is nothing to show, a text has no title either
+flame : PageRows
+flame = record { title = title.Flame measure.Fails 1; rows = [] }
+
+no-flames : text_of view flame ≡ []
+unfolding on_pages view flame
+no-flames = refl
+
+no-boxes : html_of view flame
+    ≡ codes "<!DOCTYPE html>\n<html><head><meta charset=\"utf-8\"><title>mdprof flame fails 1</title></head><body>\n<h1>mdprof flame fails 1</h1>\n<pre>\n</pre>\n<svg viewBox=\"0 0 1000 0\">\n<style>rect{fill:#fc9;stroke:#fff;stroke-width:.5}text{font:12px monospace}</style>\n</svg>\n<pre>\n</pre>\n<p><a href=\"/\">menu</a> <a href=\"/root\">root</a> <a href=\"/procs\">procs</a> <a href=\"/modules\">modules</a></p>\n</body></html>\n"
+unfolding on_pages view flame
+no-boxes = refl

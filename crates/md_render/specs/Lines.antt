@@ -33,6 +33,7 @@ title_words s title.Modules = codes "mdprof modules"
 title_words s (title.Module k) = codes "mdprof module " ++ module_name s k
 title_words s (title.Hot by n sort) = codes "mdprof hot " ++ (measure_word by ++ (codes " " ++ (decimal n ++ (codes " " ++ sort_word sort))))
 title_words s (title.Tree by least) = codes "mdprof tree " ++ (measure_word by ++ (codes " " ++ decimal least))
+title_words s (title.Flame by least) = codes "mdprof flame " ++ (measure_word by ++ (codes " " ++ decimal least))
 title_words s (title.Context by c q) = numbered_words s (codes "mdprof context ") by c q
 title_words s (title.Callers by q) = numbered_words s (codes "mdprof callers ") by q q
 title_words s (title.Find by text) = codes "mdprof find " ++ (measure_word by ++ (codes " " ++ shown text))

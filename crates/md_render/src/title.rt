@@ -33,6 +33,7 @@ pub(crate) fn add_title(
         Title::Module(id) => add_module_title(out, module_name(statics, *id)),
         Title::Hot { by, n, sort } => add_hot(out, *by, *n, *sort),
         Title::Tree { by, least } => add_measured(out, b"mdprof tree ", *by, *least),
+        Title::Flame { by, least } => add_measured(out, b"mdprof flame ", *by, *least),
         Title::Find { by, text } => add_find(out, *by, text.as_bytes()),
         Title::Context { by, node, proc } => {
             add_numbered(out, statics, b"mdprof context ", *by, *node, *proc)

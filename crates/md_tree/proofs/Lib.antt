@@ -14,5 +14,6 @@ pub mod Apart
 pub mod RowsOfBoxes
 pub mod Lower
 pub mod Complete
+pub mod There
 mod WorkedTree
 mod WorkedPicture
