@@ -18,7 +18,7 @@ use Rattle.md_people.specs.declared.sort.Sort.TheVariants.{Total, Own}
 use Rattle.md_query.specs.declared.row.Row.TheVariants as row
 use Rattle.md_query.specs.declared.row.Title.TheVariants as title
 use Rattle.md_query.specs.declared.row.What.TheVariants as what
-use Rattle.md_query.specs.Asked.{Menu, Root, Clique, Procs, Top, Proc as ProcAsked, Modules, Module, Hot, Tree, Find, ProcNamed, CliqueNamed}
+use Rattle.md_query.specs.Asked.{Menu, Root, Clique, Procs, Top, Proc as ProcAsked, Modules, Module, Hot, Tree, Flame, Find, ProcNamed, CliqueNamed}
 use Rattle.md_query.specs.PageOf.{page_of, page_with}
 
 -- ---- a view
@@ -218,6 +218,10 @@ a-tree-has-what-costs-enough :
     }) ∷ []))
 unfolding page_of digits
 a-tree-has-what-costs-enough = refl
+
+a-flame-graph-has-no-rows : page_of (small 0) (Flame Fails 1) ≡ Some (page_with (title.Flame Fails 1) [])
+unfolding page_of
+a-flame-graph-has-no-rows = refl
 
 -- the text is in one full name, and is one module's name
 a-text-is-in-two-names :

@@ -1,13 +1,15 @@
 -- Rows and pages, worked out by hand.
-use Rattle.std.proofs.Common.{◌≡◌, [], ◌∷◌, Some, None, codes, length, refl, true, false}
+use Rattle.std.proofs.Common.{◌≡◌, ℕ, [], ◌∷◌, Option, Some, None, codes, length, refl, true, false}
 use Rattle.std.specs.Prelude.{⊤}
 use Rattle.std.specs.Fmt.{digits}
+use Rattle.std.specs.List.{slice_get}
 use Rattle.percent_encoding.specs.Percent.{percent_encode, percent_encode_byte}
 use Rattle.percent_encoding.specs.AsciiSet.{should_percent_encode}
 use Rattle.md_base.specs.declared.measure.Measure.TheVariants as measure
 use Rattle.md_static.specs.declared.entry.SiteKind.TheVariants.{Plain, HigherOrder}
 use Rattle.md_cost.specs.declared.sums.Sums.{Sums}
-use Rattle.md_cost.specs.View.{View}
+use Rattle.md_cost.specs.View.{View, OfLink, OfContext, OfClique, OfProcedure, OfSite, OfModule}
+use Rattle.md_cost.specs.View.{Row as Counted}
 use Rattle.md_table.specs.Html as html
 use Rattle.md_table.specs.Table as table
 use Rattle.md_people.specs.declared.sort.Sort.TheVariants.{Own}
@@ -273,3 +275,37 @@ no-boxes : html_of view flame
     ≡ codes "<!DOCTYPE html>\n<html><head><meta charset=\"utf-8\"><title>mdprof flame fails 1</title></head><body>\n<h1>mdprof flame fails 1</h1>\n<pre>\n</pre>\n<svg viewBox=\"0 0 1000 0\">\n<style>rect{fill:#fc9;stroke:#fff;stroke-width:.5}text{font:12px monospace}</style>\n</svg>\n<pre>\n</pre>\n<p><a href=\"/\">menu</a> <a href=\"/root\">root</a> <a href=\"/procs\">procs</a> <a href=\"/modules\">modules</a></p>\n</body></html>\n"
 unfolding on_pages view flame
 no-boxes = refl
+
+-- main is called once, and step four times, in two contexts of one clique
+abbrev own_calls : Counted → Option ℕ
+own_calls (OfLink l) = None
+own_calls (OfContext c) = slice_get (1 ∷ 3 ∷ 1 ∷ []) c
+own_calls (OfClique k) = None
+own_calls (OfProcedure q) = None
+own_calls (OfSite s) = None
+own_calls (OfModule k) = None
+
+abbrev total_calls : Counted → Option ℕ
+total_calls (OfLink l) = None
+total_calls (OfContext c) = None
+total_calls (OfClique k) = slice_get (5 ∷ 4 ∷ []) k
+total_calls (OfProcedure q) = None
+total_calls (OfSite s) = None
+total_calls (OfModule k) = None
+
+counted : View
+counted = record view { own = λ r m. own_calls r; total = λ r m. total_calls r }
+
+burning : PageRows
+burning = record { title = title.Flame measure.Calls 1; rows = [] }
+
+-- a line names what is above a context's clique, and not what is beside it there
+flames : text_of counted burning ≡ codes "t.main/2 1\nt.main/2;a_b.step/0 3\nt.main/2;a_b.step/0 1\n"
+unfolding on_pages view counted burning
+flames = refl
+
+-- a box for each clique, and not for each context
+boxes : icicle_words counted measure.Calls 1
+    ≡ codes "</pre>\n<svg viewBox=\"0 0 1000 40\">\n<style>rect{fill:#fc9;stroke:#fff;stroke-width:.5}text{font:12px monospace}</style>\n<a href=\"/clique?id=0\"><title>t.main/2 clique 0: 5 calls, 100.0 %, own 1</title><rect x=\"0.000\" y=\"0\" width=\"1000.000\" height=\"19\"/><text x=\"2.000\" y=\"14\">t.main/2 clique 0</text></a>\n<a href=\"/clique?id=1\"><title>a_b.step/0 from line 3 clique 1 of 2 contexts: 4 calls, 80.0 %, own 4</title><rect x=\"0.000\" y=\"20\" width=\"800.000\" height=\"19\"/><text x=\"2.000\" y=\"34\">a_b.step/0 from line 3 clique 1 of 2 contexts</text></a>\n</svg>\n<pre>\n"
+unfolding on_pages view counted
+boxes = refl
