@@ -33,12 +33,13 @@ use Rattle.md_people.specs.Counts.{whole_of}
 use Rattle.md_people.specs.Find.{found_modules_table, found_procs_table}
 use Rattle.md_people.specs.Hot.{hot_table}
 use Rattle.md_people.specs.Ranked.{ranked}
+use Rattle.md_people.specs.Tree.{tree_table}
 use Rattle.md_people.specs.Words.{full_name, proc_named}
 use Rattle.md_people.proofs.Orders.{all_ranked}
 use Rattle.md_query.specs.declared.row.Row.{Row}
 use Rattle.md_query.specs.declared.row.Row.TheVariants as row
 use Rattle.md_query.specs.declared.row.Title.TheVariants as title
-use Rattle.md_query.specs.Asked.{Asked, Menu, Root, Clique, Procs, Top, Proc as ProcAsked, Modules, Module, Hot, Find, Context, Callers, CallersNamed, ProcNamed, CliqueNamed}
+use Rattle.md_query.specs.Asked.{Asked, Menu, Root, Clique, Procs, Top, Proc as ProcAsked, Modules, Module, Hot, Tree, Flame, Find, Context, Callers, CallersNamed, ProcNamed, CliqueNamed}
 use Rattle.md_query.specs.Page.{PageRows, IsCall, IsRowWithin, IsWithin}
 use Rattle.md_query.specs.PageOf.{own_of, total_of, page_of, page_with, entered_row, clique_page, module_page, excps_rows, menu_rows, link_row_at, link_row, context_row, context_rows, links_from, clique_rows, proc_row, of_row, site_row, contexts_of, sites_of, proc_rows, all_procs, count_in_proc, top_procs, procs_of_module, module_row, module_rows, all_modules, module_named, table_rows, context_page, callers_page, proc_page, clique_at, first_clique}
 use Rattle.md_query.proofs.ListSteps.{found_there, places_there, range_there}
@@ -210,6 +211,8 @@ module _ (f : ProfileRows) (valid : IsValid f) (v : View) (is : IsFileView f v) 
   within_page Modules page e = told_within _ page e (record { title = tt; rows = modules_within })
   within_page (Module name) page e = named_within (module_named v name) name page refl e
   within_page (Hot by n sort) page e = told_within _ page e (record { title = tt; rows = tables_within by (hot_table v by n sort ∷ []) })
+  within_page (Tree by least) page e = told_within _ page e (record { title = tt; rows = tables_within by (tree_table v by least ∷ []) })
+  within_page (Flame by least) page e = told_within _ page e (record { title = tt; rows = All-nil P })
   within_page (Find by text) page e = told_within _ page e (record { title = tt; rows = tables_within by (found_procs_table v by text ∷ found_modules_table v by text ∷ []) })
   within_page (Context by c) page e = elim (cases_lt c (length v.nodes)) [
     | inl lt ↦ told_within (context_page v by c) page (rw (lt-ltb c (length v.nodes) lt) at e) (record { title = rw (nodes_are f v is) at lt; rows = tables_within by (stations_table v by c ∷ callees_table v by c ∷ []) })

@@ -8,7 +8,7 @@ use Rattle.form_urlencoded.proofs.OnLiterals.{form_urlencoded_on_literals}
 use Rattle.md_base.specs.declared.measure.Measure.TheVariants.{Calls, Fails, Words, Excps}
 use Rattle.md_people.specs.declared.sort.Sort.TheVariants.{Total, Own}
 use Rattle.md_token.specs.Literal.{number_of}
-use Rattle.md_query.specs.Asked.{query_of, table_of, Menu, Clique, Top, Proc, Module, Hot, Find, Context, Callers, CallersNamed, ProcNamed, CliqueNamed}
+use Rattle.md_query.specs.Asked.{query_of, table_of, Menu, Clique, Top, Proc, Module, Hot, Tree, Flame, Find, Context, Callers, CallersNamed, ProcNamed, CliqueNamed}
 
 -- what is unfolded to compute a query on a literal
 unfoldable on_literals : ⊤
@@ -72,6 +72,24 @@ another-value-makes-no-query = refl
 nor-does-the-second-value-count : query_of (codes "hot") (codes "n=0&n=1") ≡ None
 unfolding on_literals
 nor-does-the-second-value-count = refl
+
+-- a tree has five thousandths of the whole as its least, of which there may be none, and no more than there are
+a-path-alone-asks-for-the-tree : query_of (codes "tree") [] ≡ Some (Tree Calls 5)
+unfolding on_literals
+a-path-alone-asks-for-the-tree = refl
+
+nothing-may-be-enough : query_of (codes "tree") (codes "by=words&least=0") ≡ Some (Tree Words 0)
+unfolding on_literals
+nothing-may-be-enough = refl
+
+no-more-than-the-whole-is-enough : query_of (codes "tree") (codes "least=1001") ≡ None
+unfolding on_literals
+no-more-than-the-whole-is-enough = refl
+
+-- a flame graph has one thousandth as its least
+a-path-alone-asks-for-a-flame-graph : query_of (codes "flame") (codes "n=7") ≡ Some (Flame Calls 1)
+unfolding on_literals
+a-path-alone-asks-for-a-flame-graph = refl
 
 -- a text to look for is decoded, and isn't empty
 a-text-is-looked-for : query_of (codes "find") (codes "name=a+b&by=words") ≡ Some (Find Words (codes "a b"))

@@ -18,7 +18,7 @@ use Rattle.md_people.specs.declared.sort.Sort.TheVariants.{Total, Own}
 use Rattle.md_query.specs.declared.row.Row.TheVariants as row
 use Rattle.md_query.specs.declared.row.Title.TheVariants as title
 use Rattle.md_query.specs.declared.row.What.TheVariants as what
-use Rattle.md_query.specs.Asked.{Menu, Root, Clique, Procs, Top, Proc as ProcAsked, Modules, Module, Hot, Find, ProcNamed, CliqueNamed}
+use Rattle.md_query.specs.Asked.{Menu, Root, Clique, Procs, Top, Proc as ProcAsked, Modules, Module, Hot, Tree, Flame, Find, ProcNamed, CliqueNamed}
 use Rattle.md_query.specs.PageOf.{page_of, page_with}
 
 -- ---- a view
@@ -200,6 +200,28 @@ or-the-greatest-own-count :
     ∷ row.Table (by_calls (codes "procedure") (costs (codes "12") (codes "48.0") (codes "12") (codes "48.0") (codes "1.0") (codes "t.r/0") ∷ costs (codes "19") (codes "76.0") (codes "6") (codes "24.0") (codes "3.1") (codes "a.q/0") ∷ [])) ∷ []))
 unfolding page_of digits
 or-the-greatest-own-count = refl
+
+abbrev twig : (total share own place : List ℕ) → LineCells
+twig total share own place = record { cells = total ∷ share ∷ own ∷ []; last = place }
+
+-- the last clique has 280 thousandths of the whole, and so less than it would need
+a-tree-has-what-costs-enough :
+    page_of (small 0) (Tree Calls 281)
+    ≡ Some (page_with (title.Tree Calls 281) (row.Finished true ∷ row.Whole Calls 25
+    ∷ row.Table (record {
+      heading = twig (codes "total") (codes "%") (codes "own") (codes "where");
+      rows =
+          twig (codes "25") (codes "100.0") (codes "1") (codes "t.p/0 clique 0")
+          ∷ twig (codes "24") (codes "96.0") (codes "11") (codes "  a.q/0 from line 1 clique 1 of 2 contexts")
+          ∷ twig (codes "13") (codes "52.0") (codes "6") (codes "    t.s/0 from line 1 clique 2")
+          ∷ twig (codes "7") (codes "28.0") (codes "-") (codes "      1 more") ∷ [];
+    }) ∷ []))
+unfolding page_of digits
+a-tree-has-what-costs-enough = refl
+
+a-flame-graph-has-no-rows : page_of (small 0) (Flame Fails 1) ≡ Some (page_with (title.Flame Fails 1) [])
+unfolding page_of
+a-flame-graph-has-no-rows = refl
 
 -- the text is in one full name, and is one module's name
 a-text-is-in-two-names :

@@ -3,7 +3,7 @@ use Rattle.std.specs.Prelude.{ℕ, Bool, true, false, ◌||◌, ◌==◌, List, 
 use Rattle.std.specs.Str.{bytes_eq}
 use Rattle.md_base.specs.declared.measure.Measure.{Measure}
 use Rattle.md_people.specs.declared.sort.Sort.{Sort}
-use Rattle.md_query.specs.Pair.{value_of, id_in, id_within, count_in, measure_in, measure_asked, count_asked, sort_asked}
+use Rattle.md_query.specs.Pair.{value_of, id_in, id_within, count_in, measure_in, measure_asked, count_asked, sort_asked, least_asked}
 
 pub data Asked : Type 0 where
   -- what the profile is of, and how much it holds
@@ -24,6 +24,10 @@ pub data Asked : Type 0 where
   Module : (name : List ℕ) → Asked
   -- the first `n` procedures by their totals or own counts of a measure, with their shares
   Hot : (by : Measure) (n : ℕ) (sort : Sort) → Asked
+  -- the cliques as a tree, those whose totals are at least so many thousandths of the whole
+  Tree : (by : Measure) (least : ℕ) → Asked
+  -- the stations of each context that has own counts; as a picture, the cliques whose totals are at least so many thousandths of the whole
+  Flame : (by : Measure) (least : ℕ) → Asked
   -- the procedures and the modules in whose name a text is, with their shares of a measure
   Find : (by : Measure) (text : List ℕ) → Asked
   -- a context, by its number, with its stations and the links that start there
@@ -74,6 +78,14 @@ abbrev pub hot_of : (by : Option Measure) (n : Option ℕ) (sort : Option Sort) 
 hot_of (Some by) (Some n) (Some sort) = Some (Hot by n sort)
 hot_of by n sort = None
 
+abbrev pub tree_of : (by : Option Measure) (least : Option ℕ) → Option Asked
+tree_of (Some by) (Some least) = Some (Tree by least)
+tree_of by least = None
+
+abbrev pub flame_of : (by : Option Measure) (least : Option ℕ) → Option Asked
+flame_of (Some by) (Some least) = Some (Flame by least)
+flame_of by least = None
+
 -- a text of no bytes is in every name, and asks for nothing
 abbrev pub find_of : (by : Option Measure) (text : Option (List ℕ)) → Option Asked
 find_of (Some by) (Some text) = cond (length text == 0) None (Some (Find by text))
@@ -102,7 +114,9 @@ table_of path pairs =
     cond (bytes_eq path (codes "hot")) (hot_of (measure_asked pairs) (count_asked pairs) (sort_asked pairs))
     (cond (bytes_eq path (codes "find")) (find_of (measure_asked pairs) (value_of (codes "name") pairs))
     (cond (bytes_eq path (codes "context")) (context_of (measure_asked pairs) (id_in pairs))
-    (cond (bytes_eq path (codes "callers")) (callers_by (measure_asked pairs) (value_of (codes "id") pairs) (value_of (codes "name") pairs)) None)))
+    (cond (bytes_eq path (codes "callers")) (callers_by (measure_asked pairs) (value_of (codes "id") pairs) (value_of (codes "name") pairs))
+    (cond (bytes_eq path (codes "tree")) (tree_of (measure_asked pairs) (least_asked 5 pairs))
+    (cond (bytes_eq path (codes "flame")) (flame_of (measure_asked pairs) (least_asked 1 pairs)) None)))))
 
 -- what path and pairs ask for, where they are a query: a pair that its path doesn't take is no matter, and one that is missing makes no query
 unfoldable pub query_of : (path pairs : List ℕ) → Option Asked
@@ -127,6 +141,8 @@ has_text (Proc id) = false
 has_text Modules = false
 has_text (Module name) = true
 has_text (Hot by n sort) = false
+has_text (Tree by least) = false
+has_text (Flame by least) = false
 has_text (Find by text) = true
 has_text (Context by id) = false
 has_text (Callers by id) = false
@@ -141,4 +157,4 @@ keeps_text (Some asked) = has_text asked
 -- the path is one whose query takes pairs
 abbrev pub takes_pairs : (path : List ℕ) → Bool
 takes_pairs path =
-    bytes_eq path (codes "clique") || bytes_eq path (codes "top") || bytes_eq path (codes "proc") || bytes_eq path (codes "hot") || bytes_eq path (codes "find") || bytes_eq path (codes "context") || bytes_eq path (codes "callers") || bytes_eq path (codes "module")
+    bytes_eq path (codes "clique") || bytes_eq path (codes "top") || bytes_eq path (codes "proc") || bytes_eq path (codes "hot") || bytes_eq path (codes "find") || bytes_eq path (codes "context") || bytes_eq path (codes "callers") || bytes_eq path (codes "tree") || bytes_eq path (codes "flame") || bytes_eq path (codes "module")

@@ -20,6 +20,7 @@ use Rattle.md_people.specs.Hot.{hot_table}
 use Rattle.md_people.specs.Ranked.{ranked}
 use Rattle.md_people.specs.Callers.{called_table, callers_table}
 use Rattle.md_people.specs.Context.{callees_table, stations_table}
+use Rattle.md_people.specs.Tree.{tree_table}
 use Rattle.md_people.specs.Words.{proc_at, proc_named}
 use Rattle.md_query.specs.declared.row.Row.{Row}
 use Rattle.md_query.specs.declared.row.Row.TheVariants as row
@@ -27,7 +28,7 @@ use Rattle.md_query.specs.declared.row.Title.{Title}
 use Rattle.md_query.specs.declared.row.Title.TheVariants as title
 use Rattle.md_query.specs.declared.row.What.{What}
 use Rattle.md_query.specs.declared.row.What.TheVariants as what
-use Rattle.md_query.specs.Asked.{Asked, Menu, Root, Clique, Procs, Top, Proc, Modules, Module, Hot, Find, Context, Callers, CallersNamed, ProcNamed, CliqueNamed}
+use Rattle.md_query.specs.Asked.{Asked, Menu, Root, Clique, Procs, Top, Proc, Modules, Module, Hot, Tree, Flame, Find, Context, Callers, CallersNamed, ProcNamed, CliqueNamed}
 use Rattle.md_query.specs.Page.{PageRows}
 
 -- ---- the numbers of a row of the view
@@ -161,6 +162,9 @@ table_rows v by tables = row.Finished v.finished ∷ row.Whole by (whole_of v by
 abbrev pub hot_rows : View → Measure → ℕ → Sort → List Row
 hot_rows v by n sort = table_rows v by (hot_table v by n sort ∷ [])
 
+abbrev pub tree_rows : View → Measure → (least : ℕ) → List Row
+tree_rows v by least = table_rows v by (tree_table v by least ∷ [])
+
 abbrev pub find_rows : View → Measure → (text : List ℕ) → List Row
 find_rows v by text = table_rows v by (found_procs_table v by text ∷ found_modules_table v by text ∷ [])
 
@@ -198,6 +202,7 @@ all_modules v = range_with_len 0 (length v.statics.modules)
 abbrev pub module_named : View → List ℕ → Option ℕ
 module_named v name = position (λ m. bytes_eq m name) v.statics.modules
 
+-- a flame graph has no rows: its text and its picture are of the whole profile
 -- there is none where the query's clique, context, procedure or module isn't in the view
 unfoldable pub page_of : View → Asked → Option PageRows
 page_of v Menu = Some (page_with title.Menu (menu_rows v))
@@ -209,6 +214,8 @@ page_of v (Proc q) = if nat_lt q (length v.statics.procs) then Some (page_with (
 page_of v Modules = Some (page_with title.Modules (map (module_row v) (all_modules v)))
 page_of v (Module name) = option_map (module_page v) (module_named v name)
 page_of v (Hot by n sort) = Some (page_with (title.Hot by n sort) (hot_rows v by n sort))
+page_of v (Tree by least) = Some (page_with (title.Tree by least) (tree_rows v by least))
+page_of v (Flame by least) = Some (page_with (title.Flame by least) [])
 page_of v (Find by text) = Some (page_with (title.Find by text) (find_rows v by text))
 page_of v (Context by c) = if nat_lt c (length v.nodes) then Some (context_page v by c) else None
 page_of v (Callers by q) = if nat_lt q (length v.statics.procs) then Some (callers_page v by q) else None

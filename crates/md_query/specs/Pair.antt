@@ -103,6 +103,10 @@ number_or default least most (Some text) = number_within least most text
 abbrev pub count_asked : (pairs : List ℕ) → Option ℕ
 count_asked pairs = number_or 30 1 1000 (value_of (codes "n") pairs)
 
+-- how many thousandths of the whole are enough
+abbrev pub least_asked : (default : ℕ) (pairs : List ℕ) → Option ℕ
+least_asked default pairs = number_or default 0 1000 (value_of (codes "least") pairs)
+
 -- by totals or by own counts
 abbrev pub sort_named : List ℕ → Option Sort
 sort_named name = cond (bytes_eq name (codes "total")) (Some Total) (cond (bytes_eq name (codes "own")) (Some Own) None)

@@ -5,7 +5,7 @@ use Rattle.std.specs.declared.alloc.Global.{Global}
 use Rattle.std.specs.declared.borrow.CowStr.{CowStr}
 use Rattle.md_query.specs.declared.query.Query.{Query}
 use Rattle.md_query.specs.declared.query.Query.TheVariants as query
-use Rattle.md_query.specs.Asked.{Asked, Menu, Root, Clique, Procs, Top, Proc, Modules, Module, Hot, Find, Context, Callers, CallersNamed, ProcNamed, CliqueNamed}
+use Rattle.md_query.specs.Asked.{Asked, Menu, Root, Clique, Procs, Top, Proc, Modules, Module, Hot, Tree, Flame, Find, Context, Callers, CallersNamed, ProcNamed, CliqueNamed}
 
 abbrev pub asked : Query → Asked
 asked query.Menu = Menu
@@ -17,6 +17,8 @@ asked (query.Proc id) = Proc id
 asked query.Modules = Modules
 asked (query.Module name) = Module name
 asked (query.Hot by n sort) = Hot by n sort
+asked (query.Tree by least) = Tree by least
+asked (query.Flame by least) = Flame by least
 asked (query.Find by text) = Find by text
 asked (query.Context by id) = Context by id
 asked (query.Callers by id) = Callers by id

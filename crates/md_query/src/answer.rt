@@ -15,7 +15,7 @@ use crate::pages::{
 };
 use crate::query::Query;
 use crate::row::Page;
-use crate::tables::{callers_page, context_page, find_page, hot_page};
+use crate::tables::{callers_page, context_page, find_page, flame_page, hot_page, tree_page};
 use md_base::{Measure, NoMemory, PdId, ProcId};
 use md_cost::Loaded;
 use md_people::proc_named;
@@ -79,6 +79,8 @@ fn found_page(alloc: Global, loaded: &Loaded, query: &Query) -> Result<Option<Pa
         Query::Modules => Ok(Some(modules_page(alloc, loaded)?)),
         Query::Module(name) => find_module(alloc, loaded, name.as_bytes()),
         Query::Hot { by, n, sort } => Ok(Some(hot_page(alloc, loaded, *by, *n, *sort)?)),
+        Query::Tree { by, least } => Ok(Some(tree_page(alloc, loaded, *by, *least)?)),
+        Query::Flame { by, least } => Ok(Some(flame_page(alloc, *by, *least))),
         Query::Find { by, text } => Ok(Some(find_page(alloc, loaded, *by, text)?)),
         Query::Context { by, id } => find_context(alloc, loaded, *by, *id),
         Query::Callers { by, id } => find_callers(alloc, loaded, *by, *id),

@@ -2,7 +2,7 @@
 ghost use Rattle.std.specs.Prelude.{◌≡◌, ℕ, true, is_some, IfOk, IfErr, IsOk};
 ghost use Rattle.std.specs.List.{list_all};
 ghost use Rattle.std.specs.Char.{is_ascii_digit};
-ghost use Rattle.md_query.specs.Pair.{ArePlain, value_of, number_in, number_within, within, is_number, measure_in, measure_named, measure_asked, count_asked, sort_asked, sort_named};
+ghost use Rattle.md_query.specs.Pair.{ArePlain, value_of, number_in, number_within, within, is_number, measure_in, measure_named, measure_asked, count_asked, sort_asked, sort_named, least_asked};
 ghost use Rattle.md_query.specs.Told.{text_told};
 
 use form_urlencoded::{decode, raw_pairs};
@@ -102,6 +102,21 @@ pub(crate) fn count_asked(alloc: Global, pairs: &[u8]) -> Result<Option<u32>, No
     match value_of(alloc, "n", pairs)? {
         Some(text) => Ok(number_within(1, 1000, text.as_bytes())),
         None => Ok(Some(30)),
+    }
+}
+
+/// How many thousandths of the whole are enough by the first pair `least`, or the default where there is no such pair.
+pub(crate) fn least_asked(
+    alloc: Global,
+    default: u32,
+    pairs: &[u8],
+) -> Result<Option<u32>, NoMemory>
+    ensures least { IfOk result (λ found. found ≡ least_asked default pairs.now) }
+    ensures plain { ArePlain pairs.now → IsOk result }
+{
+    match value_of(alloc, "least", pairs)? {
+        Some(text) => Ok(number_within(0, 1000, text.as_bytes())),
+        None => Ok(Some(default)),
     }
 }
 

@@ -23,6 +23,11 @@ pub enum Query {
     Module(Text),
     /// The first `n` procedures by their totals or own counts of a measure, with their shares.
     Hot { by: Measure, n: u32, sort: Sort },
+    /// The cliques as a tree, those whose totals are at least so many thousandths of the whole.
+    Tree { by: Measure, least: u32 },
+    /// A flame graph: the stations of each context that has own counts; as a picture, the cliques whose totals are at least so many
+    /// thousandths of the whole.
+    Flame { by: Measure, least: u32 },
     /// The procedures and the modules in whose name a text is, with their shares of a measure.
     Find { by: Measure, text: Text },
     /// A context, by its number, with its stations and the links that start there.

@@ -2,12 +2,13 @@
 ghost use Rattle.std.specs.Prelude.{◌≡◌, ◌||◌, [], Some, None, true, codes, IfOk, IfErr, IsOk, Err};
 ghost use Rattle.std.specs.Str.{bytes_eq};
 ghost use Rattle.md_query.specs.declared.query.QueryFault.TheVariants as fault;
-ghost use Rattle.md_query.specs.Asked.{query_of, table_of, takes_pairs, keeps_text, clique_by, top_of, proc_by, module_of, hot_of, find_of, context_of, callers_by};
-ghost use Rattle.md_query.specs.Pair.{ArePlain, value_of, id_in, measure_in, count_in, measure_asked, count_asked, sort_asked};
+ghost use Rattle.md_query.specs.Asked.{query_of, table_of, takes_pairs, keeps_text, clique_by, top_of, proc_by, module_of, hot_of, tree_of, flame_of, find_of, context_of, callers_by};
+ghost use Rattle.md_query.specs.Pair.{ArePlain, value_of, id_in, measure_in, count_in, measure_asked, count_asked, sort_asked, least_asked};
 ghost use Rattle.md_query.specs.Told.{asked, asked_told};
 
 use crate::pair::{
-    count_asked, measure_asked, measure_in, number_in, number_within, sort_asked, text_in, value_of,
+    count_asked, least_asked, measure_asked, measure_in, number_in, number_within, sort_asked,
+    text_in, value_of,
 };
 use crate::query::{Query, QueryFault};
 use md_base::{Measure, NoMemory, Text};
@@ -74,6 +75,10 @@ fn found_table(alloc: Global, path: &[u8], pairs: &[u8]) -> Result<Option<Query>
         context_query(alloc, pairs)
     } else if path == b"callers".as_slice() {
         callers_query(alloc, pairs)
+    } else if path == b"tree".as_slice() {
+        tree_query(alloc, pairs)
+    } else if path == b"flame".as_slice() {
+        flame_query(alloc, pairs)
     } else {
         Ok(None)
     }
@@ -164,6 +169,46 @@ fn hot_with(by: Option<Measure>, n: Option<u32>, sort: Option<Sort>) -> Option<Q
         by: by?,
         n: n?,
         sort: sort?,
+    })
+}
+
+/// The query for the cliques as a tree, by its pairs.
+fn tree_query(alloc: Global, pairs: &[u8]) -> Result<Option<Query>, NoMemory>
+    ensures query { IfOk result (λ found. asked_told found ≡ tree_of (measure_asked pairs.now) (least_asked 5 pairs.now)) }
+    ensures plain { ArePlain pairs.now → IsOk result }
+{
+    let by = measure_asked(alloc, pairs)?;
+    let least = least_asked(alloc, 5, pairs)?;
+    Ok(tree_with(by, least))
+}
+
+/// The query for the cliques as a tree, where each of its pairs has a value.
+fn tree_with(by: Option<Measure>, least: Option<u32>) -> Option<Query>
+    ensures { asked_told result ≡ tree_of by least }
+{
+    Some(Query::Tree {
+        by: by?,
+        least: least?,
+    })
+}
+
+/// The query for a flame graph, by its pairs.
+fn flame_query(alloc: Global, pairs: &[u8]) -> Result<Option<Query>, NoMemory>
+    ensures query { IfOk result (λ found. asked_told found ≡ flame_of (measure_asked pairs.now) (least_asked 1 pairs.now)) }
+    ensures plain { ArePlain pairs.now → IsOk result }
+{
+    let by = measure_asked(alloc, pairs)?;
+    let least = least_asked(alloc, 1, pairs)?;
+    Ok(flame_with(by, least))
+}
+
+/// The query for a flame graph, where each of its pairs has a value.
+fn flame_with(by: Option<Measure>, least: Option<u32>) -> Option<Query>
+    ensures { asked_told result ≡ flame_of by least }
+{
+    Some(Query::Flame {
+        by: by?,
+        least: least?,
     })
 }
 

@@ -5,7 +5,7 @@ ghost use Rattle.md_cost.specs.View.{View};
 ghost use Rattle.md_query.specs.declared.row.Title.TheVariants as title;
 ghost use Rattle.md_people.specs.Callers.{called_table, callers_table};
 ghost use Rattle.md_people.specs.Context.{callees_table, stations_table};
-ghost use Rattle.md_query.specs.PageOf.{page_with, callers_page, context_page, find_rows, hot_rows, table_rows};
+ghost use Rattle.md_query.specs.PageOf.{page_with, callers_page, context_page, find_rows, hot_rows, table_rows, tree_rows};
 
 use crate::row::{Page, Row, Title};
 use md_base::{Measure, NoMemory, PdId, ProcId, Text};
@@ -14,6 +14,7 @@ use md_people::{
     Sort, called_table, callees_table, callers_table, found_modules_table, found_procs_table,
     hot_table, stations_table, whole_of,
 };
+use md_tree::tree_table;
 use std::alloc::Global;
 
 /// The first procedures by their totals or own counts of a measure, with their shares.
@@ -30,6 +31,23 @@ pub fn hot_page(
     let mut rows = first_rows(alloc, loaded, by)?;
     rows.push(Row::Table(table))?;
     Ok(Page::from_parts(Title::Hot { by, n, sort }, rows))
+}
+
+/// The cliques as a tree, those whose totals are at least so many thousandths of the whole.
+pub fn tree_page(alloc: Global, loaded: &Loaded, by: Measure, least: u32) -> Result<Page, NoMemory>
+    ensures { IfOk result (λ page. (v : View) → IsFileView loaded.now.profile v → page ≡ page_with (title.Tree by least) (tree_rows v by least)) }
+{
+    let table = tree_table(alloc, loaded, by, least)?;
+    let mut rows = first_rows(alloc, loaded, by)?;
+    rows.push(Row::Table(table))?;
+    Ok(Page::from_parts(Title::Tree { by, least }, rows))
+}
+
+/// A flame graph, which has no rows. Takes no memory.
+pub fn flame_page(alloc: Global, by: Measure, least: u32) -> Page
+    ensures { result ≡ page_with (title.Flame by least) [] }
+{
+    Page::from_parts(Title::Flame { by, least }, Vec::new(alloc))
 }
 
 /// The procedures and the modules in whose name the text is, with their shares of a measure.

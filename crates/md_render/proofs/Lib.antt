@@ -1,3 +1,4 @@
 mod Worked
 pub mod Chains
 pub mod Same
+pub mod Titles

@@ -1,13 +1,15 @@
 -- Rows and pages, worked out by hand.
-use Rattle.std.proofs.Common.{◌≡◌, [], ◌∷◌, Some, None, codes, length, refl, true, false}
+use Rattle.std.proofs.Common.{◌≡◌, ℕ, [], ◌∷◌, Option, Some, None, codes, length, refl, true, false}
 use Rattle.std.specs.Prelude.{⊤}
 use Rattle.std.specs.Fmt.{digits}
+use Rattle.std.specs.List.{slice_get}
 use Rattle.percent_encoding.specs.Percent.{percent_encode, percent_encode_byte}
 use Rattle.percent_encoding.specs.AsciiSet.{should_percent_encode}
 use Rattle.md_base.specs.declared.measure.Measure.TheVariants as measure
 use Rattle.md_static.specs.declared.entry.SiteKind.TheVariants.{Plain, HigherOrder}
 use Rattle.md_cost.specs.declared.sums.Sums.{Sums}
-use Rattle.md_cost.specs.View.{View}
+use Rattle.md_cost.specs.View.{View, OfLink, OfContext, OfClique, OfProcedure, OfSite, OfModule}
+use Rattle.md_cost.specs.View.{Row as Counted}
 use Rattle.md_table.specs.Html as html
 use Rattle.md_table.specs.Table as table
 use Rattle.md_people.specs.declared.sort.Sort.TheVariants.{Own}
@@ -16,13 +18,16 @@ use Rattle.md_query.specs.declared.row.Title.TheVariants as title
 use Rattle.md_query.specs.declared.row.What.TheVariants as what
 use Rattle.md_query.specs.Page.{PageRows}
 use Rattle.md_render.specs.declared.form.Form.TheVariants.{Text, Html}
+use Rattle.md_tree.specs.declared.picture.CliqueBox.{CliqueBox}
+use Rattle.md_render.specs.declared.icicle.Cost.{Cost}
+use Rattle.md_render.specs.Icicle.{drawn_words, edge_words, icicle_words, label_words, levels_of, more_words}
 use Rattle.md_render.specs.Lines.{row_words, title_words}
 use Rattle.md_render.specs.Names.{Names, names_of}
 use Rattle.md_render.specs.Text.{text_of}
 use Rattle.md_render.specs.Html.{html_of, title_html}
 
 unfoldable on_pages : ⊤
-unfolding text_of html_of table.text_of html.html_of digits percent_encode percent_encode_byte should_percent_encode
+unfolding text_of html_of icicle_words table.text_of html.html_of digits percent_encode percent_encode_byte should_percent_encode
 on_pages = tt
 
 -- t.main/2, which calls a_b.step/0, which calls itself by a closure
@@ -155,6 +160,10 @@ a-title-of-what-is-hot : title_words view.statics (title.Hot measure.Words 1000 
 unfolding on_pages view names few most
 a-title-of-what-is-hot = refl
 
+a-title-of-a-tree : title_words view.statics (title.Tree measure.Words 0) ≡ codes "mdprof tree words 0"
+unfolding on_pages view names few most
+a-title-of-a-tree = refl
+
 -- line feeds, bytes past `~` and letters with accents aren't printed
 a-title-of-a-text : title_words view.statics (title.Find measure.Calls (10 ∷ 32 ∷ 60 ∷ 126 ∷ 127 ∷ 195 ∷ [])) ≡ codes "mdprof find calls ? <~??"
 unfolding on_pages view names few most
@@ -207,3 +216,96 @@ a-table-in-html : html_of view hot
     ≡ codes "<!DOCTYPE html>\n<html><head><meta charset=\"utf-8\"><title>mdprof hot calls 1 own</title></head><body>\n<h1>mdprof hot calls 1 own</h1>\n<pre>\nfinished no\ncalls 10\n</pre>\n<table>\n<tr><th>own</th><th>procedure</th></tr>\n<tr><td>7</td><td>t.&lt;&gt;/2</td></tr>\n</table>\n<pre>\n</pre>\n<p><a href=\"/\">menu</a> <a href=\"/root\">root</a> <a href=\"/procs\">procs</a> <a href=\"/modules\">modules</a></p>\n</body></html>\n"
 unfolding on_pages view hot
 a-table-in-html = refl
+
+-- ---- flame graphs
+
+-- digits behind the point aren't left out
+edges : edge_words 1000000 ≡ codes "1000.000"
+unfolding on_pages
+edges = refl
+
+a-small-edge : edge_words 12007 ≡ codes "12.007"
+unfolding on_pages
+a-small-edge = refl
+
+-- a box at level 2, and what its clique costs
+third : CliqueBox
+third = record { clique = 3; level = 2; parent = Some 1; left = 125000; width = 37500 }
+
+cost : Cost
+cost = record { by = measure.Redos; total = 3; whole = 80; own = 2 }
+
+-- four letters have room beside the left edge, and what is cut is the text and not its escapes
+a-box-holds-a-part-of-its-text : drawn_words third (codes "t.<>/2 clique 3") cost
+    ≡ codes "<a href=\"/clique?id=3\"><title>t.&lt;&gt;/2 clique 3: 3 redos, 3.7 %, own 2</title><rect x=\"125.000\" y=\"40\" width=\"37.500\" height=\"19\"/><text x=\"127.000\" y=\"54\">t.&lt;&gt;</text></a>\n"
+unfolding on_pages third cost
+a-box-holds-a-part-of-its-text = refl
+
+-- one letter needs 9300 millionths
+a-narrow-box-holds-nothing : label_words (record third { width = 9299 }) (codes "t.r/0") ≡ []
+unfolding on_pages third
+a-narrow-box-holds-nothing = refl
+
+or-one-letter : label_words (record third { width = 9300 }) (codes "t.r/0") ≡ codes "<text x=\"127.000\" y=\"54\">t</text>"
+unfolding on_pages third
+or-one-letter = refl
+
+-- level 0 is one of them, and the last box needn't be the deepest
+there-are-three-levels : levels_of (record third { level = 0 } ∷ third ∷ record third { level = 1 } ∷ []) ≡ 3
+unfolding third
+there-are-three-levels = refl
+
+none-is-left-out : more_words 0 ≡ []
+unfolding on_pages
+none-is-left-out = refl
+
+three-are-left-out : more_words 3 ≡ codes "<p>3 more</p>\n"
+unfolding on_pages
+three-are-left-out = refl
+
+-- where there is nothing to show, a text has no title either
+flame : PageRows
+flame = record { title = title.Flame measure.Fails 1; rows = [] }
+
+no-flames : text_of view flame ≡ []
+unfolding on_pages view flame
+no-flames = refl
+
+no-boxes : html_of view flame
+    ≡ codes "<!DOCTYPE html>\n<html><head><meta charset=\"utf-8\"><title>mdprof flame fails 1</title></head><body>\n<h1>mdprof flame fails 1</h1>\n<pre>\n</pre>\n<svg viewBox=\"0 0 1000 0\">\n<style>rect{fill:#fc9;stroke:#fff;stroke-width:.5}text{font:12px monospace}</style>\n</svg>\n<pre>\n</pre>\n<p><a href=\"/\">menu</a> <a href=\"/root\">root</a> <a href=\"/procs\">procs</a> <a href=\"/modules\">modules</a></p>\n</body></html>\n"
+unfolding on_pages view flame
+no-boxes = refl
+
+-- main is called once, and step four times, in two contexts of one clique
+abbrev own_calls : Counted → Option ℕ
+own_calls (OfLink l) = None
+own_calls (OfContext c) = slice_get (1 ∷ 3 ∷ 1 ∷ []) c
+own_calls (OfClique k) = None
+own_calls (OfProcedure q) = None
+own_calls (OfSite s) = None
+own_calls (OfModule k) = None
+
+abbrev total_calls : Counted → Option ℕ
+total_calls (OfLink l) = None
+total_calls (OfContext c) = None
+total_calls (OfClique k) = slice_get (5 ∷ 4 ∷ []) k
+total_calls (OfProcedure q) = None
+total_calls (OfSite s) = None
+total_calls (OfModule k) = None
+
+counted : View
+counted = record view { own = λ r m. own_calls r; total = λ r m. total_calls r }
+
+burning : PageRows
+burning = record { title = title.Flame measure.Calls 1; rows = [] }
+
+-- a line names what is above a context's clique, and not what is beside it there
+flames : text_of counted burning ≡ codes "t.main/2 1\nt.main/2;a_b.step/0 3\nt.main/2;a_b.step/0 1\n"
+unfolding on_pages view counted burning
+flames = refl
+
+-- a box for each clique, and not for each context
+boxes : icicle_words counted measure.Calls 1
+    ≡ codes "</pre>\n<svg viewBox=\"0 0 1000 40\">\n<style>rect{fill:#fc9;stroke:#fff;stroke-width:.5}text{font:12px monospace}</style>\n<a href=\"/clique?id=0\"><title>t.main/2 clique 0: 5 calls, 100.0 %, own 1</title><rect x=\"0.000\" y=\"0\" width=\"1000.000\" height=\"19\"/><text x=\"2.000\" y=\"14\">t.main/2 clique 0</text></a>\n<a href=\"/clique?id=1\"><title>a_b.step/0 from line 3 clique 1 of 2 contexts: 4 calls, 80.0 %, own 4</title><rect x=\"0.000\" y=\"20\" width=\"800.000\" height=\"19\"/><text x=\"2.000\" y=\"34\">a_b.step/0 from line 3 clique 1 of 2 contexts</text></a>\n</svg>\n<pre>\n"
+unfolding on_pages view counted
+boxes = refl

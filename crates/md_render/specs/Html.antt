@@ -1,13 +1,15 @@
--- The HTML of a page: its title in two places, a line for each row with its anchors, and where to go on.
+-- The HTML of a page: its title in two places, a line for each row with its anchors or a picture, and where to go on.
 use Rattle.std.specs.Prelude.{ℕ, List, ◌++◌, codes}
 use Rattle.md_cost.specs.View.{View}
 use Rattle.md_static.specs.Tables.{Static}
 use Rattle.md_table.specs.Html.{escaped}
 use Rattle.md_query.specs.Page.{PageRows}
+use Rattle.md_query.specs.declared.row.Row.{Row}
 use Rattle.md_query.specs.declared.row.Title.{Title}
 use Rattle.md_query.specs.declared.row.Title.TheVariants as title
 use Rattle.md_render.specs.declared.form.Form.TheVariants.{Html}
-use Rattle.md_render.specs.Names.{Names, names_of}
+use Rattle.md_render.specs.Icicle.{icicle_words}
+use Rattle.md_render.specs.Names.{names_of}
 use Rattle.md_render.specs.Lines.{title_words, row_lines}
 
 abbrev pub head_words : (title : List ℕ) → List ℕ
@@ -24,8 +26,10 @@ abbrev pub title_html : Static → Title → List ℕ
 title_html s (title.Find by text) = escaped (title_words s (title.Find by text))
 title_html s t = title_words s t
 
-abbrev pub html_with : Names → PageRows → List ℕ
-html_with n page = head_words (title_html n.statics page.title) ++ (row_lines Html n page.rows ++ foot_words)
+-- a flame graph is a picture, and has no rows
+abbrev pub body_html : View → List Row → Title → List ℕ
+body_html v rows (title.Flame by least) = icicle_words v by least
+body_html v rows t = row_lines Html (names_of v) rows
 
 unfoldable pub html_of : View → PageRows → List ℕ
-html_of v page = html_with (names_of v) page
+html_of v page = head_words (title_html v.statics page.title) ++ (body_html v page.rows page.title ++ foot_words)

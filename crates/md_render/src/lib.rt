@@ -2,6 +2,7 @@
 #![tactic(auto)]
 
 mod form;
+mod icicle;
 mod line;
 mod lookup;
 mod number;

@@ -27,11 +27,13 @@ pub(crate) fn add_title(
         Title::Menu => add(out, b"mdprof menu"),
         Title::Clique(clique) => add_number(out, b"mdprof clique ", *clique as u64),
         Title::Procs => add(out, b"mdprof procs"),
-        Title::Top { by, n } => add_first(out, *by, *n),
+        Title::Top { by, n } => add_measured(out, b"mdprof top ", *by, *n),
         Title::Proc(id) => add_proc_title(out, statics, *id),
         Title::Modules => add(out, b"mdprof modules"),
         Title::Module(id) => add_module_title(out, module_name(statics, *id)),
         Title::Hot { by, n, sort } => add_hot(out, *by, *n, *sort),
+        Title::Tree { by, least } => add_measured(out, b"mdprof tree ", *by, *least),
+        Title::Flame { by, least } => add_measured(out, b"mdprof flame ", *by, *least),
         Title::Find { by, text } => add_find(out, *by, text.as_bytes()),
         Title::Context { by, node, proc } => {
             add_numbered(out, statics, b"mdprof context ", *by, *node, *proc)
@@ -77,11 +79,11 @@ pub(crate) fn what_word(what: What) -> &'static [u8]
     }
 }
 
-/// Adds the title of the first procedures by a measure.
-fn add_first(out: &mut Vec<u8>, by: Measure, n: u32) -> Result<(), AllocError>
-    ensures { OnOk result (out.new.items ≡ out.old.items ++ (codes "mdprof top " ++ (measure_word by ++ (codes " " ++ decimal n)))) }
+/// Adds these words, a measure and a number.
+fn add_measured(out: &mut Vec<u8>, words: &[u8], by: Measure, n: u32) -> Result<(), AllocError>
+    ensures { OnOk result (out.new.items ≡ out.old.items ++ (words.now ++ (measure_word by ++ (codes " " ++ decimal n)))) }
 {
-    add(out, b"mdprof top ")?;
+    add(out, words)?;
     add(out, measure_word(by))?;
     add_number(out, b" ", n as u64)
 }

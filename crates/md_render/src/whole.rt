@@ -2,30 +2,37 @@
 ghost use Rattle.std.specs.Prelude.{◌≡◌, ◌++◌, OnOk, IfOk};
 ghost use Rattle.md_cost.specs.FileView.{IsFileView};
 ghost use Rattle.md_cost.specs.View.{View};
-ghost use Rattle.md_render.specs.Html.{html_of, head_words, foot_words, title_html};
-ghost use Rattle.md_render.specs.Text.{text_of};
+ghost use Rattle.md_render.specs.Html.{html_of, body_html, head_words, foot_words, title_html};
+ghost use Rattle.md_render.specs.Names.{names_of};
+ghost use Rattle.md_render.specs.Text.{text_of, text_with};
 
 use crate::form::Form;
+use crate::icicle::add_icicle;
 use crate::line::add_lines;
 use crate::number::add;
 use crate::title::{add_title, add_title_html};
 use md_base::NoMemory;
 use md_cost::Loaded;
+use md_people::flame_text;
 use md_query::{Page, Title};
 use md_static::Statics;
 use std::alloc::{AllocError, Global};
 
-/// The page as a text: its title, and a line for each row, each ended by a line feed. A number on the page that isn't in
-/// the profile stands for 0 or for no name where something is looked up by it.
+/// The page as a text: its title, and a line for each row, each ended by a line feed; of a flame graph the lines of its contexts alone.
+/// A number on the page that isn't in the profile stands for 0 or for no name where something is looked up by it.
 pub fn text(alloc: Global, loaded: &Loaded, page: &Page) -> Result<Vec<u8>, NoMemory>
     ensures { (v : View) → IsFileView loaded.now.profile v → IfOk result (λ text. text.items ≡ text_of v page.now) }
 {
+    if let Title::Flame { by, .. } = page.title() {
+        return flame_text(alloc, loaded, *by);
+    }
     let mut out = Vec::new(alloc);
     add_text(&mut out, loaded, page)?;
     Ok(out)
 }
 
-/// The page as HTML: the same title and lines, in which cliques, procedures and modules are anchors.
+/// The page as HTML: the same title and lines, in which cliques, procedures and modules are anchors; of a flame graph a picture, with a
+/// box for each clique that has a row in the tree.
 pub fn html(alloc: Global, loaded: &Loaded, page: &Page) -> Result<Vec<u8>, NoMemory>
     ensures { (v : View) → IsFileView loaded.now.profile v → IfOk result (λ html. html.items ≡ html_of v page.now) }
 {
@@ -34,20 +41,35 @@ pub fn html(alloc: Global, loaded: &Loaded, page: &Page) -> Result<Vec<u8>, NoMe
     Ok(out)
 }
 
+/// Adds the title and the lines of a page.
 fn add_text(out: &mut Vec<u8>, loaded: &Loaded, page: &Page) -> Result<(), AllocError>
-    ensures { (v : View) → IsFileView loaded.now.profile v → OnOk result (out.new.items ≡ out.old.items ++ text_of v page.now) }
+    ensures { (v : View) → IsFileView loaded.now.profile v → OnOk result (out.new.items ≡ out.old.items ++ text_with (names_of v) page.now) }
 {
     add_title(out, loaded.profile().statics(), page.title())?;
     add(out, b"\n")?;
     add_lines(out, Form::Text, loaded, page.rows())
 }
 
-fn add_html(out: &mut Vec<u8>, loaded: &Loaded, page: &Page) -> Result<(), AllocError>
+fn add_html(out: &mut Vec<u8>, loaded: &Loaded, page: &Page) -> Result<(), NoMemory>
     ensures { (v : View) → IsFileView loaded.now.profile v → OnOk result (out.new.items ≡ out.old.items ++ html_of v page.now) }
 {
     add_head(out, loaded.profile().statics(), page.title())?;
+    add_body(out, loaded, page)?;
+    add_foot(out)?;
+    Ok(())
+}
+
+/// Adds the lines of a page, or the picture of a flame graph.
+fn add_body(out: &mut Vec<u8>, loaded: &Loaded, page: &Page) -> Result<(), NoMemory>
+    ensures { (v : View) → IsFileView loaded.now.profile v → OnOk result (out.new.items ≡ out.old.items ++ body_html v page.now.rows page.now.title) }
+{
+    // it is valid and has a view, which `profile` says
+    let _profile = loaded.profile();
+    if let Title::Flame { by, least } = page.title() {
+        return add_icicle(out, loaded, *by, *least);
+    }
     add_lines(out, Form::Html, loaded, page.rows())?;
-    add_foot(out)
+    Ok(())
 }
 
 /// Adds what comes before the lines, with the title in two places.

@@ -10,7 +10,7 @@ use Rattle.md_tree.specs.declared.picture.CliqueBox.{CliqueBox}
 use Rattle.md_tree.specs.Picture.{boxes_beside, boxes_from, width_of}
 use Rattle.md_tree.proofs.Rows.{AreLower}
 
-abbrev Draw : Type 0
+abbrev pub Draw : Type 0
 Draw = (left place clique : ℕ) → List CliqueBox
 
 abbrev DrawAlike : Draw → Draw → ℕ → Type 0

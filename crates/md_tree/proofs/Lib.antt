@@ -15,5 +15,6 @@ pub mod RowsOfBoxes
 pub mod Lower
 pub mod Complete
 pub mod Once
+pub mod There
 mod WorkedTree
 mod WorkedPicture

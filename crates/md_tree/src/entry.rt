@@ -12,8 +12,9 @@ use md_people::{Led, add_full_name, add_number, led_by, line_at};
 use md_static::Statics;
 use std::alloc::{AllocError, Global};
 
-/// The words of a clique: the procedure of the context that is entered, from where, the clique, and its size.
-pub(crate) fn where_words(alloc: Global, loaded: &Loaded, clique: u32) -> Result<Vec<u8>, NoMemory>
+/// The words of a clique: the procedure of the context that is entered, from where, the clique, and its size. Takes as many steps as
+/// there are words.
+pub fn where_words(alloc: Global, loaded: &Loaded, clique: u32) -> Result<Vec<u8>, NoMemory>
     requires there { clique < clique_count loaded.now.cliques }
     ensures { IfOk result (λ words. (v : View) → IsFileView loaded.now.profile v → words.items ≡ where_words v clique) }
 {

@@ -51,8 +51,11 @@ pub fn shown_cliques(
     by: Measure,
     least: u32,
 ) -> Result<Vec<CliqueBox>, NoMemory>
-    ensures { IfOk result (λ boxes. (v : View) → IsFileView loaded.now.profile v → boxes.items ≡ picture v by least) }
+    ensures boxes { IfOk result (λ boxes. (v : View) → IsFileView loaded.now.profile v → boxes.items ≡ picture v by least) }
+    ensures there { IfOk result (λ boxes. All (λ b. b.clique < clique_count loaded.now.cliques) boxes.items) }
 {
+    // it is valid and has a view, which `profile` says
+    let _profile = loaded.profile();
     let scale = scale_of(loaded, by, least);
     if scale.whole == 0 {
         return Ok(Vec::new(alloc));

@@ -55,8 +55,8 @@ pub(crate) fn clique_row(
     Ok(Line::from_parts(cells, indented_cell(alloc, level, &words)?))
 }
 
-/// The sum of the own counts of a clique's contexts.
-fn clique_own(loaded: &Loaded, by: Measure, clique: u32) -> u128
+/// The sum of the own counts of a clique's contexts, and so many steps. Takes no memory.
+pub fn clique_own(loaded: &Loaded, by: Measure, clique: u32) -> u128
     requires there { clique < clique_count loaded.now.cliques }
     ensures { (v : View) → IsFileView loaded.now.profile v → result ≡ clique_own v by clique }
 {

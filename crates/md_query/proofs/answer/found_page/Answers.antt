@@ -23,6 +23,14 @@ pub returns-in_ok-hot_page-in-Hot : goal.returns-in_ok-hot_page-in-Hot
 unfolding page_of
 returns-in_ok-hot_page-in-Hot c = λ v is. rw c.in-Hot.is (ap (λ (p : PageRows). Some p) (c.in_ok-hot_page-in-Hot.ensures v is))
 
+pub returns-in_ok-tree_page-in-Tree : goal.returns-in_ok-tree_page-in-Tree
+unfolding page_of
+returns-in_ok-tree_page-in-Tree c = λ v is. rw c.in-Tree.is (ap (λ (p : PageRows). Some p) (c.in_ok-tree_page-in-Tree.ensures v is))
+
 pub returns-in_ok-find_page-in-Find : goal.returns-in_ok-find_page-in-Find
 unfolding page_of
 returns-in_ok-find_page-in-Find c = λ v is. rw c.in-Find.is (ap (λ (p : PageRows). Some p) (c.in_ok-find_page-in-Find.ensures v is))
+
+pub returns-in-Flame : goal.returns-in-Flame
+unfolding page_of
+returns-in-Flame c = λ v is. rw c.in-Flame.is (ap (λ (p : PageRows). Some p) c.flame_page.ensures)

@@ -58,14 +58,38 @@ pub returns-then-eq-4-clause-query : goal.returns-then-eq-4-clause-query
 unfolding table_of
 returns-then-eq-4-clause-query c = grind (arith, common_steps)
 
-pub returns-else-eq-4-clause-memory : goal.returns-else-eq-4-clause-memory
+pub returns-else-eq-6-clause-memory : goal.returns-else-eq-6-clause-memory
 unfolding table_of
-returns-else-eq-4-clause-memory c = grind (arith, common_steps)
+returns-else-eq-6-clause-memory c = grind (arith, common_steps)
 
-pub returns-else-eq-4-clause-plain : goal.returns-else-eq-4-clause-plain
+pub returns-else-eq-6-clause-plain : goal.returns-else-eq-6-clause-plain
 unfolding table_of
-returns-else-eq-4-clause-plain c = grind (arith, common_steps)
+returns-else-eq-6-clause-plain c = grind (arith, common_steps)
 
-pub returns-else-eq-4-clause-query : goal.returns-else-eq-4-clause-query
+pub returns-else-eq-6-clause-query : goal.returns-else-eq-6-clause-query
 unfolding table_of
-returns-else-eq-4-clause-query c = grind (arith, common_steps)
+returns-else-eq-6-clause-query c = grind (arith, common_steps)
+
+pub returns-then-eq-5-clause-memory : goal.returns-then-eq-5-clause-memory
+unfolding table_of
+returns-then-eq-5-clause-memory c = grind (arith, common_steps)
+
+pub returns-then-eq-5-clause-plain : goal.returns-then-eq-5-clause-plain
+unfolding table_of
+returns-then-eq-5-clause-plain c = grind (arith, common_steps)
+
+pub returns-then-eq-5-clause-query : goal.returns-then-eq-5-clause-query
+unfolding table_of
+returns-then-eq-5-clause-query c = grind (arith, common_steps)
+
+pub returns-then-eq-6-clause-memory : goal.returns-then-eq-6-clause-memory
+unfolding table_of
+returns-then-eq-6-clause-memory c = grind (arith, common_steps)
+
+pub returns-then-eq-6-clause-plain : goal.returns-then-eq-6-clause-plain
+unfolding table_of
+returns-then-eq-6-clause-plain c = grind (arith, common_steps)
+
+pub returns-then-eq-6-clause-query : goal.returns-then-eq-6-clause-query
+unfolding table_of
+returns-then-eq-6-clause-query c = grind (arith, common_steps)
