@@ -114,8 +114,8 @@ mismatch = refl
 -- ---- the magic, byte by byte
 
 -- refuses a rule that tells each wrong magic at byte 0, or at the version
-another_third_byte : read profile_file 0 (take 2 magic ++ 80 ∷ 82 ∷ 0 ∷ []) ≡ damage 3 Magic
-another_third_byte = refl
+another_fifth_byte : read profile_file 0 (take 4 magic ++ 0 ∷ 70 ∷ 48 ∷ 49 ∷ []) ≡ damage 4 Magic
+another_fifth_byte = refl
 
 another_first_byte : read profile_file 0 (78 ∷ []) ≡ damage 0 Magic
 another_first_byte = refl
