@@ -1,0 +1,62 @@
+-- How far a connection may be read, and why serving it may end, on small connections worked out by hand.
+use Rattle.std.proofs.Common.{◌≡◌, ℕ, ◌<◌, Bool, true, false, List, [], ◌∷◌, length, Option, None, Some, refl, sym, ap, subst, arith, inl, inr}
+use Rattle.httparse.specs.Grammar.{RequestHead, ReadsRequest}
+use Rattle.md_base.specs.Streams.{Stream, fresh}
+use Rattle.md_http.specs.Heard.{most_bytes}
+use Rattle.md_http.specs.Reading.{ReadNoFurther, unread, undecided, decided}
+use Rattle.md_http.specs.Served.{ends, HasCauseOf}
+use Rattle.md_http.specs.declared.link.Served.TheVariants.{ReadFault, WriteFault, NoMemory}
+use Rattle.md_http.proofs.Readings.{read_at_most}
+
+-- a connection of which these bytes were read, which are all, and whether its end was met
+abbrev all_read : List ℕ → Bool → Option Stream
+all_read bytes ended = Some (record { taken = bytes; left = []; ended = ended })
+
+abbrev taken_of : Option Stream → List ℕ
+taken_of None = []
+taken_of (Some s) = s.taken
+
+abbrev ended_of : Option Stream → Bool
+ended_of None = false
+ended_of (Some s) = s.ended
+
+-- ---- how far it may be read
+
+-- refuses a rule by which something has to be read before memory can be refused
+not_read_at_all : ReadNoFurther (Some (fresh (71 ∷ []))) (Some (fresh (71 ∷ [])))
+not_read_at_all = unread refl
+
+-- refuses a rule by which any number of bytes may be read
+more_than_8192 : (bytes : List ℕ) (ended : Bool) → most_bytes < length bytes → ReadNoFurther (Some (fresh bytes)) (all_read bytes ended) → ⊥
+more_than_8192 bytes ended more so =
+    let at = read_at_most (fresh bytes) (all_read bytes ended) so in
+    let same : bytes ≡ at.bytes = ap taken_of at.read.is in
+    let long : length bytes ≡ length at.bytes = ap length same in
+    omega (arith, more, long, at.within)
+
+-- refuses a rule by which a connection is read on to its end behind a whole head
+end_behind_a_head : (bytes : List ℕ) (head : RequestHead) (rest : List ℕ) → ReadsRequest bytes head rest → ReadNoFurther (Some (fresh bytes)) (all_read bytes true) → ⊥
+end_behind_a_head bytes head rest reads (unread same) = let e : true ≡ false = ap ended_of same in absurd (cc)
+end_behind_a_head bytes head rest reads (undecided waits) = let e : true ≡ false = ap ended_of waits.read.is in absurd (cc)
+end_behind_a_head bytes head rest reads (decided was) =
+    let met : true ≡ was.heard.ended = ap ended_of was.heard.read.is in
+    let same : bytes ≡ was.bytes = ap taken_of was.heard.read.is in
+    (was.heard.waited (sym met)).still.none head rest (subst (λ (bs : List ℕ). ReadsRequest bs head rest) same reads)
+
+-- ---- why it may end
+
+-- refuses a rule by which a fault of reading is told though none was counted
+uncounted_read_fault : (before now : Option Stream) (held : Option (List ℕ)) → HasCauseOf (ends before held 2 0) (ends now held 2 0) ReadFault → ⊥
+uncounted_read_fault before now held cause = elim cause.rose [ inl more ↦ omega (arith, more) | inr last ↦ omega (arith, last) ]
+
+-- refuses a rule by which a fault of writing is counted among those of reading
+write_fault_counted_as_read : (before now : Option Stream) (held later : Option (List ℕ)) → HasCauseOf (ends before held 0 0) (ends now later 1 0) WriteFault → ⊥
+write_fault_counted_as_read before now held later cause = elim cause.rose [ inl more ↦ omega (arith, more) | inr last ↦ omega (arith, last) ]
+
+-- refuses a rule by which a connection that can't be read is told so
+answered_before_the_fault : (before now : Option Stream) → HasCauseOf (ends before (Some []) 0 0) (ends now (Some (72 ∷ [])) 1 0) ReadFault → ⊥
+answered_before_the_fault before now cause = let e : Some (72 ∷ []) ≡ Some [] = cause.unwritten in absurd (cc)
+
+-- refuses a rule by which memory may be refused once too much was read
+too_much_before_memory : (bytes : List ℕ) (held later : Option (List ℕ)) → most_bytes < length bytes → HasCauseOf (ends (Some (fresh bytes)) held 0 0) (ends (all_read bytes false) later 0 0) NoMemory → ⊥
+too_much_before_memory bytes held later more cause = more_than_8192 bytes false more cause
