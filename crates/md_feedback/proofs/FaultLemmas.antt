@@ -85,7 +85,7 @@ number_one_line : (n : ℕ) → n < 2 ^ 64 → IsOneLine (decimal n)
 number_one_line n small = digits_one_line (decimal n) (are_digits n small)
 
 -- no byte of these is a line feed, as a test finds
-pub free : List ℕ → Bool
+unfoldable pub free : List ℕ → Bool
 free [] = true
 free (c ∷ cs) = not (c == 10) && free cs
 
