@@ -20,6 +20,11 @@ abbrev ended_of : Option Stream → Bool
 ended_of None = false
 ended_of (Some s) = s.ended
 
+-- how many bytes were written to it
+abbrev written_of : Option (List ℕ) → ℕ
+written_of None = 0
+written_of (Some bytes) = length bytes
+
 -- ---- how far it may be read
 
 -- refuses a rule by which something has to be read before memory can be refused
@@ -55,7 +60,7 @@ write_fault_counted_as_read before now held later cause = elim cause.rose [ inl 
 
 -- refuses a rule by which a connection that can't be read is told so
 answered_before_the_fault : (before now : Option Stream) → HasCauseOf (ends before (Some []) 0 0) (ends now (Some (72 ∷ [])) 1 0) ReadFault → ⊥
-answered_before_the_fault before now cause = let e : Some (72 ∷ []) ≡ Some [] = cause.unwritten in absurd (cc)
+answered_before_the_fault before now cause = let e : 1 ≡ 0 = ap written_of cause.unwritten in omega (arith, e)
 
 -- refuses a rule by which memory may be refused once too much was read
 too_much_before_memory : (bytes : List ℕ) (held later : Option (List ℕ)) → most_bytes < length bytes → HasCauseOf (ends (Some (fresh bytes)) held 0 0) (ends (all_read bytes false) later 0 0) NoMemory → ⊥

@@ -2,7 +2,7 @@ use Rattle.std.proofs.Common.{arith}
 use Rattle.std.proofs.lemmas.Grind.{common_steps}
 use Rattle.std.proofs.Common.{ℕ, List, Option, sym, subst}
 use Rattle.md_base.specs.Streams.{Stream}
-use Rattle.md_http.specs.Served.{IsDue, ends}
+use Rattle.md_http.specs.Served.{IsDue, ends, early}
 use Rattle.md_http.specs.Reading.{WasHeard}
 use Rattle.md_http.proofs.Servings.{served_of, cause_of, written_since, same_held, same_stream}
 use Rattle.md_http.proofs.link.serve_link.Goals as goal
@@ -50,7 +50,11 @@ pub returns-in-Err-NoMemory-clause-reads : goal.returns-in-Err-NoMemory-clause-r
 returns-in-Err-NoMemory-clause-reads g c = grind (arith, common_steps)
 
 pub returns-in-Err-NoMemory-clause-served : goal.returns-in-Err-NoMemory-clause-served
-returns-in-Err-NoMemory-clause-served g c = grind (arith, common_steps)
+returns-in-Err-NoMemory-clause-served g c = λ v is.
+    let old = c.args.link.now in
+    let heard = c.hear_link.new.link in
+    let kept = same_held _ _ _ _ _ _ c.hear_link.ensures.beside (g.met.C.Link.reads_leave_the_sink old) (g.met.C.Link.reads_leave_the_sink heard) in
+    early (record { some = c.in-Err-NoMemory.ensures.some; unwritten = kept.0 })
 
 pub returns-in-Err-NoMemory-clause-writes : goal.returns-in-Err-NoMemory-clause-writes
 returns-in-Err-NoMemory-clause-writes g c = grind (arith, common_steps)
