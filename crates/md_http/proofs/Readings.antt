@@ -6,7 +6,7 @@ use Rattle.std.proofs.lemmas.List.{append-nil}
 use Rattle.md_base.proofs.Told.{take_add}
 use Rattle.md_base.specs.Streams.{Stream}
 use Rattle.md_http.specs.Heard.{most_bytes}
-use Rattle.md_http.specs.Reading.{HasRead, ReadsOf, StillWaits, HasHeard, ReadNoFurther, unread, undecided, decided}
+use Rattle.md_http.specs.Reading.{HasRead, ReadsOf, ReadNoFurther, unread, undecided, decided}
 
 abbrev stream_of : List ℕ → List ℕ → Bool → Option Stream
 stream_of taken left ended = Some (record { taken = taken; left = left; ended = ended })
