@@ -117,6 +117,7 @@ mismatch = refl
 another_fifth_byte : read profile_file 0 (take 4 magic ++ 0 ∷ 70 ∷ 48 ∷ 49 ∷ []) ≡ damage 4 Magic
 another_fifth_byte = refl
 
+-- refuses a rule by which one byte is a file that is cut off, whichever it is
 another_first_byte : read profile_file 0 (78 ∷ []) ≡ damage 0 Magic
 another_first_byte = refl
 
@@ -134,17 +135,20 @@ nothing_at_all = refl
 
 -- ---- numbers out of range, each at its field
 
--- refuses a rule by which a list may be empty, and one that tells it behind the count: that is `Short` at 13
+-- refuses a rule by which a list may be empty, and goes on behind its count: that is `Short` at 13
 no_modules : read profile_file 0 (magic ++ 49 ∷ 1 ∷ w 0) ≡ damage 9 Range
 no_modules = refl
 
+-- refuses a rule by which a program may have modules alone
 no_procs : read profile_file 0 (magic ++ 49 ∷ 1 ∷ (w 1 ++ (1 ∷ 116 ∷ []) ++ w 0)) ≡ damage 15 Range
 no_procs = refl
 
+-- refuses a rule by which a run may have no context, as its main has
 no_contexts : read profile_file 0 (file_bytes1 (record one { nodes = [] })) ≡ damage 33 Range
 unfolding u32
 no_contexts = refl
 
+-- refuses a rule by which no link needs to lead to the first context
 no_links : read profile_file 0 (file_bytes1 (record one { links = [] })) ≡ damage 41 Range
 unfolding u32
 no_links = refl
@@ -157,6 +161,7 @@ module_past_the_last = refl
 abbrev with_sites : List Site → ProfileRows
 with_sites sites = record counting { statics = record counting.statics { sites = sites } }
 
+-- refuses a rule by which a site may belong to a procedure that isn't there
 owner_past_the_last : read profile_file 0 (file_bytes1 (with_sites (at_line 2 3 ∷ []))) ≡ damage 44 Range
 unfolding u32
 owner_past_the_last = refl
@@ -171,6 +176,7 @@ line_zero : read profile_file 0 (file_bytes1 (with_sites (at_line 0 0 ∷ []))) 
 unfolding u32
 line_zero = refl
 
+-- refuses a rule by which any number past the last stands for no callee
 callee_past_the_last : read profile_file 0 (file_bytes1 (with_sites (record (at_line 0 3) { kind = Plain 2 } ∷ []))) ≡ damage 52 Range
 unfolding u32
 callee_past_the_last = refl
@@ -183,6 +189,7 @@ no_callee_is_no_number : read profile_file 0 (file_bytes1 higher_order) ≡ Ok h
 unfolding u32
 no_callee_is_no_number = refl
 
+-- refuses a rule by which a context's procedure is looked at once a link leads there
 context_of_no_proc : read profile_file 0 (file_bytes1 (record one { nodes = 1 ∷ [] })) ≡ damage 37 Range
 unfolding u32
 context_of_no_proc = refl
@@ -192,6 +199,7 @@ root_with_a_caller : read profile_file 0 (file_bytes1 (record counting { links =
 unfolding u32
 root_with_a_caller = refl
 
+-- refuses a rule that looks at the caller of the first link alone
 root_with_a_site : read profile_file 0 (file_bytes1 (record counting { links = record root { site = Some 0 } ∷ [] })) ≡ damage 88 Range
 unfolding u32
 root_with_a_site = refl
@@ -206,14 +214,17 @@ second_root : read profile_file 0 (file_bytes1 (record counting { links = root �
 unfolding u32
 second_root = refl
 
+-- refuses a rule by which a caller may be as great as the number of contexts
 caller_past_the_last : read profile_file 0 (file_bytes1 (record counting { links = root ∷ link 2 0 1 1 ∷ [] })) ≡ damage 120 Range
 unfolding u32
 caller_past_the_last = refl
 
+-- refuses a rule by which a site may be as great as the number of sites
 site_past_the_last : read profile_file 0 (file_bytes1 (record counting { links = root ∷ link 0 2 1 1 ∷ [] })) ≡ damage 124 Range
 unfolding u32
 site_past_the_last = refl
 
+-- refuses a rule that tells a callee at its link, and not at its field
 link_to_no_context : read profile_file 0 (file_bytes1 (record counting { links = root ∷ link 0 0 2 1 ∷ [] })) ≡ damage 128 Range
 unfolding u32
 link_to_no_context = refl
@@ -245,15 +256,17 @@ cut_before_mismatch : read profile_file 0 (take 152 (file_bytes1 (record countin
 unfolding u32
 cut_before_mismatch = refl
 
--- refuses a rule that looks for orphans before the end: each of these has one, told last
+-- refuses a rule that looks for orphans before what stands behind the last link
 trailing_before_orphan : read profile_file 0 (file_bytes1 with_orphan ++ 0 ∷ []) ≡ damage 85 Trailing
 unfolding u32
 trailing_before_orphan = refl
 
+-- refuses a rule that looks for them behind the contexts, or as the links come
 cut_before_orphan : read profile_file 0 (take 84 (file_bytes1 with_orphan)) ≡ damage 84 Short
 unfolding u32
 cut_before_orphan = refl
 
+-- refuses a rule that looks for them before the links are judged
 double_before_orphan : read profile_file 0 (file_bytes1 (record counting { nodes = 0 ∷ 1 ∷ 0 ∷ []; links = root ∷ link 0 0 1 1 ∷ link 0 0 1 3 ∷ [] })) ≡ damage 160 DoubleLink
 unfolding u32
 double_before_orphan = refl
