@@ -39,20 +39,22 @@ the-root-takes-no-pair : query_of (codes "root") (codes "id=3") ≡ Some Root
 unfolding on_literals
 the-root-takes-no-pair = refl
 
--- refuses a rule by which these ask for the same as `proc` and `module`
+-- refuses a rule by which `procs` with a number asks for what `proc` does
 each-procedure : query_of (codes "procs") (codes "id=3") ≡ Some Procs
 unfolding on_literals
 each-procedure = refl
 
+-- refuses a rule by which `modules` with a name asks for what `module` does
 each-module : query_of (codes "modules") (codes "name=t") ≡ Some Modules
 unfolding on_literals
 each-module = refl
 
--- refuses a rule by which a path may be longer than its word, or in other letters
+-- refuses a rule by which a path may be longer than its word
 a-path-is-a-whole-word : query_of (codes "procs/") [] ≡ None
 unfolding on_literals
 a-path-is-a-whole-word = refl
 
+-- refuses a rule by which great letters are as good as small ones
 a-path-is-in-small-letters : query_of (codes "Modules") [] ≡ None
 unfolding on_literals
 a-path-is-in-small-letters = refl
@@ -70,29 +72,32 @@ the-first-of-two-pairs-counts : query_of (codes "proc") (codes "id=1&id=2") ≡ 
 unfolding on_literals
 the-first-of-two-pairs-counts = refl
 
--- refuses a rule that takes a number with a sign, or none at all
+-- refuses a rule by which a sign may stand before a number
 a-number-has-digits-alone : query_of (codes "clique") (codes "id=-1") ≡ None
 unfolding on_literals
 a-number-has-digits-alone = refl
 
+-- refuses a rule by which no digits are the number 0
 a-number-has-a-digit : query_of (codes "clique") (codes "id=") ≡ None
 unfolding on_literals
 a-number-has-a-digit = refl
 
--- refuses a rule by which a number of more than 32 bits is cut down to them, and one that refuses the last number
+-- refuses a rule by which the last number of 32 bits stands for none
 the-last-number : query_of (codes "proc") (codes "id=4294967295") ≡ Some (Proc 4294967295)
 unfolding on_literals
 the-last-number = refl
 
+-- refuses a rule by which a number of more than 32 bits is cut down to them
 a-number-past-the-last : query_of (codes "proc") (codes "id=4294967296") ≡ None
 unfolding on_literals
 a-number-past-the-last = refl
 
--- refuses a rule that gives `top` the defaults of `hot`
+-- refuses a rule that gives `top` the default number of `hot`
 top-needs-both-pairs : query_of (codes "top") (codes "by=calls") ≡ None
 unfolding on_literals
 top-needs-both-pairs = refl
 
+-- refuses a rule that gives `top` the default measure of `hot`
 top-needs-a-measure : query_of (codes "top") (codes "n=3") ≡ None
 unfolding on_literals
 top-needs-a-measure = refl
