@@ -85,11 +85,11 @@ number_one_line : (n : ℕ) → n < 2 ^ 64 → IsOneLine (decimal n)
 number_one_line n small = digits_one_line (decimal n) (are_digits n small)
 
 -- no byte of these is a line feed, as a test finds
-free : List ℕ → Bool
+unfoldable pub free : List ℕ → Bool
 free [] = true
 free (c ∷ cs) = not (c == 10) && free cs
 
-from_free : (cs : List ℕ) → free cs ≡ true → IsOneLine cs
+pub from_free : (cs : List ℕ) → free cs ≡ true → IsOneLine cs
 unfolding free
 from_free [] all = All-nil (λ c. c ≡ 10 → ⊥)
 from_free (c ∷ cs) all =

@@ -14,12 +14,12 @@ use Rattle.md_modes.proofs.Worked.{conj, unqualified, same, succeed, predicate, 
 use Rattle.md_cost.specs.View.{View, OfSite}
 use Rattle.md_feedback.specs.declared.pairs.Pair.{Pair}
 use Rattle.md_feedback.specs.declared.pairs.Feedback.{Feedback}
-use Rattle.md_feedback.specs.Text.{IsBefore, Rise, IsValidPair, feedback_text, IsFaultAt, pair_words}
-use Rattle.md_feedback.specs.Lines.{BeginsWithLeast, BeginsWithModule, IsPairFault}
+use Rattle.md_feedback.specs.Text.{IsBefore, Rise, IsValidPair, AreValidPairs, feedback_text, Spells, IsFaultAt, pair_words}
+use Rattle.md_feedback.specs.Lines.{BeginsWithLeast, BeginsWithModule, GivesPairAfter, IsPairFault}
 use Rattle.md_feedback.specs.Candidates.{Takes, Depends, Directly, Through, parts_of}
 use Rattle.md_feedback.specs.Search.{IsHeavy, program_pairs}
 use Rattle.md_feedback.proofs.Members.{some_is}
-use Rattle.md_feedback.proofs.FaultLemmas.{pair_fault, wrong_pair, pair_one_line}
+use Rattle.md_feedback.proofs.FaultLemmas.{free, from_free, title_fault, module_fault, pair_fault, wrong_pair, pair_one_line}
 
 -- ---- texts
 
@@ -70,6 +70,67 @@ exchanged =
       fault = wrong_pair (second_pair ∷ []) (codes "pair 1 1 2 7 7\n") (pair_words first_pair) [] first_pair (pair_one_line first_pair valid_first) refl (valid_first, refl) falls;
     } in
     pair_fault _ _ _ _ 3 5 (codes "gen") refl least named fault
+
+-- ---- short texts
+
+abbrev no_pairs : AreValidPairs []
+no_pairs = record { each = All-nil IsValidPair; rise = tt }
+
+-- refuses a rule by which a feedback has a pair at least
+empty_feedback : Spells (codes "feedback 1\nleast 1\nmodule t\n") (record { «module» = codes "t"; least = 1; pairs = [] })
+unfolding digits
+empty_feedback = record { valid = record { least = (omega arith, omega arith); name = refl; pairs = no_pairs }; is = refl }
+
+-- refuses a rule by which no text at all is an empty feedback
+empty_text : IsFaultAt [] 1
+empty_text = title_fault [] (inl (All-nil (λ b. b ≡ 10 → ⊥)))
+
+-- refuses a rule by which a text may end behind any of its lines
+without_a_module : IsFaultAt (codes "feedback 1\nleast 1\n") 3
+unfolding digits
+without_a_module = module_fault _ (codes "least 1\n") [] 1 refl ((omega arith, omega arith), refl) (inl (All-nil (λ b. b ≡ 10 → ⊥)))
+
+-- refuses a rule by which the end of the text ends its last line too: among the first three
+module_cut_off : IsFaultAt (codes "feedback 1\nleast 1\nmodule t") 3
+unfolding digits free
+module_cut_off = module_fault _ (codes "least 1\nmodule t") (codes "module t") 1 refl ((omega arith, omega arith), refl) (inl (from_free (codes "module t") refl))
+
+-- and behind them, where the line's words are whole
+pair_cut_off : IsFaultAt (codes "feedback 1\nleast 1\nmodule t\npair 1 1 2 7 7") 4
+unfolding digits free
+pair_cut_off =
+    let least : BeginsWithLeast 1 (codes "least 1\nmodule t\npair 1 1 2 7 7") (codes "module t\npair 1 1 2 7 7") = ((omega arith, omega arith), refl) in
+    let named : BeginsWithModule (codes "t") (codes "module t\npair 1 1 2 7 7") (codes "pair 1 1 2 7 7") = (refl, refl) in
+    let fault : IsPairFault (codes "pair 1 1 2 7 7") 4 = record {
+      before = [];
+      rest = codes "pair 1 1 2 7 7";
+      valid = no_pairs;
+      is = refl;
+      count = refl;
+      some = omega arith;
+      fault = inl (from_free (codes "pair 1 1 2 7 7") refl);
+    } in
+    pair_fault _ _ _ _ 1 4 (codes "t") refl least named fault
+
+no_empty_line : GivesPairAfter [] [] → ⊥
+no_empty_line gives = let is : [] ≡ pair_words gives.0 = gives.1.1 in absurd (cc)
+
+-- refuses a rule by which empty lines behind the last one are no matter
+empty_line_at_the_end : IsFaultAt (codes "feedback 1\nleast 1\nmodule t\n\n") 4
+unfolding digits
+empty_line_at_the_end =
+    let least : BeginsWithLeast 1 (codes "least 1\nmodule t\n\n") (codes "module t\n\n") = ((omega arith, omega arith), refl) in
+    let named : BeginsWithModule (codes "t") (codes "module t\n\n") (codes "\n") = (refl, refl) in
+    let fault : IsPairFault (codes "\n") 4 = record {
+      before = [];
+      rest = codes "\n";
+      valid = no_pairs;
+      is = refl;
+      count = refl;
+      some = omega arith;
+      fault = inr (record { words = []; after = []; one = All-nil (λ b. b ≡ 10 → ⊥); is = refl; wrong = no_empty_line });
+    } in
+    pair_fault _ _ _ _ 1 4 (codes "t") refl least named fault
 
 -- ---- dependence
 

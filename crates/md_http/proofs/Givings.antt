@@ -4,6 +4,7 @@ use Rattle.md_base.specs.Nets.{Connection, Connections, connection_of, with_serv
 use Rattle.md_base.specs.Streams.{Stream, fresh}
 use Rattle.md_cost.specs.View.{View}
 use Rattle.md_http.specs.Served.{Ends, ends, IsServed, early, late}
+use Rattle.md_http.proofs.Readings.{read_at_most}
 use Rattle.md_http.specs.Serving.{fresh_ends, ends_of, GaveBack, at_link, at_done, IsGivenBack, IsEnd, IsStep}
 use Rattle.md_http.specs.declared.link.Served.{Served}
 use Rattle.md_http.specs.declared.link.Served.TheVariants.{Answered, ReadFault, WriteFault, NoMemory}
@@ -22,7 +23,7 @@ told_served : (v : View) (input : List ℕ) (now : Ends) (how : Served) → IsSe
 told_served v input now Answered served = record { stream = _; written = _; streams = served.due.heard.read.is; holds = served.written }
 told_served v input now ReadFault served = record { stream = _; written = _; streams = served.waits.read.is; holds = served.unwritten }
 told_served v input now WriteFault served = record { stream = _; written = _; streams = served.part.due.heard.read.is; holds = served.part.written.is_added }
-told_served v input now NoMemory (early none) = record { stream = _; written = _; streams = none.some.read.is; holds = none.unwritten }
+told_served v input now NoMemory (early none) = record { stream = _; written = _; streams = (read_at_most (fresh input) now.stream none.some).read.is; holds = none.unwritten }
 told_served v input now NoMemory (late part) = record { stream = _; written = _; streams = part.due.heard.read.is; holds = part.written.is_added }
 
 -- the connection that the net then tells

@@ -6,3 +6,4 @@ pub mod Responses
 pub mod Servings
 pub mod Tallies
 mod Worked
+mod WorkedServed

@@ -1,11 +1,12 @@
 -- What was read over several reads.
-use Rattle.std.proofs.Common.{◌≡◌, ℕ, ◌+◌, ◌==◌, ◌||◌, Bool, false, List, [], ◌++◌, take, drop, Option, None, Some, Result, Ok, Err, OnErr, refl, sym, ◌∙◌, ap, subst, append_assoc}
+use Rattle.std.proofs.Common.{◌≡◌, ℕ, ◌+◌, ◌≤◌, ◌==◌, ◌||◌, Bool, false, List, [], ◌++◌, length, take, drop, Option, None, Some, Result, Ok, Err, OnErr, refl, sym, ◌∙◌, ap, subst, append_assoc, arith}
 use Rattle.std.proofs.Math.Bool.{or-false}
 use Rattle.std.proofs.lemmas.Bool.{ne_eqb}
 use Rattle.std.proofs.lemmas.List.{append-nil}
 use Rattle.md_base.proofs.Told.{take_add}
 use Rattle.md_base.specs.Streams.{Stream}
-use Rattle.md_http.specs.Reading.{HasRead, ReadsOf, SomeRead}
+use Rattle.md_http.specs.Heard.{most_bytes}
+use Rattle.md_http.specs.Reading.{HasRead, ReadsOf, ReadNoFurther, unread, undecided, decided}
 
 abbrev stream_of : List ℕ → List ℕ → Bool → Option Stream
 stream_of taken left ended = Some (record { taken = taken; left = left; ended = ended })
@@ -49,6 +50,34 @@ reads_more told middle now old new count n first front second some =
     subst (λ (bytes : List ℕ). HasRead told now bytes false) same (reads_on told middle now (take count old) (take n (drop count new)) false first going)
 
 -- nothing was read where a call was refused before
-pub refused_early : {T E : Type 0} (r : Result T E) (told : Option Stream) → OnErr r (SomeRead told told)
+pub refused_early : {T E : Type 0} (r : Result T E) (told : Option Stream) → OnErr r (ReadNoFurther told told)
 refused_early (Ok x) told = tt
-refused_early (Err e) told = record { bytes = []; ended = false; read = reads_nothing told }
+refused_early (Err e) told = unread refl
+
+-- at most so many bytes were read of a stream that is told
+pub record ReadAtMost (before : Stream) (now : Option Stream) (most : ℕ) : Type 0 where
+  pub bytes : List ℕ
+  pub ended : Bool
+  pub read : ReadsOf before now bytes ended
+  pub within : length bytes ≤ most
+
+-- where it was read no further than it may be, there are at most 8,192
+pub read_at_most : (before : Stream) (now : Option Stream) → ReadNoFurther (Some before) now → ReadAtMost before now most_bytes
+read_at_most before now (unread same) = record {
+  bytes = [];
+  ended = false;
+  read = subst (λ (told : Option Stream). ReadsOf before told [] false) (sym same) (reads_nothing (Some before));
+  within = omega arith;
+}
+read_at_most before now (undecided waits) = record {
+  bytes = waits.bytes;
+  ended = false;
+  read = waits.read;
+  within = omega (arith, waits.waiting.few);
+}
+read_at_most before now (decided was) = record {
+  bytes = was.bytes;
+  ended = was.heard.ended;
+  read = was.heard.read;
+  within = was.heard.within;
+}

@@ -3,7 +3,8 @@ use Rattle.std.proofs.Common.{◌≡◌, ℕ, List, Option, refl, sym, ◌∙◌
 use Rattle.md_base.specs.Outside.{Rose, added, PartAdded}
 use Rattle.md_base.specs.Streams.{Stream, SinkSide, SourceSide, sink_side, source_side}
 use Rattle.md_cost.specs.View.{View}
-use Rattle.md_http.specs.Served.{Ends, IsDue, IsServed, late}
+use Rattle.md_http.specs.Reading.{WasHeard, decided}
+use Rattle.md_http.specs.Served.{Ends, IsDue, IsServed, HasCauseOf, late}
 use Rattle.md_http.specs.declared.link.Served.{Served}
 use Rattle.md_http.specs.declared.link.Served.TheVariants.{Answered, ReadFault, WriteFault, NoMemory}
 
@@ -21,6 +22,13 @@ served_of v before now response ReadFault due written = absurd (written.read ref
 served_of v before now response WriteFault due written =
     record { part = record { response = response; due = due; written = written.part (λ e. cc) }; rose = written.fault refl }
 served_of v before now response NoMemory due written = late (record { response = response; due = due; written = written.part (λ e. cc) })
+
+-- why it ended, where a response was written behind bytes that decided
+pub cause_of : (before now : Ends) (response : List ℕ) (result : Served) → WasHeard before.stream now.stream → IsWritten response before now result → HasCauseOf before now result
+cause_of before now response Answered heard written = heard
+cause_of before now response ReadFault heard written = absurd (written.read refl)
+cause_of before now response WriteFault heard written = record { heard = heard; rose = written.fault refl }
+cause_of before now response NoMemory heard written = decided heard
 
 -- the same of a connection that held as much, and had as many faults, when writing began
 pub written_since : (response : List ℕ) (before now : Ends) (held : Option (List ℕ)) (faults : ℕ) (result : Served) → held ≡ before.held → faults ≡ before.write_faults

@@ -34,8 +34,14 @@ pub record StillWaits (before now : Option Stream) : Type 0 where
   pub read : HasRead before now bytes false
   pub waiting : IsWaiting bytes
 
--- some of a connection was read
-pub record SomeRead (before now : Option Stream) : Type 0 where
+-- a connection was read until its bytes decided, whichever they are
+pub record WasHeard (before now : Option Stream) : Type 0 where
   pub bytes : List ℕ
-  pub ended : Bool
-  pub read : HasRead before now bytes ended
+  pub heard : HasHeard before now bytes
+
+-- A connection was read no further than it may be: not at all; up to bytes that don't decide, which hold no head and are
+-- fewer than 8,192; or until its bytes decided, of which there are at most 8,192.
+pub data ReadNoFurther (before now : Option Stream) : Type 0 where
+  unread : now ≡ before → ReadNoFurther before now
+  undecided : StillWaits before now → ReadNoFurther before now
+  decided : WasHeard before now → ReadNoFurther before now

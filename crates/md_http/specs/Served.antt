@@ -3,7 +3,7 @@ use Rattle.std.specs.Prelude.{ℕ, ◌≡◌, List, Option}
 use Rattle.md_base.specs.Outside.{Rose, added, PartAdded}
 use Rattle.md_base.specs.Streams.{Stream}
 use Rattle.md_cost.specs.View.{View}
-use Rattle.md_http.specs.Reading.{HasHeard, StillWaits, SomeRead}
+use Rattle.md_http.specs.Reading.{HasHeard, WasHeard, StillWaits, ReadNoFurther}
 use Rattle.md_http.specs.Response.{IsResponse}
 use Rattle.md_http.specs.declared.link.Served.{Served}
 use Rattle.md_http.specs.declared.link.Served.TheVariants as served
@@ -48,9 +48,9 @@ pub record HasWriteFault (v : View) (before now : Ends) : Type 0 where
   pub part : IsPartAnswered v before now
   pub rose : Rose before.write_faults now.write_faults
 
--- nothing was written
+-- nothing was written, and it was read no further than it may be
 pub record IsUnanswered (before now : Ends) : Type 0 where
-  pub some : SomeRead before.stream now.stream
+  pub some : ReadNoFurther before.stream now.stream
   pub unwritten : now.held ≡ before.held
 
 -- memory was refused, before something was written or later
@@ -63,3 +63,18 @@ IsServed v before now served.Answered = IsAnswered v before now
 IsServed v before now served.ReadFault = HasReadFault before now
 IsServed v before now served.WriteFault = HasWriteFault v before now
 IsServed v before now served.NoMemory = WantsMemory v before now
+
+-- ---- why it ended, whatever the profile is
+
+-- a write of the response failed, behind bytes that decided
+pub record HasWriteCause (before now : Ends) : Type 0 where
+  pub heard : WasHeard before.stream now.stream
+  pub rose : Rose before.write_faults now.write_faults
+
+-- each way to end has its cause: the bytes decided; a count of faults rose; or memory was refused, and then it was read
+-- no further than for the others
+abbrev pub HasCauseOf : (before now : Ends) → Served → Type 0
+HasCauseOf before now served.Answered = WasHeard before.stream now.stream
+HasCauseOf before now served.ReadFault = HasReadFault before now
+HasCauseOf before now served.WriteFault = HasWriteCause before now
+HasCauseOf before now served.NoMemory = ReadNoFurther before.stream now.stream

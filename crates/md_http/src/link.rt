@@ -1,10 +1,10 @@
 // How one connection is served.
-ghost use Rattle.std.specs.Prelude.{◌≡◌, ◌≤◌, IfOk, OnErr, IsErrOf, vec_len};
+ghost use Rattle.std.specs.Prelude.{◌≡◌, ◌≤◌, IfOk, OnOk, OnErr, IsErrOf, vec_len};
 ghost use Rattle.md_base.specs.Outside.{Rose, added, PartAdded};
 ghost use Rattle.md_cost.specs.FileView.{IsFileView};
 ghost use Rattle.md_cost.specs.View.{View};
-ghost use Rattle.md_http.specs.Served.{IsServed, IsDue, ends};
-ghost use Rattle.md_http.specs.Reading.{StillWaits, SomeRead};
+ghost use Rattle.md_http.specs.Served.{IsServed, HasCauseOf, IsDue, ends};
+ghost use Rattle.md_http.specs.Reading.{WasHeard, StillWaits, ReadNoFurther};
 ghost use Rattle.md_http.specs.Heard.{most_bytes};
 
 use crate::heard::{MOST_BYTES, fields_room};
@@ -26,14 +26,21 @@ pub enum Served {
     NoMemory,
 }
 
-/// Serves a connection: reads it until its bytes decide, and writes their response.
+/// Serves a connection: reads it until its bytes decide, and writes their response. `ReadFault` and `WriteFault` come only
+/// where the connection's count of faults of that kind rose. Whichever way it ends, at most 8,192 bytes were read.
 pub fn serve_link<C: Link>(alloc: Global, loaded: &Loaded, link: &mut C) -> Served
     ensures served { (v : View) → IsFileView loaded.now.profile v → IsServed v
+        (ends (C.stream link.old) (C.held link.old) (C.read_faults link.old) (C.write_faults link.old))
+        (ends (C.stream link.new) (C.held link.new) (C.read_faults link.new) (C.write_faults link.new)) result }
+    ensures viewed { (v : View) × IsFileView loaded.now.profile v }
+    ensures cause { HasCauseOf
         (ends (C.stream link.old) (C.held link.old) (C.read_faults link.old) (C.write_faults link.old))
         (ends (C.stream link.new) (C.held link.new) (C.read_faults link.new) (C.write_faults link.new)) result }
     ensures reads { C.read_faults link.old ≤ C.read_faults link.new }
     ensures writes { C.write_faults link.old ≤ C.write_faults link.new }
 {
+    // What is served is the view of the profile, which has one.
+    let _viewed = loaded.profile();
     match hear_link(alloc, loaded, link) {
         Ok(response) => answer_link(link, &response),
         Err(Failed::Device) => Served::ReadFault,
@@ -44,8 +51,9 @@ pub fn serve_link<C: Link>(alloc: Global, loaded: &Loaded, link: &mut C) -> Serv
 /// Reads a connection until its bytes decide, and gives their response.
 fn hear_link<C: Link>(alloc: Global, loaded: &Loaded, link: &mut C) -> Result<Vec<u8>, Failed>
     ensures due { (v : View) → IsFileView loaded.now.profile v → IfOk result (λ response. IsDue v (C.stream link.old) (C.stream link.new) response.items) }
+    ensures heard { OnOk result (WasHeard (C.stream link.old) (C.stream link.new)) }
     ensures waits { IsErrOf result Failed.Device → StillWaits (C.stream link.old) (C.stream link.new) }
-    ensures some { OnErr result (SomeRead (C.stream link.old) (C.stream link.new)) }
+    ensures some { OnErr result (ReadNoFurther (C.stream link.old) (C.stream link.new)) }
     ensures fault { IsErrOf result Failed.Device → Rose (C.read_faults link.old) (C.read_faults link.new) }
     ensures later { C.read_faults link.old ≤ C.read_faults link.new }
     ensures beside { C.sink_beside link.new ≡ C.sink_beside link.old }

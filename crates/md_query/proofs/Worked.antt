@@ -8,7 +8,7 @@ use Rattle.form_urlencoded.proofs.OnLiterals.{form_urlencoded_on_literals}
 use Rattle.md_base.specs.declared.measure.Measure.TheVariants.{Calls, Fails, Words, Excps}
 use Rattle.md_people.specs.declared.sort.Sort.TheVariants.{Total, Own}
 use Rattle.md_token.specs.Literal.{number_of}
-use Rattle.md_query.specs.Asked.{query_of, table_of, Menu, Clique, Top, Proc, Module, Hot, Tree, Flame, Find, Context, Callers, CallersNamed, ProcNamed, CliqueNamed}
+use Rattle.md_query.specs.Asked.{query_of, table_of, Menu, Root, Clique, Procs, Top, Proc, Modules, Module, Hot, Tree, Flame, Find, Context, Callers, CallersNamed, ProcNamed, CliqueNamed}
 
 -- what is unfolded to compute a query on a literal
 unfoldable on_literals : ⊤
@@ -24,6 +24,41 @@ other-paths-are-none : query_of (codes "cliques") (codes "id=1") ≡ None
 unfolding on_literals
 other-paths-are-none = refl
 
+-- refuses a rule by which the menu is asked for by no path alone
+the-menu-has-a-path-too : query_of (codes "menu") [] ≡ Some Menu
+unfolding on_literals
+the-menu-has-a-path-too = refl
+
+-- refuses a rule by which the root is the clique of its number, and needs a pair for it
+the-root-needs-no-pair : query_of (codes "root") [] ≡ Some Root
+unfolding on_literals
+the-root-needs-no-pair = refl
+
+-- refuses a rule by which a pair that a path doesn't take spoils it, or is taken
+the-root-takes-no-pair : query_of (codes "root") (codes "id=3") ≡ Some Root
+unfolding on_literals
+the-root-takes-no-pair = refl
+
+-- refuses a rule by which `procs` with a number asks for what `proc` does
+each-procedure : query_of (codes "procs") (codes "id=3") ≡ Some Procs
+unfolding on_literals
+each-procedure = refl
+
+-- refuses a rule by which `modules` with a name asks for what `module` does
+each-module : query_of (codes "modules") (codes "name=t") ≡ Some Modules
+unfolding on_literals
+each-module = refl
+
+-- refuses a rule by which a path may be longer than its word
+a-path-is-a-whole-word : query_of (codes "procs/") [] ≡ None
+unfolding on_literals
+a-path-is-a-whole-word = refl
+
+-- refuses a rule by which great letters are as good as small ones
+a-path-is-in-small-letters : query_of (codes "Modules") [] ≡ None
+unfolding on_literals
+a-path-is-in-small-letters = refl
+
 -- a path with pairs
 a-clique-has-its-number : query_of (codes "clique") (codes "id=17") ≡ Some (Clique 17)
 unfolding on_literals
@@ -36,6 +71,36 @@ pairs-come-in-any-order = refl
 the-first-of-two-pairs-counts : query_of (codes "proc") (codes "id=1&id=2") ≡ Some (Proc 1)
 unfolding on_literals
 the-first-of-two-pairs-counts = refl
+
+-- refuses a rule by which a sign may stand before a number
+a-number-has-digits-alone : query_of (codes "clique") (codes "id=-1") ≡ None
+unfolding on_literals
+a-number-has-digits-alone = refl
+
+-- refuses a rule by which no digits are the number 0
+a-number-has-a-digit : query_of (codes "clique") (codes "id=") ≡ None
+unfolding on_literals
+a-number-has-a-digit = refl
+
+-- refuses a rule by which the last number of 32 bits stands for none
+the-last-number : query_of (codes "proc") (codes "id=4294967295") ≡ Some (Proc 4294967295)
+unfolding on_literals
+the-last-number = refl
+
+-- refuses a rule by which a number of more than 32 bits is cut down to them
+a-number-past-the-last : query_of (codes "proc") (codes "id=4294967296") ≡ None
+unfolding on_literals
+a-number-past-the-last = refl
+
+-- refuses a rule that gives `top` the default number of `hot`
+top-needs-both-pairs : query_of (codes "top") (codes "by=calls") ≡ None
+unfolding on_literals
+top-needs-both-pairs = refl
+
+-- refuses a rule that gives `top` the default measure of `hot`
+top-needs-a-measure : query_of (codes "top") (codes "n=3") ≡ None
+unfolding on_literals
+top-needs-a-measure = refl
 
 -- `n` is 1 to 1000
 none-are-too-few : query_of (codes "top") (codes "by=excps&n=0") ≡ None

@@ -9,7 +9,7 @@ use Rattle.md_base.specs.declared.measure.Measure.TheVariants.{Words}
 use Rattle.md_token.specs.Literal.{number_of}
 use Rattle.md_query.specs.Asked as query
 use Rattle.md_query.specs.Asked.{query_of, table_of}
-use Rattle.md_words.specs.Form.{form, Check, Run, Report, Page, Gen, Migrate, Feedback, Dump, Undump, Cover, Sum}
+use Rattle.md_words.specs.Form.{form, Check, Run, Report, Page, Serve, Gen, Migrate, Feedback, Dump, Undump, Cover, Sum}
 
 -- what is unfolded to compute a command on literals
 unfoldable on_words : ⊤
@@ -169,3 +169,47 @@ an-empty-word-is-a-file = refl
 no-command-is-help : form (codes "help" ∷ codes "run" ∷ []) ≡ None
 unfolding on_words
 no-command-is-help = refl
+
+-- ---- serving
+
+-- refuses a rule by which an option's place tells which it is
+a-port-and-as-many-requests : form (codes "serve" ∷ codes "--requests=3" ∷ codes "p" ∷ codes "--port" ∷ codes "80" ∷ []) ≡ Some (Serve (codes "p") 80 3)
+unfolding on_words
+a-port-and-as-many-requests = refl
+
+-- refuses a rule that gives `serve` a port of its own
+a-port-is-asked-for : form (codes "serve" ∷ codes "p" ∷ codes "--requests=3" ∷ []) ≡ None
+unfolding on_words
+a-port-is-asked-for = refl
+
+-- refuses a rule by which it serves on without an end
+requests-are-asked-for : form (codes "serve" ∷ codes "p" ∷ codes "--port=80" ∷ []) ≡ None
+unfolding on_words
+requests-are-asked-for = refl
+
+-- refuses a rule that cuts a port down to 16 bits
+a-port-past-the-last : form (codes "serve" ∷ codes "p" ∷ codes "--port=65616" ∷ codes "--requests=3" ∷ []) ≡ None
+unfolding on_words
+a-port-past-the-last = refl
+
+-- refuses a rule by which port 0 stands for any that is free
+no-port-is-none : form (codes "serve" ∷ codes "p" ∷ codes "--port=0" ∷ codes "--requests=3" ∷ []) ≡ None
+unfolding on_words
+no-port-is-none = refl
+
+-- refuses a rule by which no requests are as many as come
+no-requests-are-none : form (codes "serve" ∷ codes "p" ∷ codes "--port=65535" ∷ codes "--requests=0" ∷ []) ≡ None
+unfolding on_words
+no-requests-are-none = refl
+
+-- ---- queries in words
+
+-- refuses a rule by which a query may be missing, as that of the menu
+a-page-is-asked-for : form (codes "page" ∷ codes "p" ∷ []) ≡ None
+unfolding on_words
+a-page-is-asked-for = refl
+
+-- refuses a rule by which an empty word is no query
+an-empty-word-asks-for-the-menu : form (codes "page" ∷ codes "p" ∷ [] ∷ []) ≡ Some (Page (codes "p") query.Menu)
+unfolding on_words
+an-empty-word-asks-for-the-menu = refl

@@ -2,8 +2,9 @@ use Rattle.std.proofs.Common.{arith}
 use Rattle.std.proofs.lemmas.Grind.{common_steps}
 use Rattle.std.proofs.Common.{ℕ, List, Option, sym, subst}
 use Rattle.md_base.specs.Streams.{Stream}
-use Rattle.md_http.specs.Served.{IsDue, ends}
-use Rattle.md_http.proofs.Servings.{served_of, written_since, same_held, same_stream}
+use Rattle.md_http.specs.Served.{IsDue, ends, early}
+use Rattle.md_http.specs.Reading.{WasHeard}
+use Rattle.md_http.proofs.Servings.{served_of, cause_of, written_since, same_held, same_stream}
 use Rattle.md_http.proofs.link.serve_link.Goals as goal
 
 pub returns-in-Ok-clause-served : goal.returns-in-Ok-clause-served
@@ -22,6 +23,20 @@ returns-in-Ok-clause-served g c = λ v is.
     (subst (λ (told : Option Stream). IsDue v (g.C.Source.stream old) told c.deref.result.now) (sym left.0) due)
     (written_since c.deref.result.now before now _ _ c.answer_link.result kept.0 kept.1 written.whole written.part written.fault written.read)
 
+pub returns-in-Ok-clause-cause : goal.returns-in-Ok-clause-cause
+returns-in-Ok-clause-cause g c =
+    let old = c.args.link.now in
+    let heard = c.hear_link.new.link in
+    let new = c.answer_link.new.link in
+    let written = c.answer_link.ensures in
+    let kept = same_held _ _ _ _ _ _ c.hear_link.ensures.beside (g.met.C.Link.reads_leave_the_sink old) (g.met.C.Link.reads_leave_the_sink heard) in
+    let left = same_stream _ _ _ _ _ _ written.beside (g.met.C.Link.writes_leave_the_source heard) (g.met.C.Link.writes_leave_the_source new) in
+    let before = ends (g.C.Source.stream old) (g.C.Sink.held old) (g.C.Source.read_faults old) (g.C.Sink.write_faults old) in
+    let now = ends (g.C.Source.stream new) (g.C.Sink.held new) (g.C.Source.read_faults new) (g.C.Sink.write_faults new) in
+    cause_of before now c.deref.result.now c.answer_link.result
+    (subst (λ (told : Option Stream). WasHeard (g.C.Source.stream old) told) (sym left.0) c.in-Ok.ensures.heard)
+    (written_since c.deref.result.now before now _ _ c.answer_link.result kept.0 kept.1 written.whole written.part written.fault written.read)
+
 pub returns-in-Err-Device-clause-reads : goal.returns-in-Err-Device-clause-reads
 returns-in-Err-Device-clause-reads g c = grind (arith, common_steps)
 
@@ -35,7 +50,11 @@ pub returns-in-Err-NoMemory-clause-reads : goal.returns-in-Err-NoMemory-clause-r
 returns-in-Err-NoMemory-clause-reads g c = grind (arith, common_steps)
 
 pub returns-in-Err-NoMemory-clause-served : goal.returns-in-Err-NoMemory-clause-served
-returns-in-Err-NoMemory-clause-served g c = grind (arith, common_steps)
+returns-in-Err-NoMemory-clause-served g c = λ v is.
+    let old = c.args.link.now in
+    let heard = c.hear_link.new.link in
+    let kept = same_held _ _ _ _ _ _ c.hear_link.ensures.beside (g.met.C.Link.reads_leave_the_sink old) (g.met.C.Link.reads_leave_the_sink heard) in
+    early (record { some = c.in-Err-NoMemory.ensures.some; unwritten = kept.0 })
 
 pub returns-in-Err-NoMemory-clause-writes : goal.returns-in-Err-NoMemory-clause-writes
 returns-in-Err-NoMemory-clause-writes g c = grind (arith, common_steps)
