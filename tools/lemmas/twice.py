@@ -28,6 +28,8 @@ NAME = re.compile(r"(?:pub )?([^\s(){}:]+) : (.*)")
 MODULE = re.compile(r"(?:pub )?module \S+ (.*)")
 OTHER = re.compile(r"(?:pub )?(?:abbrev|unfoldable|data|record|use|mod|rule|infix|mutual|where|--)")
 TOKEN = re.compile(r"[(){}]|[^\s(){}]+")
+DEFINED = re.compile(r"(?:(?:abbrev|unfoldable) )?(?:pub )?(?:(?:data|record) )?([^\s(){}:]+)(?= .*:)")
+IMPORT = re.compile(r"use (Rattle\.\w+\.proofs\.\S+)\.\{(.*)\}")
 ALIAS = re.compile(r"([^\s{},]+) as ([^\s{},]+)")
 OF_KIT = " (kit)"
 OPENS, CLOSES = ("(", "{"), (")", "}")
@@ -44,9 +46,20 @@ def blocks(path):
     return found
 
 
-def statements(path):
+def own_names(path, lines):
+    """What is meant by the names that a file defines, or takes from proofs of the repository: two files' may differ."""
+    found = {}
+    for _, _, text in lines:
+        taken, defined = IMPORT.match(text), not text.startswith(("use ", "mod ", "pub mod ")) and DEFINED.match(text)
+        if taken and not taken.group(1).startswith("Rattle.std."):
+            found.update({name: f"{taken.group(1)}.{name}" for name in re.findall(r"[^\s,]+", taken.group(2))})
+        elif defined:
+            found[defined.group(1)] = f"{path}.{defined.group(1)}"
+    return found
+
+
+def statements(path, lines):
     """The statements of a file: the name of each, its line, and the tokens of its type, parameters of its modules before them."""
-    lines = blocks(path)
     modules, place, hidden, aliases = [], 0, None, {}
     while place < len(lines):
         indent, number, text = lines[place]
@@ -106,24 +119,36 @@ def groups(tokens):
     return found
 
 
+def bare(tokens):
+    """A type without parentheses around the whole of it."""
+    while tokens and tokens[0] == "(" and tokens[-1] == ")":
+        depth = 0
+        for place, it in enumerate(tokens):
+            depth += (it in OPENS) - (it in CLOSES)
+            if not depth and place < len(tokens) - 1:
+                return tokens
+        tokens = tokens[1:-1]
+    return tokens
+
+
 def is_statement(tokens):
     """Whether a type says something: it is no goal's, and no value's."""
     claim = pieces(tokens, "→")[-1]
     return not tokens[0].startswith("goal.") and len(claim) > 1 and claim[0] not in VALUES
 
 
-def normal(tokens):
+def normal(tokens, own):
     """A type whose variables are numbered: the types of what is bound, in order, and what follows from them."""
     *binders, claim = pieces(tokens, "→")
-    number, known, parts = 0, {}, []
+    number, known, parts = 0, dict(own), []
     for piece in binders:
         for names, bound in groups(piece) or [([""], piece)]:
-            kind = renamed(bound, known)
+            kind = renamed(bare(bound), known)
             for name in names:
                 known = {**known, name: f"#{number}"}
                 number += 1
                 parts.append(kind)
-    return "\n".join([*parts, renamed(claim, known)])
+    return "\n".join([*parts, renamed(bare(claim), known)])
 
 
 def renamed(tokens, known):
@@ -135,7 +160,7 @@ def renamed(tokens, known):
             # names that are bound within: those before a colon in parentheses, and those behind a lambda
             names = names_before(tokens, place) if it == ":" else names_behind(tokens, place)
             for name in names:
-                known[name] = f"#{len(known)}b{inner}"
+                known[name] = f"#inner{inner}"
                 inner += 1
             if it == ":" and names:
                 found[-len(names) :] = [known[name] for name in names]
@@ -181,10 +206,12 @@ def main():
     given = words.parse_args()
     found, count = defaultdict(list), 0
     for crate, path in files_of(given.kit):
-        for name, line, tokens in statements(path):
+        lines = blocks(path)
+        own = own_names(path, lines)
+        for name, line, tokens in statements(path, lines):
             if tokens and is_statement(tokens):
                 count += 1
-                found[normal(tokens)].append((crate, name, path, line, " ".join(tokens)))
+                found[normal(tokens, own)].append((crate, name, path, line, " ".join(tokens)))
     twice = []
     for places in found.values():
         crates = {it[0] for it in places}
