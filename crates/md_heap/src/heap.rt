@@ -44,6 +44,7 @@ impl Heap {
 
     /// Adds a cell with this head and these parts, and gives it as a value. It stands for the head with what the parts
     /// stood for. What was there stands for what it stood for. Where memory is wanting, the heap is as it was.
+    #[inline(always)]
     pub fn build(&mut self, head: u32, parts: &[Value]) -> Result<Value, NoMemory>
         requires there { All (IsThere (length self.old)) parts.now }
         requires room { length self.old < 4294967295 }
