@@ -26,7 +26,7 @@ use Rattle.md_turns.specs.Laws.{run_equations, TurnsSolve}
 use Rattle.md_cover.specs.declared.coverage.GoalCount.{GoalCount}
 use Rattle.md_cover.specs.declared.equation.Equation.{Equation}
 use Rattle.md_cover.specs.Covered.{Covered}
-use Rattle.md_cover.specs.Coverage.{has_full_link, gives_turns, without_turns, HasCountsOf, IsCountedIn, HasTurns, IsCoverageOf}
+use Rattle.md_cover.specs.Coverage.{has_full_link, gives_turns, without_turns, HasCountsOf, IsCountedIn, HasNoTurns, HasTurns, IsCoverageOf}
 use Rattle.md_cover.specs.Known.{value_at, value_from, Table, nothing_known}
 use Rattle.md_cover.specs.Rows.{goal_rows}
 use Rattle.md_cover.specs.Solved.{body_equations, IsSolved, with_turns, HaveFewExits}
@@ -181,7 +181,7 @@ coverage-told s budget f v q t goals law view valid few counted there gives solv
     let both = both-true f.finished (has_full_link f) gives in
     let ended : is_finished (run s budget) ≡ true = counted.finished ∙ both.0 in
     let turns = law ended in
-    let counts = counted.counts both.1 v view in
+    let counts = counted.counts both.0 both.1 v view in
     let same : view_counts v ≡ port_counts (history (run s budget)) = counts-agree (history (run s budget)) v counts in
     let x : spec.Solution = record { entries = turns_of (run s budget); exits = turns.exits } in
     let most = budget + (port_counts (history (run s budget))).procedure_exits q.0 in
@@ -199,6 +199,17 @@ coverage-told s budget f v q t goals law view valid few counted there gives solv
           (λ k d lt. has-turns s budget q x t (λ n. refl) settled (get_or (goal_rows 0 0 q.1.body) k d).place));
       unknown = λ not. absurd (cc (gives, not));
     }
+
+-- where the profile gives no turns, whatever run it is of
+pub no-turns : (q : ℕ × Procedure) (id : ℕ) (goals : List GoalCount) (c : Covered) → q.0 ≡ id → c ≡ record { id = id; goals = goals } → goals ≡ goal_rows 0 0 q.1.body → HasNoTurns q c
+no-turns q id goals c is same rows =
+    let make : ℕ → Covered = λ n. record { id = n; goals = goals } in
+    let here : HasNoTurns q (record { id = q.0; goals = goals }) = record {
+      is_of = refl;
+      rows = ap (map without_turns) rows ∙ rows-untold 0 0 q.1.body;
+      none = subst (λ (gs : List GoalCount). All (λ g. g.turns ≡ None) gs) (sym rows) (none-told 0 0 q.1.body);
+    } in
+    subst (λ (d : Covered). HasNoTurns q d) (sym (same ∙ ap make (sym is))) here
 
 pub coverage-untold : (s : Hlds) (budget : ℕ) (f : ProfileRows) (q : ℕ × Procedure) (goals : List GoalCount) → gives_turns f ≡ false → goals ≡ goal_rows 0 0 q.1.body → IsCoverageOf s budget f q (record { id = q.0; goals = goals })
 coverage-untold s budget f q goals gives is = record {

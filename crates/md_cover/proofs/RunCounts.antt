@@ -203,5 +203,5 @@ pub profile_is_counted : (t : SiteTable) (s : Static) (program : Hlds) (budget :
 profile_is_counted t s program budget f is of valid small = record {
   small = small;
   finished = sym of.finished_is;
-  counts = λ free v seen. has_counts t s (history (run program budget)) (is_finished (run program budget)) f is of valid v (run_view_of t s (history (run program budget)) (is_finished (run program budget)) f v is of valid seen) free;
+  counts = λ ended free v seen. has_counts t s (history (run program budget)) (is_finished (run program budget)) f is of valid v (run_view_of t s (history (run program budget)) (is_finished (run program budget)) f v is of valid seen) free;
 }

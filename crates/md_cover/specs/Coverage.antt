@@ -46,11 +46,11 @@ pub record HasCountsOf (h : List Event) (v : View) : Type 0 where
   pub site_calls : (x : ℕ) → (view_counts v).site_calls x ≡ (port_counts h).site_calls x
   pub site_exits : (x : ℕ) → (view_counts v).site_exits x ≡ (port_counts h).site_exits x
 
--- a profile says of the program's run within this budget whether it is finished, and, unless a link is full, its counts
+-- a profile says of the program's run within this budget whether it is finished, and, where it is and no link is full, its counts
 pub record IsCountedIn (s : Hlds) (budget : ℕ) (f : ProfileRows) : Type 0 where
   pub small : budget < 2 ^ 32
   pub finished : is_finished (run s budget) ≡ f.finished
-  pub counts : has_full_link f ≡ false → (v : View) → IsFileView f v → HasCountsOf (history (run s budget)) v
+  pub counts : f.finished ≡ true → has_full_link f ≡ false → (v : View) → IsFileView f v → HasCountsOf (history (run s budget)) v
 
 -- ---- what is due
 
@@ -61,6 +61,12 @@ HasTurns s budget q n (Some k) = IsDerived (run_equations s budget q) (Entries n
 
 abbrev pub without_turns : GoalCount → GoalCount
 without_turns g = record { place = g.place; depth = g.depth; line = g.line; kind = g.kind; turns = None }
+
+-- the goals of a procedure in text order, with no turns
+pub record HasNoTurns (q : ℕ × Procedure) (c : Covered) : Type 0 where
+  pub is_of : c.id ≡ q.0
+  pub rows : map without_turns c.goals ≡ goal_rows 0 0 q.1.body
+  pub none : All (λ g. g.turns ≡ None) c.goals
 
 -- the goals of a procedure in text order, with their turns in the run where the profile gives turns, and else with none
 pub record IsCoverageOf (s : Hlds) (budget : ℕ) (f : ProfileRows) (q : ℕ × Procedure) (c : Covered) : Type 0 where

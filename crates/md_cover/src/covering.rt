@@ -9,7 +9,7 @@ ghost use Rattle.md_cost.specs.View.{View};
 ghost use Rattle.md_cover.specs.Told.{view_counts};
 ghost use Rattle.md_cover.specs.Known.{table_of};
 ghost use Rattle.md_cover.specs.Solved.{body_equations, IsSolved, with_turns, HaveFewExits};
-ghost use Rattle.md_cover.specs.Coverage.{IsAccepted, has_full_count, gives_turns, IsCountedIn, IsCoverageOf};
+ghost use Rattle.md_cover.specs.Coverage.{IsAccepted, has_full_count, gives_turns, HasNoTurns, IsCountedIn, IsCoverageOf};
 
 use crate::bodies::body_number;
 use crate::building::add_body;
@@ -46,6 +46,8 @@ pub fn cover(
     ensures found { IfOk result (λ c. (q : Procedure) × (slice_get (hlds_of checked.now).procedures id ≡ Some q)) }
     ensures no_such_procedure { IsErrOf result CoverFault.NoSuchProc → slice_get (hlds_of checked.now).procedures id ≡ None }
     ensures missing { slice_get (hlds_of checked.now).procedures id ≡ None → IsErrOf result CoverFault.NoSuchProc }
+    ensures plain { (q : ℕ × Procedure) → q.0 ≡ id → slice_get (hlds_of checked.now).procedures q.0 ≡ Some q.1 → gives_turns loaded.now.profile ≡ false
+        → IfOk result (λ c. HasNoTurns q c) }
     ensures coverage { (budget : ℕ) (q : ℕ × Procedure) → q.0 ≡ id → slice_get (hlds_of checked.now).procedures q.0 ≡ Some q.1
         → IsCountedIn (hlds_of checked.now) budget loaded.now.profile
         → IfOk result (λ c. IsCoverageOf (hlds_of checked.now) budget loaded.now.profile q c) }

@@ -1,5 +1,5 @@
 -- Connections that were served, one more at a time.
-use Rattle.std.proofs.Common.{◌≡◌, ℕ, ◌+◌, ◌≤◌, List, [], ◌∷◌, ◌++◌, length, Option, None, Some, Ok, Err, refl, sym, ◌∙◌, ap, subst, arith, append_assoc, length-append}
+use Rattle.std.proofs.Common.{◌≡◌, ℕ, ◌+◌, ◌<◌, ◌≤◌, List, [], ◌∷◌, ◌++◌, length, Option, None, Some, Ok, Err, refl, sym, ◌∙◌, ap, subst, arith, append_assoc, length-append}
 use Rattle.std.proofs.lemmas.List.{append-nil}
 use Rattle.md_base.specs.Nets.{Connection, Connections}
 use Rattle.md_cost.specs.View.{View}
@@ -91,8 +91,8 @@ served_whole v before middle now tally requests so within step =
     }
 
 -- the next one was refused
-pub served_some : (v : View) (before : Connections) (middle now : Option Connections) (tally : Tally) (requests : ℕ) (why : ServeFault) → HasServed v before middle tally
+pub served_some : (v : View) (before : Connections) (middle now : Option Connections) (tally : Tally) (requests : ℕ) (why : ServeFault) → HasServed v before middle tally → tally.connections < requests
     → ((b : Connections) → middle ≡ Some b → IsStep v b now (Err why)) → Serves v requests before now (Err why)
-served_some v before middle now tally requests fault.Net so step = (tally, same_served v before middle now tally so (step _ so.given_back))
-served_some v before middle now tally requests fault.NoMemory so step =
-    record { tally = tally; middle = record { coming = so.rest; served = before.served ++ so.connections }; served = same_served v before middle _ tally so refl; refused = step _ so.given_back }
+served_some v before middle now tally requests fault.Net so few step = record { tally = tally; served = same_served v before middle now tally so (step _ so.given_back); fewer = few }
+served_some v before middle now tally requests fault.NoMemory so few step =
+    record { tally = tally; fewer = few; middle = record { coming = so.rest; served = before.served ++ so.connections }; served = same_served v before middle _ tally so refl; refused = step _ so.given_back }

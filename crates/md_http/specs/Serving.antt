@@ -1,5 +1,5 @@
 -- How connections are served one after the other.
-use Rattle.std.specs.Prelude.{ℕ, ◌≡◌, ◌⊎◌, ◌+◌, min, List, [], ◌∷◌, ◌++◌, length, Option, None, Some, Result, Ok, Err}
+use Rattle.std.specs.Prelude.{ℕ, ◌≡◌, ◌<◌, ◌≤◌, ◌⊎◌, ◌+◌, min, List, [], ◌∷◌, ◌++◌, length, Option, None, Some, Result, Ok, Err}
 use Rattle.md_base.specs.Nets.{Connection, Connections}
 use Rattle.md_base.specs.Streams.{fresh}
 use Rattle.md_cost.specs.View.{View}
@@ -77,14 +77,25 @@ pub record ServesAll (v : View) (requests : ℕ) (before : Connections) (now : O
   pub served : HasServed v before now tally
   pub number : tally.connections ≡ min requests (length before.coming)
 
--- some were served, and then the next one was refused for want of memory
-pub record ServesUntilRefused (v : View) (before : Connections) (now : Option Connections) : Type 0 where
+-- some were served, fewer than were asked for, and then the net gave none
+pub record ServesUntilNone (v : View) (requests : ℕ) (before : Connections) (now : Option Connections) : Type 0 where
   pub tally : Tally
+  pub served : HasServed v before now tally
+  pub fewer : tally.connections < requests
+
+-- some were served, fewer than were asked for, and then the next one was refused for want of memory
+pub record ServesUntilRefused (v : View) (requests : ℕ) (before : Connections) (now : Option Connections) : Type 0 where
+  pub tally : Tally
+  pub fewer : tally.connections < requests
   pub middle : Connections
   pub served : HasServed v before (Some middle) tally
   pub refused : WantsMemoryNext v middle now
 
 abbrev pub Serves : View → (requests : ℕ) (before : Connections) (now : Option Connections) → Result Tally ServeFault → Type 0
 Serves v requests before now (Ok tally) = ServesAll v requests before now tally
-Serves v requests before now (Err fault.Net) = (tally : Tally) × HasServed v before now tally
-Serves v requests before now (Err fault.NoMemory) = ServesUntilRefused v before now
+Serves v requests before now (Err fault.Net) = ServesUntilNone v requests before now
+Serves v requests before now (Err fault.NoMemory) = ServesUntilRefused v requests before now
+
+-- what is counted, whatever the net tells: no more connections than were asked for, and of these those that were answered
+abbrev pub IsTally : (requests : ℕ) → Tally → Type 0
+IsTally requests tally = (tally.connections ≤ requests) × (tally.answered ≤ tally.connections)

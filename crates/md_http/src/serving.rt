@@ -5,7 +5,7 @@ ghost use Rattle.md_base.specs.Outside.{Rose};
 ghost use Rattle.md_base.specs.Streams.{fresh};
 ghost use Rattle.md_cost.specs.FileView.{IsFileView};
 ghost use Rattle.md_cost.specs.View.{View};
-ghost use Rattle.md_http.specs.Serving.{Serves, IsStep, IsEnd};
+ghost use Rattle.md_http.specs.Serving.{Serves, IsStep, IsEnd, IsTally};
 
 use crate::link::{Served, serve_link};
 use md_base::{Failed, Net, NoMemory};
@@ -61,6 +61,7 @@ pub fn serve_connections<N: Net>(
 ) -> Result<Tally, ServeFault>
     requires { N.IsBound net.old }
     ensures served { (v : View) (before : Connections) → IsFileView loaded.now.profile v → N.connections net.old ≡ Some before → Serves v requests before (N.connections net.new) result }
+    ensures counts { IfOk result (λ tally. IsTally requests tally) }
     ensures fault { IsErrOf result ServeFault.Net → Rose (N.faults net.old) (N.faults net.new) }
     ensures later { N.faults net.old ≤ N.faults net.new }
     ensures stays { N.IsBound net.new }

@@ -13,7 +13,7 @@ use Rattle.md_http.specs.declared.serving.Tally.{Tally}
 use Rattle.md_tool.specs.declared.fault.Fault.{Fault}
 use Rattle.md_tool.specs.declared.fault.Fault.TheVariants.{Usage, Read, TooLong, Refused, OutOfSteps, Thrown, Damaged, TooLarge, TwoEntries, DamagedLine, AnotherProgram, NoSuchPage, Network, Write, NoMemory}
 use Rattle.md_tool.specs.Due.{WriteEnds}
-use Rattle.md_tool.specs.Served.{BindEnds, ConnectionsEnd, ServeEnds, ServesTold, fault_of, tally_line}
+use Rattle.md_tool.specs.Served.{BindEnds, ConnectionsEnd, IsLoadable, ServeEnds, ServesTold, fault_of, tally_line}
 use Rattle.md_tool.specs.Stored.{IsLoadedFrom, ViewFails}
 
 -- what was served, where the net tells it
@@ -41,23 +41,23 @@ unloaded held name requests net out reads outs nets Write h = absurd h
 unloaded held name requests net out reads outs nets NoMemory h = inl (record { net_is = refl; out_is = refl })
 
 -- the net doesn't listen
-pub unbound : (held : Option Files) (name : List ℕ) (requests : ℕ) (net net' : Option Connections) (out : Option (List ℕ)) (reads outs nets : Type 0) (fault : Fault) → net' ≡ net → BindEnds nets (Err fault)
+pub unbound : (held : Option Files) (name : List ℕ) (requests : ℕ) (net net' : Option Connections) (out : Option (List ℕ)) (reads outs nets : Type 0) (fault : Fault) → IsLoadable held name → net' ≡ net → BindEnds nets (Err fault)
     → ServeEnds held name requests net net' out out reads outs nets (Err fault)
-unbound held name requests net net' out reads outs nets Usage same h = absurd h
-unbound held name requests net net' out reads outs nets Read same h = absurd h
-unbound held name requests net net' out reads outs nets TooLong same h = absurd h
-unbound held name requests net net' out reads outs nets (Refused line w) same h = absurd h
-unbound held name requests net net' out reads outs nets OutOfSteps same h = absurd h
-unbound held name requests net net' out reads outs nets (Thrown bytes) same h = absurd h
-unbound held name requests net net' out reads outs nets (Damaged at kind) same h = absurd h
-unbound held name requests net net' out reads outs nets (TooLarge most) same h = absurd h
-unbound held name requests net net' out reads outs nets (TwoEntries clique x y) same h = absurd h
-unbound held name requests net net' out reads outs nets (DamagedLine n) same h = absurd h
-unbound held name requests net net' out reads outs nets AnotherProgram same h = absurd h
-unbound held name requests net net' out reads outs nets NoSuchPage same h = absurd h
-unbound held name requests net net' out reads outs nets Network same h = (h, (refl, inl same))
-unbound held name requests net net' out reads outs nets Write same h = absurd h
-unbound held name requests net net' out reads outs nets NoMemory same h = inl (record { net_is = same; out_is = refl })
+unbound held name requests net net' out reads outs nets Usage l same h = absurd h
+unbound held name requests net net' out reads outs nets Read l same h = absurd h
+unbound held name requests net net' out reads outs nets TooLong l same h = absurd h
+unbound held name requests net net' out reads outs nets (Refused line w) l same h = absurd h
+unbound held name requests net net' out reads outs nets OutOfSteps l same h = absurd h
+unbound held name requests net net' out reads outs nets (Thrown bytes) l same h = absurd h
+unbound held name requests net net' out reads outs nets (Damaged at kind) l same h = absurd h
+unbound held name requests net net' out reads outs nets (TooLarge most) l same h = absurd h
+unbound held name requests net net' out reads outs nets (TwoEntries clique x y) l same h = absurd h
+unbound held name requests net net' out reads outs nets (DamagedLine n) l same h = absurd h
+unbound held name requests net net' out reads outs nets AnotherProgram l same h = absurd h
+unbound held name requests net net' out reads outs nets NoSuchPage l same h = absurd h
+unbound held name requests net net' out reads outs nets Network l same h = (h, (refl, inl (l, same)))
+unbound held name requests net net' out reads outs nets Write l same h = absurd h
+unbound held name requests net net' out reads outs nets NoMemory l same h = inl (record { net_is = same; out_is = refl })
 
 -- not all connections were served
 unserved : (held : Option Files) (name : List ℕ) (requests : ℕ) (net net' : Option Connections) (out : Option (List ℕ)) (reads outs some all : Type 0) (loaded : LoadedRows) (v : View) (fault : Fault)
@@ -83,7 +83,7 @@ unserved held name requests net net' out reads outs some all loaded v NoMemory l
 served : (held : Option Files) (name : List ℕ) (requests : ℕ) (net net' : Option Connections) (out out' : Option (List ℕ)) (reads outs some all : Type 0) (loaded : LoadedRows) (v : View) (tally : Tally)
     (r : Result (Unit {0}) Fault) → IsLoadedFrom held name loaded → IsFileView loaded.profile v → ConnectionsEnd v requests net net' some (Ok tally) → WriteEnds (tally_line tally) out out' outs r
     → ServeEnds held name requests net net' out out' reads outs all r
-served held name requests net net' out out' reads outs some all loaded v tally (Ok done) l is h shown = record { tally = tally; served = record { profile = loaded.profile; spelled = l.spelled; view = v; is_view = is; served = h }; told = shown }
+served held name requests net net' out out' reads outs some all loaded v tally (Ok done) l is h shown = record { tally = tally; counts = h.0; served = record { profile = loaded.profile; spelled = l.spelled; view = v; is_view = is; served = h.1 }; told = shown }
 served held name requests net net' out out' reads outs some all loaded v tally (Err Usage) l is h shown = absurd shown
 served held name requests net net' out out' reads outs some all loaded v tally (Err Read) l is h shown = absurd shown
 served held name requests net net' out out' reads outs some all loaded v tally (Err TooLong) l is h shown = absurd shown
@@ -97,8 +97,8 @@ served held name requests net net' out out' reads outs some all loaded v tally (
 served held name requests net net' out out' reads outs some all loaded v tally (Err AnotherProgram) l is h shown = absurd shown
 served held name requests net net' out out' reads outs some all loaded v tally (Err NoSuchPage) l is h shown = absurd shown
 served held name requests net net' out out' reads outs some all loaded v tally (Err Network) l is h shown = absurd shown
-served held name requests net net' out out' reads outs some all loaded v tally (Err Write) l is h shown = (shown.0, record { tally = tally; served = record { profile = loaded.profile; spelled = l.spelled; view = v; is_view = is; served = h }; told = shown.1 })
-served held name requests net net' out out' reads outs some all loaded v tally (Err NoMemory) l is h shown = inr (inr (record { tally = tally; served = record { profile = loaded.profile; spelled = l.spelled; view = v; is_view = is; served = h }; told = shown }))
+served held name requests net net' out out' reads outs some all loaded v tally (Err Write) l is h shown = (shown.0, record { tally = tally; counts = h.0; served = record { profile = loaded.profile; spelled = l.spelled; view = v; is_view = is; served = h.1 }; told = shown.1 })
+served held name requests net net' out out' reads outs some all loaded v tally (Err NoMemory) l is h shown = inr (inr (record { tally = tally; counts = h.0; served = record { profile = loaded.profile; spelled = l.spelled; view = v; is_view = is; served = h.1 }; told = shown }))
 
 -- the same of a net that listened in between
 pub unserved_from : (held : Option Files) (name : List ℕ) (requests : ℕ) (net between net' : Option Connections) (out : Option (List ℕ)) (reads outs some all : Type 0) (loaded : LoadedRows) (v : View) (fault : Fault)

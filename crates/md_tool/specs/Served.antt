@@ -8,7 +8,7 @@ use Rattle.md_cost.specs.FileView.{IsFileView}
 use Rattle.md_cost.specs.View.{View}
 use Rattle.md_deepfile.specs.Loads.{FileSpells, FileIsDamaged}
 use Rattle.md_dynamic.specs.Profile.{ProfileRows}
-use Rattle.md_http.specs.Serving.{Serves}
+use Rattle.md_http.specs.Serving.{IsTally, Serves}
 use Rattle.md_http.specs.declared.serving.ServeFault.{ServeFault}
 use Rattle.md_http.specs.declared.serving.ServeFault.TheVariants as served
 use Rattle.md_http.specs.declared.serving.Tally.{Tally}
@@ -33,15 +33,24 @@ pub record HasServed (held : Option Files) (name : List ℕ) (requests : ℕ) (n
   pub is_view : IsFileView profile view
   pub served : ServesTold view requests net net' r
 
+-- the file spells a profile, which has a view
+pub record IsLoadable (held : Option Files) (name : List ℕ) : Type 0 where
+  pub profile : ProfileRows
+  pub spelled : FileSpells held name longest_profile profile
+  pub view : View
+  pub is_view : IsFileView profile view
+
 -- all were served, and that was told
 pub record HasServedAll (held : Option Files) (name : List ℕ) (requests : ℕ) (net net' : Option Connections) (out out' : Option (List ℕ)) : Type 0 where
   pub tally : Tally
+  pub counts : IsTally requests tally
   pub served : HasServed held name requests net net' (Ok tally)
   pub told : out' ≡ added (tally_line tally) out
 
 -- all were served, and a front of what tells so was written
 pub record HasServedUntold (held : Option Files) (name : List ℕ) (requests : ℕ) (net net' : Option Connections) (out out' : Option (List ℕ)) : Type 0 where
   pub tally : Tally
+  pub counts : IsTally requests tally
   pub served : HasServed held name requests net net' (Ok tally)
   pub told : PartAdded (tally_line tally) out out'
 
@@ -50,14 +59,15 @@ pub record NobodyServed (net net' : Option Connections) (out out' : Option (List
   pub net_is : net' ≡ net
   pub out_is : out' ≡ out
 
--- what serving a stored profile came to: `nets` says that the net's count of faults rose
+-- What serving a stored profile came to: `nets` says that the net's count of faults rose. The net fails where the profile was loaded, at
+-- listening or at a connection that comes before the last.
 abbrev pub ServeEnds : Option Files → (name : List ℕ) → (requests : ℕ) → (net net' : Option Connections) → (out out' : Option (List ℕ)) → (reads outs nets : Type 0) → Result (Unit {0}) Fault → Type 0
 ServeEnds held name requests net net' out out' reads outs nets (Ok done) = HasServedAll held name requests net net' out out'
 ServeEnds held name requests net net' out out' reads outs nets (Err Read) = reads × NobodyServed net net' out out'
 ServeEnds held name requests net net' out out' reads outs nets (Err (TooLarge n)) = (n ≡ longest_profile) × FileIsLonger held name longest_profile × NobodyServed net net' out out'
 ServeEnds held name requests net net' out out' reads outs nets (Err (Damaged at kind)) = FileIsDamaged held name longest_profile (record { at = at; kind = kind }) × NobodyServed net net' out out'
 ServeEnds held name requests net net' out out' reads outs nets (Err (TwoEntries clique a b)) = IsTwiceEntered held name clique a b × NobodyServed net net' out out'
-ServeEnds held name requests net net' out out' reads outs nets (Err Network) = nets × ((out' ≡ out) × ((net' ≡ net) ⊎ HasServed held name requests net net' (Err served.Net)))
+ServeEnds held name requests net net' out out' reads outs nets (Err Network) = nets × ((out' ≡ out) × ((IsLoadable held name × (net' ≡ net)) ⊎ HasServed held name requests net net' (Err served.Net)))
 ServeEnds held name requests net net' out out' reads outs nets (Err Write) = outs × HasServedUntold held name requests net net' out out'
 ServeEnds held name requests net net' out out' reads outs nets (Err NoMemory) =
     NobodyServed net net' out out' ⊎ (((out' ≡ out) × HasServed held name requests net net' (Err served.NoMemory)) ⊎ HasServedUntold held name requests net net' out out')
@@ -74,7 +84,7 @@ BindEnds nets (Err fault) = ⊥
 
 -- what serving connections came to
 abbrev pub ConnectionsEnd : View → (requests : ℕ) → (net net' : Option Connections) → (nets : Type 0) → Result Tally Fault → Type 0
-ConnectionsEnd v requests net net' nets (Ok tally) = ServesTold v requests net net' (Ok tally)
+ConnectionsEnd v requests net net' nets (Ok tally) = IsTally requests tally × ServesTold v requests net net' (Ok tally)
 ConnectionsEnd v requests net net' nets (Err Network) = nets × ServesTold v requests net net' (Err served.Net)
 ConnectionsEnd v requests net net' nets (Err NoMemory) = ServesTold v requests net net' (Err served.NoMemory)
 ConnectionsEnd v requests net net' nets (Err fault) = ⊥

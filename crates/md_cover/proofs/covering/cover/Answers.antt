@@ -11,7 +11,7 @@ use Rattle.md_cover.specs.Known.{table_of}
 use Rattle.md_cover.specs.Solved.{with_turns, HaveFewExits}
 use Rattle.md_cover.specs.Told.{view_counts}
 use Rattle.md_cover.proofs.RowLemmas.{rows-size}
-use Rattle.md_cover.proofs.CoverageLaws.{one-procedure, rows-are, solved-for, coverage-of, coverage-told, coverage-untold}
+use Rattle.md_cover.proofs.CoverageLaws.{one-procedure, rows-are, solved-for, no-turns, coverage-of, coverage-told, coverage-untold}
 use Rattle.md_cover.proofs.covering.cover.Goals as goal
 
 pub returns-then-not-gives_turns-clause-coverage : goal.returns-then-not-gives_turns-clause-coverage
@@ -25,6 +25,20 @@ returns-then-not-gives_turns-clause-coverage c = λ budget q same there counted.
     let rows = rows-are c.new-goals.result.items goals (goal_of c.in-Some.pred.now.body) q.1.body c.new-goals.ensures.items body c.in_ok-add_rows.ensures in
     let gives = sym (ap gives_turns c.profile.ensures.profile) ∙ (sym c.gives_turns.ensures.gives ∙ c.if-not-gives_turns.true) in
     coverage-of s budget f q c.args.id goals c.from_parts.result same c.from_parts.ensures (coverage-untold s budget f q goals gives rows)
+
+pub returns-then-not-gives_turns-clause-plain : goal.returns-then-not-gives_turns-clause-plain
+returns-then-not-gives_turns-clause-plain c = λ q same there none.
+    let goals = c.add_rows.new.rows.items in
+    let body : q.1.body ≡ goal_of c.in-Some.pred.now.body =
+    one-procedure (procedures_of c.program.result.now.preds.items) (procedures_of c.args.checked.now.preds.items) c.args.id q.0 (procedure_of c.in-Some.pred.now) q.1
+    (ap (λ (p : Program). procedures_of p.preds.items) c.program.ensures.program) same c.in-Some.ensures there in
+    no-turns q c.args.id goals c.from_parts.result same c.from_parts.ensures
+    (rows-are c.new-goals.result.items goals (goal_of c.in-Some.pred.now.body) q.1.body c.new-goals.ensures.items body c.in_ok-add_rows.ensures)
+
+pub returns-clause-plain : goal.returns-clause-plain
+returns-clause-plain c = λ q same there none.
+    let gives = sym (ap gives_turns c.profile.ensures.profile) ∙ (sym c.gives_turns.ensures.gives ∙ c.if-not-gives_turns.false) in
+    absurd (cc (gives, none))
 
 pub returns-clause-found : goal.returns-clause-found
 returns-clause-found c = (procedure_of c.in-Some.pred.now, subst (λ (p : Program). slice_get (procedures_of p.preds.items) c.args.id ≡ Some (procedure_of c.in-Some.pred.now)) c.program.ensures.program c.in-Some.ensures)
@@ -64,6 +78,9 @@ returns-clause-no_such_procedure c = grind (arith, common_steps)
 
 pub returns-in_default-clause-coverage : goal.returns-in_default-clause-coverage
 returns-in_default-clause-coverage c = grind (arith, common_steps)
+
+pub returns-in_default-clause-plain : goal.returns-in_default-clause-plain
+returns-in_default-clause-plain c = grind (arith, common_steps)
 
 pub returns-in_default-clause-found : goal.returns-in_default-clause-found
 returns-in_default-clause-found c = grind (arith, common_steps)

@@ -34,7 +34,7 @@ returns-in-Ok-None-clause-served g c = λ v before is told.
 
 pub returns-in-Err-clause-served : goal.returns-in-Err-clause-served
 returns-in-Err-clause-served g c = λ v before is told.
-    served_some v before _ _ c.loop-tally.tally c.args.requests c.in-Err.fault (c.loop-tally.invariant.so_far v before is told) (λ b net. c.in-Err.ensures.step v b is net)
+    served_some v before _ _ c.loop-tally.tally c.args.requests c.in-Err.fault (c.loop-tally.invariant.so_far v before is told) c.loop-tally-test.true (λ b net. c.in-Err.ensures.step v b is net)
 
 pub returns-clause-served : goal.returns-clause-served
 returns-clause-served g c = λ v before is told.
