@@ -1,12 +1,16 @@
 //! Pages as bytes: as plain text, and as HTML with anchors.
 #![tactic(auto)]
 
+mod address;
+mod foot;
 mod form;
 mod icicle;
 mod line;
 mod lookup;
 mod number;
+mod people;
 mod place;
+mod sheet;
 mod table;
 mod title;
 mod whole;
