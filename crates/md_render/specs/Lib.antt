@@ -8,3 +8,4 @@ pub mod Address
 pub mod Sheet
 pub mod People
 pub mod Html
+pub mod Named

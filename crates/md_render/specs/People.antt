@@ -33,7 +33,7 @@ measures = Calls ∷ Exits ∷ Fails ∷ Redos ∷ Allocs ∷ Words ∷ Excps �
 
 -- the measure of the page is marked as the one where the reader is
 abbrev pub marked_words : (by : Measure) → Measure → List ℕ
-marked_words by m = if bytes_eq (measure_word m) (measure_word by) then codes "\" aria-current=\"page\">" else codes "\">"
+marked_words by m = if bytes_eq (measure_word m) (measure_word by) then codes "\" class=\"on\">" else codes "\">"
 
 abbrev pub turn_words : Title → (by : Measure) → Measure → List ℕ
 turn_words t by m = codes "<a href=\"" ++ (address_words t m ++ (marked_words by m ++ (measure_word m ++ codes "</a>\n")))

@@ -7,7 +7,7 @@ colours_words = codes ":root{color-scheme:light dark;--ink:#222;--dim:#666;--lin
 
 -- the page
 abbrev pub page_words : List ℕ
-page_words = codes "body{font:15px/1.5 system-ui,sans-serif;max-width:75em;margin:1em auto;padding:0 1em;color:var(--ink);background:var(--page)}h1{font-size:1.3em;overflow-wrap:anywhere}p{margin:.2em 0;color:var(--dim)}a{color:var(--link);text-decoration:none}a:hover{text-decoration:underline}nav a,footer a{margin-right:.7em}[aria-current]{color:inherit;font-weight:700}footer,form{margin:1em 0}\n"
+page_words = codes "body{font:15px/1.5 system-ui,sans-serif;max-width:75em;margin:1em auto;padding:0 1em;color:var(--ink);background:var(--page)}h1{font-size:1.3em;overflow-wrap:anywhere}p{margin:.2em 0;color:var(--dim)}a{color:var(--link);text-decoration:none}a:hover{text-decoration:underline}nav a,footer a{margin-right:.7em}.on{color:inherit;font-weight:700}footer,form{margin:1em 0}\n"
 
 -- tables: numbers stand at the right, and shares have bars
 abbrev pub table_words : List ℕ

@@ -1,5 +1,5 @@
 // The addresses of pages that are asked for by a measure.
-ghost use Rattle.std.specs.Prelude.{◌≡◌, ◌++◌, codes, OnOk};
+ghost use Rattle.std.specs.Prelude.{◌≡◌, ◌++◌, codes, decimal, OnOk};
 ghost use Rattle.percent_encoding.specs.Percent.{percent_encode};
 ghost use Rattle.percent_encoding.specs.declared.ascii_set.TheConstants.{NON_ALPHANUMERIC};
 ghost use Rattle.md_render.specs.Address.{address_words, by_of, pairs_of, path_of, sort_of, sorting_words};

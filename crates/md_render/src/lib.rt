@@ -5,6 +5,7 @@ mod address;
 mod foot;
 mod form;
 mod icicle;
+mod laws;
 mod line;
 mod lookup;
 mod number;
@@ -15,5 +16,6 @@ mod table;
 mod title;
 mod whole;
 
+pub use laws::rows_are_anchors;
 pub use line::add_proc_line;
 pub use whole::{html, text};

@@ -96,7 +96,7 @@ fn marked(by: Measure, measure: Measure) -> &'static [u8]
     ensures { result.now ≡ marked_words by measure }
 {
     if measure_word(measure) == measure_word(by) {
-        b"\" aria-current=\"page\">"
+        b"\" class=\"on\">"
     } else {
         b"\">"
     }

@@ -27,7 +27,7 @@ fn add_colours(out: &mut Vec<u8>) -> Result<(), AllocError>
 fn add_page(out: &mut Vec<u8>) -> Result<(), AllocError>
     ensures { OnOk result (out.new.items ≡ out.old.items ++ page_words) }
 {
-    add(out, b"body{font:15px/1.5 system-ui,sans-serif;max-width:75em;margin:1em auto;padding:0 1em;color:var(--ink);background:var(--page)}h1{font-size:1.3em;overflow-wrap:anywhere}p{margin:.2em 0;color:var(--dim)}a{color:var(--link);text-decoration:none}a:hover{text-decoration:underline}nav a,footer a{margin-right:.7em}[aria-current]{color:inherit;font-weight:700}footer,form{margin:1em 0}\n")
+    add(out, b"body{font:15px/1.5 system-ui,sans-serif;max-width:75em;margin:1em auto;padding:0 1em;color:var(--ink);background:var(--page)}h1{font-size:1.3em;overflow-wrap:anywhere}p{margin:.2em 0;color:var(--dim)}a{color:var(--link);text-decoration:none}a:hover{text-decoration:underline}nav a,footer a{margin-right:.7em}.on{color:inherit;font-weight:700}footer,form{margin:1em 0}\n")
 }
 
 /// Adds how tables look.
