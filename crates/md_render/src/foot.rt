@@ -32,7 +32,10 @@ fn add_end(out: &mut Vec<u8>, by: Measure) -> Result<(), AllocError>
 fn add_old(out: &mut Vec<u8>) -> Result<(), AllocError>
     ensures { OnOk result (out.new.items ≡ out.old.items ++ old_words) }
 {
-    add(out, b"<a href=\"/\">menu</a>\n<a href=\"/root\">root</a>\n<a href=\"/procs\">procs</a>\n<a href=\"/modules\">modules</a>\n</footer>\n")
+    add(
+        out,
+        b"<a href=\"/\">menu</a>\n<a href=\"/root\">root</a>\n<a href=\"/procs\">procs</a>\n<a href=\"/modules\">modules</a>\n</footer>\n",
+    )
 }
 
 /// Adds an anchor to the page of this path by a measure.
@@ -58,7 +61,13 @@ fn add_path(out: &mut Vec<u8>, path: &[u8]) -> Result<(), AllocError>
 fn add_form(out: &mut Vec<u8>, by: Measure) -> Result<(), AllocError>
     ensures { OnOk result (out.new.items ≡ out.old.items ++ form_words by) }
 {
-    add(out, b"<form action=\"/find\"><input type=\"hidden\" name=\"by\" value=\"")?;
+    add(
+        out,
+        b"<form action=\"/find\"><input type=\"hidden\" name=\"by\" value=\"",
+    )?;
     add(out, measure_word(by))?;
-    add(out, b"\"><input name=\"name\" required aria-label=\"text of a name\"> <button>find</button></form>\n")
+    add(
+        out,
+        b"\"><input name=\"name\" required aria-label=\"text of a name\"> <button>find</button></form>\n",
+    )
 }

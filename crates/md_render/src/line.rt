@@ -49,7 +49,12 @@ pub fn add_proc_line(
 }
 
 /// Adds the words of a row; a table stands there as text.
-pub(crate) fn add_row(out: &mut Vec<u8>, form: Form, loaded: &Loaded, row: &Row) -> Result<(), AllocError>
+pub(crate) fn add_row(
+    out: &mut Vec<u8>,
+    form: Form,
+    loaded: &Loaded,
+    row: &Row,
+) -> Result<(), AllocError>
     ensures { OnOk result (out.new.items ≡ out.old.items ++ row_words form (names_in loaded.now) row.now) }
 {
     let statics = loaded.profile().statics();

@@ -26,7 +26,10 @@ const MOST_ROWS: usize = 1000;
 pub(crate) fn add_opening(out: &mut Vec<u8>, title: &[u8]) -> Result<(), AllocError>
     ensures { OnOk result (out.new.items ≡ out.old.items ++ opening_words title.now) }
 {
-    add(out, b"<!DOCTYPE html>\n<html lang=\"en\"><head><meta charset=\"utf-8\"><meta name=\"viewport\" content=\"width=device-width\"><title>")?;
+    add(
+        out,
+        b"<!DOCTYPE html>\n<html lang=\"en\"><head><meta charset=\"utf-8\"><meta name=\"viewport\" content=\"width=device-width\"><title>",
+    )?;
     add(out, title)?;
     add_styled(out)?;
     add(out, title)?;

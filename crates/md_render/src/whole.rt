@@ -70,12 +70,7 @@ fn add_lines_html(out: &mut Vec<u8>, loaded: &Loaded, page: &Page) -> Result<(),
 }
 
 /// Adds a page for people by a measure as HTML.
-fn add_people(
-    out: &mut Vec<u8>,
-    loaded: &Loaded,
-    page: &Page,
-    by: Measure,
-) -> Result<(), NoMemory>
+fn add_people(out: &mut Vec<u8>, loaded: &Loaded, page: &Page, by: Measure) -> Result<(), NoMemory>
     ensures { (v : View) → IsFileView loaded.now.profile v → OnOk result (out.new.items ≡ out.old.items ++ people_html v page.now by) }
 {
     add_top(out, loaded.profile().statics(), page.title())?;
@@ -96,12 +91,7 @@ fn add_top(out: &mut Vec<u8>, statics: &Statics, title: &Title) -> Result<(), Al
 }
 
 /// Adds the lines and tables of a page, or the picture of a flame graph.
-fn add_body(
-    out: &mut Vec<u8>,
-    loaded: &Loaded,
-    page: &Page,
-    by: Measure,
-) -> Result<(), NoMemory>
+fn add_body(out: &mut Vec<u8>, loaded: &Loaded, page: &Page, by: Measure) -> Result<(), NoMemory>
     ensures { (v : View) → IsFileView loaded.now.profile v → OnOk result (out.new.items ≡ out.old.items ++ body_html v by page.now.rows page.now.title) }
 {
     // it is valid and has a view, which `profile` says
