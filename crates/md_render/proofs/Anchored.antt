@@ -1,9 +1,9 @@
 -- The words of rows for people as HTML.
-use Rattle.std.proofs.Common.{◌≡◌, ◌<◌, ◌^◌, ℕ, Bool, true, false, List, [], ◌∷◌, ◌++◌, length, get_or, codes, refl, sym, ap, ◌∙◌, subst, arith, append_assoc, eqb, min, ◌*◌}
+use Rattle.std.proofs.Common.{◌≡◌, ◌<◌, ℕ, Bool, true, false, List, [], ◌∷◌, ◌++◌, length, get_or, codes, refl, sym, ap, ◌∙◌, subst, arith, append_assoc, eqb, min, ◌*◌}
 use Rattle.std.specs.Prelude.{◌≢◌, ◌==◌, ◌||◌, ◌&&◌, bytes_eq}
 use Rattle.std.specs.Char.{digit_value}
 use Rattle.std.specs.Fmt.{decimal}
-use Rattle.std.specs.List.{list_any, flat_map}
+use Rattle.std.specs.List.{list_any}
 use Rattle.std.specs.Str.Parse.{AllDigits}
 use Rattle.std.proofs.lemmas.Bool.{and_parts, ne_eqb, false_from_ne_true}
 use Rattle.std.proofs.lemmas.Fmt.{decimal_is_IsNumeral}
@@ -15,12 +15,12 @@ use Rattle.md_static.specs.declared.entry.Proc.{Proc}
 use Rattle.md_static.specs.Names.{are_words, is_digit, is_lower, is_name, is_upper, is_word}
 use Rattle.md_static.specs.Sound.{IsSound}
 use Rattle.md_static.specs.Tables.{Static}
-use Rattle.md_table.specs.Anchors.{behind_html, escaped, escaped_byte, has_slash, text_html, word_html}
+use Rattle.md_table.specs.Anchors.{behind_html, escaped, has_slash, text_html, word_html}
 use Rattle.md_table.specs.Cells.{indent_of}
 use Rattle.md_people.specs.declared.led.Led.{Led}
 use Rattle.md_people.specs.Words.{called_words, caller_words, from_words, full_name, full_name_of, led_words, left_words, line_at, line_words, owner_of, site_words, station_words}
 use Rattle.md_render.specs.Named.{AreAnchors, HaveArities, left_html, IsSmall, asked_html, clique_html, context_html, proc_html}
-use Rattle.md_render.proofs.Texts.{IsBehind, has_space, neither, spaces_stay, text_begins, text_goes_on, words_behind}
+use Rattle.md_render.proofs.Texts.{IsBehind, has_space, spaces_stay, text_begins, text_goes_on, words_behind}
 
 -- ---- signs that a word hasn't
 

@@ -4,4 +4,3 @@ pub mod Same
 pub mod Titles
 pub mod Texts
 pub mod Anchored
-pub mod Rows

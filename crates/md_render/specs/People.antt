@@ -1,7 +1,6 @@
 -- Pages for people as HTML: the title, the page by each measure, lines and tables or a picture, and where to go on.
-use Rattle.std.specs.Prelude.{ℕ, ◌+◌, ◌-◌, ◌==◌, List, [], ◌∷◌, ◌++◌, codes, length, if◌then◌else◌, bytes_eq}
+use Rattle.std.specs.Prelude.{ℕ, ◌+◌, ◌-◌, List, [], ◌∷◌, ◌++◌, codes, length, if◌then◌else◌, bytes_eq}
 use Rattle.std.specs.List.{flat_map, fold}
-use Rattle.std.specs.Fmt.{decimal}
 use Rattle.md_base.specs.declared.measure.Measure.{Measure}
 use Rattle.md_base.specs.declared.measure.Measure.TheVariants.{Calls, Exits, Fails, Redos, Allocs, Words, Excps}
 use Rattle.md_table.specs.Html as html
@@ -9,7 +8,7 @@ use Rattle.md_query.specs.declared.row.Row.{Row}
 use Rattle.md_query.specs.declared.row.Row.TheVariants as row
 use Rattle.md_query.specs.declared.row.Title.{Title}
 use Rattle.md_render.specs.declared.form.Form.TheVariants.{Html}
-use Rattle.md_render.specs.Address.{address_words, sort_of}
+use Rattle.md_render.specs.Address.{address_words}
 use Rattle.md_render.specs.Lines.{row_words}
 use Rattle.md_render.specs.Names.{Names}
 use Rattle.md_render.specs.Sheet.{sheet_words}

@@ -1,4 +1,4 @@
-use Rattle.std.proofs.Common.{◌≡◌, ℕ, List, Option, sym, ap, ◌∙◌}
+use Rattle.std.proofs.Common.{◌≡◌, Option, sym, ap, ◌∙◌}
 use Rattle.md_base.specs.declared.measure.Measure.{Measure}
 use Rattle.md_render.specs.Address.{by_of}
 use Rattle.md_render.specs.Html.{html_by, html_of}
