@@ -8,9 +8,6 @@ use Rattle.std.proofs.lemmas.Result.{on_ok_weaker}
 pub two-added : {T E : Type 0} (r : Result T E) (o a b x y : List ℕ) → x ≡ o ++ a → OnOk r (y ≡ x ++ b) → OnOk r (y ≡ o ++ (a ++ b))
 two-added r o a b x y p = on_ok_weaker r (λ q. let e : (o ++ a) ++ b ≡ o ++ (a ++ b) = simp append_assoc in cc)
 
-pub three-added : {T E : Type 0} (r : Result T E) (o a b c x y z : List ℕ) → x ≡ o ++ a → y ≡ x ++ b → OnOk r (z ≡ y ++ c) → OnOk r (z ≡ o ++ (a ++ (b ++ c)))
-three-added r o a b c x y z p q = on_ok_weaker r (λ s. let e : ((o ++ a) ++ b) ++ c ≡ o ++ (a ++ (b ++ c)) = simp append_assoc in cc)
-
 pub four-added : {T E : Type 0} (r : Result T E) (o a b c d x y z w : List ℕ) → x ≡ o ++ a → y ≡ x ++ b → z ≡ y ++ c → OnOk r (w ≡ z ++ d) → OnOk r (w ≡ o ++ (a ++ (b ++ (c ++ d))))
 four-added r o a b c d x y z w p q s = on_ok_weaker r (λ t. let e : (((o ++ a) ++ b) ++ c) ++ d ≡ o ++ (a ++ (b ++ (c ++ d))) = simp append_assoc in cc)
 
@@ -24,6 +21,9 @@ words_added (Ok x) old middle now a b words first second is = second ∙ ap (λ 
 words_added (Err e) old middle now a b words first second is = tt
 
 -- the same where each of them is there
+pub two-words : (o a b x y : List ℕ) → x ≡ o ++ a → y ≡ x ++ b → y ≡ o ++ (a ++ b)
+two-words o a b x y p q = let e : (o ++ a) ++ b ≡ o ++ (a ++ b) = simp append_assoc in cc
+
 pub three-words : (o a b c x y z : List ℕ) → x ≡ o ++ a → y ≡ x ++ b → z ≡ y ++ c → z ≡ o ++ (a ++ (b ++ c))
 three-words o a b c x y z p q r = let e : ((o ++ a) ++ b) ++ c ≡ o ++ (a ++ (b ++ c)) = simp append_assoc in cc
 

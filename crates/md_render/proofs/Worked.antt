@@ -1,5 +1,5 @@
 -- Rows and pages, worked out by hand.
-use Rattle.std.proofs.Common.{◌≡◌, ℕ, [], ◌∷◌, Option, Some, None, codes, length, refl, true, false}
+use Rattle.std.proofs.Common.{◌≡◌, ℕ, [], ◌∷◌, ◌++◌, ◌+◌, ◌*◌, nat_le, replicate, Option, Some, None, codes, length, refl, true, false}
 use Rattle.std.specs.Prelude.{⊤}
 use Rattle.std.specs.Fmt.{digits}
 use Rattle.std.specs.List.{slice_get}
@@ -13,6 +13,7 @@ use Rattle.md_cost.specs.View.{Row as Counted}
 use Rattle.md_table.specs.Html as html
 use Rattle.md_table.specs.Table as table
 use Rattle.md_people.specs.declared.sort.Sort.TheVariants.{Own}
+use Rattle.md_query.specs.declared.row.Row.{Row}
 use Rattle.md_query.specs.declared.row.Row.TheVariants as row
 use Rattle.md_query.specs.declared.row.Title.TheVariants as title
 use Rattle.md_query.specs.declared.row.What.TheVariants as what
@@ -20,11 +21,15 @@ use Rattle.md_query.specs.Page.{PageRows}
 use Rattle.md_render.specs.declared.form.Form.TheVariants.{Text, Html}
 use Rattle.md_tree.specs.declared.picture.CliqueBox.{CliqueBox}
 use Rattle.md_render.specs.declared.icicle.Cost.{Cost}
-use Rattle.md_render.specs.Icicle.{drawn_words, edge_words, icicle_words, label_words, levels_of, more_words}
+use Rattle.md_render.specs.Icicle.{drawn_words, edge_words, icicle_words, label_words, levels_of}
+use Rattle.md_render.specs.Words.{more_words}
 use Rattle.md_render.specs.Lines.{row_words, title_words}
 use Rattle.md_render.specs.Names.{Names, names_of}
 use Rattle.md_render.specs.Text.{text_of}
-use Rattle.md_render.specs.Html.{html_of, title_html}
+use Rattle.md_render.specs.Address.{address_words, by_of, sort_of}
+use Rattle.md_render.specs.Html.{html_of}
+use Rattle.md_render.specs.People.{closing_words, opening_words, rows_html, size_in, tables_html, turns_words}
+use Rattle.md_render.specs.Sheet.{sheet_words}
 
 unfoldable on_pages : ⊤
 unfolding text_of html_of icicle_words table.text_of html.html_of digits percent_encode percent_encode_byte should_percent_encode
@@ -169,9 +174,36 @@ a-title-of-a-text : title_words view.statics (title.Find measure.Calls (10 ∷ 3
 unfolding on_pages view names few most
 a-title-of-a-text = refl
 
-it-is-escaped-in-html : title_html view.statics (title.Find measure.Calls (codes "<i>")) ≡ codes "mdprof find calls &lt;i&gt;"
-unfolding on_pages view names few most
-it-is-escaped-in-html = refl
+-- ---- addresses of pages for people
+
+-- the measure is another one, and the rest of the question stays
+the-same-by-another-measure : address_words (title.Hot measure.Words 1000 Own) measure.Excps ≡ codes "/hot?by=excps&amp;n=1000&amp;sort=own"
+unfolding on_pages
+the-same-by-another-measure = refl
+
+-- bytes that a title shows as `?` are asked for as they are
+a-text-is-asked-for-as-it-is : address_words (title.Find measure.Words (10 ∷ 60 ∷ 38 ∷ 97 ∷ 43 ∷ 195 ∷ [])) measure.Calls ≡ codes "/find?by=calls&amp;name=%0A%3C%26a%2B%C3"
+unfolding on_pages
+a-text-is-asked-for-as-it-is = refl
+
+-- by the number of the context, and not by that of its procedure
+a-context-by-its-number : address_words (title.Context measure.Calls 7 3) measure.Fails ≡ codes "/context?by=fails&amp;id=7"
+unfolding on_pages
+a-context-by-its-number = refl
+
+the-measures-of-a-page : turns_words (title.Tree measure.Redos 5) measure.Redos
+    ≡ codes "<nav>\n<a href=\"/tree?by=calls&amp;least=5\">calls</a>\n<a href=\"/tree?by=exits&amp;least=5\">exits</a>\n<a href=\"/tree?by=fails&amp;least=5\">fails</a>\n<a href=\"/tree?by=redos&amp;least=5\" class=\"on\">redos</a>\n<a href=\"/tree?by=allocs&amp;least=5\">allocs</a>\n<a href=\"/tree?by=words&amp;least=5\">words</a>\n<a href=\"/tree?by=excps&amp;least=5\">excps</a>\n</nav>\n"
+unfolding on_pages
+the-measures-of-a-page = refl
+
+-- the page sorted by own counts is the same page by totals, but for the order
+headings-of-hot : sort_of (title.Hot measure.Words 5 Own) ≡ codes "/hot?by=words&amp;n=5&amp;sort="
+unfolding on_pages
+headings-of-hot = refl
+
+-- a page by a measure that isn't one for people has no sheet
+top-is-a-page-of-lines : by_of (title.Top measure.Words 5) ≡ None
+top-is-a-page-of-lines = refl
 
 -- ---- whole pages
 
@@ -213,9 +245,59 @@ unfolding on_pages view hot
 a-table-has-lines-of-its-own = refl
 
 a-table-in-html : html_of view hot
-    ≡ codes "<!DOCTYPE html>\n<html><head><meta charset=\"utf-8\"><title>mdprof hot calls 1 own</title></head><body>\n<h1>mdprof hot calls 1 own</h1>\n<pre>\nfinished no\ncalls 10\n</pre>\n<table>\n<tr><th>own</th><th>procedure</th></tr>\n<tr><td>7</td><td>t.&lt;&gt;/2</td></tr>\n</table>\n<pre>\n</pre>\n<p><a href=\"/\">menu</a> <a href=\"/root\">root</a> <a href=\"/procs\">procs</a> <a href=\"/modules\">modules</a></p>\n</body></html>\n"
+    ≡ opening_words (codes "mdprof hot calls 1 own")
+    ++ (turns_words (title.Hot measure.Calls 1 Own) measure.Calls
+    ++ (codes "<p>finished no</p>\n<p>calls 10</p>\n<table>\n<tr><th><a href=\"/hot?by=calls&amp;n=1&amp;sort=own\">own</a></th><th>procedure</th></tr>\n<tr><td>7</td><td><a href=\"/callers?by=calls&amp;name=t%2E%3C%3E%2F2\">t.&lt;&gt;/2</a></td></tr>\n</table>\n"
+    ++ closing_words measure.Calls))
 unfolding on_pages view hot
 a-table-in-html = refl
+
+where-to-go-on : closing_words measure.Words
+    ≡ codes "<footer>\n<a href=\"/hot?by=words\">hot</a>\n<a href=\"/tree?by=words\">tree</a>\n<a href=\"/flame?by=words\">flame</a>\n<a href=\"/\">menu</a>\n<a href=\"/root\">root</a>\n<a href=\"/procs\">procs</a>\n<a href=\"/modules\">modules</a>\n</footer>\n<form action=\"/find\"><input type=\"hidden\" name=\"by\" value=\"words\"><input name=\"name\" required aria-label=\"text of a name\"> <button>find</button></form>\n</body></html>\n"
+unfolding on_pages
+where-to-go-on = refl
+
+-- the title of any text is escaped in both places
+find : PageRows
+find = record { title = title.Find measure.Calls (codes "<i>"); rows = [] }
+
+a-text-is-escaped-in-html : html_of view find
+    ≡ opening_words (codes "mdprof find calls &lt;i&gt;") ++ (turns_words (title.Find measure.Calls (codes "<i>")) measure.Calls ++ closing_words measure.Calls)
+unfolding on_pages view find
+a-text-is-escaped-in-html = refl
+
+-- the sheet is small: 2,100 bytes would be too many
+the-sheet-is-small : nat_le (length sheet_words) 2048 ≡ true
+unfolding on_pages
+the-sheet-is-small = refl
+
+-- ---- tables of many rows
+
+-- a table of two rows
+two : Row
+two = row.Table (record { heading = record { cells = []; last = codes "n" }; rows = record { cells = []; last = codes "a" } ∷ record { cells = []; last = codes "b" } ∷ [] })
+
+-- two tables of two rows each, and room for three: the last row has none, a line takes none, and of a table without rows its heading stays
+rows-of-both-tables-count : rows_html names measure.Calls [] 3 (two ∷ row.Finished true ∷ two ∷ two ∷ [])
+    ≡ codes "<table>\n<tr><th>n</th></tr>\n<tr><td>a</td></tr>\n<tr><td>b</td></tr>\n</table>\n<p>finished yes</p>\n<table>\n<tr><th>n</th></tr>\n<tr><td>a</td></tr>\n</table>\n<table>\n<tr><th>n</th></tr>\n</table>\n"
+unfolding on_pages view names two
+rows-of-both-tables-count = refl
+
+six-rows : size_in (two ∷ row.Finished true ∷ two ∷ two ∷ []) ≡ 6
+unfolding two
+six-rows = refl
+
+-- a table of so many rows
+long : ℕ → Row
+long n = row.Table (record { heading = record { cells = []; last = [] }; rows = replicate n (record { cells = []; last = [] }) })
+
+a-thousand-rows-are-all : length (tables_html names measure.Calls [] (long 1000 ∷ [])) ≡ length (codes "<table>\n</table>\n") + 19 * 1001
+unfolding on_pages view names long
+a-thousand-rows-are-all = refl
+
+of-1001-one-is-left-out : tables_html names measure.Calls [] (long 1001 ∷ []) ≡ tables_html names measure.Calls [] (long 1000 ∷ []) ++ codes "<p>1 more</p>\n"
+unfolding on_pages view names long
+of-1001-one-is-left-out = refl
 
 -- ---- flame graphs
 
@@ -272,7 +354,8 @@ unfolding on_pages view flame
 no-flames = refl
 
 no-boxes : html_of view flame
-    ≡ codes "<!DOCTYPE html>\n<html><head><meta charset=\"utf-8\"><title>mdprof flame fails 1</title></head><body>\n<h1>mdprof flame fails 1</h1>\n<pre>\n</pre>\n<svg viewBox=\"0 0 1000 0\">\n<style>rect{fill:#fc9;stroke:#fff;stroke-width:.5}text{font:12px monospace}</style>\n</svg>\n<pre>\n</pre>\n<p><a href=\"/\">menu</a> <a href=\"/root\">root</a> <a href=\"/procs\">procs</a> <a href=\"/modules\">modules</a></p>\n</body></html>\n"
+    ≡ opening_words (codes "mdprof flame fails 1")
+    ++ (turns_words (title.Flame measure.Fails 1) measure.Fails ++ (codes "<figure><svg viewBox=\"0 0 1000 0\">\n</svg></figure>\n" ++ closing_words measure.Fails))
 unfolding on_pages view flame
 no-boxes = refl
 
@@ -306,6 +389,6 @@ flames = refl
 
 -- a box for each clique, and not for each context
 boxes : icicle_words counted measure.Calls 1
-    ≡ codes "</pre>\n<svg viewBox=\"0 0 1000 40\">\n<style>rect{fill:#fc9;stroke:#fff;stroke-width:.5}text{font:12px monospace}</style>\n<a href=\"/clique?id=0\"><title>t.main/2 clique 0: 5 calls, 100.0 %, own 1</title><rect x=\"0.000\" y=\"0\" width=\"1000.000\" height=\"19\"/><text x=\"2.000\" y=\"14\">t.main/2 clique 0</text></a>\n<a href=\"/clique?id=1\"><title>a_b.step/0 from line 3 clique 1 of 2 contexts: 4 calls, 80.0 %, own 4</title><rect x=\"0.000\" y=\"20\" width=\"800.000\" height=\"19\"/><text x=\"2.000\" y=\"34\">a_b.step/0 from line 3 clique 1 of 2 contexts</text></a>\n</svg>\n<pre>\n"
+    ≡ codes "<figure><svg viewBox=\"0 0 1000 40\">\n<a href=\"/clique?id=0\"><title>t.main/2 clique 0: 5 calls, 100.0 %, own 1</title><rect x=\"0.000\" y=\"0\" width=\"1000.000\" height=\"19\"/><text x=\"2.000\" y=\"14\">t.main/2 clique 0</text></a>\n<a href=\"/clique?id=1\"><title>a_b.step/0 from line 3 clique 1 of 2 contexts: 4 calls, 80.0 %, own 4</title><rect x=\"0.000\" y=\"20\" width=\"800.000\" height=\"19\"/><text x=\"2.000\" y=\"34\">a_b.step/0 from line 3 clique 1 of 2 contexts</text></a>\n</svg></figure>\n"
 unfolding on_pages view counted
 boxes = refl

@@ -6,13 +6,13 @@ use Rattle.std.specs.Fmt.{decimal}
 use Rattle.md_base.specs.declared.measure.Measure.{Measure}
 use Rattle.md_cost.specs.View.{View}
 use Rattle.md_table.specs.Cells.{share_words}
-use Rattle.md_table.specs.Html.{escaped}
+use Rattle.md_table.specs.Anchors.{escaped}
 use Rattle.md_people.specs.Counts.{whole_of}
 use Rattle.md_people.specs.Tree.{clique_own, clique_total, where_words}
 use Rattle.md_tree.specs.declared.picture.CliqueBox.{CliqueBox}
 use Rattle.md_tree.specs.Picture.{picture}
 use Rattle.md_render.specs.declared.icicle.Cost.{Cost}
-use Rattle.md_render.specs.Words.{measure_word}
+use Rattle.md_render.specs.Words.{measure_word, more_words}
 
 -- ---- what a clique costs
 
@@ -63,19 +63,12 @@ box_words v by b = drawn_words b (where_words v b.clique) (cost_of v by b.clique
 abbrev pub levels_of : List CliqueBox → ℕ
 levels_of boxes = fold (λ most b. max most (b.level + 1)) 0 boxes
 
-abbrev pub style_words : List ℕ
-style_words = codes "\">\n<style>rect{fill:#fc9;stroke:#fff;stroke-width:.5}text{font:12px monospace}</style>\n"
-
 abbrev pub svg_words : View → Measure → List CliqueBox → List ℕ
-svg_words v by boxes = (codes "<svg viewBox=\"0 0 1000 " ++ decimal (20 * levels_of boxes)) ++ (style_words ++ (flat_map (box_words v by) boxes ++ codes "</svg>\n"))
+svg_words v by boxes = (codes "<figure><svg viewBox=\"0 0 1000 " ++ decimal (20 * levels_of boxes)) ++ (codes "\">\n" ++ (flat_map (box_words v by) boxes ++ codes "</svg></figure>\n"))
 
--- how many boxes are left out, where any are
-abbrev pub more_words : ℕ → List ℕ
-more_words n = if n == 0 then [] else (codes "<p>" ++ decimal n) ++ codes " more</p>\n"
-
--- the first 10,000 boxes; the picture stands between two parts of the text that is laid out already
+-- the first 10,000 boxes, and how many more there are
 abbrev pub drawn_of : View → Measure → List CliqueBox → List ℕ
-drawn_of v by boxes = codes "</pre>\n" ++ (svg_words v by (take 10000 boxes) ++ (more_words (length boxes - 10000) ++ codes "<pre>\n"))
+drawn_of v by boxes = svg_words v by (take 10000 boxes) ++ more_words (length boxes - 10000)
 
 unfoldable pub icicle_words : View → Measure → (least : ℕ) → List ℕ
 icicle_words v by least = drawn_of v by (picture v by least)

@@ -4,4 +4,8 @@ pub mod Words
 pub mod Lines
 pub mod Icicle
 pub mod Text
+pub mod Address
+pub mod Sheet
+pub mod People
 pub mod Html
+pub mod Named

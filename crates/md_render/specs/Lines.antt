@@ -7,6 +7,7 @@ use Rattle.md_static.specs.Tables.{Static}
 use Rattle.md_static.specs.declared.entry.Site.{Site}
 use Rattle.md_static.specs.declared.entry.SiteKind.{SiteKind}
 use Rattle.md_static.specs.declared.entry.SiteKind.TheVariants.{Plain, HigherOrder}
+use Rattle.md_table.specs.Table.{text_of}
 use Rattle.md_query.specs.declared.row.Row.{Row}
 use Rattle.md_query.specs.declared.row.Row.TheVariants as row
 use Rattle.md_query.specs.declared.row.Title.{Title}
@@ -15,7 +16,7 @@ use Rattle.md_cost.specs.declared.sums.Sums.{Sums}
 use Rattle.md_render.specs.declared.form.Form.{Form}
 use Rattle.md_render.specs.declared.form.Form.TheVariants.{Text}
 use Rattle.md_render.specs.Names.{Names, module_name, full_name, caller_at, callee_at, clique_at}
-use Rattle.md_render.specs.Words.{clique_words, proc_words, module_words, measure_word, sort_word, shown, what_word, counts_words, own_words, both_words, context_words, placed_words, link_words, table_words}
+use Rattle.md_render.specs.Words.{clique_words, proc_words, module_words, measure_word, sort_word, shown, what_word, counts_words, own_words, both_words, context_words, placed_words, link_words}
 
 -- ---- the title
 
@@ -93,7 +94,7 @@ row_words form n (row.Of c own total) = context_of_words form n c ++ both_words 
 row_words form n (row.Site s own total) = site_words form n.statics s ++ both_words own total
 row_words form n (row.Module k procs own total) = module_size_words form (module_name n.statics k) procs ++ both_words own total
 row_words form n (row.Whole by whole) = measure_word by ++ (codes " " ++ decimal whole)
-row_words form n (row.Table table) = table_words form table
+row_words form n (row.Table table) = text_of table
 
 -- the line of a procedure with these costs, as text
 abbrev pub proc_line : Static → ℕ → (own total : Sums) → List ℕ

@@ -6,9 +6,6 @@ use Rattle.percent_encoding.specs.declared.ascii_set.TheConstants.{NON_ALPHANUME
 use Rattle.md_base.specs.declared.measure.Measure.{Measure}
 use Rattle.md_base.specs.declared.measure.Measure.TheVariants.{Calls, Exits, Fails, Redos, Allocs, Words, Excps}
 use Rattle.md_cost.specs.declared.sums.Sums.{Sums}
-use Rattle.md_table.specs.Table.{TableCells}
-use Rattle.md_table.specs.Table as text
-use Rattle.md_table.specs.Html as html
 use Rattle.md_people.specs.declared.sort.Sort.{Sort}
 use Rattle.md_people.specs.declared.sort.Sort.TheVariants.{Total, Own}
 use Rattle.md_query.specs.declared.row.What.{What}
@@ -97,9 +94,8 @@ placed_words form n c = context_words n c ++ (codes " " ++ clique_words form (cl
 abbrev pub link_words : Names → ℕ → List ℕ
 link_words n l = codes "link " ++ (decimal l ++ (codes " site " ++ decimal (site_at n l)))
 
--- ---- tables
+-- ---- what is left out
 
--- a table with all its lines; in HTML it stands between two parts of the text that is laid out already
-abbrev pub table_words : Form → TableCells → List ℕ
-table_words Text table = text.text_of table
-table_words Html table = codes "</pre>\n" ++ (html.html_of table ++ codes "<pre>\n")
+-- how many more rows or boxes there are than are shown, where there are any
+abbrev pub more_words : ℕ → List ℕ
+more_words n = if n == 0 then [] else codes "<p>" ++ (decimal n ++ codes " more</p>\n")

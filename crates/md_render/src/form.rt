@@ -5,8 +5,8 @@ ghost use Rattle.percent_encoding.specs.declared.ascii_set.TheConstants.{NON_ALP
 ghost use Rattle.md_render.specs.Words.{linked, clique_words, proc_words, module_words};
 
 use crate::number::{add, add_number};
-use percent_encoding::{NON_ALPHANUMERIC, percent_encode};
-use std::alloc::{AllocError, Global};
+use md_table::add_encoded;
+use std::alloc::AllocError;
 
 /// What a page is written as.
 #[derive(Clone, Copy, PartialEq, Eq)]
@@ -78,15 +78,5 @@ fn add_module_address(out: &mut Vec<u8>, name: &[u8]) -> Result<(), AllocError>
     ensures { OnOk result (out.new.items ≡ out.old.items ++ (codes "/module?name=" ++ percent_encode NON_ALPHANUMERIC name.now)) }
 {
     add(out, b"/module?name=")?;
-    add_escaped(out, name)
-}
-
-/// Adds a name as it stands in an address: each byte that is no letter and no digit is escaped.
-fn add_escaped(out: &mut Vec<u8>, name: &[u8]) -> Result<(), AllocError>
-    ensures { OnOk result (out.new.items ≡ out.old.items ++ percent_encode NON_ALPHANUMERIC name.now) }
-{
-    let alloc: Global = *out.allocator();
-    let mut escaped = String::new(alloc);
-    percent_encode(name, NON_ALPHANUMERIC).append_to(&mut escaped)?;
-    add(out, escaped.as_str().as_bytes())
+    add_encoded(out, name)
 }

@@ -5,9 +5,9 @@ ghost use Rattle.md_clique.specs.Cliques.{clique_count};
 ghost use Rattle.md_cost.specs.FileView.{IsFileView};
 ghost use Rattle.md_cost.specs.View.{View};
 ghost use Rattle.md_people.specs.Counts.{whole_of};
-ghost use Rattle.md_render.specs.Icicle.{box_words, cost_of, cost_words, drawn_of, drawn_words, edge_words, held_words, icicle_words, label_words, letters_in, levels_of, more_words, part_words, rect_words, svg_words, tip_words};
+ghost use Rattle.md_render.specs.Icicle.{box_words, cost_of, cost_words, drawn_of, drawn_words, edge_words, held_words, icicle_words, label_words, letters_in, levels_of, part_words, rect_words, svg_words, tip_words};
 
-use crate::number::{add, add_number};
+use crate::number::{add, add_more, add_number};
 use crate::title::measure_word;
 use md_base::{Measure, NoMemory};
 use md_cost::Loaded;
@@ -28,7 +28,7 @@ pub(crate) struct Cost {
     pub own: u128,
 }
 
-/// Adds the picture of the cliques that have a row in the tree, outside of the text that is laid out already.
+/// Adds the picture of the cliques that have a row in the tree.
 pub(crate) fn add_icicle(
     out: &mut Vec<u8>,
     loaded: &Loaded,
@@ -53,22 +53,9 @@ fn add_drawn(
     ensures { (v : View) → IsFileView loaded.now.profile v → OnOk result (out.new.items ≡ out.old.items ++ drawn_of v by boxes.now) }
 {
     let shown = boxes.len().min(MOST_BOXES);
-    add(out, b"</pre>\n")?;
     add_svg(out, loaded, by, &boxes[..shown])?;
-    add_more(out, boxes.len() - shown)?;
-    add(out, b"<pre>\n")?;
+    add_more(out, (boxes.len() - shown) as u128)?;
     Ok(())
-}
-
-/// Adds how many boxes are left out, where any are.
-fn add_more(out: &mut Vec<u8>, more: usize) -> Result<(), AllocError>
-    ensures { OnOk result (out.new.items ≡ out.old.items ++ more_words more) }
-{
-    if more == 0 {
-        return Ok(());
-    }
-    add_number(out, b"<p>", more as u64)?;
-    add(out, b" more</p>\n")
 }
 
 /// Adds a picture of these boxes.
@@ -81,13 +68,14 @@ fn add_svg(
     requires there { All (λ b. b.clique < clique_count loaded.now.cliques) boxes.now }
     ensures { (v : View) → IsFileView loaded.now.profile v → OnOk result (out.new.items ≡ out.old.items ++ svg_words v by boxes.now) }
 {
-    add_number(out, b"<svg viewBox=\"0 0 1000 ", 20 * levels_of(boxes))?;
-    add(
+    add_number(
         out,
-        b"\">\n<style>rect{fill:#fc9;stroke:#fff;stroke-width:.5}text{font:12px monospace}</style>\n",
+        b"<figure><svg viewBox=\"0 0 1000 ",
+        20 * levels_of(boxes),
     )?;
+    add(out, b"\">\n")?;
     add_boxes(out, loaded, by, boxes)?;
-    add(out, b"</svg>\n")?;
+    add(out, b"</svg></figure>\n")?;
     Ok(())
 }
 

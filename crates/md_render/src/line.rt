@@ -48,7 +48,13 @@ pub fn add_proc_line(
     Ok(())
 }
 
-fn add_row(out: &mut Vec<u8>, form: Form, loaded: &Loaded, row: &Row) -> Result<(), AllocError>
+/// Adds the words of a row; a table stands there as text.
+pub(crate) fn add_row(
+    out: &mut Vec<u8>,
+    form: Form,
+    loaded: &Loaded,
+    row: &Row,
+) -> Result<(), AllocError>
     ensures { OnOk result (out.new.items ≡ out.old.items ++ row_words form (names_in loaded.now) row.now) }
 {
     let statics = loaded.profile().statics();
@@ -108,7 +114,7 @@ fn add_row(out: &mut Vec<u8>, form: Form, loaded: &Loaded, row: &Row) -> Result<
             add(out, measure_word(*by))?;
             add_number(out, b" ", *whole)
         }
-        Row::Table(table) => add_table(out, form, table),
+        Row::Table(table) => add_table(out, table),
     }
 }
 

@@ -1,6 +1,6 @@
 // Words, and numbers in decimal.
 ghost use Rattle.std.specs.Prelude.{◌≡◌, ◌++◌, decimal, OnOk};
-ghost use Rattle.md_render.specs.Words.{excps_words, counts_words, own_words, both_words};
+ghost use Rattle.md_render.specs.Words.{more_words, excps_words, counts_words, own_words, both_words};
 
 use itoa::Buffer;
 use md_cost::Sums;
@@ -60,4 +60,17 @@ fn add_excps(out: &mut Vec<u8>, excps: u64) -> Result<(), AllocError>
         return Ok(());
     }
     add_number(out, b" excps ", excps)
+}
+
+/// Adds how many more there are than are shown, where there are any.
+pub(crate) fn add_more(out: &mut Vec<u8>, more: u128) -> Result<(), AllocError>
+    ensures { OnOk result (out.new.items ≡ out.old.items ++ more_words more) }
+{
+    if more == 0 {
+        return Ok(());
+    }
+    let mut digits = Buffer::new();
+    add(out, b"<p>")?;
+    add(out, digits.format(more).as_bytes())?;
+    add(out, b" more</p>\n")
 }

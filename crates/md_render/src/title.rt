@@ -1,6 +1,6 @@
 // The title of a page.
 ghost use Rattle.std.specs.Prelude.{◌≡◌, ◌++◌, codes, decimal, OnOk};
-ghost use Rattle.md_render.specs.Html.{title_html};
+ghost use Rattle.md_table.specs.Anchors.{escaped};
 ghost use Rattle.md_render.specs.Lines.{numbered_words, title_words};
 ghost use Rattle.md_render.specs.Names.{full_name};
 ghost use Rattle.md_render.specs.Words.{measure_word, shown, shown_byte, sort_word, what_word};
@@ -50,11 +50,8 @@ pub(crate) fn add_title_html(
     statics: &Statics,
     title: &Title,
 ) -> Result<(), AllocError>
-    ensures { OnOk result (out.new.items ≡ out.old.items ++ title_html statics.now title.now) }
+    ensures { OnOk result (out.new.items ≡ out.old.items ++ escaped (title_words statics.now title.now)) }
 {
-    let Title::Find { .. } = title else {
-        return add_title(out, statics, title);
-    };
     let alloc: Global = *out.allocator();
     let mut words = Vec::new(alloc);
     add_title(&mut words, statics, title)?;
@@ -164,7 +161,7 @@ fn shown_byte(byte: u8) -> u8
     }
 }
 
-fn sort_word(sort: Sort) -> &'static [u8]
+pub(crate) fn sort_word(sort: Sort) -> &'static [u8]
     ensures { result.now ≡ sort_word sort }
 {
     match sort {

@@ -1,2 +1,4 @@
-pub mod Steps
 mod Worked
+pub mod Steps
+pub mod Chains
+pub mod Words

@@ -1,5 +1,5 @@
 -- Steps of the loops over the cells of a line.
-use Rattle.std.proofs.Common.{◌≡◌, ◌≢◌, ℕ, zero, suc, ◌+◌, ◌<◌, ◌≤◌, List, [], ◌∷◌, ◌++◌, length, take, get_or, max, refl, sym, ap, ◌∙◌, arith, cond, eqb, inl, inr}
+use Rattle.std.proofs.Common.{◌≡◌, ◌≢◌, ℕ, zero, suc, ◌+◌, ◌<◌, ◌≤◌, List, [], ◌∷◌, ◌++◌, length, take, get_or, max, refl, sym, ap, ◌∙◌, append_assoc, arith, cond, eqb, inl, inr}
 use Rattle.std.specs.List.{flat_map, enumerate_from}
 use Rattle.std.proofs.lemmas.Bool.{cases_eq}
 use Rattle.std.proofs.lemmas.List.{append-nil, get_or_past, get_or_push, length-take-le, take_all, take_more}
@@ -46,3 +46,12 @@ wider_more cells column other old before now cell within is so_far wider =
           let same_width : length (get_or (take (column + 1) cells) other []) ≡ length (get_or (take column cells) other []) = ap (λ (cs : List (List ℕ)). length (get_or cs other [])) more ∙ ap length there in
           grind arith
     ]
+
+-- what is added for each element with its place, and for one more
+pub placed_added : {X : Type 0} (f : ℕ × X → List ℕ) (old out new : List ℕ) (xs : List X) (d : X) (i : ℕ) (x : X) → i < length xs
+    → out ≡ old ++ flat_map f (take i (enumerate_from 0 xs)) → new ≡ out ++ f (i, x) → x ≡ get_or xs i d → new ≡ old ++ flat_map f (take (i + 1) (enumerate_from 0 xs))
+placed_added {X} f old out new xs d i x within so_far added is =
+    added ∙ ap (λ (o : List ℕ). o ++ f (i, x)) so_far
+    ∙ append_assoc old (flat_map f (take i (enumerate_from 0 xs))) (f (i, x))
+    ∙ ap (λ (y : X). old ++ (flat_map f (take i (enumerate_from 0 xs)) ++ f (i, y))) is
+    ∙ ap (λ (words : List ℕ). old ++ words) (sym (placed_more f xs d i within))

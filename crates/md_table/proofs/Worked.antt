@@ -1,13 +1,16 @@
 -- Cells and tables, worked out by hand.
-use Rattle.std.proofs.Common.{◌≡◌, ℕ, List, [], ◌∷◌, codes, length, refl}
+use Rattle.std.proofs.Common.{◌≡◌, ℕ, List, [], ◌∷◌, ◌++◌, codes, length, refl}
 use Rattle.std.specs.Prelude.{⊤}
 use Rattle.std.specs.Fmt.{digits}
 use Rattle.md_table.specs.Cells.{change_words, indent_of, ratio_words, share_words, tenths_words}
-use Rattle.md_table.specs.Html.{escaped, html_of}
+use Rattle.percent_encoding.specs.Percent.{percent_encode, percent_encode_byte}
+use Rattle.percent_encoding.specs.AsciiSet.{should_percent_encode}
+use Rattle.md_table.specs.Anchors.{escaped, text_html, words_of}
+use Rattle.md_table.specs.Html.{cells_html, headings_html, html_of, last_html}
 use Rattle.md_table.specs.Table.{LineCells, TableCells, text_of}
 
 unfoldable on_tables : ⊤
-unfolding text_of html_of digits
+unfolding text_of html_of digits percent_encode percent_encode_byte should_percent_encode
 on_tables = tt
 
 -- ---- cells
@@ -128,16 +131,91 @@ a-table-may-have-a-heading-alone : text_of bare ≡ codes "\ntotal  %  module\n"
 unfolding on_tables
 a-table-may-have-a-heading-alone = refl
 
-its-heading-stands-in-html-too : html_of bare ≡ codes "<table>\n<tr><th>total</th><th>%</th><th>module</th></tr>\n</table>\n"
+-- ---- HTML
+
+its-heading-stands-in-html-too : html_of (codes "calls") [] 9 bare ≡ codes "<table>\n<tr><th>total</th><th>%</th><th>module</th></tr>\n</table>\n"
 unfolding on_tables
 its-heading-stands-in-html-too = refl
 
 -- cells are neither filled up nor cut, and what HTML reads is escaped
 the-same-cells-stand-in-html :
-    html_of (record { heading = line (codes "a" ∷ []) (codes "b"); rows = line (codes "10" ∷ []) (codes "  <&>") ∷ line (codes "5" ∷ []) (codes "'\"") ∷ [] })
+    html_of (codes "calls") [] 9 (record { heading = line (codes "a" ∷ []) (codes "b"); rows = line (codes "10" ∷ []) (codes "  <&>") ∷ line (codes "5" ∷ []) (codes "'\"") ∷ [] })
     ≡ codes "<table>\n<tr><th>a</th><th>b</th></tr>\n<tr><td>10</td><td>  &lt;&amp;&gt;</td></tr>\n<tr><td>5</td><td>&#39;&quot;</td></tr>\n</table>\n"
 unfolding on_tables
 the-same-cells-stand-in-html = refl
 
 bytes-that-are-no-ascii-stay : escaped (195 ∷ 164 ∷ []) ≡ 195 ∷ 164 ∷ []
 bytes-that-are-no-ascii-stay = refl
+
+-- `%` is no sorted column, and the last heading is none either
+headings-lead-to-the-page-sorted-by-them :
+    headings_html (codes "/hot?by=words&amp;n=5&amp;sort=") (line (codes "total" ∷ codes "%" ∷ codes "own" ∷ []) (codes "own"))
+    ≡ codes "<tr><th><a href=\"/hot?by=words&amp;n=5&amp;sort=total\">total</a></th><th>%</th><th><a href=\"/hot?by=words&amp;n=5&amp;sort=own\">own</a></th><th>own</th></tr>\n"
+unfolding on_tables
+headings-lead-to-the-page-sorted-by-them = refl
+
+-- a page that isn't sorted has no address to put the names of columns behind
+headings-lead-nowhere-else : headings_html [] (line (codes "total" ∷ []) (codes "where")) ≡ codes "<tr><th>total</th><th>where</th></tr>\n"
+unfolding on_tables
+headings-lead-nowhere-else = refl
+
+-- the cell below `own` is as wide as it is, and a share that there isn't has no bar
+shares-are-bars :
+    cells_html (codes "own" ∷ codes "%" ∷ codes "%" ∷ []) (codes "43" ∷ codes "43.7" ∷ codes "-" ∷ [])
+    ≡ codes "<td>43</td><td style=\"--w:43.7%\">43.7</td><td>-</td>"
+unfolding on_tables
+shares-are-bars = refl
+
+-- a cell without a heading
+a-cell-too-many-is-no-share : cells_html (codes "%" ∷ []) (codes "1.0" ∷ codes "2.0" ∷ []) ≡ codes "<td style=\"--w:1.0%\">1.0</td><td>2.0</td>"
+unfolding on_tables
+a-cell-too-many-is-no-share = refl
+
+-- the second row is the last that is shown
+rows-past-the-first-are-left-out :
+    html_of (codes "calls") [] 2 (record { heading = line [] (codes "n"); rows = line [] (codes "a") ∷ line [] (codes "b") ∷ line [] (codes "c") ∷ [] })
+    ≡ codes "<table>\n<tr><th>n</th></tr>\n<tr><td>a</td></tr>\n<tr><td>b</td></tr>\n</table>\n"
+unfolding on_tables
+rows-past-the-first-are-left-out = refl
+
+-- ---- anchors
+
+-- the spaces between words and those before them stay
+words-stand-between-spaces : words_of (codes "  a bc") ≡ ([], [] ∷ codes "a" ∷ codes "bc" ∷ [])
+unfolding on_tables
+words-stand-between-spaces = refl
+
+a-space-at-the-end-has-an-empty-word-behind-it : words_of (codes "a ") ≡ (codes "a", [] ∷ [])
+unfolding on_tables
+a-space-at-the-end-has-an-empty-word-behind-it = refl
+
+-- the line and the site have no page, and the clique is not asked by a measure
+what-a-row-of-a-context-names :
+    text_html (codes "words") (codes "t.a_b/3 from line 5 site 1 context 2 clique 4")
+    ≡ codes "<a href=\"/callers?by=words&amp;name=t%2Ea%5Fb%2F3\">t.a_b/3</a> from line 5 site 1 context <a href=\"/context?by=words&amp;id=2\">2</a> clique <a href=\"/clique?id=4\">4</a>"
+unfolding on_tables
+what-a-row-of-a-context-names = refl
+
+-- `contexts` isn't `context`, and the number of contexts stands before it
+what-a-row-of-a-tree-names :
+    text_html (codes "calls") (codes "  t.x/1 clique 1 of 2 contexts")
+    ≡ codes "  <a href=\"/callers?by=calls&amp;name=t%2Ex%2F1\">t.x/1</a> clique <a href=\"/clique?id=1\">1</a> of 2 contexts"
+unfolding on_tables
+what-a-row-of-a-tree-names = refl
+
+the-root-and-what-has-no-row-have-no-page : text_html (codes "calls") (codes "root") ++ text_html (codes "calls") (codes "  3 more") ≡ codes "root  3 more"
+unfolding on_tables
+the-root-and-what-has-no-row-have-no-page = refl
+
+-- only below its own heading a word without a `/` is a module
+a-module-is-told-by-its-heading :
+    last_html (codes "calls") (codes "module") (codes "a_b") ++ last_html (codes "calls") (codes "where") (codes "a_b")
+    ≡ codes "<td><a href=\"/module?name=a%5Fb\">a_b</a></td><td>a_b</td>"
+unfolding on_tables
+a-module-is-told-by-its-heading = refl
+
+-- a word that HTML would read is escaped where it is shown, and by another rule in the address
+a-name-is-escaped-in-both-places :
+    text_html (codes "calls") (codes "<&/\"") ≡ codes "<a href=\"/callers?by=calls&amp;name=%3C%26%2F%22\">&lt;&amp;/&quot;</a>"
+unfolding on_tables
+a-name-is-escaped-in-both-places = refl

@@ -1,3 +1,4 @@
 pub mod Cells
 pub mod Table
+pub mod Anchors
 pub mod Html

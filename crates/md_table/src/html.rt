@@ -1,96 +1,200 @@
 // A table as HTML.
-ghost use Rattle.std.specs.Prelude.{◌≡◌, ◌++◌, OnOk, codes};
+ghost use Rattle.std.specs.Prelude.{◌≡◌, ◌++◌, [], OnOk, slice_index_or};
 ghost use Rattle.std.specs.List.{flat_map};
-ghost use Rattle.md_table.specs.Html.{html_of, row_html, cell_html, tag, escaped, escaped_byte};
+ghost use Rattle.md_table.specs.Anchors.{anchor};
+ghost use Rattle.md_table.specs.Html.{bar_words, cell_below, cells_html, heading_html, heading_words, headings_html, html_of, is_share, is_sorted, last_html, last_words, plain_html, row_html, share_html};
 
 use crate::add::add;
+use crate::anchor::{add_escaped, add_named, add_text_html};
 use crate::cell::Cell;
 use crate::line::Line;
 use crate::table::Table;
+use crate::target::Target;
 use md_base::NoMemory;
 use std::alloc::AllocError;
 
-/// Adds the table as HTML: a row of headings, and a row for each row, with the same cells in the same order.
-pub fn add_html(out: &mut Vec<u8>, table: &Table) -> Result<(), NoMemory>
-    ensures { OnOk result (out.new.items ≡ out.old.items ++ html_of table.now) }
+/// Adds the table as HTML: a row of headings, and a row for each of the first `most` rows, with the same cells in the same order. A share
+/// has the width of its bar, and in the last column procedures, contexts, cliques and modules are anchors.
+///
+/// `by` is the name of the measure of the page, in which nothing needs an escape. `sort` is the address to which the headings `total` and
+/// `own` lead with their names behind it, as it stands in HTML, and is empty where they lead nowhere.
+pub fn add_html(
+    out: &mut Vec<u8>,
+    table: &Table,
+    by: &[u8],
+    sort: &[u8],
+    most: usize,
+) -> Result<(), NoMemory>
+    ensures { OnOk result (out.new.items ≡ out.old.items ++ html_of by.now sort.now most table.now) }
 {
+    let shown = most.min(table.rows().len());
     add(out, b"<table>\n")?;
-    add_row(out, b"th", table.heading())?;
-    add_rows(out, table.rows())?;
+    add_headings(out, sort, table.heading())?;
+    add_rows(out, by, table.heading(), &table.rows()[..shown])?;
     add(out, b"</table>\n")?;
     Ok(())
 }
 
-/// Adds each row.
-fn add_rows(out: &mut Vec<u8>, rows: &[Line]) -> Result<(), AllocError>
-    ensures { OnOk result (out.new.items ≡ out.old.items ++ flat_map (row_html (codes "td")) rows.now) }
-{
-    for row in rows {
-        add_row(out, b"td", row)?;
-    }
-    Ok(())
-}
-
-/// Adds a row whose cells are elements of this name.
-fn add_row(out: &mut Vec<u8>, element: &[u8], line: &Line) -> Result<(), AllocError>
-    ensures { OnOk result (out.new.items ≡ out.old.items ++ row_html element.now line.now) }
+/// Adds the row of headings.
+fn add_headings(out: &mut Vec<u8>, sort: &[u8], line: &Line) -> Result<(), AllocError>
+    ensures { OnOk result (out.new.items ≡ out.old.items ++ headings_html sort.now line.now) }
 {
     add(out, b"<tr>")?;
-    add_cells(out, element, line.cells())?;
-    add_cell(out, element, line.last())?;
+    add_each_heading(out, sort, line.cells())?;
+    add_heading(out, b"", line.last().as_bytes())?;
     add(out, b"</tr>\n")
 }
 
-/// Adds cells one after the other.
-fn add_cells(out: &mut Vec<u8>, element: &[u8], cells: &[Cell]) -> Result<(), AllocError>
-    ensures { OnOk result (out.new.items ≡ out.old.items ++ flat_map (cell_html element.now) cells.now) }
+/// Adds the headings of all columns but the last.
+fn add_each_heading(out: &mut Vec<u8>, sort: &[u8], cells: &[Cell]) -> Result<(), AllocError>
+    ensures { OnOk result (out.new.items ≡ out.old.items ++ flat_map (heading_html sort.now) cells.now) }
 {
     for cell in cells {
-        add_cell(out, element, cell)?;
+        add_heading(out, sort, cell.as_bytes())?;
     }
     Ok(())
 }
 
-/// Adds a cell as an element of this name.
-fn add_cell(out: &mut Vec<u8>, element: &[u8], cell: &Cell) -> Result<(), AllocError>
-    ensures { OnOk result (out.new.items ≡ out.old.items ++ cell_html element.now cell.now) }
+/// Adds a heading.
+fn add_heading(out: &mut Vec<u8>, sort: &[u8], heading: &[u8]) -> Result<(), AllocError>
+    ensures { OnOk result (out.new.items ≡ out.old.items ++ heading_html sort.now heading.now) }
 {
-    add_tag(out, b"<", element)?;
-    add_escaped(out, cell.as_bytes())?;
-    add_tag(out, b"</", element)
+    add(out, b"<th>")?;
+    add_heading_words(out, sort, heading)?;
+    add(out, b"</th>")
 }
 
-/// Adds a tag of this name.
-fn add_tag(out: &mut Vec<u8>, opening: &[u8], element: &[u8]) -> Result<(), AllocError>
-    ensures { OnOk result (out.new.items ≡ out.old.items ++ tag opening.now element.now) }
+fn add_heading_words(out: &mut Vec<u8>, sort: &[u8], heading: &[u8]) -> Result<(), AllocError>
+    ensures { OnOk result (out.new.items ≡ out.old.items ++ heading_words sort.now heading.now) }
 {
-    add(out, opening)?;
-    add(out, element)?;
-    add(out, b">")
+    if is_sorted(sort, heading) {
+        add_sorting(out, sort, heading)
+    } else {
+        add_escaped(out, heading)
+    }
 }
 
-/// Adds bytes as they stand in HTML.
-pub fn add_escaped(out: &mut Vec<u8>, bytes: &[u8]) -> Result<(), AllocError>
-    ensures { OnOk result (out.new.items ≡ out.old.items ++ escaped bytes.now) }
+/// Adds a heading that leads to the page sorted by it.
+fn add_sorting(out: &mut Vec<u8>, sort: &[u8], heading: &[u8]) -> Result<(), AllocError>
+    ensures { OnOk result (out.new.items ≡ out.old.items ++ anchor (sort.now ++ heading.now) heading.now) }
 {
-    for byte in bytes {
-        add_escaped_byte(out, *byte)?;
+    add(out, b"<a href=\"")?;
+    add(out, sort)?;
+    add(out, heading)?;
+    add(out, b"\">")?;
+    add(out, heading)?;
+    add(out, b"</a>")
+}
+
+/// Whether a heading leads to the page sorted by it.
+fn is_sorted(sort: &[u8], heading: &[u8]) -> bool
+    ensures { result ≡ is_sorted sort.now heading.now }
+{
+    !sort.is_empty() && (heading == b"total".as_slice() || heading == b"own".as_slice())
+}
+
+/// Adds each row.
+fn add_rows(out: &mut Vec<u8>, by: &[u8], heading: &Line, rows: &[Line]) -> Result<(), AllocError>
+    ensures { OnOk result (out.new.items ≡ out.old.items ++ flat_map (row_html by.now heading.now) rows.now) }
+{
+    for row in rows {
+        add_row(out, by, heading, row)?;
     }
     Ok(())
 }
 
-fn add_escaped_byte(out: &mut Vec<u8>, byte: u8) -> Result<(), AllocError>
-    ensures { OnOk result (out.new.items ≡ out.old.items ++ escaped_byte byte) }
+/// Adds a row below this heading.
+fn add_row(out: &mut Vec<u8>, by: &[u8], heading: &Line, line: &Line) -> Result<(), AllocError>
+    ensures { OnOk result (out.new.items ≡ out.old.items ++ row_html by.now heading.now line.now) }
 {
-    match byte {
-        b'&' => add(out, b"&amp;"),
-        b'<' => add(out, b"&lt;"),
-        b'>' => add(out, b"&gt;"),
-        b'"' => add(out, b"&quot;"),
-        b'\'' => add(out, b"&#39;"),
-        _ => {
-            out.push(byte)?;
-            Ok(())
-        }
+    add(out, b"<tr>")?;
+    add_cells(out, heading.cells(), line.cells())?;
+    add_last(out, by, heading.last().as_bytes(), line.last().as_bytes())?;
+    add(out, b"</tr>\n")
+}
+
+/// Adds the cells of a row but the last, each below its heading.
+fn add_cells(out: &mut Vec<u8>, headings: &[Cell], cells: &[Cell]) -> Result<(), AllocError>
+    ensures { OnOk result (out.new.items ≡ out.old.items ++ cells_html headings.now cells.now) }
+{
+    for column in 0..cells.len() {
+        add_below(out, heading_at(headings, column), cells[column].as_bytes())?;
+    }
+    Ok(())
+}
+
+/// The heading of a column, which is empty where there is none.
+fn heading_at(headings: &[Cell], column: usize) -> &[u8]
+    ensures { result.now ≡ slice_index_or headings.now column [] }
+{
+    match headings.get(column) {
+        Some(heading) => heading.as_bytes(),
+        None => b"",
+    }
+}
+
+/// Adds a cell below this heading.
+fn add_below(out: &mut Vec<u8>, heading: &[u8], cell: &[u8]) -> Result<(), AllocError>
+    ensures { OnOk result (out.new.items ≡ out.old.items ++ cell_below heading.now cell.now) }
+{
+    if is_share(heading, cell) {
+        add_share(out, cell)
+    } else {
+        add_plain(out, cell)
+    }
+}
+
+fn is_share(heading: &[u8], cell: &[u8]) -> bool
+    ensures { result ≡ is_share heading.now cell.now }
+{
+    heading == b"%".as_slice() && cell != b"-".as_slice()
+}
+
+/// Adds a share, with the width of its bar.
+fn add_share(out: &mut Vec<u8>, cell: &[u8]) -> Result<(), AllocError>
+    ensures { OnOk result (out.new.items ≡ out.old.items ++ share_html cell.now) }
+{
+    add_bar(out, cell)?;
+    add_escaped(out, cell)?;
+    add(out, b"</td>")
+}
+
+fn add_bar(out: &mut Vec<u8>, cell: &[u8]) -> Result<(), AllocError>
+    ensures { OnOk result (out.new.items ≡ out.old.items ++ bar_words cell.now) }
+{
+    add(out, b"<td style=\"--w:")?;
+    add_escaped(out, cell)?;
+    add(out, b"%\">")
+}
+
+fn add_plain(out: &mut Vec<u8>, cell: &[u8]) -> Result<(), AllocError>
+    ensures { OnOk result (out.new.items ≡ out.old.items ++ plain_html cell.now) }
+{
+    add(out, b"<td>")?;
+    add_escaped(out, cell)?;
+    add(out, b"</td>")
+}
+
+/// Adds a cell of the last column below this heading.
+fn add_last(out: &mut Vec<u8>, by: &[u8], heading: &[u8], cell: &[u8]) -> Result<(), AllocError>
+    ensures { OnOk result (out.new.items ≡ out.old.items ++ last_html by.now heading.now cell.now) }
+{
+    add(out, b"<td>")?;
+    add_last_words(out, by, heading, cell)?;
+    add(out, b"</td>")
+}
+
+fn add_last_words(
+    out: &mut Vec<u8>,
+    by: &[u8],
+    heading: &[u8],
+    cell: &[u8],
+) -> Result<(), AllocError>
+    ensures { OnOk result (out.new.items ≡ out.old.items ++ last_words by.now heading.now cell.now) }
+{
+    if heading == b"module".as_slice() {
+        add_named(out, by, Target::Module, cell)
+    } else {
+        add_text_html(out, by, cell)
     }
 }

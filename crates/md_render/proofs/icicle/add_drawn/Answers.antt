@@ -3,7 +3,7 @@ use Rattle.std.proofs.lemmas.List.{take_min}
 use Rattle.std.proofs.lemmas.List.Elements.{All-take}
 use Rattle.md_clique.specs.Cliques.{clique_count}
 use Rattle.md_tree.specs.declared.picture.CliqueBox.{CliqueBox}
-use Rattle.md_render.proofs.Chains.{four-words}
+use Rattle.md_render.proofs.Chains.{two-words}
 use Rattle.md_render.proofs.icicle.add_drawn.Goals as goal
 
 pub add_svg-requires : goal.add_svg-requires
@@ -15,4 +15,4 @@ returns c = λ v is.
     let few : c.min-shown.result ≡ min 10000 (length boxes) = omega (arith, c.min-shown.ensures) in
     let first : take c.min-shown.result boxes ≡ take 10000 boxes = ap (λ (n : ℕ). take n boxes) few ∙ take_min 10000 boxes in
     let more : length boxes - c.min-shown.result ≡ length boxes - 10000 = omega (arith, few) in
-    four-words c.args.out.now.items _ _ _ _ _ _ _ _ c.in_ok-add.ensures (rw first at (c.in_ok-add_svg.ensures v is)) (rw more at c.in_ok-add_more.ensures) c.in_ok-add-2.ensures
+    two-words c.args.out.now.items _ _ _ _ (rw first at (c.in_ok-add_svg.ensures v is)) (rw more at c.in_ok-add_more.ensures)

@@ -1,4 +1,4 @@
-use Rattle.md_render.proofs.Chains.{three-added}
+use Rattle.md_table.proofs.Chains.{three-added}
 use Rattle.md_render.proofs.line.add_context_of.Goals as goal
 
 pub returns : goal.returns

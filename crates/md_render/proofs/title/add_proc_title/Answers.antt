@@ -1,4 +1,4 @@
-use Rattle.md_render.proofs.Chains.{three-added}
+use Rattle.md_table.proofs.Chains.{three-added}
 use Rattle.md_render.proofs.title.add_proc_title.Goals as goal
 
 pub returns : goal.returns
