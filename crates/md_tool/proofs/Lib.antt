@@ -9,6 +9,7 @@ pub mod ReportLemmas
 pub mod CoverLemmas
 pub mod SizeLemmas
 pub mod SumLemmas
+pub mod CompareLemmas
 pub mod StoredLemmas
 pub mod ServeLemmas
 pub mod GenShort

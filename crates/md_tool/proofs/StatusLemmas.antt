@@ -5,12 +5,13 @@ use Rattle.md_base.specs.Outside.{PartAdded}
 use Rattle.md_base.specs.Files.{Files}
 use Rattle.md_base.specs.Nets.{Connections}
 use Rattle.md_hlds.specs.Hlds.{Hlds}
-use Rattle.md_words.specs.Form.{Form, Check, Run, Report, Page, Serve, Gen, Migrate, Feedback, Dump, Undump, Cover, Sum}
+use Rattle.md_words.specs.Form.{Form, Check, Run, Report, Page, Serve, Gen, Migrate, Feedback, Dump, Undump, Cover, Sum, Compare}
 use Rattle.md_tool.specs.declared.fault.Fault.{Fault}
 use Rattle.md_tool.specs.declared.fault.Fault.TheVariants.{Usage, Read, TooLong, Refused, OutOfSteps, Thrown, Damaged, TooLarge, TwoEntries, DamagedLine, AnotherProgram, NoSuchPage, Write, NoMemory, Network}
 use Rattle.md_tool.specs.Ends.{RunEnd, Finished, Threw, RanOut}
 use Rattle.md_tool.specs.Due.{CheckEnds}
 use Rattle.md_tool.specs.Candidates.{IsFeedbackOfRun}
+use Rattle.md_tool.specs.Compared.{SomeCompareEnds}
 use Rattle.md_tool.specs.Kept.{HasRun, HasKeptInPart, IsRunFile, RunEnds}
 use Rattle.md_tool.specs.Reported.{HasReported, HasPageInPart, ReportEnds, IsPageOfRun, HasNoPageOfRun}
 use Rattle.md_tool.specs.Served.{ServeEnds}
@@ -276,6 +277,8 @@ end_means (Some (Cover file procedure steps)) at held held' net net' out out' er
     report_fault (IsCoverageOfRun procedure steps) (HasNoProcedure procedure) held file steps out out' err between err' reads outs errs fault status command.0 told.part told.told
 end_means (Some (Sum names)) at held held' net net' out out' err between err' reads writes outs errs nets status end command told =
     ended (SomeSumEnds held names out out' reads outs) end at between err' errs status (at, command.0) told
+end_means (Some (Compare old new by least)) at held held' net net' out out' err between err' reads writes outs errs nets status end command told =
+    ended (SomeCompareEnds held old new by least out out' reads outs) end at between err' errs status (at, command.0) told
 
 pub top_means : (form : Option Form) (held held' : Option Files) (net net' : Option Connections) (out out' err err' : Option (List ℕ)) (reads writes outs errs nets : Type 0) (status : ℕ)
     → TopEnds form held held' net net' out out' err err' reads writes outs errs nets status → Means form held held' net net' out out' err err' reads writes outs errs nets status
@@ -298,6 +301,7 @@ keeps (Some (Dump name)) at held held' net net' out out' err err' reads writes o
 keeps (Some (Undump text new)) at held held' net net' out out' err err' reads writes outs errs nets r h so = absurd (cc)
 keeps (Some (Cover file procedure steps)) at held held' net net' out out' err err' reads writes outs errs nets r h so = h.1
 keeps (Some (Sum names)) at held held' net net' out out' err err' reads writes outs errs nets r h so = h.1
+keeps (Some (Compare old new by least)) at held held' net net' out out' err err' reads writes outs errs nets r h so = h.1
 
 pub store_kept : (form : Option Form) (held held' : Option Files) (net net' : Option Connections) (out out' err err' : Option (List ℕ)) (reads writes outs errs nets : Type 0) (status : ℕ)
     → TopEnds form held held' net net' out out' err err' reads writes outs errs nets status → keeps_store form ≡ true → held' ≡ held

@@ -11,7 +11,7 @@ use Rattle.md_static.specs.Tables.{Static}
 use Rattle.md_words.specs.Told.{texts}
 use Rattle.md_tool.specs.declared.fault.Fault.{Fault}
 use Rattle.md_tool.specs.declared.fault.Fault.TheVariants.{Usage, Read, TooLong, Refused, OutOfSteps, Thrown, Damaged, TooLarge, TwoEntries, DamagedLine, AnotherProgram, NoSuchPage, Write, NoMemory, Network}
-use Rattle.md_tool.specs.declared.sums.Stopped.{Stopped}
+use Rattle.md_tool.specs.declared.fault.Stopped.{Stopped}
 use Rattle.md_tool.specs.Due.{WriteEnds}
 use Rattle.md_tool.specs.Stored.{IsLoadedFrom, ViewFails}
 use Rattle.md_tool.specs.Summed.{AreLoaded, AreSummed, StopsAt, AddUpFails, IsSumOf, IsOfAnother, SumEnds, SumStops, sum_text}
@@ -57,7 +57,7 @@ text_at (v ∷ ws) (suc k) d less = text_at ws k d (omega (arith, less))
 -- ---- the file that stops them
 
 -- where the count of faults in a read rose, it rose in the whole
-view_rises : (held : Option Files) (name : List ℕ) (some all : Type 0) (fault : Fault) → (some → all) → ViewFails held name some fault → ViewFails held name all fault
+pub view_rises : (held : Option Files) (name : List ℕ) (some all : Type 0) (fault : Fault) → (some → all) → ViewFails held name some fault → ViewFails held name all fault
 view_rises held name some all Usage rises h = h
 view_rises held name some all Network rises h = h
 view_rises held name some all Read rises h = rises h

@@ -4,11 +4,13 @@ use Rattle.std.specs.Prelude.{Result, Ok, Err, codes}
 use Rattle.md_base.specs.Outside.{Rose, added, PartAdded}
 use Rattle.md_base.specs.Files.{Files}
 use Rattle.md_base.specs.Nets.{Connections}
+use Rattle.md_base.specs.declared.measure.Measure.{Measure}
 use Rattle.md_hlds.specs.Hlds.{Hlds}
 use Rattle.md_query.specs.Asked.{Asked}
-use Rattle.md_words.specs.Form.{Form, Check, Run, Report, Page, Serve, Gen, Migrate, Feedback, Dump, Undump, Cover, Sum}
+use Rattle.md_words.specs.Form.{Form, Meant, Check, Run, Report, Page, Serve, Gen, Migrate, Feedback, Dump, Undump, Cover, Sum, Compare}
 use Rattle.md_tool.specs.declared.fault.Fault.{Fault}
 use Rattle.md_tool.specs.declared.fault.Fault.TheVariants.{Usage, Read, TooLong, Refused, OutOfSteps, Thrown, Damaged, TooLarge, TwoEntries, DamagedLine, AnotherProgram, NoSuchPage, Write, NoMemory, Network}
+use Rattle.md_tool.specs.Compared.{CompareEnds}
 use Rattle.md_tool.specs.Fault.{status_of, fault_line}
 use Rattle.md_tool.specs.Generated.{gen_text, GenEnds}
 use Rattle.md_tool.specs.Reported.{ReportEnds, IsPageOfRun, HasNoPageOfRun}
@@ -43,6 +45,7 @@ unknown (Some (Dump name)) held net out err reads writes outs errs nets = (inl r
 unknown (Some (Undump text new)) held net out err reads writes outs errs nets = (inl (record { held_is = refl; out_is = refl }), refl)
 unknown (Some (Cover file procedure steps)) held net out err reads writes outs errs nets = (inl (record { out_is = refl; err_is = refl }), refl)
 unknown (Some (Sum names)) held net out err reads writes outs errs nets = (inl refl, refl, refl)
+unknown (Some (Compare old new by least)) held net out err reads writes outs errs nets = (inl refl, refl, refl)
 
 pub memory_told : (form : Option Form) (held : Option Files) (net : Option Connections) (out err err' : Option (List ℕ)) (reads writes outs errs nets : Type 0) (status : ℕ)
     → Tells NoMemory [] err err' errs status → TopEnds form held held net net out out err err' reads writes outs errs nets status
@@ -100,7 +103,7 @@ report_told held held' net net' file query steps out out' err between err' reads
   told = told_rises r file between err' (Rose b c) (Rose a c) status (rose_after a b c first) told;
 }
 
-pub cover_told : (held held' : Option Files) (net net' : Option Connections) (file : List ℕ) (procedure steps : ℕ) (out out' err between err' : Option (List ℕ)) (reads writes outs nets : Type 0) (a b c : ℕ) (status : ℕ)
+pub cover_told : (held held' : Option Files) (net net' : Option Connections) (file : List ℕ) (procedure : Meant) (steps : ℕ) (out out' err between err' : Option (List ℕ)) (reads writes outs nets : Type 0) (a b c : ℕ) (status : ℕ)
     (r : Result (Unit {0}) Fault) → a ≤ b → b ≤ c → ReportEnds (IsCoverageOfRun procedure steps) (HasNoProcedure procedure) held file steps out out' err between reads outs (Rose a b) r → held' ≡ held
     → EndIsTold r file between err' (Rose b c) status → TopEnds (Some (Cover file procedure steps)) held held' net net' out out' err err' reads writes outs (Rose a c) nets status
 cover_told held held' net net' file procedure steps out out' err between err' reads writes outs nets a b c status r first later ends kept told = record {
@@ -122,6 +125,12 @@ gen_told held net net' n summary out out' err err' reads writes outs errs nets s
 pub sum_told : (held held' : Option Files) (net net' : Option Connections) (names : List (List ℕ)) (at : List ℕ) (out out' err err' : Option (List ℕ)) (reads writes outs errs nets : Type 0) (status : ℕ) (r : Result (Unit {0}) Fault)
     → SumEnds held names at out out' reads outs r → held' ≡ held → EndIsTold r at err err' errs status → TopEnds (Some (Sum names)) held held' net net' out out' err err' reads writes outs errs nets status
 sum_told held held' net net' names at out out' err err' reads writes outs errs nets status r ends kept told = record { end = r; at = at; between = err; command = (ends, kept, refl); told = told }
+
+-- ---- profiles that are compared
+
+pub compare_told : (held held' : Option Files) (net net' : Option Connections) (old new : List ℕ) (by : Measure) (least : ℕ) (at : List ℕ) (out out' err err' : Option (List ℕ)) (reads writes outs errs nets : Type 0) (status : ℕ) (r : Result (Unit {0}) Fault)
+    → CompareEnds held old new by least at out out' reads outs r → held' ≡ held → EndIsTold r at err err' errs status → TopEnds (Some (Compare old new by least)) held held' net net' out out' err err' reads writes outs errs nets status
+compare_told held held' net net' old new by least at out out' err err' reads writes outs errs nets status r ends kept told = record { end = r; at = at; between = err; command = (ends, kept, refl); told = told }
 
 -- ---- the line that tells of a fault
 

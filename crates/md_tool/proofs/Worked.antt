@@ -1,5 +1,5 @@
 -- Ends, faults and a generated program, worked out by hand.
-use Rattle.std.proofs.Common.{◌≡◌, ℕ, [], ◌∷◌, codes, refl}
+use Rattle.std.proofs.Common.{◌≡◌, ℕ, [], ◌∷◌, Some, None, codes, refl}
 use Rattle.std.specs.Prelude.{⊤}
 use Rattle.std.specs.Fmt.{digits}
 use Rattle.md_deepfile.specs.declared.damage.Kind.TheVariants as kind
@@ -18,6 +18,8 @@ use Rattle.md_tool.specs.Generated.{gen_text}
 use Rattle.md_static.specs.Tables.{Static}
 use Rattle.md_cost.specs.declared.sums.Sums.{Sums}
 use Rattle.md_tool.specs.Summed.{sum_text}
+use Rattle.md_tool.specs.Turns.{number_in}
+use Rattle.md_words.specs.Form.{Number, Name}
 
 -- ---- how a run ends
 
@@ -95,3 +97,27 @@ sums-have-a-line-for-each-procedure :
     ≡ codes "mdprof sum 16\nproc 0 t.main/2 own 2 2 0 0 3 4 total 7 7 0 0 3 4\nproc 1 a.f/0 own 5 5 0 0 3 4 total 5 5 0 0 3 4\n"
 unfolding on_numbers
 sums-have-a-line-for-each-procedure = refl
+
+-- ---- the procedure that `cover` is asked for
+
+-- q/0 and q/1 of the module t
+abbrev two_of_a_name : Static
+two_of_a_name = record {
+  modules = codes "t" ∷ [];
+  procs = record { «module» = 0; name = codes "q"; arity = 0 } ∷ record { «module» = 0; name = codes "q"; arity = 1 } ∷ [];
+  sites = [];
+}
+
+-- refuses a rule that looks for the name alone
+a-full-name-has-the-arguments-in-it : number_in two_of_a_name (Name (codes "t.q/1")) ≡ Some 1
+unfolding on_numbers
+a-full-name-has-the-arguments-in-it = refl
+
+-- refuses a rule by which a front of a full name is enough
+a-front-of-a-full-name-is-none : number_in two_of_a_name (Name (codes "t.q")) ≡ None
+unfolding on_numbers
+a-front-of-a-full-name-is-none = refl
+
+-- refuses a rule by which a number that isn't there is the last one: whether it is there is asked of the program
+a-number-is-that-number : number_in two_of_a_name (Number 7) ≡ Some 7
+a-number-is-that-number = refl

@@ -12,6 +12,7 @@ pub mod Stored
 pub mod Served
 pub mod Generated
 pub mod Summed
+pub mod Compared
 pub mod Told
 pub mod Meaning
 pub mod Texts

@@ -4,7 +4,7 @@ use Rattle.md_base.specs.Outside.{PartAdded}
 use Rattle.md_base.specs.Files.{Files, FileIsLonger}
 use Rattle.md_base.specs.Nets.{Connections}
 use Rattle.md_hlds.specs.Hlds.{Hlds}
-use Rattle.md_words.specs.Form.{Form, Check, Run, Report, Page, Serve, Gen, Migrate, Feedback, Dump, Undump, Cover, Sum}
+use Rattle.md_words.specs.Form.{Form, Check, Run, Report, Page, Serve, Gen, Migrate, Feedback, Dump, Undump, Cover, Sum, Compare}
 use Rattle.md_tool.specs.declared.fault.Fault.{Fault}
 use Rattle.md_tool.specs.declared.fault.Fault.TheVariants.{Refused}
 use Rattle.md_tool.specs.declared.fault.Refusal.{Refusal}
@@ -14,6 +14,7 @@ use Rattle.md_tool.specs.Ends.{RunEnd, Finished, Threw, RanOut}
 use Rattle.md_tool.specs.Fault.{status_of, plain_line, uncaught_line}
 use Rattle.md_tool.specs.Generated.{GenEnds}
 use Rattle.md_tool.specs.Candidates.{IsFeedbackOfRun}
+use Rattle.md_tool.specs.Compared.{SomeCompareEnds}
 use Rattle.md_tool.specs.Kept.{AreUntouched, HasRun, HasRunInPart, HasKeptInPart, IsRunFile}
 use Rattle.md_tool.specs.Reported.{HasReported, HasNoPage, IsPageOfRun, HasNoPageOfRun}
 use Rattle.md_tool.specs.Served.{ServeEnds}
@@ -118,6 +119,7 @@ Means (Some (Dump name)) held held' net net' out out' err err' reads writes outs
 Means (Some (Undump text new)) held held' net net' out out' err err' reads writes outs errs nets status = MeansEnd (UndumpEnds held held' text new out out' reads writes outs) status
 Means (Some (Cover file procedure steps)) held held' net net' out out' err err' reads writes outs errs nets status = MeansReport (IsCoverageOfRun procedure steps) (HasNoProcedure procedure) held file steps out out' err err' reads outs errs status
 Means (Some (Sum names)) held held' net net' out out' err err' reads writes outs errs nets status = MeansEnd (SomeSumEnds held names out out' reads outs) status
+Means (Some (Compare old new by least)) held held' net net' out out' err err' reads writes outs errs nets status = MeansEnd (SomeCompareEnds held old new by least out out' reads outs) status
 
 -- whether a command leaves the store as it was
 abbrev pub keeps_store : Option Form → Bool
@@ -127,6 +129,7 @@ keeps_store (Some (Feedback file new steps least)) = false
 keeps_store (Some (Undump text new)) = false
 keeps_store (Some (Cover file procedure steps)) = true
 keeps_store (Some (Sum names)) = true
+keeps_store (Some (Compare old new by least)) = true
 keeps_store (Some (Dump name)) = true
 keeps_store (Some (Check file print)) = true
 keeps_store (Some (Report file query steps)) = true
@@ -145,6 +148,7 @@ keeps_net (Some (Dump name)) = true
 keeps_net (Some (Undump text new)) = true
 keeps_net (Some (Cover file procedure steps)) = true
 keeps_net (Some (Sum names)) = true
+keeps_net (Some (Compare old new by least)) = true
 keeps_net (Some (Check file print)) = true
 keeps_net (Some (Report file query steps)) = true
 keeps_net (Some (Page name query)) = true

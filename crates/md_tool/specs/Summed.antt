@@ -11,7 +11,7 @@ use Rattle.md_render.specs.Lines.{proc_line}
 use Rattle.md_static.specs.Tables.{Static}
 use Rattle.md_tool.specs.declared.fault.Fault.{Fault}
 use Rattle.md_tool.specs.declared.fault.Fault.TheVariants.{Read, TooLarge, Damaged, TwoEntries, AnotherProgram, Write, NoMemory}
-use Rattle.md_tool.specs.declared.sums.Stopped.{Stopped}
+use Rattle.md_tool.specs.declared.fault.Stopped.{Stopped}
 use Rattle.md_tool.specs.Stored.{IsLoadedFrom, ViewFails}
 
 -- the files of these names spell these profiles, each of which has a view, in their order

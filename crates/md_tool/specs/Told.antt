@@ -3,10 +3,11 @@ use Rattle.std.specs.Prelude.{ℕ, ◌≡◌, ◌⊎◌, List, [], Option, None,
 use Rattle.md_base.specs.Outside.{added, PartAdded}
 use Rattle.md_base.specs.Files.{Files}
 use Rattle.md_base.specs.Nets.{Connections}
-use Rattle.md_words.specs.Form.{Form, Check, Run, Report, Page, Serve, Gen, Migrate, Feedback, Dump, Undump, Cover, Sum}
+use Rattle.md_words.specs.Form.{Form, Check, Run, Report, Page, Serve, Gen, Migrate, Feedback, Dump, Undump, Cover, Sum, Compare}
 use Rattle.md_tool.specs.declared.fault.Fault.{Fault}
 use Rattle.md_tool.specs.declared.fault.Fault.TheVariants.{Usage, NoMemory}
 use Rattle.md_tool.specs.Fault.{status_of, fault_line}
+use Rattle.md_tool.specs.Compared.{CompareEnds}
 use Rattle.md_tool.specs.Due.{CheckEnds}
 use Rattle.md_tool.specs.Generated.{GenEnds}
 use Rattle.md_tool.specs.Candidates.{IsFeedbackOfRun}
@@ -33,7 +34,7 @@ pub record NothingChanged (held held' : Option Files) (out out' err err' : Optio
 
 -- What the words ask for: nothing, or a command. The five facts say that the store's count of faults in a read rose, that
 -- in a write, and those of `out`, of `err` and of the net. What a command doesn't write it leaves as it was. Of several
--- profiles that are added up `at` names the one that is at fault, where there is one.
+-- profiles that are added up or compared `at` names the one that is at fault, where there is one.
 abbrev pub CommandEnds : Option Form → (at : List ℕ) → (held held' : Option Files) → (net net' : Option Connections) → (out out' err err' : Option (List ℕ)) → (reads writes outs errs nets : Type 0) → Result (Unit {0}) Fault → Type 0
 CommandEnds None at held held' net net' out out' err err' reads writes outs errs nets r = ((r ≡ Err Usage) ⊎ (r ≡ Err NoMemory)) × NothingChanged held held' out out' err err'
 CommandEnds (Some (Check file print)) at held held' net net' out out' err err' reads writes outs errs nets r = CheckEnds held file print out out' reads outs r × (held' ≡ held) × (err' ≡ err)
@@ -48,6 +49,7 @@ CommandEnds (Some (Dump name)) at held held' net net' out out' err err' reads wr
 CommandEnds (Some (Undump text new)) at held held' net net' out out' err err' reads writes outs errs nets r = UndumpEnds held held' text new out out' reads writes outs r × (err' ≡ err)
 CommandEnds (Some (Cover file procedure steps)) at held held' net net' out out' err err' reads writes outs errs nets r = ReportEnds (IsCoverageOfRun procedure steps) (HasNoProcedure procedure) held file steps out out' err err' reads outs errs r × (held' ≡ held)
 CommandEnds (Some (Sum names)) at held held' net net' out out' err err' reads writes outs errs nets r = SumEnds held names at out out' reads outs r × (held' ≡ held) × (err' ≡ err)
+CommandEnds (Some (Compare old new by least)) at held held' net net' out out' err err' reads writes outs errs nets r = CompareEnds held old new by least at out out' reads outs r × (held' ≡ held) × (err' ≡ err)
 
 -- the name in a line that tells of a fault: that of the command's file; a generated program is called `gen`, and of several
 -- profiles the one at fault is named
@@ -64,6 +66,7 @@ file_of (Dump name) at = name
 file_of (Undump text new) at = text
 file_of (Cover file procedure steps) at = file
 file_of (Sum names) at = at
+file_of (Compare old new by least) at = at
 
 abbrev pub named : Option Form → (at : List ℕ) → List ℕ
 named None at = []

@@ -3,11 +3,13 @@ ghost use Rattle.std.specs.Prelude.{ℕ, ◌≡◌, ◌≤◌, List, length, Res
 ghost use Rattle.md_base.specs.Outside.{Rose};
 ghost use Rattle.md_words.specs.Form.{words_of, HasBounds, form};
 ghost use Rattle.md_words.specs.Told.{told, texts};
+ghost use Rattle.md_tool.specs.Compared.{CompareEnds};
 ghost use Rattle.md_tool.specs.Summed.{SumEnds};
 ghost use Rattle.md_tool.specs.Told.{Tells, EndIsTold, TopEnds};
 ghost use Rattle.md_tool.specs.Meaning.{Means, keeps_store, keeps_net};
 
 use crate::check::check_file;
+use crate::compare::compare_files;
 use crate::fault::Fault;
 use crate::generate::generate;
 use crate::pairs::feedback_file;
@@ -18,7 +20,7 @@ use crate::stored::{migrate_file, page_of_file};
 use crate::sums::sum_files;
 use crate::texts::{dump_file, undump_file};
 use crate::turns::cover_file;
-use md_base::{Net, Sink, Store, WriteFault, write_whole};
+use md_base::{Measure, Net, Sink, Store, WriteFault, write_whole};
 use md_words::{Command, command_of};
 use std::alloc::Global;
 
@@ -35,8 +37,10 @@ pub struct Status(pub u8);
 /// `page NAME QUERY` writes the page of a stored profile, and `migrate NAME NEW` stores it in the newer form. `serve NAME --port P
 /// --requests N` serves the pages of a stored profile over HTTP to as many connections, and writes how many came and how many
 /// of them were answered. `dump NAME` writes a stored profile as a text, and `undump TEXT NEW` stores the profile that such a
-/// text spells. `sum NAME ..` adds up what each procedure cost over 1 to 16 stored profiles of one program. `cover FILE PROC` runs the
-/// program as `report` does, and writes how often each goal of a procedure had a turn. `feedback FILE NEW` runs the program as `run` does, and stores which pairs of its calls could run side by side
+/// text spells. `sum NAME ..` adds up what each procedure cost over 1 to 16 stored profiles of one program. `compare OLD NEW` writes
+/// which procedures cost otherwise in one stored profile than in another, by the measure that `--by` names, or calls, and from a
+/// difference on of as many thousandths of the old whole as `--least` says, or 5. `cover FILE PROC` runs the program as `report` does,
+/// and writes how often each goal of a procedure had a turn, which is given by its number or by its full name. `feedback FILE NEW` runs the program as `run` does, and stores which pairs of its calls could run side by side
 /// with profit: those with 100 calls in all for each own one, or as many as `--least` gives. `gen N` writes a generated
 /// program, and `gen N --summary` the menu of its run. A fault is told by a line on `err` and by the status: 1
 /// where the words are no command, 2 where a file can't be read, 3 where a text isn't accepted as a program, 4 where the run
@@ -158,6 +162,12 @@ fn do_command<S: Store, O: Sink, E: Sink, N: Net>(
             tell_end(alloc, end, *text, err)
         }
         Command::Sum { names } => do_sum(alloc, names, store, out, err),
+        Command::Compare {
+            old,
+            new,
+            by,
+            least,
+        } => do_compare(alloc, *old, *new, *by, *least, store, out, err),
     }
 }
 
@@ -177,6 +187,28 @@ fn do_sum<S: Store, O: Sink, E: Sink>(
     ensures kept { S.held store.new ≡ S.held store.old }
 {
     match sum_files(alloc, names, store, out) {
+        Ok(()) => 0,
+        Err(stopped) => tell(alloc, &stopped.fault, stopped.file, err),
+    }
+}
+
+/// Compares the stored profiles of two names, tells a fault, and gives the status.
+fn do_compare<S: Store, O: Sink, E: Sink>(
+    alloc: Global,
+    old: &str,
+    new: &str,
+    by: Measure,
+    least: u32,
+    store: &mut S,
+    out: &mut O,
+    err: &mut E,
+) -> u8
+    ensures ends { (end : Result (Unit {0}) Fault) × (at : List ℕ) × CompareEnds (S.held store.old) old.now new.now by least at (O.held out.old) (O.held out.new)
+        (Rose (S.read_faults store.old) (S.read_faults store.new)) (Rose (O.write_faults out.old) (O.write_faults out.new)) end
+        × EndIsTold end at (E.held err.old) (E.held err.new) (Rose (E.write_faults err.old) (E.write_faults err.new)) result }
+    ensures kept { S.held store.new ≡ S.held store.old }
+{
+    match compare_files(alloc, old, new, by, least, store, out) {
         Ok(()) => 0,
         Err(stopped) => tell(alloc, &stopped.fault, stopped.file, err),
     }

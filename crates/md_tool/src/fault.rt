@@ -45,6 +45,13 @@ pub enum Fault {
     NoMemory,
 }
 
+/// Why a command over several files ended, and the name of the file that is at fault, or none where that is no file's.
+#[derive(Drop)]
+pub struct Stopped<'a> {
+    pub file: &'a str,
+    pub fault: Fault,
+}
+
 /// Why a text isn't accepted as a program.
 #[derive(Clone, Copy, PartialEq, Eq)]
 pub enum Refusal {

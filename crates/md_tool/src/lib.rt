@@ -4,6 +4,7 @@
 mod accept;
 mod check;
 mod command;
+mod compare;
 mod fault;
 mod generate;
 mod paged;

@@ -8,7 +8,7 @@ ghost use Rattle.md_words.specs.Told.{texts};
 ghost use Rattle.md_tool.specs.Stored.{IsLoadedFrom, ViewFails};
 ghost use Rattle.md_tool.specs.Summed.{AreSummed, SumStops, AddUpFails, StopsAt, IsSumOf, sum_lines, sum_title, sum_text};
 
-use crate::fault::Fault;
+use crate::fault::{Fault, Stopped};
 use crate::stored::load_file;
 use crate::write::write;
 use md_base::{NoMemory, Sink, Store};
@@ -16,13 +16,6 @@ use md_dump::{ProcSum, RunningSums};
 use md_render::add_proc_line;
 use md_static::Statics;
 use std::alloc::{AllocError, Global};
-
-/// Why profiles weren't added up, and the name of the file that is at fault, or none where that is no file's.
-#[derive(Drop)]
-pub struct Stopped<'a> {
-    pub file: &'a str,
-    pub fault: Fault,
-}
 
 /// Adds up what each procedure cost over the profiles in some files of one program.
 pub fn sum_files<'a, S: Store, O: Sink>(

@@ -1,5 +1,5 @@
 // The command `cover`.
-ghost use Rattle.std.specs.Prelude.{ℕ, ◌≡◌, ◌≤◌, length, IfOk, MatchResult};
+ghost use Rattle.std.specs.Prelude.{ℕ, ◌≡◌, ◌≤◌, ◌<◌, ◌^◌, length, IfOk, MatchResult};
 ghost use Rattle.md_base.specs.Outside.{Rose};
 ghost use Rattle.md_cover.specs.Coverage.{IsAccepted};
 ghost use Rattle.md_dynamic.specs.Valid.{IsValid};
@@ -10,7 +10,9 @@ ghost use Rattle.md_profile.specs.OfRun.{CanBeProfiled, IsProfileOfRun};
 ghost use Rattle.md_tool.specs.Accepted.{TextFault};
 ghost use Rattle.md_tool.specs.Due.{TextEnds};
 ghost use Rattle.md_tool.specs.Reported.{ReportEnds, ShowEnds};
-ghost use Rattle.md_tool.specs.Turns.{IsCoverageOfRun, HasNoProcedure, IsCounted, IsTextOfTurns};
+ghost use Rattle.md_words.specs.Form.{Meant, Number};
+ghost use Rattle.md_words.specs.Told.{meant};
+ghost use Rattle.md_tool.specs.Turns.{IsCoverageOfRun, HasNoProcedure, IsCounted, IsTextOfTurns, number_in};
 
 use crate::accept::{accept, read_text};
 use crate::fault::Fault;
@@ -24,9 +26,12 @@ use md_det::Checked;
 use md_dynamic::Profile;
 use md_events::runs_are_histories;
 use md_machine::Ran;
+use md_people::proc_named;
 use md_ports::tables_of_a_text_are_sound;
 use md_profile::{Profiled, load_run, profile_run};
 use md_spelled::{accepted_texts_are_within_bounds, accepted_texts_have_mains};
+use md_static::Statics;
+use md_words::ProcWord;
 use std::alloc::Global;
 
 /// A run, and the text of the turns of a procedure's goals, where the program has the procedure.
@@ -41,13 +46,13 @@ pub struct Counted {
 pub fn cover_file<S: Store, O: Sink, E: Sink>(
     alloc: Global,
     file: &str,
-    proc: u32,
+    proc: ProcWord<'_>,
     steps: u32,
     store: &mut S,
     out: &mut O,
     err: &mut E,
 ) -> Result<(), Fault>
-    ensures ends { ReportEnds (IsCoverageOfRun proc steps) (HasNoProcedure proc) (S.held store.old) file.now steps (O.held out.old) (O.held out.new) (E.held err.old) (E.held err.new)
+    ensures ends { ReportEnds (IsCoverageOfRun (meant proc.entry) steps) (HasNoProcedure (meant proc.entry)) (S.held store.old) file.now steps (O.held out.old) (O.held out.new) (E.held err.old) (E.held err.new)
         (Rose (S.read_faults store.old) (S.read_faults store.new)) (Rose (O.write_faults out.old) (O.write_faults out.new))
         (Rose (E.write_faults err.old) (E.write_faults err.new)) result }
     ensures kept { S.held store.new ≡ S.held store.old }
@@ -59,9 +64,9 @@ pub fn cover_file<S: Store, O: Sink, E: Sink>(
 }
 
 /// Runs the program of a text within so many steps, and finds the turns of a procedure's goals.
-fn count_text(alloc: Global, text: &[u8], proc: u32, steps: u32) -> Result<Counted, Fault>
+fn count_text(alloc: Global, text: &[u8], proc: ProcWord<'_>, steps: u32) -> Result<Counted, Fault>
     requires { length text.now ≤ 1048576 }
-    ensures { MatchResult result (IsCounted text.now proc steps) (TextFault text.now) }
+    ensures { MatchResult result (IsCounted text.now (meant proc.entry) steps) (TextFault text.now) }
 {
     let checked = accept(alloc, text)?;
     accepted_texts_are_within_bounds();
@@ -74,11 +79,16 @@ fn count_text(alloc: Global, text: &[u8], proc: u32, steps: u32) -> Result<Count
 }
 
 /// Runs a checked program within so many steps, and finds the turns of a procedure's goals.
-fn count_run(alloc: Global, checked: &Checked, proc: u32, steps: u32) -> Result<Counted, NoMemory>
+fn count_run(
+    alloc: Global,
+    checked: &Checked,
+    proc: ProcWord<'_>,
+    steps: u32,
+) -> Result<Counted, NoMemory>
     requires can { CanBeProfiled (hlds_of checked.now) steps }
     requires accepted { IsAccepted (hlds_of checked.now) }
     ensures run { IfOk result (λ counted. IsRunOf (hlds_of checked.now) steps counted.ran) }
-    ensures text { IfOk result (λ counted. IsTextOfTurns (hlds_of checked.now) proc steps counted.text) }
+    ensures text { IfOk result (λ counted. IsTextOfTurns (hlds_of checked.now) (meant proc.entry) steps counted.text) }
 {
     let Profiled { ran, profile } = profile_run(alloc, checked, steps)?;
     let text = turns_text(alloc, checked, profile, proc)?;
@@ -90,13 +100,13 @@ fn turns_text(
     alloc: Global,
     checked: &Checked,
     profile: Profile,
-    proc: u32,
+    proc: ProcWord<'_>,
 ) -> Result<Option<Vec<u8>>, NoMemory>
     requires valid { IsValid profile }
     requires of_run { (budget : ℕ) × IsWithinBounds (hlds_of checked.now) budget × IsProfileOfRun (hlds_of checked.now) budget profile }
     requires accepted { IsAccepted (hlds_of checked.now) }
     ensures { IfOk result (λ text. (budget : ℕ) → IsWithinBounds (hlds_of checked.now) budget → IsProfileOfRun (hlds_of checked.now) budget profile
-        → IsTextOfTurns (hlds_of checked.now) proc budget text) }
+        → IsTextOfTurns (hlds_of checked.now) (meant proc.entry) budget text) }
 {
     let loaded = load_run(alloc, profile)?;
     loaded_turns(alloc, checked, &loaded, proc)
@@ -107,16 +117,49 @@ fn loaded_turns(
     alloc: Global,
     checked: &Checked,
     loaded: &Loaded,
-    proc: u32,
+    proc: ProcWord<'_>,
 ) -> Result<Option<Vec<u8>>, NoMemory>
     requires valid { IsValid loaded.now.profile }
     requires accepted { IsAccepted (hlds_of checked.now) }
     ensures { IfOk result (λ text. (budget : ℕ) → IsWithinBounds (hlds_of checked.now) budget → IsProfileOfRun (hlds_of checked.now) budget loaded.now.profile
-        → IsTextOfTurns (hlds_of checked.now) proc budget text) }
+        → IsTextOfTurns (hlds_of checked.now) (meant proc.entry) budget text) }
+{
+    match number_of(alloc, loaded.profile().statics(), proc)? {
+        Some(id) => turns_of(alloc, checked, loaded, id),
+        None => Ok(None),
+    }
+}
+
+/// The number of the procedure that is meant, if one is.
+fn number_of(
+    alloc: Global,
+    statics: &Statics,
+    proc: ProcWord<'_>,
+) -> Result<Option<ProcId>, NoMemory>
+    requires { length statics.now.procs < 2 ^ 32 }
+    ensures { IfOk result (λ found. found ≡ number_in statics.now (meant proc.entry)) }
+{
+    match proc {
+        ProcWord::Number(number) => Ok(Some(ProcId::new(number))),
+        ProcWord::Name(name) => proc_named(alloc, statics, name.as_bytes()),
+    }
+}
+
+/// The text of the turns of the goals of the procedure of a number in a run, by its loaded profile.
+fn turns_of(
+    alloc: Global,
+    checked: &Checked,
+    loaded: &Loaded,
+    id: ProcId,
+) -> Result<Option<Vec<u8>>, NoMemory>
+    requires valid { IsValid loaded.now.profile }
+    requires accepted { IsAccepted (hlds_of checked.now) }
+    ensures { IfOk result (λ text. (budget : ℕ) → IsWithinBounds (hlds_of checked.now) budget → IsProfileOfRun (hlds_of checked.now) budget loaded.now.profile
+        → IsTextOfTurns (hlds_of checked.now) (Number id) budget text) }
 {
     runs_are_histories();
     profiles_of_runs_have_their_counts();
-    match cover(alloc, checked, loaded, ProcId::new(proc)) {
+    match cover(alloc, checked, loaded, id) {
         Ok(coverage) => Ok(Some(cover_text(alloc, loaded, &coverage)?)),
         Err(CoverFault::NoSuchProc) => Ok(None),
         Err(CoverFault::NoMemory) => Err(NoMemory),
@@ -125,7 +168,7 @@ fn loaded_turns(
 
 /// Writes a run's output to `err` and the turns to `out`, and answers how it ended.
 fn show_counted<O: Sink, E: Sink>(counted: Counted, out: &mut O, err: &mut E) -> Result<(), Fault>
-    ensures ends { (program : Hlds) (proc steps : ℕ) → IsRunOf program steps counted.ran → IsTextOfTurns program proc steps counted.text
+    ensures ends { (program : Hlds) (proc : Meant) (steps : ℕ) → IsRunOf program steps counted.ran → IsTextOfTurns program proc steps counted.text
         → ShowEnds (IsCoverageOfRun proc steps program) (HasNoProcedure proc program) program steps (O.held out.old) (O.held out.new) (E.held err.old) (E.held err.new)
         (Rose (O.write_faults out.old) (O.write_faults out.new)) (Rose (E.write_faults err.old) (E.write_faults err.new)) result }
     ensures later { E.write_faults err.old ≤ E.write_faults err.new }
@@ -140,7 +183,7 @@ fn show_counted<O: Sink, E: Sink>(counted: Counted, out: &mut O, err: &mut E) ->
 
 /// Writes a text, where there is one.
 fn write_found<O: Sink>(text: Option<Vec<u8>>, out: &mut O) -> Result<(), Fault>
-    ensures { (program : Hlds) (proc steps : ℕ) → IsTextOfTurns program proc steps text
+    ensures { (program : Hlds) (proc : Meant) (steps : ℕ) → IsTextOfTurns program proc steps text
         → TextEnds (IsCoverageOfRun proc steps program) (HasNoProcedure proc program) (O.held out.old) (O.held out.new) (Rose (O.write_faults out.old) (O.write_faults out.new)) result }
 {
     match text {

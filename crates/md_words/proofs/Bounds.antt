@@ -4,6 +4,7 @@ use Rattle.std.specs.Prelude.{nat_le, IfSome, IfOk, codes}
 use Rattle.std.specs.Prelude.{Result, Ok, Err}
 use Rattle.std.specs.Str.{bytes_eq}
 use Rattle.std.proofs.lemmas.Bool.Decides.{nat_tests}
+use Rattle.md_base.specs.declared.measure.Measure.{Measure}
 use Rattle.md_query.specs.Asked.{Asked}
 use Rattle.md_query.specs.Pair.{number_within, within, is_number}
 use Rattle.md_token.specs.Literal.{number_of}
@@ -11,7 +12,7 @@ use Rattle.md_words.specs.declared.command.Command.{Command}
 use Rattle.md_words.specs.declared.tool.Tool.{Tool}
 use Rattle.md_words.specs.declared.tool.Tool.TheVariants as tool
 use Rattle.md_words.specs.Parts.{Part, is_given, others, value_of}
-use Rattle.md_words.specs.Form.{Form, Run, Migrate, Feedback, Undump, Sum, HasBounds, feedback_of, dump_of, undump_of, cover_of, cover_with, sum_of, check_of, run_of, report_of, report_with, page_of, page_with, serve_of, gen_of, gen_with, migrate_of, form, form_at, form_by, query_in, number_or, only, two, steps_of, profile_of, least_of, port_of, requests_of, usual_least, parts_of}
+use Rattle.md_words.specs.Form.{Form, Meant, Run, Migrate, Feedback, Undump, Sum, HasBounds, feedback_of, dump_of, undump_of, cover_of, cover_with, sum_of, compare_of, check_of, run_of, report_of, report_with, page_of, page_with, serve_of, gen_of, gen_with, migrate_of, form, form_at, form_by, meant_in, query_in, number_or, only, two, steps_of, profile_of, least_of, by_of, thousandths_of, port_of, requests_of, usual_least, usual_thousandths, parts_of}
 use Rattle.md_words.specs.Told.{told, command_told}
 use Rattle.md_words.specs.Reading.{IsReading}
 use Rattle.clap.specs.declared.parser.matches.ArgMatches.{ArgMatches}
@@ -60,6 +61,10 @@ number_fits least most text = by (number_within least most text) (number_is_with
 least_is_within : (value : Option (List ℕ)) → IsWithin 1 4294967295 (number_or 1 4294967295 usual_least value)
 least_is_within None = (omega arith, omega arith)
 least_is_within (Some text) = number_is_within 1 4294967295 text
+
+thousandths_are_within : (value : Option (List ℕ)) → IsWithin 0 1000 (number_or 0 1000 usual_thousandths value)
+thousandths_are_within None = (omega arith, omega arith)
+thousandths_are_within (Some text) = number_is_within 0 1000 text
 
 -- ---- each command
 
@@ -121,14 +126,14 @@ good_undump : (words : Option (List ℕ × List ℕ)) → IsGood (undump_of word
 good_undump None = record { good = tt }
 good_undump (Some (text, new)) = good_cond (bytes_eq text new) None (Some (Undump text new)) (record { good = tt }) (record { good = tt })
 
-good_cover_with : (file : List ℕ) (steps : ℕ) (procedure : Option ℕ) → IsGood (cover_with file steps procedure)
+good_cover_with : (file : List ℕ) (steps : ℕ) (procedure : Option Meant) → IsGood (cover_with file steps procedure)
 good_cover_with file steps None = record { good = tt }
 good_cover_with file steps (Some q) = record { good = tt }
 
 good_cover : (steps : Option ℕ) (words : Option (List ℕ × List ℕ)) → IsGood (cover_of steps words)
 good_cover None words = record { good = tt }
 good_cover (Some n) None = record { good = tt }
-good_cover (Some n) (Some (file, word)) = good_cover_with file n (number_within 0 4294967295 word)
+good_cover (Some n) (Some (file, word)) = good_cover_with file n (meant_in word)
 
 good_sum : (names : List (List ℕ)) → IsGood (sum_of names)
 good_sum names = by (nat_le 1 (length names)) (nat_le (length names) 16) refl refl
@@ -137,6 +142,12 @@ good_sum names = by (nat_le 1 (length names)) (nat_le (length names) 16) refl re
     by true true above below = record { good = (grind (arith, nat_tests, above), grind (arith, nat_tests, below)) }
     by true false above below = record { good = tt }
     by false b above below = record { good = tt }
+
+good_compare : (by : Option Measure) (least : Option ℕ) (words : Option (List ℕ × List ℕ)) → IsWithin 0 1000 least → IsGood (compare_of by least words)
+good_compare None least words is = record { good = tt }
+good_compare (Some m) None words is = record { good = tt }
+good_compare (Some m) (Some k) None is = record { good = tt }
+good_compare (Some m) (Some k) (Some (old, new)) is = record { good = is.1 }
 
 good_by : (t : Tool) (parts : List Part) → IsGood (form_by t parts)
 good_by tool.Check parts = good_check (is_given (codes "print") parts) (only (others parts))
@@ -151,6 +162,7 @@ good_by tool.Dump parts = good_dump (only (others parts))
 good_by tool.Undump parts = good_undump (two (others parts))
 good_by tool.Cover parts = good_cover (steps_of parts) (two (others parts))
 good_by tool.Sum parts = good_sum (others parts)
+good_by tool.Compare parts = good_compare (by_of parts) (thousandths_of parts) (two (others parts)) (thousandths_are_within (value_of (codes "least") parts))
 
 good_at : (a : Option (Tool × List Part)) → Good (form_at a)
 good_at None = tt

@@ -28,6 +28,7 @@ tool_app tool.Dump = refl
 tool_app tool.Undump = refl
 tool_app tool.Cover = refl
 tool_app tool.Sum = refl
+tool_app tool.Compare = refl
 
 -- a command with an option more, where there is one
 abbrev pub with_any : (Text → Rule) → App → Option Text → App
@@ -46,6 +47,7 @@ options_at tool.Dump app = refl
 options_at tool.Undump app = refl
 options_at tool.Cover app = refl
 options_at tool.Sum app = refl
+options_at tool.Compare app = refl
 
 -- the options of a command, one after the other
 pub options_more : (t : Tool) (app : App) (a b c : Option Text) → a ≡ slice_get (usage_of t).valued 0 → b ≡ slice_get (usage_of t).valued 1 → c ≡ slice_get (usage_of t).flags 0

@@ -42,6 +42,7 @@ apart_of tool.Dump = record { valued = refl; flags = refl; disjoint = λ name e.
 apart_of tool.Undump = record { valued = refl; flags = refl; disjoint = λ name e. refl }
 apart_of tool.Cover = record { valued = refl; flags = refl; disjoint = λ name e. refl }
 apart_of tool.Sum = record { valued = refl; flags = refl; disjoint = λ name e. refl }
+apart_of tool.Compare = record { valued = refl; flags = refl; disjoint = λ name e. refl }
 
 pub are_texts : (words : List (String Global)) → AreTexts (words_of words)
 are_texts [] = tt
@@ -147,6 +148,7 @@ named_self tool.Dump = refl
 named_self tool.Undump = refl
 named_self tool.Cover = refl
 named_self tool.Sum = refl
+named_self tool.Compare = refl
 
 name_first : {Z : Type 0} (o : Option (Box SubCommand Z)) → option_map (λ p. p.0) (subcommand_rows o) ≡ option_map (λ b. (out-SubCommand (box_value b)).name.now) o
 name_first None = refl

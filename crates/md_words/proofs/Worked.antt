@@ -5,11 +5,11 @@ use Rattle.std.specs.Str.{is_utf8, chars}
 use Rattle.std.specs.Str.Lossy.{utf8_lossy, utf8_valid_len, utf8_error_len}
 use lib.Utf8.{encode}
 use Rattle.form_urlencoded.proofs.OnLiterals.{form_urlencoded_on_literals}
-use Rattle.md_base.specs.declared.measure.Measure.TheVariants.{Words}
+use Rattle.md_base.specs.declared.measure.Measure.TheVariants.{Calls, Exits, Words}
 use Rattle.md_token.specs.Literal.{number_of}
 use Rattle.md_query.specs.Asked as query
 use Rattle.md_query.specs.Asked.{query_of, table_of}
-use Rattle.md_words.specs.Form.{form, Check, Run, Report, Page, Serve, Gen, Migrate, Feedback, Dump, Undump, Cover, Sum}
+use Rattle.md_words.specs.Form.{form, Check, Run, Report, Page, Serve, Gen, Migrate, Feedback, Dump, Undump, Cover, Sum, Compare, Number, Name}
 
 -- what is unfolded to compute a command on literals
 unfoldable on_words : ⊤
@@ -124,13 +124,24 @@ a-text-is-not-written-over : form (codes "undump" ∷ codes "t" ∷ codes "t" �
 unfolding on_words
 a-text-is-not-written-over = refl
 
-the-turns-of-a-procedure : form (codes "cover" ∷ codes "a.m" ∷ codes "012" ∷ []) ≡ Some (Cover (codes "a.m") 12 1000000)
+the-turns-of-a-procedure : form (codes "cover" ∷ codes "a.m" ∷ codes "012" ∷ []) ≡ Some (Cover (codes "a.m") (Number 12) 1000000)
 unfolding on_words
 the-turns-of-a-procedure = refl
 
-a-procedure-goes-by-its-number : form (codes "cover" ∷ codes "a.m" ∷ codes "main" ∷ []) ≡ None
+-- refuses a rule by which a name begins with a letter: one byte that is no digit is enough, wherever it stands
+a-procedure-goes-by-its-full-name : form (codes "cover" ∷ codes "a.m" ∷ codes "1.p/0" ∷ []) ≡ Some (Cover (codes "a.m") (Name (codes "1.p/0")) 1000000)
 unfolding on_words
-a-procedure-goes-by-its-number = refl
+a-procedure-goes-by-its-full-name = refl
+
+-- refuses a rule by which what is no number is a name
+a-number-that-is-too-great-is-no-name : form (codes "cover" ∷ codes "a.m" ∷ codes "4294967296" ∷ []) ≡ None
+unfolding on_words
+a-number-that-is-too-great-is-no-name = refl
+
+-- refuses a rule by which nothing is a name: it has no byte that is no digit
+an-empty-word-names-no-procedure : form (codes "cover" ∷ codes "a.m" ∷ [] ∷ []) ≡ None
+unfolding on_words
+an-empty-word-names-no-procedure = refl
 
 profiles-in-the-order-of-the-words : form (codes "sum" ∷ codes "q" ∷ codes "p" ∷ codes "q" ∷ []) ≡ Some (Sum (codes "q" ∷ codes "p" ∷ codes "q" ∷ []))
 unfolding on_words
@@ -139,6 +150,35 @@ profiles-in-the-order-of-the-words = refl
 no-profiles-are-not-added-up : form (codes "sum" ∷ []) ≡ None
 unfolding on_words
 no-profiles-are-not-added-up = refl
+
+-- refuses a rule by which the new profile comes first
+an-old-profile-is-compared-with-a-new-one : form (codes "compare" ∷ codes "p" ∷ codes "q" ∷ []) ≡ Some (Compare (codes "p") (codes "q") Calls 5)
+unfolding on_words
+an-old-profile-is-compared-with-a-new-one = refl
+
+-- refuses a rule by which nothing at all isn't a margin, as it is none of `feedback`
+a-profile-is-compared-with-itself : form (codes "compare" ∷ codes "p" ∷ codes "--least=0" ∷ codes "--by" ∷ codes "exits" ∷ codes "p" ∷ []) ≡ Some (Compare (codes "p") (codes "p") Exits 0)
+unfolding on_words
+a-profile-is-compared-with-itself = refl
+
+-- refuses a rule by which a margin is as great as one likes
+a-margin-is-a-part-of-the-whole : form (codes "compare" ∷ codes "p" ∷ codes "q" ∷ codes "--least=1001" ∷ []) ≡ None
+unfolding on_words
+a-margin-is-a-part-of-the-whole = refl
+
+the-whole-is-a-margin : form (codes "compare" ∷ codes "p" ∷ codes "q" ∷ codes "--least=1000" ∷ []) ≡ Some (Compare (codes "p") (codes "q") Calls 1000)
+unfolding on_words
+the-whole-is-a-margin = refl
+
+-- refuses a rule by which a word that is no measure stands for calls
+no-other-measure : form (codes "compare" ∷ codes "p" ∷ codes "q" ∷ codes "--by=time" ∷ []) ≡ None
+unfolding on_words
+no-other-measure = refl
+
+-- refuses a rule by which one profile is compared with the one that `run` stores
+two-profiles-are-compared : form (codes "compare" ∷ codes "p" ∷ []) ≡ None
+unfolding on_words
+two-profiles-are-compared = refl
 
 -- ---- where a word may be taken for an option or for no option
 

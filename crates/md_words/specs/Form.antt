@@ -1,10 +1,13 @@
 -- Which words are a command, and with which values.
-use Rattle.std.specs.Prelude.{ℕ, ◌≤◌, Bool, ◌==◌, ◌&&◌, nat_le, List, [], ◌∷◌, length, Option, Some, None, codes, cond, map, String, string_bytes, unwrap_or}
-use Rattle.std.specs.List.{before_first, after_first}
+use Rattle.std.specs.Prelude.{ℕ, ◌≤◌, Bool, true, false, ◌==◌, ◌&&◌, nat_le, List, [], ◌∷◌, length, Option, Some, None, codes, cond, map, option_map, String, string_bytes, unwrap_or}
+use Rattle.std.specs.Char.{is_ascii_digit}
+use Rattle.std.specs.List.{before_first, after_first, list_all}
 use Rattle.std.specs.Str.{bytes_eq}
 use Rattle.std.specs.declared.alloc.Global.{Global}
+use Rattle.md_base.specs.declared.measure.Measure.{Measure}
+use Rattle.md_base.specs.declared.measure.Measure.TheVariants.{Calls}
 use Rattle.md_query.specs.Asked.{Asked, query_of}
-use Rattle.md_query.specs.Pair.{number_from, number_within}
+use Rattle.md_query.specs.Pair.{measure_or, number_from, number_within}
 use Rattle.md_words.specs.declared.tool.Tool.{Tool}
 use Rattle.md_words.specs.declared.tool.Tool.TheVariants as tool
 use Rattle.md_words.specs.Parts.{Part, Front, are_right, is_given, others, parts_from, value_of}
@@ -13,6 +16,11 @@ use Rattle.md_words.specs.Tools.{tool_named, usage_of}
 -- the words of the code as bytes
 abbrev pub words_of : List (String Global) → List (List ℕ)
 words_of words = map string_bytes words
+
+-- the procedure that a word means: the one of a number, or the one of a full name
+pub data Meant : Type 0 where
+  Number : (number : ℕ) → Meant
+  Name : (name : List ℕ) → Meant
 
 pub data Form : Type 0 where
   -- `check FILE [--print]`
@@ -36,9 +44,11 @@ pub data Form : Type 0 where
   -- `undump TEXT NEW`
   Undump : (text new : List ℕ) → Form
   -- `cover FILE PROC [--steps N]`
-  Cover : (file : List ℕ) (procedure steps : ℕ) → Form
+  Cover : (file : List ℕ) (procedure : Meant) (steps : ℕ) → Form
   -- `sum NAME { NAME }`
   Sum : (names : List (List ℕ)) → Form
+  -- `compare OLD NEW [--by M] [--least L]`
+  Compare : (old new : List ℕ) (by : Measure) (least : ℕ) → Form
 
 -- ---- the command and the parts of the words after it
 
@@ -82,6 +92,17 @@ usual_least = 100
 abbrev pub least_of : List Part → Option ℕ
 least_of parts = number_or 1 4294967295 usual_least (value_of (codes "least") parts)
 
+-- by which measure profiles are compared
+abbrev pub by_of : List Part → Option Measure
+by_of parts = measure_or Calls (value_of (codes "by") parts)
+
+abbrev pub usual_thousandths : ℕ
+usual_thousandths = 5
+
+-- how many thousandths of the whole are told
+abbrev pub thousandths_of : List Part → Option ℕ
+thousandths_of parts = number_or 0 1000 usual_thousandths (value_of (codes "least") parts)
+
 -- port and connections, neither of which is left out
 abbrev pub port_of : List Part → Option ℕ
 port_of parts = number_from 1 65535 (value_of (codes "port") parts)
@@ -114,6 +135,14 @@ only words = None
 abbrev pub two : List (List ℕ) → Option (List ℕ × List ℕ)
 two (a ∷ b ∷ []) = Some (a, b)
 two words = None
+
+-- a word of digits alone is a number, and any other one a full name
+abbrev pub meant_by : Bool → List ℕ → Option Meant
+meant_by true word = option_map Number (number_within 0 4294967295 word)
+meant_by false word = Some (Name word)
+
+abbrev pub meant_in : List ℕ → Option Meant
+meant_in word = meant_by (list_all is_ascii_digit word) word
 
 -- ---- commands, by the values of their options and the other words
 
@@ -172,12 +201,12 @@ abbrev pub undump_of : (words : Option (List ℕ × List ℕ)) → Option Form
 undump_of None = None
 undump_of (Some (text, new)) = cond (bytes_eq text new) None (Some (Undump text new))
 
-abbrev pub cover_with : List ℕ → ℕ → (procedure : Option ℕ) → Option Form
+abbrev pub cover_with : List ℕ → ℕ → (procedure : Option Meant) → Option Form
 cover_with file steps None = None
 cover_with file steps (Some q) = Some (Cover file q steps)
 
 abbrev pub cover_of : (steps : Option ℕ) (words : Option (List ℕ × List ℕ)) → Option Form
-cover_of (Some steps) (Some (file, word)) = cover_with file steps (number_within 0 4294967295 word)
+cover_of (Some steps) (Some (file, word)) = cover_with file steps (meant_in word)
 cover_of steps words = None
 
 -- 1 to 16
@@ -186,6 +215,11 @@ are_few names = nat_le 1 (length names) && nat_le (length names) 16
 
 abbrev pub sum_of : (names : List (List ℕ)) → Option Form
 sum_of names = cond (are_few names) (Some (Sum names)) None
+
+-- nothing is written, so both names may be of one file
+abbrev pub compare_of : (by : Option Measure) (least : Option ℕ) (words : Option (List ℕ × List ℕ)) → Option Form
+compare_of (Some by) (Some least) (Some (old, new)) = Some (Compare old new by least)
+compare_of by least words = None
 
 -- what a command and the parts of the words after it ask for
 abbrev pub form_by : Tool → List Part → Option Form
@@ -201,6 +235,7 @@ form_by tool.Dump parts = dump_of (only (others parts))
 form_by tool.Undump parts = undump_of (two (others parts))
 form_by tool.Cover parts = cover_of (steps_of parts) (two (others parts))
 form_by tool.Sum parts = sum_of (others parts)
+form_by tool.Compare parts = compare_of (by_of parts) (thousandths_of parts) (two (others parts))
 
 abbrev pub form_at : Option (Tool × List Part) → Option Form
 form_at None = None
@@ -212,7 +247,8 @@ form words = form_at (parts_of words)
 
 -- ---- what holds of every command
 
--- a generated program has 1 to 20 procedures, a costly call 1 to 4,294,967,295 calls below it, and 1 to 16 profiles are added up
+-- a generated program has 1 to 20 procedures, a costly call 1 to 4,294,967,295 calls below it, 1 to 16 profiles are added up,
+-- and the margin of a difference is at most the whole
 abbrev pub HasBounds : Form → Type 0
 HasBounds (Check file print) = Unit {0}
 HasBounds (Run file steps profile) = Unit {0}
@@ -226,3 +262,4 @@ HasBounds (Dump name) = Unit {0}
 HasBounds (Undump text new) = Unit {0}
 HasBounds (Cover file procedure steps) = Unit {0}
 HasBounds (Sum names) = (1 ≤ length names) × (length names ≤ 16)
+HasBounds (Compare old new by least) = least ≤ 1000

@@ -4,7 +4,9 @@ use Rattle.std.specs.Borrow.{Bor}
 use Rattle.md_query.specs.Told.{asked}
 use Rattle.md_words.specs.declared.command.Command.{Command}
 use Rattle.md_words.specs.declared.command.Command.TheVariants as command
-use Rattle.md_words.specs.Form.{Form, Check, Run, Report, Page, Serve, Gen, Migrate, Feedback, Dump, Undump, Cover, Sum}
+use Rattle.md_words.specs.declared.procedure.ProcWord.{ProcWord}
+use Rattle.md_words.specs.declared.procedure.ProcWord.TheVariants as word
+use Rattle.md_words.specs.Form.{Form, Meant, Number, Name, Check, Run, Report, Page, Serve, Gen, Migrate, Feedback, Dump, Undump, Cover, Sum, Compare}
 
 abbrev pub texts : List (Bor (List ℕ)) → List (List ℕ)
 texts [] = []
@@ -13,6 +15,14 @@ texts (w ∷ ws) = w.now ∷ texts ws
 abbrev pub words_told : Option (Bor (List (Bor (List ℕ)))) → List (List ℕ)
 words_told None = []
 words_told (Some words) = texts words.now
+
+abbrev pub meant : ProcWord → Meant
+meant (word.Number number) = Number number
+meant (word.Name name) = Name name.now
+
+abbrev pub meant_told : Option ProcWord → Option Meant
+meant_told None = None
+meant_told (Some w) = Some (meant w)
 
 abbrev pub told : Command → Form
 told (command.Check file print) = Check file.now print
@@ -25,8 +35,9 @@ told (command.Migrate name new) = Migrate name.now new.now
 told (command.Feedback file new steps least) = Feedback file.now new.now steps least
 told (command.Dump name) = Dump name.now
 told (command.Undump text new) = Undump text.now new.now
-told (command.Cover file procedure steps) = Cover file.now procedure steps
+told (command.Cover file procedure steps) = Cover file.now (meant procedure) steps
 told (command.Sum names) = Sum (texts names.items)
+told (command.Compare old new by least) = Compare old.now new.now by least
 
 abbrev pub command_told : Option Command → Option Form
 command_told None = None

@@ -18,10 +18,11 @@ name_of tool.Dump = codes "dump"
 name_of tool.Undump = codes "undump"
 name_of tool.Cover = codes "cover"
 name_of tool.Sum = codes "sum"
+name_of tool.Compare = codes "compare"
 
 -- those that look further into a profile
 abbrev pub later_tools : List Tool
-later_tools = tool.Feedback ∷ tool.Dump ∷ tool.Undump ∷ tool.Cover ∷ tool.Sum ∷ []
+later_tools = tool.Feedback ∷ tool.Dump ∷ tool.Undump ∷ tool.Cover ∷ tool.Sum ∷ tool.Compare ∷ []
 
 abbrev pub tools : List Tool
 tools = tool.Check ∷ tool.Run ∷ tool.Report ∷ tool.Page ∷ tool.Serve ∷ tool.Gen ∷ tool.Migrate ∷ later_tools
@@ -47,3 +48,4 @@ usage_of tool.Dump = record { valued = []; flags = [] }
 usage_of tool.Undump = record { valued = []; flags = [] }
 usage_of tool.Cover = record { valued = codes "steps" ∷ []; flags = [] }
 usage_of tool.Sum = record { valued = []; flags = [] }
+usage_of tool.Compare = record { valued = codes "by" ∷ codes "least" ∷ []; flags = [] }

@@ -1,49 +1,29 @@
 // Which words are a command.
-ghost use Rattle.std.specs.Prelude.{◌≡◌, ◌≤◌, ◌==◌, IfOk, IfSome, List, Some, codes, true};
+ghost use Rattle.std.specs.Prelude.{◌≡◌, ◌==◌, IfOk, IfSome, List, Some};
 ghost use Rattle.std.specs.List.{before_first, after_first};
 ghost use Rattle.clap.specs.Matches.{found_of};
 ghost use Rattle.clap.specs.Walk.{rows_of};
-ghost use Rattle.md_query.specs.Pair.{number_from};
 ghost use Rattle.md_query.specs.Told.{asked_told};
-ghost use Rattle.md_words.specs.Parts.{Part, Usage, takes_value};
+ghost use Rattle.md_words.specs.Parts.{Part};
 ghost use Rattle.md_words.specs.Tools.{usage_of};
-ghost use Rattle.md_words.specs.Form.{words_of, HasBounds, form, form_at, form_by, number_or, steps_of, profile_of, least_of, port_of, requests_of, feedback_of, dump_of, undump_of, cover_of, sum_of, are_few, check_of, run_of, report_of, page_of, serve_of, gen_of, migrate_of, query_in, query_at, without_slash, only, two};
+ghost use Rattle.md_words.specs.Form.{words_of, HasBounds, form, form_at, form_by, feedback_of, dump_of, undump_of, cover_of, sum_of, compare_of, are_few, check_of, run_of, report_of, page_of, serve_of, gen_of, migrate_of, query_in, query_at, without_slash, only, two};
 ghost use Rattle.md_words.specs.Told.{told, command_told, texts, text_told, pair_told, words_told};
 ghost use Rattle.md_words.specs.Reading.{IsReading, Tells};
 
-use crate::reading::{is_given, matches_of, others, value_of};
+use crate::procedure::{ProcWord, proc_word};
+use crate::reading::{is_given, matches_of, others};
 use crate::tool::{Tool, tool_named};
+use crate::values::{by, least, port, profile, requests, steps, thousandths};
 use clap::ArgMatches;
-use md_base::NoMemory;
+use md_base::{Measure, NoMemory};
 use md_query::{Query, QueryFault, number_within, read_query};
 use std::alloc::Global;
-
-/// The steps of a run to which the words give none.
-const USUAL_STEPS: u32 = 1_000_000;
-
-/// Where a run's profile goes where the words don't say it.
-const USUAL_PROFILE: &str = "mdprof.data";
 
 /// The greatest number of a generated program.
 const MOST_GENERATED: u32 = 20;
 
 /// The most profiles that are added up.
 const MOST_PROFILES: usize = 16;
-
-/// The most steps that a run may be given.
-const MOST_STEPS: u32 = 16_777_216;
-
-/// The greatest number of a port.
-const LAST_PORT: u32 = 65_535;
-
-/// The most connections that are served.
-const MOST_REQUESTS: u32 = 1_000_000;
-
-/// The greatest number of calls below a costly one that may be asked for.
-const GREATEST_LEAST: u32 = 4_294_967_295;
-
-/// How many calls are below a costly one where the words don't say it.
-const USUAL_LEAST: u32 = 100;
 
 /// What the words of a command line ask for.
 #[derive(Debug, Drop)]
@@ -105,12 +85,19 @@ pub enum Command<'a> {
     /// `cover FILE PROC [--steps N]`.
     Cover {
         file: &'a str,
-        proc: u32,
+        proc: ProcWord<'a>,
         steps: u32,
     },
     /// `sum NAME { NAME }`.
     Sum {
         names: Vec<&'a str>,
+    },
+    /// `compare OLD NEW [--by M] [--least L]`.
+    Compare {
+        old: &'a str,
+        new: &'a str,
+        by: Measure,
+        least: u32,
     },
 }
 
@@ -162,6 +149,7 @@ fn command_by<'a>(
         Tool::Undump => Ok(undump_command(two(words))),
         Tool::Cover => Ok(cover_command(steps(values), two(words))),
         Tool::Sum => sum_command(alloc, words),
+        Tool::Compare => Ok(compare_command(by(values), thousandths(values), two(words))),
     }
 }
 
@@ -314,7 +302,7 @@ fn cover_command<'a>(steps: Option<u32>, words: Option<(&'a str, &'a str)>) -> O
 {
     let steps = steps?;
     let (file, word) = words?;
-    let proc = number_within(0, u32::MAX, word.as_bytes())?;
+    let proc = proc_word(word)?;
     Some(Command::Cover { file, proc, steps })
 }
 
@@ -333,6 +321,25 @@ fn sum_command<'a>(
     }
     let names = copies(alloc, names)?;
     Ok(Some(Command::Sum { names }))
+}
+
+/// `compare OLD NEW [--by M] [--least L]`. Nothing is written, so both names may be of one file.
+fn compare_command<'a>(
+    by: Option<Measure>,
+    least: Option<u32>,
+    words: Option<(&'a str, &'a str)>,
+) -> Option<Command<'a>>
+    ensures { command_told result ≡ compare_of by least (pair_told words.entry) }
+{
+    let by = by?;
+    let least = least?;
+    let (old, new) = words?;
+    Some(Command::Compare {
+        old,
+        new,
+        by,
+        least,
+    })
 }
 
 /// Whether there are 1 to 16 words.
@@ -415,61 +422,4 @@ fn around_mark(address: &str) -> (&str, &str)
         Some((path, pairs)) => (path, pairs),
         None => (address, ""),
     }
-}
-
-/// The steps that a run is given.
-fn steps(values: &ArgMatches<'_>) -> Option<u32>
-    ensures { (usage : Usage) (parts : List Part) → Tells usage parts (rows_of (found_of values.now)) → takes_value usage (codes "steps") ≡ true → result ≡ steps_of parts }
-{
-    number_or(1, MOST_STEPS, USUAL_STEPS, value_of(values, "steps"))
-}
-
-/// Where a run's profile goes.
-fn profile<'a>(values: &ArgMatches<'a>) -> &'a str
-    ensures { (usage : Usage) (parts : List Part) → Tells usage parts (rows_of (found_of values.now)) → takes_value usage (codes "profile") ≡ true → result.now ≡ profile_of parts }
-{
-    match value_of(values, "profile") {
-        Some(name) => name,
-        None => USUAL_PROFILE,
-    }
-}
-
-/// The least number of calls below a costly one.
-fn least(values: &ArgMatches<'_>) -> Option<u32>
-    ensures { (usage : Usage) (parts : List Part) → Tells usage parts (rows_of (found_of values.now)) → takes_value usage (codes "least") ≡ true → result ≡ least_of parts }
-{
-    number_or(1, GREATEST_LEAST, USUAL_LEAST, value_of(values, "least"))
-}
-
-/// The port that is listened at.
-fn port(values: &ArgMatches<'_>) -> Option<u16>
-    ensures { (usage : Usage) (parts : List Part) → Tells usage parts (rows_of (found_of values.now)) → takes_value usage (codes "port") ≡ true → result ≡ port_of parts }
-{
-    let number = number_in(1, LAST_PORT, value_of(values, "port"))?;
-    Some(number as u16)
-}
-
-/// How many connections are served.
-fn requests(values: &ArgMatches<'_>) -> Option<u32>
-    ensures { (usage : Usage) (parts : List Part) → Tells usage parts (rows_of (found_of values.now)) → takes_value usage (codes "requests") ≡ true → result ≡ requests_of parts }
-{
-    number_in(1, MOST_REQUESTS, value_of(values, "requests"))
-}
-
-/// The number that a value is, within its bounds, or the usual one where there is no value.
-fn number_or(least: u32, most: u32, usual: u32, value: Option<&str>) -> Option<u32>
-    ensures { result ≡ number_or least most usual (text_told value.entry) }
-{
-    match value {
-        Some(text) => number_within(least, most, text.as_bytes()),
-        None => Some(usual),
-    }
-}
-
-/// The number that a value is, within its bounds.
-fn number_in(least: u32, most: u32, value: Option<&str>) -> Option<u32>
-    ensures number { result ≡ number_from least most (text_told value.entry) }
-    ensures most { IfSome result (λ n. n ≤ most) }
-{
-    number_within(least, most, value?.as_bytes())
 }

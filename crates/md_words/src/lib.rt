@@ -2,8 +2,11 @@
 #![tactic(auto)]
 
 mod command;
+mod procedure;
 mod reading;
 mod tool;
 mod usage;
+mod values;
 
 pub use command::{Command, command_of};
+pub use procedure::ProcWord;

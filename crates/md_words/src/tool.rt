@@ -17,6 +17,7 @@ pub enum Tool {
     Undump,
     Cover,
     Sum,
+    Compare,
 }
 
 /// The name of a command.
@@ -36,11 +37,12 @@ pub fn name_of<'a>(tool: Tool) -> &'a str
         Tool::Undump => "undump",
         Tool::Cover => "cover",
         Tool::Sum => "sum",
+        Tool::Compare => "compare",
     }
 }
 
 /// All commands.
-fn all_tools() -> [Tool; 12]
+fn all_tools() -> [Tool; 13]
     ensures { result ≡ tools }
 {
     [
@@ -56,6 +58,7 @@ fn all_tools() -> [Tool; 12]
         Tool::Undump,
         Tool::Cover,
         Tool::Sum,
+        Tool::Compare,
     ]
 }
 

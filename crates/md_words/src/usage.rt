@@ -29,6 +29,7 @@ pub fn command_line<'a>(alloc: Global) -> Result<Command<'a>, AllocError>
         Tool::Undump,
         Tool::Cover,
         Tool::Sum,
+        Tool::Compare,
     ];
     let mut line = bare_line(alloc);
     for tool in &tools {
@@ -77,6 +78,7 @@ fn first_value<'a>(tool: Tool) -> Option<&'a str>
     match tool {
         Tool::Run | Tool::Report | Tool::Feedback | Tool::Cover => Some("steps"),
         Tool::Serve => Some("port"),
+        Tool::Compare => Some("by"),
         Tool::Check
         | Tool::Gen
         | Tool::Page
@@ -93,7 +95,7 @@ fn second_value<'a>(tool: Tool) -> Option<&'a str>
 {
     match tool {
         Tool::Run => Some("profile"),
-        Tool::Feedback => Some("least"),
+        Tool::Feedback | Tool::Compare => Some("least"),
         Tool::Serve => Some("requests"),
         Tool::Check
         | Tool::Report
@@ -123,7 +125,8 @@ fn flag<'a>(tool: Tool) -> Option<&'a str>
         | Tool::Dump
         | Tool::Undump
         | Tool::Cover
-        | Tool::Sum => None,
+        | Tool::Sum
+        | Tool::Compare => None,
     }
 }
 

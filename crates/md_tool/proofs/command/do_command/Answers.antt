@@ -3,10 +3,10 @@ use Rattle.std.proofs.lemmas.Grind.{common_steps}
 use Rattle.md_base.specs.Outside.{Rose}
 use Rattle.md_query.specs.Told.{asked}
 use Rattle.md_words.specs.declared.command.Command.{Command}
-use Rattle.md_words.specs.Told.{told, texts}
+use Rattle.md_words.specs.Told.{meant, told, texts}
 use Rattle.md_tool.specs.Told.{TopEnds}
 use Rattle.md_tool.proofs.SumLemmas.{as_many_texts}
-use Rattle.md_tool.proofs.TopLemmas.{report_told, cover_told, gen_told, sum_told}
+use Rattle.md_tool.proofs.TopLemmas.{report_told, cover_told, gen_told, sum_told, compare_told}
 use Rattle.md_tool.proofs.command.do_command.Goals as goal
 
 pub returns-in-Report-clause-ends : goal.returns-in-Report-clause-ends
@@ -42,7 +42,7 @@ returns-in-Cover-clause-ends g c =
     (Rose (g.E.Sink.write_faults c.args.err.now) (g.E.Sink.write_faults c.tell_end-in-Cover.new.err))
     (Rose (g.N.Net.faults c.args.net.now) (g.N.Net.faults c.args.net.now)) c.tell_end-in-Cover.result)
     (sym c.in-Cover.is)
-    (cover_told (g.S.Store.held c.args.store.now) (g.S.Store.held c.cover_file-end.new.store) (g.N.Net.connections c.args.net.now) (g.N.Net.connections c.args.net.now) c.in-Cover.file.now c.in-Cover.proc c.in-Cover.steps
+    (cover_told (g.S.Store.held c.args.store.now) (g.S.Store.held c.cover_file-end.new.store) (g.N.Net.connections c.args.net.now) (g.N.Net.connections c.args.net.now) c.in-Cover.file.now (meant c.in-Cover.proc) c.in-Cover.steps
     (g.O.Sink.held c.args.out.now) (g.O.Sink.held c.cover_file-end.new.out)
     (g.E.Sink.held c.args.err.now) (g.E.Sink.held c.cover_file-end.new.err) (g.E.Sink.held c.tell_end-in-Cover.new.err)
     (Rose (g.S.Store.read_faults c.args.store.now) (g.S.Store.read_faults c.cover_file-end.new.store))
@@ -96,6 +96,29 @@ returns-in-Sum-clause-ends g c =
     (Rose (g.O.Sink.write_faults c.args.out.now) (g.O.Sink.write_faults c.do_sum.new.out))
     (Rose (g.E.Sink.write_faults c.args.err.now) (g.E.Sink.write_faults c.do_sum.new.err))
     (Rose (g.N.Net.faults c.args.net.now) (g.N.Net.faults c.args.net.now)) c.do_sum.result ends.0 ends.2 c.do_sum.ensures.kept ends.3)
+
+pub returns-in-Compare-clause-ends : goal.returns-in-Compare-clause-ends
+returns-in-Compare-clause-ends g c =
+    subst
+    (λ (x : Command). TopEnds (Some (told x)) (g.S.Store.held c.args.store.now) (g.S.Store.held c.do_compare.new.store) (g.N.Net.connections c.args.net.now) (g.N.Net.connections c.args.net.now)
+    (g.O.Sink.held c.args.out.now) (g.O.Sink.held c.do_compare.new.out) (g.E.Sink.held c.args.err.now) (g.E.Sink.held c.do_compare.new.err)
+    (Rose (g.S.Store.read_faults c.args.store.now) (g.S.Store.read_faults c.do_compare.new.store))
+    (Rose (g.S.Store.write_faults c.args.store.now) (g.S.Store.write_faults c.do_compare.new.store))
+    (Rose (g.O.Sink.write_faults c.args.out.now) (g.O.Sink.write_faults c.do_compare.new.out))
+    (Rose (g.E.Sink.write_faults c.args.err.now) (g.E.Sink.write_faults c.do_compare.new.err))
+    (Rose (g.N.Net.faults c.args.net.now) (g.N.Net.faults c.args.net.now)) c.do_compare.result)
+    (sym c.in-Compare.is)
+    (let ends = c.do_compare.ensures.ends in
+    compare_told (g.S.Store.held c.args.store.now) (g.S.Store.held c.do_compare.new.store) (g.N.Net.connections c.args.net.now) (g.N.Net.connections c.args.net.now) c.in-Compare.old.now c.in-Compare.new.now c.in-Compare.by c.in-Compare.least ends.1
+    (g.O.Sink.held c.args.out.now) (g.O.Sink.held c.do_compare.new.out) (g.E.Sink.held c.args.err.now) (g.E.Sink.held c.do_compare.new.err)
+    (Rose (g.S.Store.read_faults c.args.store.now) (g.S.Store.read_faults c.do_compare.new.store))
+    (Rose (g.S.Store.write_faults c.args.store.now) (g.S.Store.write_faults c.do_compare.new.store))
+    (Rose (g.O.Sink.write_faults c.args.out.now) (g.O.Sink.write_faults c.do_compare.new.out))
+    (Rose (g.E.Sink.write_faults c.args.err.now) (g.E.Sink.write_faults c.do_compare.new.err))
+    (Rose (g.N.Net.faults c.args.net.now) (g.N.Net.faults c.args.net.now)) c.do_compare.result ends.0 ends.2 c.do_compare.ensures.kept ends.3)
+
+pub returns-in-Compare-clause-net : goal.returns-in-Compare-clause-net
+returns-in-Compare-clause-net g c = grind (arith, common_steps)
 
 pub returns-in-Gen-clause-net : goal.returns-in-Gen-clause-net
 returns-in-Gen-clause-net g c = grind (arith, common_steps)

@@ -1,4 +1,5 @@
 use Rattle.md_hlds.specs.Hlds.{hlds_of}
+use Rattle.md_words.specs.Told.{meant}
 use Rattle.md_tool.proofs.CoverLemmas.{counted_text}
 use Rattle.md_tool.proofs.ReportLemmas.{can_be_profiled}
 use Rattle.md_tool.proofs.turns.count_text.Goals as goal
@@ -9,4 +10,4 @@ count_run-requires-clause-can c =
     (hlds_of c.in_ok-checked.checked) c.args.steps c.in_ok-checked.ensures c.requires c.ranges.steps.fits
 
 pub returns-in-Ok : goal.returns-in-Ok
-returns-in-Ok c = counted_text c.args.text.now (hlds_of c.in_ok-checked.checked) c.args.proc c.args.steps c.in-Ok.counted c.in_ok-checked.ensures c.in-Ok.ensures.run c.in-Ok.ensures.text
+returns-in-Ok c = counted_text c.args.text.now (hlds_of c.in_ok-checked.checked) (meant c.args.proc) c.args.steps c.in-Ok.counted c.in_ok-checked.ensures c.in-Ok.ensures.run c.in-Ok.ensures.text

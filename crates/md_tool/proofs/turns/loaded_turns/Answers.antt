@@ -1,11 +1,17 @@
-use Rattle.std.proofs.Common.{◌∙◌, sym}
+use Rattle.std.proofs.Common.{◌≡◌, ◌∙◌, ap, sym, Some}
+use Rattle.std.proofs.lemmas.Result.{IfOk-weaker}
 use Rattle.md_hlds.specs.Hlds.{hlds_of}
-use Rattle.md_tool.proofs.CoverLemmas.{counted_in, covered}
+use Rattle.md_static.specs.Tables.{Static}
+use Rattle.md_words.specs.Told.{meant}
+use Rattle.md_tool.specs.Turns.{number_in}
+use Rattle.md_tool.proofs.CoverLemmas.{meant_turns}
 use Rattle.md_tool.proofs.turns.loaded_turns.Goals as goal
 
-pub returns-in_ok-cover_text-in-Ok : goal.returns-in_ok-cover_text-in-Ok
-returns-in_ok-cover_text-in-Ok c budget bounds p =
-    let program = hlds_of c.args.checked.now in
-    covered program budget c.args.proc c.args.loaded.now.profile c.in-Ok.coverage _ p (rw c.new.ensures at c.in-Ok.ensures.found)
-    (λ q at there counted. c.in-Ok.ensures.coverage budget q (at ∙ sym c.new.ensures) there counted)
-    (counted_in c.runs_are_histories.ensures c.profiles_of_runs_have_their_counts.ensures program budget c.args.loaded.now.profile bounds p c.requires.valid) c.in_ok-cover_text-in-Ok.ensures
+pub returns-in-Some : goal.returns-in-Some
+returns-in-Some c =
+    let m = meant c.args.proc in
+    let found : number_in c.args.loaded.now.profile.statics m ≡ Some c.in-Some.id = sym (rw (c.statics.ensures, c.profile.ensures.profile) at c.in_ok-id.ensures) ∙ c.in-Some.is in
+    IfOk-weaker c.turns_of.result _ _
+    (λ text turns budget bounds p.
+    meant_turns (hlds_of c.args.checked.now) m c.in-Some.id budget text (ap (λ (s : Static). number_in s m) (sym p.tables) ∙ found) (turns budget bounds p))
+    c.turns_of.ensures
