@@ -40,6 +40,9 @@ unloaded held name requests net out reads outs nets Network h = absurd h
 unloaded held name requests net out reads outs nets Write h = absurd h
 unloaded held name requests net out reads outs nets NoMemory h = inl (record { net_is = refl; out_is = refl })
 
+pub loadable : (held : Option Files) (name : List ℕ) (loaded : LoadedRows) (v : View) → IsLoadedFrom held name loaded → IsFileView loaded.profile v → IsLoadable held name
+loadable held name loaded v l is = record { profile = loaded.profile; spelled = l.spelled; view = v; is_view = is }
+
 -- the net doesn't listen
 pub unbound : (held : Option Files) (name : List ℕ) (requests : ℕ) (net net' : Option Connections) (out : Option (List ℕ)) (reads outs nets : Type 0) (fault : Fault) → IsLoadable held name → net' ≡ net → BindEnds nets (Err fault)
     → ServeEnds held name requests net net' out out reads outs nets (Err fault)

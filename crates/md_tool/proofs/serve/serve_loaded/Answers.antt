@@ -1,6 +1,6 @@
 use Rattle.std.proofs.lemmas.Result.{err_from_is_err_and}
 use Rattle.md_base.specs.Outside.{Rose}
-use Rattle.md_tool.proofs.ServeLemmas.{unserved_from, served_from}
+use Rattle.md_tool.proofs.ServeLemmas.{loadable, unbound, unserved_from, served_from}
 use Rattle.md_tool.proofs.StreamLemmas.{rose_after}
 use Rattle.md_tool.proofs.serve.serve_loaded.Goals as goal
 
@@ -23,3 +23,13 @@ returns g c held name from =
     (Rose (g.N.Net.faults c.bind.new.net) (g.N.Net.faults c.serve.new.net)) (Rose (g.N.Net.faults c.args.net.now) (g.N.Net.faults c.serve.new.net))
     c.args.loaded.now c.profile-viewed.ensures.viewed.0 c.in_ok-tally.tally c.tell_tally.result from c.profile-viewed.ensures.viewed.1
     c.in_ok-bind.ensures.kept (c.in_ok-tally.ensures c.profile-viewed.ensures.viewed.0 c.profile-viewed.ensures.viewed.1) c.tell_tally.ensures
+
+pub returns-in_err-bind : goal.returns-in_err-bind
+returns-in_err-bind g c held name from =
+    let p = err_from_is_err_and c.from_residual-in_err-bind.result c.from_residual-in_err-bind.ensures.1 in
+    rw (p.1, p.2)
+    (unbound held name c.args.requests (g.N.Net.connections c.args.net.now) (g.N.Net.connections c.bind.new.net) (g.O.Sink.held c.args.out.now)
+    ⊥ (Rose (g.O.Sink.write_faults c.args.out.now) (g.O.Sink.write_faults c.args.out.now))
+    (Rose (g.N.Net.faults c.args.net.now) (g.N.Net.faults c.bind.new.net)) c.in_err-bind.field-0.0
+    (loadable held name c.args.loaded.now c.profile-viewed.ensures.viewed.0 from c.profile-viewed.ensures.viewed.1)
+    c.in_err-bind.ensures.kept c.in_err-bind.ensures.ends)
