@@ -26,7 +26,7 @@ returns g c held name from =
 
 pub returns-in_err-bind : goal.returns-in_err-bind
 returns-in_err-bind g c held name from =
-    let p = err_from_is_err_and c.from_residual-in_err-bind.result c.from_residual-in_err-bind.ensures.1 in
+    let p = err_from_is_err_and c.from_residual.result c.from_residual.ensures.1 in
     rw (p.1, p.2)
     (unbound held name c.args.requests (g.N.Net.connections c.args.net.now) (g.N.Net.connections c.bind.new.net) (g.O.Sink.held c.args.out.now)
     ⊥ (Rose (g.O.Sink.write_faults c.args.out.now) (g.O.Sink.write_faults c.args.out.now))
