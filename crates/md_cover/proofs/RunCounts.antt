@@ -28,6 +28,7 @@ use Rattle.md_dynamic.specs.OfHistory.{IsProfileOf, row_of}
 use Rattle.md_dynamic.specs.Profile.{ProfileRows}
 use Rattle.md_dynamic.specs.Valid.{IsValid}
 use Rattle.md_cost.proofs.ValidSteps.{procedure_there, site_below}
+use Rattle.md_cost.specs.FileView.{IsFileView}
 use Rattle.md_cost.specs.View.{Row, View, OfProcedure, OfSite}
 use Rattle.md_view.specs.RunView.{IsRunView}
 use Rattle.md_view.proofs.OneView.{run_view_of}
@@ -198,10 +199,16 @@ module _ (t : SiteTable) (s : Static) (h : List Event) (finished : Bool) (f : Pr
       site_exits = λ x. by_site x Exits;
     }
 
+-- whether or not the run is finished
+pub counts_told : (t : SiteTable) (s : Static) (program : Hlds) (budget : ℕ) (f : ProfileRows) → IsPortHistory t (history (run program budget)) → IsProfileOf s t.main (history (run program budget)) (is_finished (run program budget)) f
+    → IsValid f → has_full_link f ≡ false → (v : View) → IsFileView f v → HasCountsOf (history (run program budget)) v
+counts_told t s program budget f is of valid free v seen =
+    has_counts t s (history (run program budget)) (is_finished (run program budget)) f is of valid v (run_view_of t s (history (run program budget)) (is_finished (run program budget)) f v is of valid seen) free
+
 pub profile_is_counted : (t : SiteTable) (s : Static) (program : Hlds) (budget : ℕ) (f : ProfileRows) → IsPortHistory t (history (run program budget)) → IsProfileOf s t.main (history (run program budget)) (is_finished (run program budget)) f
     → IsValid f → budget < 2 ^ 32 → IsCountedIn program budget f
 profile_is_counted t s program budget f is of valid small = record {
   small = small;
   finished = sym of.finished_is;
-  counts = λ ended free v seen. has_counts t s (history (run program budget)) (is_finished (run program budget)) f is of valid v (run_view_of t s (history (run program budget)) (is_finished (run program budget)) f v is of valid seen) free;
+  counts = λ ended. counts_told t s program budget f is of valid;
 }

@@ -18,5 +18,5 @@ mod text;
 pub use coverage::{Coverage, GoalCount, KindName};
 pub use covering::cover;
 pub use fault::CoverFault;
-pub use laws::profiles_of_runs_have_their_counts;
+pub use laws::{profiles_of_runs_have_their_counts, profiles_of_runs_tell_their_calls};
 pub use text::cover_text;
