@@ -1,10 +1,12 @@
 -- The goals of a procedure as a coverage has them, which profiles give turns, and the text: worked out by hand.
-use Rattle.std.proofs.Common.{◌≡◌, refl, ℕ, true, false, Bool, List, [], ◌∷◌, Option, Some, None}
+use Rattle.std.proofs.Common.{◌≡◌, refl, sym, ap, ◌∙◌, ℕ, true, false, Bool, List, [], ◌∷◌, Option, Some, None}
 use Rattle.std.specs.Prelude.{⊤, codes}
+use Rattle.std.proofs.lemmas.List.Elements.{All-nil, All-cons, All-head}
 use Rattle.std.specs.Fmt.{digits}
 use Rattle.md_base.specs.declared.measure.Counts.{Counts}
 use Rattle.md_hlds.specs.HldsGoal.{HldsGoal, SimpleGoal, HoCallGoal, NotGoal, SomeGoal, Computes, WritesInt, WritesText, EndsLine, Fails, Raises}
 use Rattle.md_hlds.specs.declared.goal.Op.TheVariants.{Mul}
+use Rattle.md_hlds.specs.Hlds.{Procedure}
 use Rattle.md_hlds.proofs.Worked.{goal, conj, disj, is_int, same, made, call, at_most, choose, succeed}
 use Rattle.md_static.specs.Tables.{Static}
 use Rattle.md_dynamic.specs.Profile.{ProfileRows}
@@ -13,7 +15,7 @@ use Rattle.md_cover.specs.declared.coverage.KindName.TheVariants as kind
 use Rattle.md_cover.specs.declared.coverage.GoalCount.{GoalCount}
 use Rattle.md_cover.specs.Covered.{Covered}
 use Rattle.md_cover.specs.Rows.{goal_rows}
-use Rattle.md_cover.specs.Coverage.{gives_turns}
+use Rattle.md_cover.specs.Coverage.{HasNoTurns, gives_turns}
 use Rattle.md_cover.specs.Text.{cover_text}
 
 -- ---- goals
@@ -46,6 +48,30 @@ parts-of-a-choice-come-in-order :
     ∷ row 12 2 kind.Conj ∷ row 13 3 kind.Compare ∷ row 14 3 kind.Error
     ∷ row 15 1 kind.True ∷ [])
 parts-of-a-choice-come-in-order = refl
+
+-- ---- a coverage without turns
+
+abbrev member_rows : List GoalCount
+member_rows = row 0 0 kind.Conj ∷ row 1 1 kind.Unify ∷ row 2 1 kind.Disj ∷ row 3 2 kind.Unify ∷ row 4 2 kind.Call ∷ []
+
+abbrev Unknown : GoalCount → Type 0
+Unknown g = g.turns ≡ None
+
+-- all goals of the procedure have their rows
+each-goal-has-its-row : (q : ℕ × Procedure) → q.1.body ≡ member → HasNoTurns q (record { id = q.0; goals = member_rows })
+each-goal-has-its-row q is = record {
+  is_of = refl;
+  rows = ap (λ b. goal_rows 0 0 b) (sym is);
+  none = All-cons Unknown (row 0 0 kind.Conj) ((row 1 1 kind.Unify) ∷ (row 2 1 kind.Disj) ∷ (row 3 2 kind.Unify) ∷ (row 4 2 kind.Call) ∷ []) refl (All-cons Unknown (row 1 1 kind.Unify) ((row 2 1 kind.Disj) ∷ (row 3 2 kind.Unify) ∷ (row 4 2 kind.Call) ∷ []) refl (All-cons Unknown (row 2 1 kind.Disj) ((row 3 2 kind.Unify) ∷ (row 4 2 kind.Call) ∷ []) refl (All-cons Unknown (row 3 2 kind.Unify) ((row 4 2 kind.Call) ∷ []) refl (All-cons Unknown (row 4 2 kind.Call) [] refl (All-nil Unknown)))));
+}
+
+-- refuses a rule by which no turns are none: that a goal had no turn is known of it
+no-turn-is-a-number : (q : ℕ × Procedure) → HasNoTurns q (record { id = q.0; goals = record (row 0 0 kind.True) { turns = Some 0 } ∷ [] }) → ⊥
+no-turn-is-a-number q has = let e : Some 0 ≡ None = All-head Unknown (record (row 0 0 kind.True) { turns = Some 0 }) [] has.none in absurd (cc e)
+
+-- refuses a rule by which rows may be left out
+no-row-is-left-out : (q : ℕ × Procedure) → q.1.body ≡ member → HasNoTurns q (record { id = q.0; goals = [] }) → ⊥
+no-row-is-left-out q is has = let e = has.rows ∙ ap (λ b. goal_rows 0 0 b) is in absurd (cc e)
 
 -- ---- profiles
 
