@@ -1,5 +1,5 @@
 // The cells that a run has built, numbered in the order in which they were built.
-ghost use Rattle.std.specs.Prelude.{◌≡◌, ◌<◌, [], ◌∷◌, length, slice_get, All, Some, IfOk, OnOk, OnErr};
+ghost use Rattle.std.specs.Prelude.{◌≡◌, ◌<◌, ◌++◌, [], ◌∷◌, length, slice_get, All, Some, IfOk, OnOk, OnErr};
 
 use crate::row::Row;
 use crate::value::Value;
@@ -57,7 +57,7 @@ impl Heap {
         let cell = self.rows.len() as u64;
         let first = self.parts.len();
         self.rows.reserve(1)?;
-        self.parts.extend_from_slice(parts)?;
+        add_all(&mut self.parts, parts)?;
         self.rows.push_reserved(Row { head, first });
         Ok(Value::Cell(cell))
     }
@@ -128,4 +128,31 @@ impl Heap {
     pub(crate) fn allocator(&self) -> Global {
         *self.rows.allocator()
     }
+}
+
+/// Adds these values: few of them one by one, into room that is made at once. Where memory is wanting, the vector is as it was.
+#[inline(always)]
+fn add_all(values: &mut Vec<Value>, more: &[Value]) -> Result<(), NoMemory>
+    ensures items { OnOk result (values.new.items ≡ values.old.items ++ more.now) }
+    ensures err { OnErr result (values.new.items ≡ values.old.items) }
+{
+    match more {
+        [first] => {
+            values.reserve(1)?;
+            values.push_reserved(*first);
+        }
+        [first, second] => {
+            values.reserve(2)?;
+            values.push_reserved(*first);
+            values.push_reserved(*second);
+        }
+        [first, second, third] => {
+            values.reserve(3)?;
+            values.push_reserved(*first);
+            values.push_reserved(*second);
+            values.push_reserved(*third);
+        }
+        _ => values.extend_from_slice(more)?,
+    }
+    Ok(())
 }

@@ -11,8 +11,8 @@ invariant_of-self-2 c =
     let t = c.self.inside in
     let row : Row = record { head = c.args.head; first = c.len-first.result } in
     let first : row.first ≡ length t.parts.items = omega arith in
-    let is = built t.rows.items c.reserve.new.self.items c.push_reserved.new.self.items t.parts.items c.extend_from_slice.new.self.items c.args.parts.now c.args.self.now row
-    c.self.invariant c.self.view_is c.in_ok-reserve.ensures.items c.push_reserved.ensures.items c.in_ok-extend_from_slice.ensures.items first c.requires.there in
+    let is = built t.rows.items c.reserve.new.self.items c.push_reserved.new.self.items t.parts.items c.add_all.new.values.items c.args.parts.now c.args.self.now row
+    c.self.invariant c.self.view_is c.in_ok-reserve.ensures.items c.push_reserved.ensures.items c.in_ok-add_all.ensures.items first c.requires.there in
     is.laid
 
 pub returns-clause-cell : goal.returns-clause-cell
@@ -26,8 +26,8 @@ returns-clause-added c =
     let t = c.self.inside in
     let row : Row = record { head = c.args.head; first = c.len-first.result } in
     let first : row.first ≡ length t.parts.items = omega arith in
-    let is = built t.rows.items c.reserve.new.self.items c.push_reserved.new.self.items t.parts.items c.extend_from_slice.new.self.items c.args.parts.now c.args.self.now row
-    c.self.invariant c.self.view_is c.in_ok-reserve.ensures.items c.push_reserved.ensures.items c.in_ok-extend_from_slice.ensures.items first c.requires.there in
+    let is = built t.rows.items c.reserve.new.self.items c.push_reserved.new.self.items t.parts.items c.add_all.new.values.items c.args.parts.now c.args.self.now row
+    c.self.invariant c.self.view_is c.in_ok-reserve.ensures.items c.push_reserved.ensures.items c.in_ok-add_all.ensures.items first c.requires.there in
     is.cells
 
 pub returns-clause-means : goal.returns-clause-means
@@ -35,19 +35,19 @@ returns-clause-means c =
     let t = c.self.inside in
     let row : Row = record { head = c.args.head; first = c.len-first.result } in
     let first : row.first ≡ length t.parts.items = omega arith in
-    let is = built t.rows.items c.reserve.new.self.items c.push_reserved.new.self.items t.parts.items c.extend_from_slice.new.self.items c.args.parts.now c.args.self.now row
-    c.self.invariant c.self.view_is c.in_ok-reserve.ensures.items c.push_reserved.ensures.items c.in_ok-extend_from_slice.ensures.items first c.requires.there in
+    let is = built t.rows.items c.reserve.new.self.items c.push_reserved.new.self.items t.parts.items c.add_all.new.values.items c.args.parts.now c.args.self.now row
+    c.self.invariant c.self.view_is c.in_ok-reserve.ensures.items c.push_reserved.ensures.items c.in_ok-add_all.ensures.items first c.requires.there in
     let at : c.len-cell.result ≡ length c.args.self.now = omega (arith, row-count t.rows.items t.parts.items c.args.self.now c.self.view_is) in
-    new-means (cells_of c.push_reserved.new.self.items c.extend_from_slice.new.self.items) c.args.self.now c.args.head c.len-cell.result c.args.parts.now is.cells at
+    new-means (cells_of c.push_reserved.new.self.items c.add_all.new.values.items) c.args.self.now c.args.head c.len-cell.result c.args.parts.now is.cells at
 
 pub returns-clause-stays : goal.returns-clause-stays
 returns-clause-stays c =
     let t = c.self.inside in
     let row : Row = record { head = c.args.head; first = c.len-first.result } in
     let first : row.first ≡ length t.parts.items = omega arith in
-    let is = built t.rows.items c.reserve.new.self.items c.push_reserved.new.self.items t.parts.items c.extend_from_slice.new.self.items c.args.parts.now c.args.self.now row
-    c.self.invariant c.self.view_is c.in_ok-reserve.ensures.items c.push_reserved.ensures.items c.in_ok-extend_from_slice.ensures.items first c.requires.there in
-    old-stays (cells_of c.push_reserved.new.self.items c.extend_from_slice.new.self.items) c.args.self.now (record { head = c.args.head; parts = c.args.parts.now }) is.cells
+    let is = built t.rows.items c.reserve.new.self.items c.push_reserved.new.self.items t.parts.items c.add_all.new.values.items c.args.parts.now c.args.self.now row
+    c.self.invariant c.self.view_is c.in_ok-reserve.ensures.items c.push_reserved.ensures.items c.in_ok-add_all.ensures.items first c.requires.there in
+    old-stays (cells_of c.push_reserved.new.self.items c.add_all.new.values.items) c.args.self.now (record { head = c.args.head; parts = c.args.parts.now }) is.cells
 
 pub returns-clause-err : goal.returns-clause-err
 returns-clause-err c = grind (arith, common_steps)
