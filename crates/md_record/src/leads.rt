@@ -62,15 +62,18 @@ fn lead_plain<L: Ledger>(
     ensures cost_refused { OnErr result (LeadRefusedCost tables.old callee steps.old steps.new) }
 {
     match tables.slot(node, site, steps) {
+        // Rule 1: the link is there already, and the call goes where it leads.
         Some(link) => {
             tables.count(link, Measure::Calls, 1, steps);
             Ok(link)
         }
+        // Rule 2, where an activation of the callee is on the chain: a link to its context, which `old` is. Rule 3, where there is none: a
+        // link to a new context.
         None => tables.add(node, site, callee, old, 1, steps),
     }
 }
 
-/// The same at a higher-order site: at most eight table steps, and one for each call site of the callee where its context is
+/// The same at a higher-order site, by the same three rules, for each callee of its own: at most eight table steps, and one for each call site of the callee where its context is
 /// new.
 fn lead_many<L: Ledger>(
     tables: &mut Tables,

@@ -5,7 +5,10 @@ use md_base::{CsdId, PdId};
 /// due again when it is left.
 #[derive(Clone, Copy, PartialEq, Eq)]
 pub struct Saved {
+    /// Its context.
     pub top: PdId,
+    /// The link that leads to its context.
     pub middle: CsdId,
+    /// The active context of its procedure before its call, if there was one.
     pub old: Option<PdId>,
 }
