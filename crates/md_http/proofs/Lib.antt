@@ -7,3 +7,4 @@ pub mod Servings
 pub mod Tallies
 mod Worked
 mod WorkedServed
+mod WorkedServing
