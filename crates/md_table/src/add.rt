@@ -13,7 +13,7 @@ pub(crate) fn add(out: &mut Vec<u8>, words: &[u8]) -> Result<(), AllocError>
 }
 
 /// Adds a number in decimal.
-pub(crate) fn add_number(out: &mut Vec<u8>, number: u128) -> Result<(), AllocError>
+pub fn add_number(out: &mut Vec<u8>, number: u128) -> Result<(), AllocError>
     ensures added { OnOk result (out.new.items ≡ out.old.items ++ decimal number) }
     ensures grown { length out.old.items ≤ length out.new.items }
 {

@@ -15,6 +15,7 @@ mod target;
 mod text;
 mod width;
 
+pub use add::add_number;
 pub use anchor::{add_encoded, add_escaped};
 pub use cells::Cells;
 pub use html::add_html;
