@@ -11,7 +11,7 @@ use crate::told::{Margin, Told, told_names};
 use md_base::{Measure, NoMemory};
 use md_cost::Loaded;
 use md_people::whole_of;
-use md_table::{Line, Table};
+use md_table::{Line, Lines, Table};
 use std::alloc::Global;
 
 /// Two profiles by a measure: a row for the whole, and one for each name of a procedure whose own counts or totals are apart by at least
@@ -41,12 +41,13 @@ fn told_table(alloc: Global, old: u64, new: u64, told: &[Told]) -> Result<Table,
 }
 
 /// The row of the whole, and one for each of these names.
-fn told_rows(alloc: Global, old: u64, new: u64, told: &[Told]) -> Result<Vec<Line>, NoMemory>
-    ensures { IfOk result (λ rows. rows.items ≡ told_rows old new told.now) }
+fn told_rows(alloc: Global, old: u64, new: u64, told: &[Told]) -> Result<Lines, NoMemory>
+    ensures { IfOk result (λ rows. rows ≡ told_rows old new told.now) }
 {
-    let mut rows = Vec::new(alloc);
-    rows.push(whole_line(alloc, old, new)?)?;
-    push_rows(&mut rows, old, told)?;
+    let mut rows = Lines::new(alloc);
+    let whole = whole_line(alloc, old, new)?;
+    rows.push(&whole)?;
+    push_rows(alloc, &mut rows, old, told)?;
     Ok(rows)
 }
 
@@ -67,12 +68,12 @@ fn whole_line(alloc: Global, old: u64, new: u64) -> Result<Line, NoMemory>
 }
 
 /// Adds the lines of these names.
-fn push_rows(rows: &mut Vec<Line>, whole: u64, told: &[Told]) -> Result<(), NoMemory>
-    ensures { OnOk result (rows.new.items ≡ rows.old.items ++ map (told_line whole) told.now) }
+fn push_rows(alloc: Global, rows: &mut Lines, whole: u64, told: &[Told]) -> Result<(), NoMemory>
+    ensures { OnOk result (rows.new ≡ rows.old ++ map (told_line whole) told.now) }
 {
     for name in told {
-        let line = told_line(*rows.allocator(), whole, name)?;
-        rows.push(line)?;
+        let line = told_line(alloc, whole, name)?;
+        rows.push(&line)?;
     }
     Ok(())
 }

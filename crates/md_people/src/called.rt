@@ -18,7 +18,7 @@ use crate::ports::{PortsRow, ports_table};
 use md_base::{CsdId, Measure, NoMemory, ProcId, SiteId};
 use md_cost::Loaded;
 use md_static::{SiteKind, Statics};
-use md_table::{Cell, Table};
+use md_table::Table;
 use std::alloc::{AllocError, Global};
 
 /// The table of the procedures to which links at the sites of a procedure lead, site by site, with the sums of these links. All links are
@@ -171,7 +171,7 @@ fn push_callee(
     if let Some(sum) = sum {
         let mut words = Vec::new(*rows.allocator());
         add_called(&mut words, statics, site, proc)?;
-        rows.push(PortsRow::from_parts(sum.total, sum.own, Cell::from_bytes(words)))?;
+        rows.push(PortsRow::from_parts(sum.total, sum.own, words))?;
     }
     Ok(())
 }

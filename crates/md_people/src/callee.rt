@@ -10,7 +10,7 @@ use crate::led::{add_led, led_by};
 use crate::ports::{PortsRow, ports_table};
 use md_base::{CsdId, Measure, NoMemory, PdId};
 use md_cost::Loaded;
-use md_table::{Cell, Table};
+use md_table::Table;
 use std::alloc::Global;
 
 /// The table of the links that start in a context, in rising order.
@@ -76,7 +76,7 @@ fn callee_row(
         led_by(loaded, link),
         total.is_some(),
     )?;
-    Ok(PortsRow::from_parts(total, own, Cell::from_bytes(words)))
+    Ok(PortsRow::from_parts(total, own, words))
 }
 
 /// The total of a link, where it has one.

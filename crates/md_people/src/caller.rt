@@ -7,7 +7,7 @@ ghost use Rattle.md_people.specs.Callers.{caller_rows, callers_table};
 ghost use Rattle.md_people.specs.Gathered.{HasSmallTotal, caller_slot, row_of};
 ghost use Rattle.md_people.specs.Words.{caller_words};
 
-use crate::costs::{whole_of, words_cell};
+use crate::costs::whole_of;
 use crate::gathered::{Gathered, gathered_by};
 use crate::led::{line_at, owner_at};
 use crate::name::{add_full_name, add_number};
@@ -16,7 +16,7 @@ use crate::ports::{PortsRow, ports_table};
 use md_base::{CsdId, Measure, NoMemory, ProcId, SiteId};
 use md_cost::Loaded;
 use md_static::Statics;
-use md_table::{Cell, Table};
+use md_table::Table;
 use std::alloc::{AllocError, Global};
 
 /// The table of the sites, and the root, from which links lead to contexts of a procedure, with the sums of these links.
@@ -98,7 +98,7 @@ fn push_root(rows: &mut Vec<PortsRow>, sum: Option<Gathered>) -> Result<(), NoMe
     ensures { OnOk result (rows.new.items ≡ rows.old.items ++ row_of sum (codes "root")) }
 {
     if let Some(sum) = sum {
-        let last = words_cell(*rows.allocator(), b"root")?;
+        let last = Vec::from_slice(*rows.allocator(), b"root")?;
         rows.push(PortsRow::from_parts(sum.total, sum.own, last))?;
     }
     Ok(())
@@ -117,7 +117,7 @@ fn push_caller(
     if let Some(sum) = sum {
         let mut words = Vec::new(*rows.allocator());
         add_caller(&mut words, statics, site)?;
-        rows.push(PortsRow::from_parts(sum.total, sum.own, Cell::from_bytes(words)))?;
+        rows.push(PortsRow::from_parts(sum.total, sum.own, words))?;
     }
     Ok(())
 }

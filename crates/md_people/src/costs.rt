@@ -8,7 +8,7 @@ ghost use Rattle.md_people.specs.Counts.{whole_of};
 
 use md_base::{Measure, NoMemory, ProcId};
 use md_cost::{Loaded, Sums};
-use md_table::{Cell, Line, count_cell, ratio_cell, share_cell};
+use md_table::{Cells, Line};
 use std::alloc::Global;
 
 /// The whole, of which shares are shares: the total of clique 0.
@@ -24,16 +24,16 @@ pub fn whole_of(loaded: &Loaded, by: Measure) -> u64
 pub(crate) fn costs_heading(alloc: Global, by: Measure, last: &[u8]) -> Result<Line, NoMemory>
     ensures { IfOk result (λ line. line ≡ costs_heading by last.now) }
 {
-    let mut cells = Vec::new(alloc);
-    push_words(&mut cells, b"total")?;
-    push_words(&mut cells, b"%")?;
-    push_words(&mut cells, b"own")?;
-    push_words(&mut cells, b"%")?;
+    let mut cells = Cells::new(alloc);
+    cells.add_words(b"total")?;
+    cells.add_words(b"%")?;
+    cells.add_words(b"own")?;
+    cells.add_words(b"%")?;
     if !is_calls(by) {
-        push_words(&mut cells, b"calls")?;
+        cells.add_words(b"calls")?;
     }
-    push_words(&mut cells, b"per call")?;
-    Ok(Line::from_parts(cells, words_cell(alloc, last)?))
+    cells.add_words(b"per call")?;
+    Ok(Line::from_parts(cells, Vec::from_slice(alloc, last)?))
 }
 
 /// The line of a procedure.
@@ -43,11 +43,11 @@ pub(crate) fn proc_line(
     by: Measure,
     whole: u64,
     id: ProcId,
-    name: Cell,
+    name: Vec<u8>,
 ) -> Result<Line, NoMemory>
     requires there { id < length loaded.now.profile.statics.procs }
     requires whole { (v : View) → IsFileView loaded.now.profile v → whole ≡ whole_of v by }
-    ensures { IfOk result (λ line. (v : View) → IsFileView loaded.now.profile v → line ≡ costs_of v by (OfProcedure id) name) }
+    ensures { IfOk result (λ line. (v : View) → IsFileView loaded.now.profile v → line ≡ costs_of v by (OfProcedure id) name.items) }
 {
     costs_line(
         alloc,
@@ -66,11 +66,11 @@ pub(crate) fn module_line(
     by: Measure,
     whole: u64,
     id: u32,
-    name: Cell,
+    name: Vec<u8>,
 ) -> Result<Line, NoMemory>
     requires there { id < length loaded.now.profile.statics.modules }
     requires whole { (v : View) → IsFileView loaded.now.profile v → whole ≡ whole_of v by }
-    ensures { IfOk result (λ line. (v : View) → IsFileView loaded.now.profile v → line ≡ costs_of v by (OfModule id) name) }
+    ensures { IfOk result (λ line. (v : View) → IsFileView loaded.now.profile v → line ≡ costs_of v by (OfModule id) name.items) }
 {
     costs_line(
         alloc,
@@ -89,46 +89,27 @@ fn costs_line(
     whole: u64,
     own: Sums,
     total: Sums,
-    last: Cell,
+    last: Vec<u8>,
 ) -> Result<Line, NoMemory>
-    ensures { IfOk result (λ line. line ≡ costs_line by whole (λ m. sum_of own m) (λ m. sum_of total m) last) }
+    ensures { IfOk result (λ line. line ≡ costs_line by whole (λ m. sum_of own m) (λ m. sum_of total m) last.items) }
 {
-    let mut cells = Vec::new(alloc);
+    let mut cells = Cells::new(alloc);
     push_counted(&mut cells, total.of(by) as u128, whole)?;
     push_counted(&mut cells, own.of(by) as u128, whole)?;
     if !is_calls(by) {
-        cells.push(count_cell(alloc, own.of(Measure::Calls) as u128)?)?;
+        cells.add_count(own.of(Measure::Calls) as u128)?;
     }
-    cells.push(ratio_cell(alloc, total.of(by), own.of(Measure::Calls))?)?;
+    cells.add_ratio(total.of(by), own.of(Measure::Calls))?;
     Ok(Line::from_parts(cells, last))
 }
 
 /// Adds a count and its share in the whole.
-pub fn push_counted(cells: &mut Vec<Cell>, count: u128, whole: u64) -> Result<(), NoMemory>
+pub fn push_counted(cells: &mut Cells, count: u128, whole: u64) -> Result<(), NoMemory>
     requires { count < 2 ^ 118 }
-    ensures { OnOk result (cells.new.items ≡ cells.old.items ++ counted_cells count whole) }
+    ensures { OnOk result (cells.new ≡ cells.old ++ counted_cells count whole) }
 {
-    let alloc: Global = *cells.allocator();
-    cells.push(count_cell(alloc, count)?)?;
-    cells.push(share_cell(alloc, count, whole)?)?;
-    Ok(())
-}
-
-/// Adds a cell with these words. Takes memory for them.
-pub fn push_words(cells: &mut Vec<Cell>, words: &[u8]) -> Result<(), NoMemory>
-    ensures { OnOk result (cells.new.items ≡ cells.old.items ++ words.now ∷ []) }
-{
-    let alloc: Global = *cells.allocator();
-    cells.push(words_cell(alloc, words)?)?;
-    Ok(())
-}
-
-/// A cell with these words. Takes memory for them.
-pub fn words_cell(alloc: Global, words: &[u8]) -> Result<Cell, NoMemory>
-    ensures { IfOk result (λ cell. cell ≡ words.now) }
-{
-    let bytes = Vec::from_slice(alloc, words)?;
-    Ok(Cell::from_bytes(bytes))
+    cells.add_count(count)?;
+    cells.add_share(count, whole)
 }
 
 fn is_calls(by: Measure) -> bool

@@ -10,7 +10,7 @@ use crate::name::{full_name, module_name};
 use crate::text::has_text;
 use md_base::{Measure, NoMemory, ProcId};
 use md_cost::Loaded;
-use md_table::{Cell, Line, Table};
+use md_table::{Lines, Table};
 use std::alloc::Global;
 
 /// The procedures in whose full name the text is, in rising order, with their costs.
@@ -24,9 +24,9 @@ pub fn found_procs_table(
 {
     let whole = whole_of(loaded, by);
     let heading = costs_heading(alloc, by, b"procedure")?;
-    let mut rows = Vec::new(alloc);
+    let mut rows = Lines::new(alloc);
     for id in 0..loaded.profile().statics().procs().len() as u32 {
-        push_proc(&mut rows, loaded, by, whole, text, ProcId::new(id))?;
+        push_proc(alloc, &mut rows, loaded, by, whole, text, ProcId::new(id))?;
     }
     Ok(Table::from_parts(heading, rows))
 }
@@ -42,16 +42,17 @@ pub fn found_modules_table(
 {
     let whole = whole_of(loaded, by);
     let heading = costs_heading(alloc, by, b"module")?;
-    let mut rows = Vec::new(alloc);
+    let mut rows = Lines::new(alloc);
     for id in 0..loaded.profile().statics().modules().len() as u32 {
-        push_module(&mut rows, loaded, by, whole, text, id)?;
+        push_module(alloc, &mut rows, loaded, by, whole, text, id)?;
     }
     Ok(Table::from_parts(heading, rows))
 }
 
 /// Adds the line of a procedure, where the text is in its full name.
 fn push_proc(
-    rows: &mut Vec<Line>,
+    alloc: Global,
+    rows: &mut Lines,
     loaded: &Loaded,
     by: Measure,
     whole: u64,
@@ -60,20 +61,20 @@ fn push_proc(
 ) -> Result<(), NoMemory>
     requires there { id < length loaded.now.profile.statics.procs }
     requires whole { (v : View) → IsFileView loaded.now.profile v → whole ≡ whole_of v by }
-    ensures { (v : View) → IsFileView loaded.now.profile v → OnOk result (rows.new.items ≡ rows.old.items ++ proc_rows v by text.now id) }
+    ensures { (v : View) → IsFileView loaded.now.profile v → OnOk result (rows.new ≡ rows.old ++ proc_rows v by text.now id) }
 {
-    let alloc: Global = *rows.allocator();
     let name = full_name(alloc, loaded.profile().statics(), id.number())?;
     if has_text(text, &name) {
-        let line = proc_line(alloc, loaded, by, whole, id, Cell::from_bytes(name))?;
-        rows.push(line)?;
+        let line = proc_line(alloc, loaded, by, whole, id, name)?;
+        rows.push(&line)?;
     }
     Ok(())
 }
 
 /// Adds the line of a module, where the text is in its name.
 fn push_module(
-    rows: &mut Vec<Line>,
+    alloc: Global,
+    rows: &mut Lines,
     loaded: &Loaded,
     by: Measure,
     whole: u64,
@@ -82,14 +83,13 @@ fn push_module(
 ) -> Result<(), NoMemory>
     requires there { id < length loaded.now.profile.statics.modules }
     requires whole { (v : View) → IsFileView loaded.now.profile v → whole ≡ whole_of v by }
-    ensures { (v : View) → IsFileView loaded.now.profile v → OnOk result (rows.new.items ≡ rows.old.items ++ module_rows v by text.now id) }
+    ensures { (v : View) → IsFileView loaded.now.profile v → OnOk result (rows.new ≡ rows.old ++ module_rows v by text.now id) }
 {
-    let alloc: Global = *rows.allocator();
     let name = module_name(loaded.profile().statics(), id);
     if has_text(text, name) {
-        let name = Cell::from_bytes(Vec::from_slice(alloc, name)?);
+        let name = Vec::from_slice(alloc, name)?;
         let line = module_line(alloc, loaded, by, whole, id, name)?;
-        rows.push(line)?;
+        rows.push(&line)?;
     }
     Ok(())
 }

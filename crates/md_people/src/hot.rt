@@ -11,7 +11,7 @@ use crate::ranking::ranked_procs;
 use crate::sort::Sort;
 use md_base::{Measure, NoMemory, ProcId};
 use md_cost::Loaded;
-use md_table::{Cell, Line, Table};
+use md_table::{Line, Lines, Table};
 use std::alloc::Global;
 
 /// The first `n` procedures by their totals or own counts of a measure, with their costs.
@@ -30,14 +30,15 @@ pub fn hot_table(
     let ids = ranked_procs(alloc, loaded, by, sort)?;
     let shown = ids.len().min(n as usize);
     let heading = costs_heading(alloc, by, b"procedure")?;
-    let mut rows = Vec::new(alloc);
-    push_procs(&mut rows, loaded, by, whole, &ids[..shown])?;
+    let mut rows = Lines::new(alloc);
+    push_procs(alloc, &mut rows, loaded, by, whole, &ids[..shown])?;
     Ok(Table::from_parts(heading, rows))
 }
 
 /// Adds the lines of these procedures.
 fn push_procs(
-    rows: &mut Vec<Line>,
+    alloc: Global,
+    rows: &mut Lines,
     loaded: &Loaded,
     by: Measure,
     whole: u64,
@@ -45,11 +46,11 @@ fn push_procs(
 ) -> Result<(), NoMemory>
     requires there { All (λ id. id < length loaded.now.profile.statics.procs) ids.now }
     requires whole { (v : View) → IsFileView loaded.now.profile v → whole ≡ whole_of v by }
-    ensures { (v : View) → IsFileView loaded.now.profile v → OnOk result (rows.new.items ≡ rows.old.items ++ map (proc_line v by) ids.now) }
+    ensures { (v : View) → IsFileView loaded.now.profile v → OnOk result (rows.new ≡ rows.old ++ map (proc_line v by) ids.now) }
 {
     for id in ids {
-        let line = named_line(*rows.allocator(), loaded, by, whole, ProcId::new(*id))?;
-        rows.push(line)?;
+        let line = named_line(alloc, loaded, by, whole, ProcId::new(*id))?;
+        rows.push(&line)?;
     }
     Ok(())
 }
@@ -67,5 +68,5 @@ fn named_line(
     ensures { IfOk result (λ line. (v : View) → IsFileView loaded.now.profile v → line ≡ proc_line v by id) }
 {
     let name = full_name(alloc, loaded.profile().statics(), id.number())?;
-    proc_line(alloc, loaded, by, whole, id, Cell::from_bytes(name))
+    proc_line(alloc, loaded, by, whole, id, name)
 }

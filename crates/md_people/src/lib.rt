@@ -23,7 +23,7 @@ mod text;
 pub use called::called_table;
 pub use callee::callees_table;
 pub use caller::callers_table;
-pub use costs::{push_counted, push_words, whole_of, words_cell};
+pub use costs::{push_counted, whole_of};
 pub use find::{found_modules_table, found_procs_table};
 pub use flame::flame_text;
 pub use hot::hot_table;

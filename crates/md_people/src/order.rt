@@ -5,7 +5,6 @@ ghost use Rattle.md_people.specs.Callers.{in_order};
 ghost use Rattle.md_people.specs.Order.{IsKeyOf};
 ghost use Rattle.md_people.specs.Ports.{PortsRow};
 
-use crate::costs::words_cell;
 use crate::ports::PortsRow;
 use md_base::{Measure, NoMemory};
 use std::alloc::Global;
@@ -52,6 +51,6 @@ fn row_again(alloc: Global, rows: &[PortsRow], place: usize) -> Result<PortsRow,
     ensures { IfOk result (λ row. (d : PortsRow) → row ≡ slice_index_or rows.now place d) }
 {
     let row = &rows[place];
-    let last = words_cell(alloc, row.last().as_bytes())?;
+    let last = Vec::from_slice(alloc, row.last())?;
     Ok(PortsRow::from_parts(row.total(), row.sums(), last))
 }

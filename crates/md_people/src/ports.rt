@@ -4,10 +4,10 @@ ghost use Rattle.md_cost.specs.SumOf.{sum_of};
 ghost use Rattle.md_people.specs.Ports.{is_counted, ports_heading, ports_line, ports_table, shown_measures, total_cells};
 ghost use Rattle.md_people.specs.Words.{measure_word};
 
-use crate::costs::{push_counted, push_words, words_cell};
+use crate::costs::push_counted;
 use md_base::{Measure, NoMemory};
 use md_cost::Sums;
-use md_table::{Cell, Line, Table, count_cell, no_cell};
+use md_table::{Cells, Line, Lines, Table};
 use std::alloc::Global;
 use std::marker::Model;
 
@@ -16,7 +16,7 @@ use std::marker::Model;
 pub struct PortsRow {
     total: Option<u128>,
     own: Sums,
-    last: Cell,
+    last: Vec<u8>,
 }
 
 impl Model for PortsRow {
@@ -25,7 +25,7 @@ impl Model for PortsRow {
 
     ghost Value = { PortsRow };
 
-    ghost view = { λ row. record { total = row.total; own = row.own; last = row.last } };
+    ghost view = { λ row. record { total = row.total; own = row.own; last = row.last.items } };
 
     ghost invariant = { HasShare };
 }
@@ -35,9 +35,9 @@ impl PortsRow {
     ghost use Rattle.md_cost.specs.SumOf.{sum_of};
 
     /// A row of these parts. A total is no sum of more than 2 ^ 54 totals of 64 bits, so that its share can be told. Takes no memory.
-    pub fn from_parts(total: Option<u128>, own: Sums, last: Cell) -> PortsRow
+    pub fn from_parts(total: Option<u128>, own: Sums, last: Vec<u8>) -> PortsRow
         requires { IfSome total (λ n. n < 2 ^ 118) }
-        ensures { result ≡ record { total = total; own = own; last = last } }
+        ensures { result ≡ record { total = total; own = own; last = last.items } }
     {
         PortsRow { total, own, last }
     }
@@ -65,10 +65,10 @@ impl PortsRow {
     }
 
     /// The cell of the last column.
-    pub fn last(&self) -> &Cell
+    pub fn last(&self) -> &[u8]
         ensures { result.now ≡ self.now.last }
     {
-        &self.last
+        self.last.as_slice()
     }
 }
 
@@ -83,10 +83,10 @@ pub fn ports_table(
 {
     let shown = shown_measures(alloc, rows)?;
     let heading = ports_heading(alloc, &shown, last)?;
-    let mut lines = Vec::new(alloc);
+    let mut lines = Lines::new(alloc);
     for row in rows {
         let line = ports_line(alloc, whole, &shown, row)?;
-        lines.push(line)?;
+        lines.push(&line)?;
     }
     Ok(Table::from_parts(heading, lines))
 }
@@ -135,20 +135,20 @@ fn is_counted(rows: &[PortsRow], measure: Measure) -> bool
 fn ports_heading(alloc: Global, shown: &[Measure], last: &[u8]) -> Result<Line, NoMemory>
     ensures { IfOk result (λ line. line ≡ ports_heading shown.now last.now) }
 {
-    let mut cells = Vec::new(alloc);
-    push_words(&mut cells, b"total")?;
-    push_words(&mut cells, b"%")?;
-    push_words(&mut cells, b"calls")?;
+    let mut cells = Cells::new(alloc);
+    cells.add_words(b"total")?;
+    cells.add_words(b"%")?;
+    cells.add_words(b"calls")?;
     push_measures(&mut cells, shown)?;
-    Ok(Line::from_parts(cells, words_cell(alloc, last)?))
+    Ok(Line::from_parts(cells, Vec::from_slice(alloc, last)?))
 }
 
 /// Adds the words of these measures.
-fn push_measures(cells: &mut Vec<Cell>, shown: &[Measure]) -> Result<(), NoMemory>
-    ensures { OnOk result (cells.new.items ≡ cells.old.items ++ map measure_word shown.now) }
+fn push_measures(cells: &mut Cells, shown: &[Measure]) -> Result<(), NoMemory>
+    ensures { OnOk result (cells.new ≡ cells.old ++ map measure_word shown.now) }
 {
     for measure in shown {
-        push_words(cells, measure_word(*measure))?;
+        cells.add_words(measure_word(*measure))?;
     }
     Ok(())
 }
@@ -162,36 +162,34 @@ fn ports_line(
 ) -> Result<Line, NoMemory>
     ensures { IfOk result (λ line. line ≡ ports_line whole shown.now row.now) }
 {
-    let mut cells = Vec::new(alloc);
+    let mut cells = Cells::new(alloc);
     push_total(&mut cells, row.total(), whole)?;
-    cells.push(count_cell(alloc, row.own(Measure::Calls) as u128)?)?;
+    cells.add_count(row.own(Measure::Calls) as u128)?;
     push_counts(&mut cells, shown, row)?;
-    Ok(Line::from_parts(cells, words_cell(alloc, row.last().as_bytes())?))
+    Ok(Line::from_parts(cells, Vec::from_slice(alloc, row.last())?))
 }
 
 /// Adds a total and its share, or that there is none.
-fn push_total(cells: &mut Vec<Cell>, total: Option<u128>, whole: u64) -> Result<(), NoMemory>
+fn push_total(cells: &mut Cells, total: Option<u128>, whole: u64) -> Result<(), NoMemory>
     requires { IfSome total (λ n. n < 2 ^ 118) }
-    ensures { OnOk result (cells.new.items ≡ cells.old.items ++ total_cells total whole) }
+    ensures { OnOk result (cells.new ≡ cells.old ++ total_cells total whole) }
 {
-    let alloc: Global = *cells.allocator();
     match total {
         Some(total) => push_counted(cells, total, whole),
         None => {
-            cells.push(no_cell(alloc)?)?;
-            cells.push(no_cell(alloc)?)?;
+            cells.add_words(b"-")?;
+            cells.add_words(b"-")?;
             Ok(())
         }
     }
 }
 
 /// Adds the own counts of these measures.
-fn push_counts(cells: &mut Vec<Cell>, shown: &[Measure], row: &PortsRow) -> Result<(), NoMemory>
-    ensures { OnOk result (cells.new.items ≡ cells.old.items ++ map (λ m. decimal (sum_of row.now.own m)) shown.now) }
+fn push_counts(cells: &mut Cells, shown: &[Measure], row: &PortsRow) -> Result<(), NoMemory>
+    ensures { OnOk result (cells.new ≡ cells.old ++ map (λ m. decimal (sum_of row.now.own m)) shown.now) }
 {
     for measure in shown {
-        let alloc: Global = *cells.allocator();
-        cells.push(count_cell(alloc, row.own(*measure) as u128)?)?;
+        cells.add_count(row.own(*measure) as u128)?;
     }
     Ok(())
 }

@@ -14,7 +14,7 @@ use crate::ports::{PortsRow, ports_table};
 use md_base::{Measure, NoMemory, PdId};
 use md_cost::Loaded;
 use md_static::Statics;
-use md_table::{Cell, Table, indented_cell};
+use md_table::{Table, add_indent};
 use std::alloc::{AllocError, Global};
 
 /// From this place on the indentation grows no more.
@@ -103,6 +103,7 @@ fn station_row(
     let profile = loaded.profile();
     let proc = profile.nodes()[node.number() as usize].number();
     let mut words = Vec::new(alloc);
+    add_indent(&mut words, place.min(DEEPEST) as u32)?;
     add_station(
         &mut words,
         profile.statics(),
@@ -110,8 +111,7 @@ fn station_row(
         node.number(),
         loaded.clique_of(node),
     )?;
-    let last = indented_cell(alloc, place.min(DEEPEST) as u32, &words)?;
-    Ok(PortsRow::from_parts(Some(total.of(by) as u128), own, last))
+    Ok(PortsRow::from_parts(Some(total.of(by) as u128), own, words))
 }
 
 /// Adds the name of a context's procedure, the context and its clique.

@@ -1,4 +1,5 @@
 mod Worked
+pub mod Kept
 pub mod Steps
 pub mod Chains
 pub mod Words

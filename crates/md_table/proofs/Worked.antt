@@ -7,6 +7,7 @@ use Rattle.percent_encoding.specs.Percent.{percent_encode, percent_encode_byte}
 use Rattle.percent_encoding.specs.AsciiSet.{should_percent_encode}
 use Rattle.md_table.specs.Anchors.{escaped, text_html, words_of}
 use Rattle.md_table.specs.Html.{cells_html, headings_html, html_of, last_html}
+use Rattle.md_table.specs.Spans.{cell_in, line_at, line_in}
 use Rattle.md_table.specs.Table.{LineCells, TableCells, text_of}
 
 unfoldable on_tables : ⊤
@@ -130,6 +131,26 @@ bare = record { heading = line (codes "total" ∷ codes "%" ∷ []) (codes "modu
 a-table-may-have-a-heading-alone : text_of bare ≡ codes "\ntotal  %  module\n"
 unfolding on_tables
 a-table-may-have-a-heading-alone = refl
+
+-- ---- cells and lines, as they are kept
+
+-- the byte at the end of a cell is the first of the next one
+a-cell-ends-before-the-next-one : cell_in (codes "8100.0t") (record { from = 1; to = 6 }) ≡ codes "100.0"
+a-cell-ends-before-the-next-one = refl
+
+-- the cell that stands right behind those of a line is its last one, and no cell of the next line
+the-last-cell-stands-behind-the-others :
+    line_in (codes "8" ∷ codes "a" ∷ codes "6" ∷ codes "75.0" ∷ codes "b" ∷ codes "4" ∷ []) (record { from = 2; to = 4 }) ≡ line (codes "6" ∷ codes "75.0" ∷ []) (codes "b")
+the-last-cell-stands-behind-the-others = refl
+
+a-line-may-have-its-last-cell-alone : line_in (codes "a" ∷ codes "b" ∷ []) (record { from = 1; to = 1 }) ≡ line [] (codes "b")
+a-line-may-have-its-last-cell-alone = refl
+
+lines-are-counted-from-0 : line_at costs.rows 1 ≡ line (codes "6" ∷ codes "75.0" ∷ codes "2" ∷ codes "25.0" ∷ codes "3.0" ∷ []) (codes "t.x/1")
+lines-are-counted-from-0 = refl
+
+past-the-end-lines-are-empty : line_at costs.rows 4 ≡ line [] []
+past-the-end-lines-are-empty = refl
 
 -- ---- HTML
 

@@ -1,6 +1,6 @@
 -- A table as HTML (the elements `table`, `tr`, `th` and `td`): the same cells in the same order, in the first rows. Shares are bars too, and
 -- what the last column names is an anchor.
-use Rattle.std.specs.Prelude.{ℕ, Bool, ◌==◌, ◌&&◌, ◌||◌, not, List, [], ◌∷◌, ◌++◌, codes, if◌then◌else◌, bytes_eq, length, slice_index_or, take}
+use Rattle.std.specs.Prelude.{ℕ, Bool, ◌==◌, ◌&&◌, ◌||◌, not, List, [], ◌++◌, codes, if◌then◌else◌, bytes_eq, length, slice_index_or, take}
 use Rattle.std.specs.List.{flat_map, enumerate_from}
 use Rattle.md_table.specs.Anchors.{anchor, escaped, named_html, text_html}
 use Rattle.md_table.specs.Table.{LineCells, TableCells}

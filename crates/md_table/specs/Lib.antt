@@ -1,4 +1,5 @@
 pub mod Cells
 pub mod Table
+pub mod Spans
 pub mod Anchors
 pub mod Html

@@ -1,13 +1,15 @@
 // A table as HTML.
-ghost use Rattle.std.specs.Prelude.{◌≡◌, ◌++◌, [], OnOk, slice_index_or};
+ghost use Rattle.std.specs.Prelude.{◌≡◌, ◌++◌, [], OnOk, slice_index_or, take};
 ghost use Rattle.std.specs.List.{flat_map};
 ghost use Rattle.md_table.specs.Anchors.{anchor};
 ghost use Rattle.md_table.specs.Html.{bar_words, cell_below, cells_html, heading_html, heading_words, headings_html, html_of, is_share, is_sorted, last_html, last_words, plain_html, row_html, share_html};
 
 use crate::add::add;
 use crate::anchor::{add_escaped, add_named, add_text_html};
-use crate::cell::Cell;
+use crate::cells::Cells;
 use crate::line::Line;
+use crate::lines::Lines;
+use crate::row::Row;
 use crate::table::Table;
 use crate::target::Target;
 use md_base::NoMemory;
@@ -27,10 +29,9 @@ pub fn add_html(
 ) -> Result<(), NoMemory>
     ensures { OnOk result (out.new.items ≡ out.old.items ++ html_of by.now sort.now most table.now) }
 {
-    let shown = most.min(table.rows().len());
     add(out, b"<table>\n")?;
     add_headings(out, sort, table.heading())?;
-    add_rows(out, by, table.heading(), &table.rows()[..shown])?;
+    add_rows(out, by, table.heading(), table.rows(), most)?;
     add(out, b"</table>\n")?;
     Ok(())
 }
@@ -41,16 +42,16 @@ fn add_headings(out: &mut Vec<u8>, sort: &[u8], line: &Line) -> Result<(), Alloc
 {
     add(out, b"<tr>")?;
     add_each_heading(out, sort, line.cells())?;
-    add_heading(out, b"", line.last().as_bytes())?;
+    add_heading(out, b"", line.last())?;
     add(out, b"</tr>\n")
 }
 
 /// Adds the headings of all columns but the last.
-fn add_each_heading(out: &mut Vec<u8>, sort: &[u8], cells: &[Cell]) -> Result<(), AllocError>
+fn add_each_heading(out: &mut Vec<u8>, sort: &[u8], cells: &Cells) -> Result<(), AllocError>
     ensures { OnOk result (out.new.items ≡ out.old.items ++ flat_map (heading_html sort.now) cells.now) }
 {
-    for cell in cells {
-        add_heading(out, sort, cell.as_bytes())?;
+    for column in 0..cells.len() {
+        add_heading(out, sort, cells.get(column))?;
     }
     Ok(())
 }
@@ -93,43 +94,50 @@ fn is_sorted(sort: &[u8], heading: &[u8]) -> bool
     !sort.is_empty() && (heading == b"total".as_slice() || heading == b"own".as_slice())
 }
 
-/// Adds each row.
-fn add_rows(out: &mut Vec<u8>, by: &[u8], heading: &Line, rows: &[Line]) -> Result<(), AllocError>
-    ensures { OnOk result (out.new.items ≡ out.old.items ++ flat_map (row_html by.now heading.now) rows.now) }
+/// Adds the first `most` rows.
+fn add_rows(
+    out: &mut Vec<u8>,
+    by: &[u8],
+    heading: &Line,
+    rows: &Lines,
+    most: usize,
+) -> Result<(), AllocError>
+    ensures { OnOk result (out.new.items ≡ out.old.items ++ flat_map (row_html by.now heading.now) (take most rows.now)) }
 {
-    for row in rows {
-        add_row(out, by, heading, row)?;
+    for place in 0..most.min(rows.len()) {
+        add_row(out, by, heading, &rows.row(place))?;
     }
     Ok(())
 }
 
 /// Adds a row below this heading.
-fn add_row(out: &mut Vec<u8>, by: &[u8], heading: &Line, line: &Line) -> Result<(), AllocError>
+fn add_row(out: &mut Vec<u8>, by: &[u8], heading: &Line, line: &Row) -> Result<(), AllocError>
     ensures { OnOk result (out.new.items ≡ out.old.items ++ row_html by.now heading.now line.now) }
 {
     add(out, b"<tr>")?;
-    add_cells(out, heading.cells(), line.cells())?;
-    add_last(out, by, heading.last().as_bytes(), line.last().as_bytes())?;
+    add_cells(out, heading.cells(), line)?;
+    add_last(out, by, heading.last(), line.last())?;
     add(out, b"</tr>\n")
 }
 
 /// Adds the cells of a row but the last, each below its heading.
-fn add_cells(out: &mut Vec<u8>, headings: &[Cell], cells: &[Cell]) -> Result<(), AllocError>
-    ensures { OnOk result (out.new.items ≡ out.old.items ++ cells_html headings.now cells.now) }
+fn add_cells(out: &mut Vec<u8>, headings: &Cells, line: &Row) -> Result<(), AllocError>
+    ensures { OnOk result (out.new.items ≡ out.old.items ++ cells_html headings.now line.now.cells) }
 {
-    for column in 0..cells.len() {
-        add_below(out, heading_at(headings, column), cells[column].as_bytes())?;
+    for column in 0..line.len() {
+        add_below(out, heading_at(headings, column), line.get(column))?;
     }
     Ok(())
 }
 
 /// The heading of a column, which is empty where there is none.
-fn heading_at(headings: &[Cell], column: usize) -> &[u8]
+fn heading_at(headings: &Cells, column: usize) -> &[u8]
     ensures { result.now ≡ slice_index_or headings.now column [] }
 {
-    match headings.get(column) {
-        Some(heading) => heading.as_bytes(),
-        None => b"",
+    if column < headings.len() {
+        headings.get(column)
+    } else {
+        b""
     }
 }
 

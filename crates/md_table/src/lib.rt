@@ -3,19 +3,24 @@
 
 mod add;
 mod anchor;
-mod cell;
+mod cells;
 mod html;
 mod line;
+mod lines;
 mod number;
+mod row;
+mod span;
 mod table;
 mod target;
 mod text;
 mod width;
 
+pub use add::add_number;
 pub use anchor::{add_encoded, add_escaped};
-pub use cell::Cell;
+pub use cells::Cells;
 pub use html::add_html;
 pub use line::Line;
-pub use number::{change_cell, count_cell, indented_cell, no_cell, ratio_cell, share_cell};
+pub use lines::Lines;
+pub use number::{add_indent, add_share};
 pub use table::Table;
 pub use text::add_text;

@@ -4,8 +4,8 @@ ghost use Rattle.std.specs.List.{flat_map};
 ghost use Rattle.md_table.specs.Table.{text_of, line_words, cells_words, at_right, width_in};
 
 use crate::add::{add, add_spaces};
-use crate::cell::Cell;
-use crate::line::Line;
+use crate::lines::Lines;
+use crate::row::Row;
 use crate::table::Table;
 use crate::width::widths_of;
 use md_base::NoMemory;
@@ -18,37 +18,37 @@ pub fn add_text(out: &mut Vec<u8>, table: &Table) -> Result<(), NoMemory>
     let alloc: Global = *out.allocator();
     let widths = widths_of(alloc, table)?;
     out.push(b'\n')?;
-    add_line(out, &widths, table.heading())?;
+    add_line(out, &widths, &table.heading().row())?;
     add_rows(out, &widths, table.rows())?;
     Ok(())
 }
 
 /// Adds the line of each row.
-fn add_rows(out: &mut Vec<u8>, widths: &[usize], rows: &[Line]) -> Result<(), AllocError>
+fn add_rows(out: &mut Vec<u8>, widths: &[usize], rows: &Lines) -> Result<(), AllocError>
     ensures { OnOk result (out.new.items ≡ out.old.items ++ flat_map (line_words (width_in widths.now)) rows.now) }
 {
-    for row in rows {
-        add_line(out, widths, row)?;
+    for place in 0..rows.len() {
+        add_line(out, widths, &rows.row(place))?;
     }
     Ok(())
 }
 
 /// Adds a line: each cell at the right of its column, the last one as it is.
-fn add_line(out: &mut Vec<u8>, widths: &[usize], line: &Line) -> Result<(), AllocError>
+fn add_line(out: &mut Vec<u8>, widths: &[usize], line: &Row) -> Result<(), AllocError>
     ensures { OnOk result (out.new.items ≡ out.old.items ++ line_words (width_in widths.now) line.now) }
 {
-    add_cells(out, widths, line.cells())?;
-    add(out, line.last().as_bytes())?;
+    add_cells(out, widths, line)?;
+    add(out, line.last())?;
     out.push(b'\n')?;
     Ok(())
 }
 
 /// Adds the cells of a line but the last, and two spaces behind each.
-fn add_cells(out: &mut Vec<u8>, widths: &[usize], cells: &[Cell]) -> Result<(), AllocError>
-    ensures { OnOk result (out.new.items ≡ out.old.items ++ cells_words (width_in widths.now) cells.now) }
+fn add_cells(out: &mut Vec<u8>, widths: &[usize], line: &Row) -> Result<(), AllocError>
+    ensures { OnOk result (out.new.items ≡ out.old.items ++ cells_words (width_in widths.now) line.now.cells) }
 {
-    for column in 0..cells.len() {
-        add_at_right(out, width_at(widths, column), cells[column].as_bytes())?;
+    for column in 0..line.len() {
+        add_at_right(out, width_at(widths, column), line.get(column))?;
         add(out, b"  ")?;
     }
     Ok(())

@@ -2,8 +2,7 @@
 ghost use Rattle.std.specs.Prelude.{ℕ, ◌≡◌, ◌<◌, ◌≤◌, ◌∷◌, ◌==◌, length, max, if◌then◌else◌, IfOk, OnOk};
 ghost use Rattle.md_table.specs.Table.{cell_at, lines_of, width_in, width_of};
 
-use crate::cell::Cell;
-use crate::line::Line;
+use crate::row::Row;
 use crate::table::Table;
 use md_base::NoMemory;
 use std::alloc::{AllocError, Global};
@@ -13,20 +12,20 @@ pub(crate) fn widths_of(alloc: Global, table: &Table) -> Result<Vec<usize>, NoMe
     ensures { IfOk result (λ widths. (column : ℕ) → width_in widths.items column ≡ width_of (lines_of table.now) column) }
 {
     let mut widths = Vec::new(alloc);
-    widen(&mut widths, table.heading())?;
-    for row in table.rows() {
-        widen(&mut widths, row)?;
+    let rows = table.rows();
+    widen(&mut widths, &table.heading().row())?;
+    for place in 0..rows.len() {
+        widen(&mut widths, &rows.row(place))?;
     }
     Ok(widths)
 }
 
 /// Makes columns as wide as the cells of a line, where they are not.
-fn widen(widths: &mut Vec<usize>, line: &Line) -> Result<(), AllocError>
+fn widen(widths: &mut Vec<usize>, line: &Row) -> Result<(), AllocError>
     ensures { OnOk result ((column : ℕ) → width_in widths.new.items column ≡ max (width_in widths.old.items column) (length (cell_at line.now column))) }
 {
-    let cells = line.cells();
-    for column in 0..cells.len() {
-        widen_column(widths, column, cells[column].as_bytes().len())?;
+    for column in 0..line.len() {
+        widen_column(widths, column, line.get(column).len())?;
     }
     Ok(())
 }

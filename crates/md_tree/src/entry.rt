@@ -18,14 +18,22 @@ pub fn where_words(alloc: Global, loaded: &Loaded, clique: u32) -> Result<Vec<u8
     requires there { clique < clique_count loaded.now.cliques }
     ensures { IfOk result (λ words. (v : View) → IsFileView loaded.now.profile v → words.items ≡ where_words v clique) }
 {
+    let mut words = Vec::new(alloc);
+    add_where(&mut words, loaded, clique)?;
+    Ok(words)
+}
+
+/// Adds the words of a clique.
+pub(crate) fn add_where(out: &mut Vec<u8>, loaded: &Loaded, clique: u32) -> Result<(), AllocError>
+    requires there { clique < clique_count loaded.now.cliques }
+    ensures { (v : View) → IsFileView loaded.now.profile v → OnOk result (out.new.items ≡ out.old.items ++ where_words v clique) }
+{
     let statics = loaded.profile().statics();
     let led = entry_of(loaded, clique);
-    let mut words = Vec::new(alloc);
-    add_full_name(&mut words, statics, led.proc)?;
-    add_entered(&mut words, statics, clique, led.site)?;
-    add_number(&mut words, b" clique ", clique)?;
-    add_size(&mut words, loaded.members(clique).len() as u32)?;
-    Ok(words)
+    add_full_name(out, statics, led.proc)?;
+    add_entered(out, statics, clique, led.site)?;
+    add_number(out, b" clique ", clique)?;
+    add_size(out, loaded.members(clique).len() as u32)
 }
 
 /// Where the link leads to that enters a clique.

@@ -7,23 +7,26 @@ ghost use Rattle.md_people.specs.Counts.{whole_of};
 ghost use Rattle.md_people.specs.Tree.{clique_own, clique_row, clique_total, is_shown, tree_heading};
 ghost use Rattle.md_tree.specs.Branches.{more_of, more_row};
 
-use crate::entry::where_words;
+use crate::entry::add_where;
 use crate::scale::Scale;
 use md_base::{Measure, NoMemory, PdId};
 use md_cost::Loaded;
-use md_people::{add_number, push_counted, push_words, words_cell};
-use md_table::{Line, count_cell, indented_cell};
-use std::alloc::Global;
+use md_people::{add_number, push_counted};
+use md_table::{Cells, Line, Lines, add_indent};
+use std::alloc::{AllocError, Global};
+
+/// How many bytes the words of most cliques have room in.
+const ROOM: usize = 128;
 
 /// The heading of the tree.
 pub(crate) fn tree_heading(alloc: Global) -> Result<Line, NoMemory>
     ensures { IfOk result (λ line. line ≡ tree_heading) }
 {
-    let mut cells = Vec::new(alloc);
-    push_words(&mut cells, b"total")?;
-    push_words(&mut cells, b"%")?;
-    push_words(&mut cells, b"own")?;
-    Ok(Line::from_parts(cells, words_cell(alloc, b"where")?))
+    let mut cells = Cells::new(alloc);
+    cells.add_words(b"total")?;
+    cells.add_words(b"%")?;
+    cells.add_words(b"own")?;
+    Ok(Line::from_parts(cells, Vec::from_slice(alloc, b"where")?))
 }
 
 /// Whether a clique of this total has a row.
@@ -48,11 +51,13 @@ pub(crate) fn clique_row(
 {
     let total = loaded.clique_total(clique).of(scale.by);
     let own = clique_own(loaded, scale.by, clique);
-    let mut cells = Vec::new(alloc);
+    let mut cells = Cells::new(alloc);
     push_counted(&mut cells, total as u128, scale.whole)?;
-    cells.push(count_cell(alloc, own)?)?;
-    let words = where_words(alloc, loaded, clique)?;
-    Ok(Line::from_parts(cells, indented_cell(alloc, level, &words)?))
+    cells.add_count(own)?;
+    let mut words = Vec::with_capacity(alloc, ROOM)?;
+    add_indent(&mut words, level)?;
+    add_where(&mut words, loaded, clique)?;
+    Ok(Line::from_parts(cells, words))
 }
 
 /// The sum of the own counts of a clique's contexts, and so many steps. Takes no memory.
@@ -71,21 +76,21 @@ pub fn clique_own(loaded: &Loaded, by: Measure, clique: u32) -> u128
 
 /// Adds the row of so many children that have none of their own, where there are any.
 pub(crate) fn push_more(
-    rows: &mut Vec<Line>,
+    alloc: Global,
+    rows: &mut Lines,
     scale: Scale,
     level: u32,
     count: u32,
     sum: u128,
 ) -> Result<(), NoMemory>
     requires { sum < 2 ^ 118 }
-    ensures { (v : View) → scale.whole ≡ whole_of v scale.by → OnOk result (rows.new.items ≡ rows.old.items ++ more_of v scale.by level count sum) }
+    ensures { (v : View) → scale.whole ≡ whole_of v scale.by → OnOk result (rows.new ≡ rows.old ++ more_of v scale.by level count sum) }
 {
     if count == 0 {
         return Ok(());
     }
-    let line = more_row(*rows.allocator(), scale.whole, level, count, sum)?;
-    rows.push(line)?;
-    Ok(())
+    let line = more_row(alloc, scale.whole, level, count, sum)?;
+    rows.push(&line)
 }
 
 /// The row of children that have none of their own.
@@ -93,19 +98,19 @@ fn more_row(alloc: Global, whole: u64, level: u32, count: u32, sum: u128) -> Res
     requires { sum < 2 ^ 118 }
     ensures { IfOk result (λ line. line ≡ more_row whole level count sum) }
 {
-    let mut cells = Vec::new(alloc);
+    let mut cells = Cells::new(alloc);
     push_counted(&mut cells, sum, whole)?;
-    push_words(&mut cells, b"-")?;
-    let words = more_words(alloc, count)?;
-    Ok(Line::from_parts(cells, indented_cell(alloc, level, &words)?))
+    cells.add_words(b"-")?;
+    let mut words = Vec::new(alloc);
+    add_indent(&mut words, level)?;
+    add_more(&mut words, count)?;
+    Ok(Line::from_parts(cells, words))
 }
 
-/// How many children have no row.
-fn more_words(alloc: Global, count: u32) -> Result<Vec<u8>, NoMemory>
-    ensures { IfOk result (λ words. words.items ≡ decimal count ++ codes " more") }
+/// Adds how many children have no row.
+fn add_more(out: &mut Vec<u8>, count: u32) -> Result<(), AllocError>
+    ensures { OnOk result (out.new.items ≡ out.old.items ++ (decimal count ++ codes " more")) }
 {
-    let mut words = Vec::new(alloc);
-    add_number(&mut words, b"", count)?;
-    words.extend_from_slice(b" more")?;
-    Ok(words)
+    add_number(out, b"", count)?;
+    out.extend_from_slice(b" more")
 }

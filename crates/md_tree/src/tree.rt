@@ -16,7 +16,7 @@ use crate::row::{clique_row, is_shown, push_more, tree_heading};
 use crate::scale::{Scale, scale_of};
 use md_base::{Measure, NoMemory};
 use md_cost::Loaded;
-use md_table::{Line, Table};
+use md_table::{Lines, Table};
 use std::alloc::Global;
 
 /// The table of the cliques as a tree: depth first, with a row for clique 0, for each other clique whose total is at least so many
@@ -43,17 +43,18 @@ fn tree_rows(
     loaded: &Loaded,
     scale: Scale,
     children: &[Child],
-) -> Result<Vec<Line>, NoMemory>
+) -> Result<Lines, NoMemory>
     requires whole { (v : View) → IsFileView loaded.now.profile v → scale.whole ≡ whole_of v scale.by }
     requires children { AreChildren (clique_count loaded.now.cliques) children.now }
     requires view { (v : View) → IsFileView loaded.now.profile v → AreChildrenOf v scale.by children.now }
-    ensures { IfOk result (λ rows. (v : View) → IsFileView loaded.now.profile v → rows.items ≡ rows_from v scale.by scale.least (clique_count v.cliques) 0 0) }
+    ensures { IfOk result (λ rows. (v : View) → IsFileView loaded.now.profile v → rows ≡ rows_from v scale.by scale.least (clique_count v.cliques) 0 0) }
 {
     // it is valid and has a tree, which `profile` says
     let _profile = loaded.profile();
-    let mut rows = Vec::new(alloc);
+    let mut rows = Lines::new(alloc);
     let mut branches = Vec::new(alloc);
-    rows.push(clique_row(alloc, loaded, scale, 0, 0)?)?;
+    let row = clique_row(alloc, loaded, scale, 0, 0)?;
+    rows.push(&row)?;
     branches.push(branch_below(children, 0, 1))?;
     while let Some(branch) = branches.pop() {
         go_on(&mut rows, &mut branches, loaded, scale, children, branch)?;
@@ -64,7 +65,7 @@ fn tree_rows(
 /// Goes on in a branch: by the row of its next child and a branch below that, past a child that has no row, or by the row of those that
 /// have none.
 fn go_on(
-    rows: &mut Vec<Line>,
+    rows: &mut Lines,
     branches: &mut Vec<Branch>,
     loaded: &Loaded,
     scale: Scale,
@@ -76,18 +77,19 @@ fn go_on(
     requires view { (v : View) → IsFileView loaded.now.profile v → AreChildrenOf v scale.by children.now }
     requires branch { IsBranch (clique_count loaded.now.cliques) children.now branch }
     requires branches { All (IsBranch (clique_count loaded.now.cliques) children.now) branches.old.items }
-    ensures rows { (v : View) → IsFileView loaded.now.profile v → OnOk result (rows.new.items ++ open_rows v scale.by scale.least children.now branches.new.items ≡ rows.old.items ++ (branch_rows v scale.by scale.least children.now branch ++ open_rows v scale.by scale.least children.now branches.old.items)) }
+    ensures rows { (v : View) → IsFileView loaded.now.profile v → OnOk result (rows.new ++ open_rows v scale.by scale.least children.now branches.new.items ≡ rows.old ++ (branch_rows v scale.by scale.least children.now branch ++ open_rows v scale.by scale.least children.now branches.old.items)) }
     ensures branches { OnOk result (All (IsBranch (clique_count loaded.now.cliques) children.now) branches.new.items) }
     ensures work { OnOk result (open_work children.now (clique_count loaded.now.cliques) branches.new.items < rest_work children.now (clique_count loaded.now.cliques) branch.rest + open_work children.now (clique_count loaded.now.cliques) branches.old.items) }
 {
     // it is valid and has a tree, which `profile` says
     let _profile = loaded.profile();
+    let alloc: Global = *branches.allocator();
     let Some((_parent, total, clique)) = next_child(children, branch.rest) else {
-        return push_more(rows, scale, branch.level, branch.hidden, branch.sum);
+        return push_more(alloc, rows, scale, branch.level, branch.hidden, branch.sum);
     };
     if is_shown(scale, total.0) {
-        let row = clique_row(*rows.allocator(), loaded, scale, branch.level, clique)?;
-        rows.push(row)?;
+        let row = clique_row(alloc, loaded, scale, branch.level, clique)?;
+        rows.push(&row)?;
         branches.push(past_shown(branch))?;
         branches.push(branch_below(children, clique, branch.level + 1))?;
     } else {

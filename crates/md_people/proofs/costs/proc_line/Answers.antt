@@ -12,10 +12,10 @@ use Rattle.md_people.proofs.costs.proc_line.Goals as goal
 pub returns : goal.returns
 returns c =
     IfOk-weaker c.costs_line.result
-    (λ (line : LineCells). line ≡ costs_line c.args.by c.args.whole (λ (m : Measure). sum_of c.proc_own.result m) (λ (m : Measure). sum_of c.proc_total.result m) c.args.name)
-    (λ (line : LineCells). (v : View) → IsFileView c.args.loaded.now.profile v → line ≡ costs_of v c.args.by (OfProcedure c.args.id) c.args.name)
+    (λ (line : LineCells). line ≡ costs_line c.args.by c.args.whole (λ (m : Measure). sum_of c.proc_own.result m) (λ (m : Measure). sum_of c.proc_total.result m) c.args.name.items)
+    (λ (line : LineCells). (v : View) → IsFileView c.args.loaded.now.profile v → line ≡ costs_of v c.args.by (OfProcedure c.args.id) c.args.name.items)
     (λ line is v viewed.
-    costs_told v c.args.by (OfProcedure c.args.id) c.args.whole c.proc_own.result c.proc_total.result c.args.name line (c.requires.whole v viewed)
+    costs_told v c.args.by (OfProcedure c.args.id) c.args.whole c.proc_own.result c.proc_total.result c.args.name.items line (c.requires.whole v viewed)
     (λ m. c.proc_own.ensures v m viewed)
     (λ m. c.proc_total.ensures v m viewed)
     is)

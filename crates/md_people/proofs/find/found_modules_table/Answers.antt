@@ -5,4 +5,4 @@ use Rattle.md_people.proofs.find.found_modules_table.Goals as goal
 
 pub loop-id-preserved : goal.loop-id-preserved
 loop-id-preserved c = λ v is.
-    rows_added (module_rows v c.args.by c.args.text.now) c.loop-id.id c.loop-id.rows.items c.push_module.new.rows.items _ (c.loop-id.invariant v is) (c.in_ok-push_module.ensures v is) refl
+    rows_added (module_rows v c.args.by c.args.text.now) c.loop-id.id c.loop-id.rows c.push_module.new.rows _ (c.loop-id.invariant v is) (c.in_ok-push_module.ensures v is) refl

@@ -6,4 +6,4 @@ use Rattle.md_people.specs.Find.{proc_rows}
 use Rattle.md_people.proofs.find.found_procs_table.Given as goal
 
 abbrev pub invariant-loop-id : goal.invariant-loop-id
-invariant-loop-id l = (v : View) → IsFileView l.loaded.profile v → l.rows.items ≡ flat_map (proc_rows v l.by l.text) (range_with_len 0 l.id)
+invariant-loop-id l = (v : View) → IsFileView l.loaded.profile v → l.rows ≡ flat_map (proc_rows v l.by l.text) (range_with_len 0 l.id)

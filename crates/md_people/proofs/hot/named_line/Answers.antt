@@ -11,10 +11,10 @@ use Rattle.md_people.proofs.hot.named_line.Goals as goal
 pub returns : goal.returns
 returns c =
     IfOk-weaker c.proc_line.result
-    (λ (line : LineCells). (v : View) → IsFileView c.args.loaded.now.profile v → line ≡ costs_of v c.args.by (OfProcedure c.args.id) c.from_bytes.result)
+    (λ (line : LineCells). (v : View) → IsFileView c.args.loaded.now.profile v → line ≡ costs_of v c.args.by (OfProcedure c.args.id) c.in_ok-name.name.items)
     (λ (line : LineCells). (v : View) → IsFileView c.args.loaded.now.profile v → line ≡ proc_line v c.args.by c.args.id)
     (λ line is v viewed.
     is v viewed
-    ∙ named c.args.loaded.now.profile v viewed c.args.by c.args.id c.from_bytes.result
-    (c.from_bytes.ensures ∙ rw (c.number.ensures, c.statics.ensures, c.profile.ensures.profile) at c.in_ok-name.ensures))
+    ∙ named c.args.loaded.now.profile v viewed c.args.by c.args.id c.in_ok-name.name.items
+    (rw (c.number.ensures, c.statics.ensures, c.profile.ensures.profile) at c.in_ok-name.ensures))
     c.proc_line.ensures

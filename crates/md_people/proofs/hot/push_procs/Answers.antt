@@ -5,5 +5,5 @@ use Rattle.md_people.proofs.hot.push_procs.Goals as goal
 
 pub loop-id-preserved : goal.loop-id-preserved
 loop-id-preserved c = λ v is.
-    row_pushed (proc_line v c.args.by) c.args.rows.now.items c.loop-id.rows.items c.push.new.self.items c.args.ids.now c.loop-id.id-index c.in_ok-line.line
-    c.loop-id-test.true (c.loop-id.invariant v is) (c.in_ok-line.ensures v is ∙ ap (λ (q : ℕ). proc_line v c.args.by q) c.new.ensures) c.in_ok-push.ensures.items
+    row_pushed (proc_line v c.args.by) c.args.rows.now c.loop-id.rows c.push.new.self c.args.ids.now c.loop-id.id-index c.in_ok-line.line
+    c.loop-id-test.true (c.loop-id.invariant v is) (c.in_ok-line.ensures v is ∙ ap (λ (q : ℕ). proc_line v c.args.by q) c.new.ensures) c.in_ok-push.ensures

@@ -3,5 +3,5 @@ use Rattle.std.specs.List.{flat_map}
 use Rattle.md_table.specs.Table.{line_words, width_in}
 use Rattle.md_table.proofs.text.add_rows.Given as goal
 
-abbrev pub invariant-loop-row : goal.invariant-loop-row
-invariant-loop-row l = l.out.items ≡ l.fn.out.items ++ flat_map (line_words (width_in l.widths)) (take l.row-index l.rows)
+abbrev pub invariant-loop-place : goal.invariant-loop-place
+invariant-loop-place l = l.out.items ≡ l.fn.out.items ++ flat_map (line_words (width_in l.widths)) (take l.place l.rows)

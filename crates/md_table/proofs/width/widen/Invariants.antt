@@ -8,4 +8,4 @@ pub record IsWiderSoFar (old : List ℕ) (cells : List (List ℕ)) (column : ℕ
   pub wide : (other : ℕ) → width_in new other ≡ max (width_in old other) (length (slice_index_or (take column cells) other []))
 
 abbrev pub invariant-loop-column : goal.invariant-loop-column
-invariant-loop-column l = IsWiderSoFar l.fn.widths.items l.cells l.column l.widths.items
+invariant-loop-column l = IsWiderSoFar l.fn.widths.items l.line.cells l.column l.widths.items

@@ -37,8 +37,8 @@ returns-in_ok-push-3-clause-rows c = λ v viewed.
     let total = of_next (λ (x : Child). x.1.0 ≡ clique_total v c.args.scale.by x.2) cs b.rest child told.totals next in
     let shown = sym (c.is_shown.ensures v child.2 (c.requires.whole v viewed) total) ∙ c.if-is_shown.true in
     let after = c.in_ok-push-3.ensures.items ∙ ap (λ (bs : List Branch). bs ++ c.branch_below.result ∷ []) (c.in_ok-push-2.ensures.items ∙ ap (λ (d : Branch). c.args.branches.now.items ++ d ∷ []) c.past_shown.ensures) in
-    step_shown v c.args.scale.by c.args.scale.least cs are told b c.branch_below.result child c.in_ok-row.row c.args.rows.now.items c.push.new.self.items c.args.branches.now.items c.push-then-is_shown-2.new.self.items
-    next c.branch_below.ensures.rest c.branch_below.ensures.branch shown (c.in_ok-row.ensures v viewed) c.in_ok-push.ensures.items after
+    step_shown v c.args.scale.by c.args.scale.least cs are told b c.branch_below.result child c.in_ok-row.row c.args.rows.now c.push.new.self c.args.branches.now.items c.push-then-is_shown-2.new.self.items
+    next c.branch_below.ensures.rest c.branch_below.ensures.branch shown (c.in_ok-row.ensures v viewed) c.in_ok-push.ensures after
 
 pub returns-in_ok-push-3-clause-branches : goal.returns-in_ok-push-3-clause-branches
 returns-in_ok-push-3-clause-branches c =
@@ -70,7 +70,7 @@ returns-in_ok-push-4-clause-rows c = λ v viewed.
     let total = of_next (λ (x : Child). x.1.0 ≡ clique_total v c.args.scale.by x.2) cs b.rest child told.totals next in
     let hidden = sym (c.is_shown.ensures v child.2 (c.requires.whole v viewed) total) ∙ c.if-is_shown.false in
     let after = c.in_ok-push-4.ensures.items ∙ ap (λ (d : Branch). c.args.branches.now.items ++ d ∷ []) c.past_hidden.ensures in
-    step_hidden v c.args.scale.by c.args.scale.least cs are told b child c.in-Some.total.0 c.args.rows.now.items c.args.branches.now.items c.push-else-is_shown.new.self.items next total hidden after
+    step_hidden v c.args.scale.by c.args.scale.least cs are told b child c.in-Some.total.0 c.args.rows.now c.args.branches.now.items c.push-else-is_shown.new.self.items next total hidden after
 
 pub returns-in_ok-push-4-clause-branches : goal.returns-in_ok-push-4-clause-branches
 returns-in_ok-push-4-clause-branches c =

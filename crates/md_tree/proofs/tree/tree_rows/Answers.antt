@@ -27,7 +27,7 @@ loop-branch-init c =
     let its = whole.parent in
     let start : Branch = record { rest = b.rest; level = 1; hidden = 0; sum = 0 } in
     let at : IsBranch n cs start = record { rest = whole_rest n cs c.requires.children 0 b.rest whole some; level = omega arith; hidden = omega arith; sum = omega arith } in
-    let rows_are : c.push.new.self.items ≡ c.in_ok-clique_row.field-0 ∷ [] = c.in_ok-push.ensures.items ∙ ap (λ (xs : List LineCells). xs ++ c.in_ok-clique_row.field-0 ∷ []) c.new-rows.ensures.items in
+    let rows_are : c.push.new.self ≡ c.in_ok-row.row ∷ [] = c.in_ok-push.ensures ∙ ap (λ (xs : List LineCells). xs ++ c.in_ok-row.row ∷ []) c.new-rows.ensures in
     let branches_are : c.push-2.new.self.items ≡ start ∷ [] = c.in_ok-push-2.ensures.items ∙ ap (λ (xs : List Branch). xs ++ b ∷ []) c.new-branches.ensures.items ∙ ap (λ (x : Branch). x ∷ []) c.branch_below.ensures.branch in
     record {
       rows = λ v viewed.
@@ -35,8 +35,8 @@ loop-branch-init c =
           let are : AreChildren (clique_count v.cliques) cs = rw count c.requires.children in
           let there : 0 < clique_count v.cliques = omega arith in
           rw (rows_are, branches_are) (
-          ap (λ (xs : List LineCells). c.in_ok-clique_row.field-0 ∷ xs) (append-nil (branch_rows v c.args.scale.by c.args.scale.least cs start))
-          ∙ ap (λ (r : LineCells). r ∷ branch_rows v c.args.scale.by c.args.scale.least cs start) (c.in_ok-clique_row.ensures v viewed)
+          ap (λ (xs : List LineCells). c.in_ok-row.row ∷ xs) (append-nil (branch_rows v c.args.scale.by c.args.scale.least cs start))
+          ∙ ap (λ (r : LineCells). r ∷ branch_rows v c.args.scale.by c.args.scale.least cs start) (c.in_ok-row.ensures v viewed)
           ∙ sym (whole_rows v c.args.scale.by c.args.scale.least cs are (c.requires.view v viewed) 0 0 b.rest there whole));
       branches = rw branches_are (All-cons (IsBranch n cs) start [] at (All-nil (IsBranch n cs)));
     }
@@ -59,8 +59,8 @@ loop-branch-preserved c =
     record {
       rows = λ v viewed.
           c.in_ok-go_on.ensures.rows v viewed
-          ∙ ap (λ (xs : List LineCells). c.loop-branch.rows.items ++ xs) (sym (open_push v c.args.scale.by c.args.scale.least cs c.pop.new.self.items c.in-Some.branch))
-          ∙ ap (λ (bs : List Branch). c.loop-branch.rows.items ++ open_rows v c.args.scale.by c.args.scale.least cs bs) (sym c.in-Some.ensures.items)
+          ∙ ap (λ (xs : List LineCells). c.loop-branch.rows ++ xs) (sym (open_push v c.args.scale.by c.args.scale.least cs c.pop.new.self.items c.in-Some.branch))
+          ∙ ap (λ (bs : List Branch). c.loop-branch.rows ++ open_rows v c.args.scale.by c.args.scale.least cs bs) (sym c.in-Some.ensures.items)
           ∙ c.loop-branch.invariant.rows v viewed;
       branches = c.in_ok-go_on.ensures.branches;
     }
@@ -82,6 +82,6 @@ returns c = λ v viewed.
     let empty = c.in_default.ensures.cases.0 in
     let none : c.loop-branch.branches.items ≡ [] = nil_from_length c.loop-branch.branches.items (omega arith) in
     sym (
-    ap (λ (bs : List Branch). c.loop-branch.rows.items ++ open_rows v c.args.scale.by c.args.scale.least cs bs) none
-    ∙ append-nil c.loop-branch.rows.items)
+    ap (λ (bs : List Branch). c.loop-branch.rows ++ open_rows v c.args.scale.by c.args.scale.least cs bs) none
+    ∙ append-nil c.loop-branch.rows)
     ∙ c.loop-branch.invariant.rows v viewed

@@ -10,7 +10,7 @@ use Rattle.md_tree.proofs.tree.tree_rows.Given as goal
 -- the rows so far, and those of the branches under way
 abbrev pub invariant-loop-branch : goal.invariant-loop-branch
 invariant-loop-branch l = record {
-  rows : (v : View) → IsFileView l.loaded.profile v → l.rows.items ++ open_rows v l.scale.by l.scale.least l.children l.branches.items ≡ rows_from v l.scale.by l.scale.least (clique_count v.cliques) 0 0;
+  rows : (v : View) → IsFileView l.loaded.profile v → l.rows ++ open_rows v l.scale.by l.scale.least l.children l.branches.items ≡ rows_from v l.scale.by l.scale.least (clique_count v.cliques) 0 0;
   branches : All (IsBranch (clique_count l.loaded.cliques) l.children) l.branches.items;
 }
 

@@ -1,6 +1,6 @@
 use Rattle.std.proofs.Common.{◌≡◌, length, arith}
 use Rattle.md_clique.proofs.Sizes.{size_within}
-use Rattle.md_tree.proofs.entry.where_words.Goals as goal
+use Rattle.md_tree.proofs.entry.add_where.Goals as goal
 
 pub overflow_cast-members : goal.overflow_cast-members
 overflow_cast-members c =
