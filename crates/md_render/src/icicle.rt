@@ -12,7 +12,7 @@ use crate::title::measure_word;
 use md_base::{Measure, NoMemory};
 use md_cost::Loaded;
 use md_people::whole_of;
-use md_table::{add_escaped, count_cell, share_cell};
+use md_table::{add_escaped, add_share};
 use md_tree::{CliqueBox, clique_own, shown_cliques, where_words};
 use std::alloc::{AllocError, Global};
 
@@ -177,13 +177,10 @@ fn add_cost(out: &mut Vec<u8>, cost: Cost) -> Result<(), NoMemory>
 fn add_part(out: &mut Vec<u8>, cost: Cost) -> Result<(), NoMemory>
     ensures { OnOk result (out.new.items ≡ out.old.items ++ part_words cost) }
 {
-    let alloc: Global = *out.allocator();
-    let share = share_cell(alloc, cost.total as u128, cost.whole)?;
-    let own = count_cell(alloc, cost.own)?;
     add(out, b", ")?;
-    add(out, share.as_bytes())?;
+    add_share(out, cost.total as u128, cost.whole)?;
     add(out, b" %, own ")?;
-    add(out, own.as_bytes())?;
+    md_table::add_number(out, cost.own)?;
     Ok(())
 }
 
