@@ -129,16 +129,3 @@ only_read bs f g is spells = cc (is, spells_read bs f spells)
 pub never_damaged : (fault : DecodeFault) (bs : List ℕ) (f : ProfileRows) → IsFaultOf bs fault → Spells bs f → Reads f (Err fault)
 never_damaged (Damaged at kind) bs f h spells = absurd (no_ok (record { at = at; kind = kind }) f (sym (spells_read bs f spells) ∙ h))
 never_damaged NoMemory bs f h spells = tt
-
--- the byte at which a piece stops
-pub take_stops : (form : Text) (at : ℕ) (piece : List ℕ) (i b : ℕ) (s now after : State) (fault : DecodeFault) → i < length piece → b ≡ get_or piece i 0
-    → ((rest : List ℕ) → read form at (take i piece ++ rest) ≡ read (form_of s) s.at rest) → FollowsByte (form_of s) b s.at now (Err fault) → FollowsBytes form piece at after (Err fault)
-take_stops form at piece i b s now after (Damaged place kind) within is so_far h = (
-  h.0,
-  λ rest.
-      let split : piece ≡ take i piece ++ (b ∷ drop (i + 1) piece) = sym (take-append-drop i piece) ∙ ap (λ (xs : List ℕ). take i piece ++ xs) (drop_more piece i 0 within ∙ ap (λ (c : ℕ). c ∷ drop (i + 1) piece) (sym is)) in
-      ap (λ (xs : List ℕ). read form at (xs ++ rest)) split
-      ∙ ap (read form at) (append_assoc (take i piece) (b ∷ drop (i + 1) piece) rest)
-      ∙ so_far ((b ∷ drop (i + 1) piece) ++ rest) ∙ h.1 (drop (i + 1) piece ++ rest),
-)
-take_stops form at piece i b s now after NoMemory within is so_far h = tt

@@ -6,7 +6,9 @@ pub mod LinkRows
 pub mod Exact
 pub mod Keys
 pub mod Graphs
+pub mod Sitting
 pub mod Reading
+pub mod Ahead
 pub mod Fed
 pub mod Writes
 pub mod Loaded
