@@ -32,10 +32,10 @@ read_number next at place bs rest within =
     let two : place + 2 + 1 ≡ place + 3 = omega arith in
     let three : place + 3 + 1 ≡ place + 4 = omega arith in
     let front : drop place bs ≡ get_or bs place 0 ∷ get_or bs (place + 1) 0 ∷ get_or bs (place + 2) 0 ∷ get_or bs (place + 3) 0 ∷ drop (place + 4) bs =
-        drop_more bs place 0 (omega (arith, within))
-        ∙ ap (λ (xs : List ℕ). get_or bs place 0 ∷ xs) (drop_more bs (place + 1) 0 (omega (arith, within)) ∙ ap (λ (k : ℕ). get_or bs (place + 1) 0 ∷ drop k bs) one)
-        ∙ ap (λ (xs : List ℕ). get_or bs place 0 ∷ get_or bs (place + 1) 0 ∷ xs) (drop_more bs (place + 2) 0 (omega (arith, within)) ∙ ap (λ (k : ℕ). get_or bs (place + 2) 0 ∷ drop k bs) two)
-        ∙ ap (λ (xs : List ℕ). get_or bs place 0 ∷ get_or bs (place + 1) 0 ∷ get_or bs (place + 2) 0 ∷ xs) (drop_more bs (place + 3) 0 (omega (arith, within)) ∙ ap (λ (k : ℕ). get_or bs (place + 3) 0 ∷ drop k bs) three) in
+    drop_more bs place 0 (omega (arith, within))
+    ∙ ap (λ (xs : List ℕ). get_or bs place 0 ∷ xs) (drop_more bs (place + 1) 0 (omega (arith, within)) ∙ ap (λ (k : ℕ). get_or bs (place + 1) 0 ∷ drop k bs) one)
+    ∙ ap (λ (xs : List ℕ). get_or bs place 0 ∷ get_or bs (place + 1) 0 ∷ xs) (drop_more bs (place + 2) 0 (omega (arith, within)) ∙ ap (λ (k : ℕ). get_or bs (place + 2) 0 ∷ drop k bs) two)
+    ∙ ap (λ (xs : List ℕ). get_or bs place 0 ∷ get_or bs (place + 1) 0 ∷ get_or bs (place + 2) 0 ∷ xs) (drop_more bs (place + 3) 0 (omega (arith, within)) ∙ ap (λ (k : ℕ). get_or bs (place + 3) 0 ∷ drop k bs) three) in
     let sum : at + 1 + 1 + 1 + 1 ≡ at + 4 = omega arith in
     ap (λ (xs : List ℕ). read (number next) at (xs ++ rest)) front
     ∙ ap (λ (k : ℕ). read (next (number_at bs place)) k (drop (place + 4) bs ++ rest)) sum
@@ -164,10 +164,14 @@ byte_damaged form at bs now NoMemory some h = tt
 
 -- a link that is at hand
 pub link_taken : (s now : State) (bs : List ℕ) (size : ℕ) → size ≡ link_size (width s.version) → size ≤ length bs → TakesAll (form_of s) (take size bs) s.at now → FollowsSome (form_of s) bs s.at now (Ok size)
-link_taken s now bs size is within h = (omega (arith, is), within, λ rest.
-    ap (λ (xs : List ℕ). read (form_of s) s.at (xs ++ rest)) (sym (take-append-drop size bs))
-    ∙ ap (read (form_of s) s.at) (append_assoc (take size bs) (drop size bs) rest)
-    ∙ h (drop size bs ++ rest))
+link_taken s now bs size is within h = (
+  omega (arith, is),
+  within,
+  λ rest.
+      ap (λ (xs : List ℕ). read (form_of s) s.at (xs ++ rest)) (sym (take-append-drop size bs))
+      ∙ ap (read (form_of s) s.at) (append_assoc (take size bs) (drop size bs) rest)
+      ∙ h (drop size bs ++ rest),
+)
 
 -- it goes on behind the link
 pub link_goes : (s : State) (bs rest : List ℕ) (v t w : ℕ) (own : Counts) (rows : ProfileRows) (place : ℕ) → length bs ≡ link_size (width s.version) → v ≡ number_at bs 0 → t ≡ number_at bs 4 → w ≡ number_at bs 8
@@ -178,11 +182,11 @@ link_goes s bs rest v t w own rows place size first second third counts fitting 
     let k : ℕ = width s.version in
     let f : ProfileRows = s.rows in
     let fits_here : fits_site f (number_at bs 0) (number_at bs 4) (number_at bs 8) ≡ true =
-        sym (ap (λ (x : ℕ). fits_site f x t w) first ∙ ap (λ (x : ℕ). fits_site f (number_at bs 0) x w) second ∙ ap (fits_site f (number_at bs 0) (number_at bs 4)) third) ∙ fitting in
+    sym (ap (λ (x : ℕ). fits_site f x t w) first ∙ ap (λ (x : ℕ). fits_site f (number_at bs 0) x w) second ∙ ap (fits_site f (number_at bs 0) (number_at bs 4)) third) ∙ fitting in
     let new_here : is_new_link f (number_at bs 0) (number_at bs 4) (number_at bs 8) ≡ true =
-        sym (ap (λ (x : ℕ). is_new_link f x t w) first ∙ ap (λ (x : ℕ). is_new_link f (number_at bs 0) x w) second ∙ ap (is_new_link f (number_at bs 0) (number_at bs 4)) third) ∙ new in
+    sym (ap (λ (x : ℕ). is_new_link f x t w) first ∙ ap (λ (x : ℕ). is_new_link f (number_at bs 0) x w) second ∙ ap (is_new_link f (number_at bs 0) (number_at bs 4)) third) ∙ new in
     let row : with_link f (record { caller = Some v; site = Some t; callee = w; own = own }) ≡ with_link f (link_of (number_at bs 0) (number_at bs 4) (number_at bs 8) (numbers_at k bs 12)) =
-        λ i. with_link f (record { caller = Some (first i); site = Some (second i); callee = third i; own = counts i }) in
+    λ i. with_link f (record { caller = Some (first i); site = Some (second i); callee = third i; own = counts i }) in
     read_link k f (next_link s) s.at bs rest size fits_here new_here
     ∙ ap (λ (g : ProfileRows). read (next_link s g) (s.at + link_size k) rest) (sym (are ∙ row))
     ∙ ap (λ (p : ℕ). read (next_link s rows) p rest) (sym at)

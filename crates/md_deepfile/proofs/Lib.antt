@@ -13,3 +13,4 @@ pub mod Fed
 pub mod Writes
 pub mod Loaded
 mod Worked
+mod WorkedAhead

@@ -130,7 +130,7 @@ sat_down sitting now others i v s q at now_are empty are a b c = elim (cases_eq 
       ap (λ (o : Option Seat). sits_at o b c || list_any (is_key a b c) others) seat
       ∙ sym (or_nothing (has_seated (record { sitting = sitting; others = others }) a b c))
       ∙ ap (λ (t : Bool). has_seated (record { sitting = sitting; others = others }) a b c || t)
-          (sym (no_key v s q a b c (λ one two. other (ap (λ (x : ℕ). seat_of x b) one ∙ ap (seat_of v) two ∙ sym at))))
+      (sym (no_key v s q a b c (λ one two. other (ap (λ (x : ℕ). seat_of x b) one ∙ ap (seat_of v) two ∙ sym at))))
 ]
   where
     -- within one seat the site tells the caller
@@ -201,5 +201,5 @@ unfolding four_empty
 seats_more sitting now others are none v s q =
     ap (λ (xs : List Seat). has_seated (record { sitting = xs; others = others }) v s q) are
     ∙ ap (λ (t : Bool). t || list_any (is_key v s q) others)
-        (sits_more sitting four_empty (seat_of v s) s q (λ k. nobody_in_four k s q) (nothing_left (sits_at (slice_get sitting (seat_of v s)) s q) (list_any (is_key v s q) others) (none v s q)))
+    (sits_more sitting four_empty (seat_of v s) s q (λ k. nobody_in_four k s q) (nothing_left (sits_at (slice_get sitting (seat_of v s)) s q) (list_any (is_key v s q) others) (none v s q)))
     ∙ nothing_right (sits_at (slice_get sitting (seat_of v s)) s q) (list_any (is_key v s q) others) (none v s q)

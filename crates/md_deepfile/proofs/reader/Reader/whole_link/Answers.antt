@@ -14,6 +14,6 @@ returns-clause-taken c = λ yes rest.
     let s = state_of c.args.self.now in
     ap (λ (t : Text). read t s.at (c.args.bytes.now ++ rest)) (form_number fields.LinkCaller s c.requires.stands c.requires.whole c.requires.ready)
     ∙ link_goes s c.args.bytes.now rest c.number_at-caller.result c.number_at-site.result c.number_at-callee.result c.counts_at-own.result _ _ c.requires.size
-        c.number_at-caller.ensures c.number_at-site.ensures c.number_at-callee.ensures c.counts_at-own.ensures (sym c.fits.ensures ∙ c.if-not-fits.false) (sym c.in_ok-add_link.ensures.added ∙ c.if-not-branch.false)
-        (ap (λ g. record s.rows { nodes = g.nodes; links = g.links }) (c.in_ok-add_link.ensures.links c.if-not-branch.false)) (search (rules, arith))
+    c.number_at-caller.ensures c.number_at-site.ensures c.number_at-callee.ensures c.counts_at-own.ensures (sym c.fits.ensures ∙ c.if-not-fits.false) (sym c.in_ok-add_link.ensures.added ∙ c.if-not-branch.false)
+    (ap (λ g. record s.rows { nodes = g.nodes; links = g.links }) (c.in_ok-add_link.ensures.links c.if-not-branch.false)) (search (rules, arith))
     ∙ c.next_link.ensures.leads rest
