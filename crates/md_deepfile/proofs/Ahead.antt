@@ -1,7 +1,6 @@
 -- What is read of a number or a link of which all bytes are at hand.
-use Rattle.std.proofs.Common.{◌≡◌, ℕ, zero, suc, ◌+◌, ◌-◌, ◌*◌, ◌<◌, ◌≤◌, Bool, true, false, cond, nat_lt, List, [], ◌∷◌, ◌++◌, length, take, drop, get_or, Option, None, Some, Result, Ok, Err, inl, inr, refl, sym, ap, subst, ◌∙◌, append_assoc, arith}
+use Rattle.std.proofs.Common.{◌≡◌, ℕ, zero, suc, ◌+◌, ◌-◌, ◌*◌, ◌≤◌, Bool, true, false, cond, nat_lt, List, [], ◌∷◌, ◌++◌, length, take, drop, get_or, Option, None, Some, Ok, Err, inl, inr, refl, sym, ap, subst, ◌∙◌, append_assoc, arith}
 use Rattle.std.specs.Prelude.{slice_get}
-use Rattle.std.specs.Int.{w32, from_le_bytes}
 use Rattle.std.proofs.lemmas.Bool.{cases_lt, lt-ltb}
 use Rattle.std.proofs.lemmas.List.{append-nil, drop_more, take-append-drop, length-drop}
 use Rattle.std.proofs.lemmas.Option.{slice_get_past}
@@ -12,15 +11,14 @@ use Rattle.md_static.specs.declared.entry.Site.{Site}
 use Rattle.md_dynamic.specs.Profile.{ProfileRows}
 use Rattle.md_deepfile.specs.Decoding.{FollowsSome, FollowsBytes, TakesAll}
 use Rattle.md_deepfile.specs.Fields.{Text, Next, link_field, link_caller, link_site, link_callee, link_own}
-use Rattle.md_deepfile.specs.Format.{must, read, damage, bytes, number, numbers, is_decided}
+use Rattle.md_deepfile.specs.Format.{must, read, damage, bytes, number, numbers}
 use Rattle.md_deepfile.specs.Rules.{counts_of, with_link, link_of, fits, fits_site, is_new_link, link_size}
-use Rattle.md_deepfile.specs.State.{State, form_at, form_of, width, number_told, next_link, number_at, numbers_at, IsReadyPart, IsReady, Follows, FollowsByte, Leads}
+use Rattle.md_deepfile.specs.State.{State, form_at, form_of, width, number_told, next_link, number_at, numbers_at, IsReadyPart, IsReady, Follows, FollowsByte}
 use Rattle.md_deepfile.specs.declared.damage.DecodeFault.{DecodeFault}
 use Rattle.md_deepfile.specs.declared.damage.DecodeFault.TheVariants.{Damage as Damaged, NoMemory}
 use Rattle.md_deepfile.specs.declared.damage.Kind.{Kind}
 use Rattle.md_deepfile.specs.declared.damage.Kind.TheVariants as kinds
 use Rattle.md_deepfile.specs.declared.part.Field.{Field}
-use Rattle.md_deepfile.specs.declared.part.Field.TheVariants as fields
 use Rattle.md_deepfile.specs.declared.part.Part.{Part}
 use Rattle.md_deepfile.specs.declared.part.Part.TheVariants as parts
 use Rattle.md_deepfile.proofs.Reading.{number_same, told_by}

@@ -1,7 +1,7 @@
 -- What a decoder knows of the bytes that it was fed stays true as more come.
-use Rattle.std.proofs.Common.{◌≡◌, ℕ, ◌+◌, ◌<◌, false, List, [], ◌∷◌, ◌++◌, length, get_or, take, drop, Option, None, Some, Result, Ok, Err, OnOk, IfErr, refl, sym, ap, subst, ◌∙◌, append_assoc}
+use Rattle.std.proofs.Common.{◌≡◌, ℕ, ◌<◌, false, List, [], ◌++◌, get_or, Option, None, Some, Result, Ok, Err, OnOk, IfErr, refl, sym, ap, subst, ◌∙◌, append_assoc}
 use Rattle.std.specs.List.{All}
-use Rattle.std.proofs.lemmas.List.{append-nil, take-append-drop, drop_more}
+use Rattle.std.proofs.lemmas.List.{append-nil}
 use Rattle.std.proofs.lemmas.List.Elements.{All-append, All-from_get_or, All-nil, recursion_from_All}
 use Rattle.md_dynamic.specs.Profile.{ProfileRows}
 use Rattle.md_deepfile.specs.Decoding.{Decoding, StandsAt, HasTaken, Tells, FollowsBytes}
@@ -9,7 +9,7 @@ use Rattle.md_deepfile.specs.Fields.{Text, profile_file}
 use Rattle.md_deepfile.specs.Format.{Damage, read, damage, ended, is_decided}
 use Rattle.md_deepfile.specs.Rules.{orphan_back}
 use Rattle.md_deepfile.specs.Spells.{Spells, IsFaultOf, Reads}
-use Rattle.md_deepfile.specs.State.{State, form_at, form_of, width, IsReadyPart, IsReady, FollowsByte, IsEnd}
+use Rattle.md_deepfile.specs.State.{State, form_at, form_of, width, IsReadyPart, IsReady, IsEnd}
 use Rattle.md_deepfile.specs.declared.damage.DecodeFault.{DecodeFault}
 use Rattle.md_deepfile.specs.declared.damage.DecodeFault.TheVariants.{Damage as Damaged, NoMemory}
 use Rattle.md_deepfile.specs.declared.damage.Kind.{Kind}

@@ -1,11 +1,10 @@
 -- Numbers and links taken at once, and the seats of links, worked out.
-use Rattle.std.proofs.Common.{ℕ, ◌≡◌, ◌++◌, List, [], ◌∷◌, Some, None, Ok, true, false, refl, sym, ap, arith}
+use Rattle.std.proofs.Common.{ℕ, ◌≡◌, [], ◌∷◌, Some, Ok, true, false, refl, sym, ap, arith}
 use Rattle.std.specs.Prelude.{slice_get}
 use Rattle.md_deepfile.specs.Decoding.{FollowsSome, TakesAll}
 use Rattle.md_deepfile.specs.Format.{byte, read}
 use Rattle.md_deepfile.specs.Sets.{Seating, seat_of, is_empty, sits_at, has_seated, AreSeated}
 use Rattle.md_deepfile.specs.State.{State, form_of, number_at, numbers_at}
-use Rattle.md_deepfile.specs.declared.seats.Seat.{Seat}
 use Rattle.md_deepfile.specs.declared.seats.Seat.TheVariants as seats
 
 -- refuses a number with its greatest byte first, and one that begins at the front

@@ -1,5 +1,3 @@
-use Rattle.std.proofs.Common.{refl, arith, rules, ◌+◌, List, ℕ, length, drop}
-use Rattle.std.proofs.lemmas.Grind.{common_steps}
 use Rattle.md_deepfile.specs.State.{state_of, form_of}
 use Rattle.md_deepfile.proofs.Ahead.{rest_is, piece_goes, piece_stops, piece_ends}
 use Rattle.md_deepfile.proofs.decoder.take.Goals as goal

@@ -1,5 +1,5 @@
 use Rattle.md_deepfile.specs.State.{state_of}
-use Rattle.std.proofs.Common.{refl, arith, rules}
+use Rattle.std.proofs.Common.{arith, rules}
 use Rattle.md_deepfile.proofs.Ahead.{link_taken}
 use Rattle.md_deepfile.proofs.reader.Reader.some_link.Goals as goal
 

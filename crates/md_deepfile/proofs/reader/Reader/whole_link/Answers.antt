@@ -1,10 +1,7 @@
-use Rattle.std.proofs.Common.{◌≡◌, ◌+◌, ◌++◌, ◌∷◌, [], not, true, false, ℕ, List, length, refl, sym, ap, ◌∙◌, rules, arith}
-use Rattle.std.proofs.lemmas.Bool.{not-false}
-use Rattle.md_dynamic.specs.Profile.{ProfileRows}
+use Rattle.std.proofs.Common.{◌++◌, sym, ap, ◌∙◌, rules, arith}
 use Rattle.md_deepfile.specs.Fields.{Text}
 use Rattle.md_deepfile.specs.Format.{read}
-use Rattle.md_deepfile.specs.Rules.{fits_site, is_new_link}
-use Rattle.md_deepfile.specs.State.{state_of, next_link, width}
+use Rattle.md_deepfile.specs.State.{state_of}
 use Rattle.md_deepfile.specs.declared.part.Field.TheVariants as fields
 use Rattle.md_deepfile.proofs.Ahead.{form_number, link_goes}
 use Rattle.md_deepfile.proofs.reader.Reader.whole_link.Goals as goal

@@ -1,4 +1,4 @@
-use Rattle.std.proofs.Common.{◌≡◌, ℕ, false, rules, subst, sym, ap, ◌∙◌}
+use Rattle.std.proofs.Common.{rules, ap, ◌∙◌}
 use Rattle.md_deepfile.specs.Sets.{Seating, has_seated}
 use Rattle.md_deepfile.proofs.Sitting.{nobody_seated, seats_more}
 use Rattle.md_deepfile.proofs.seats.LinkKeys.add_context.Goals as goal

@@ -1,8 +1,5 @@
-use Rattle.std.proofs.Common.{◌≡◌, ◌||◌, not, sym, ap, subst, ◌∙◌, Bool, true, false, Some, refl, rules}
-use Rattle.std.specs.Prelude.{slice_get}
-use Rattle.std.proofs.lemmas.Bool.{cond-false, not-true}
-use Rattle.md_deepfile.specs.Sets.{Seating, is_key, is_empty, has_seated}
-use Rattle.md_deepfile.specs.declared.seats.Seat.{Seat}
+use Rattle.std.proofs.Common.{◌||◌, ap, ◌∙◌, refl, rules}
+use Rattle.md_deepfile.specs.Sets.{Seating, is_key, has_seated}
 use Rattle.md_deepfile.proofs.Sitting.{sat_down, other_now}
 use Rattle.md_deepfile.proofs.seats.LinkKeys.insert.Goals as goal
 
