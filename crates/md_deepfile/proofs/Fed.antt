@@ -1,7 +1,7 @@
 -- What a decoder knows of the bytes that it was fed stays true as more come.
-use Rattle.std.proofs.Common.{◌≡◌, ℕ, ◌+◌, ◌<◌, false, List, [], ◌∷◌, ◌++◌, length, get_or, take, drop, Option, None, Some, Result, Ok, Err, OnOk, IfErr, refl, sym, ap, subst, ◌∙◌, append_assoc}
+use Rattle.std.proofs.Common.{◌≡◌, ℕ, ◌<◌, false, List, [], ◌++◌, get_or, Option, None, Some, Result, Ok, Err, OnOk, IfErr, refl, sym, ap, subst, ◌∙◌, append_assoc}
 use Rattle.std.specs.List.{All}
-use Rattle.std.proofs.lemmas.List.{append-nil, take-append-drop, drop_more}
+use Rattle.std.proofs.lemmas.List.{append-nil}
 use Rattle.std.proofs.lemmas.List.Elements.{All-append, All-from_get_or, All-nil, recursion_from_All}
 use Rattle.md_dynamic.specs.Profile.{ProfileRows}
 use Rattle.md_deepfile.specs.Decoding.{Decoding, StandsAt, HasTaken, Tells, FollowsBytes}
@@ -9,7 +9,7 @@ use Rattle.md_deepfile.specs.Fields.{Text, profile_file}
 use Rattle.md_deepfile.specs.Format.{Damage, read, damage, ended, is_decided}
 use Rattle.md_deepfile.specs.Rules.{orphan_back}
 use Rattle.md_deepfile.specs.Spells.{Spells, IsFaultOf, Reads}
-use Rattle.md_deepfile.specs.State.{State, form_at, form_of, width, IsReadyPart, IsReady, FollowsByte, IsEnd}
+use Rattle.md_deepfile.specs.State.{State, form_at, form_of, width, IsReadyPart, IsReady, IsEnd}
 use Rattle.md_deepfile.specs.declared.damage.DecodeFault.{DecodeFault}
 use Rattle.md_deepfile.specs.declared.damage.DecodeFault.TheVariants.{Damage as Damaged, NoMemory}
 use Rattle.md_deepfile.specs.declared.damage.Kind.{Kind}
@@ -129,16 +129,3 @@ only_read bs f g is spells = cc (is, spells_read bs f spells)
 pub never_damaged : (fault : DecodeFault) (bs : List ℕ) (f : ProfileRows) → IsFaultOf bs fault → Spells bs f → Reads f (Err fault)
 never_damaged (Damaged at kind) bs f h spells = absurd (no_ok (record { at = at; kind = kind }) f (sym (spells_read bs f spells) ∙ h))
 never_damaged NoMemory bs f h spells = tt
-
--- the byte at which a piece stops
-pub take_stops : (form : Text) (at : ℕ) (piece : List ℕ) (i b : ℕ) (s now after : State) (fault : DecodeFault) → i < length piece → b ≡ get_or piece i 0
-    → ((rest : List ℕ) → read form at (take i piece ++ rest) ≡ read (form_of s) s.at rest) → FollowsByte (form_of s) b s.at now (Err fault) → FollowsBytes form piece at after (Err fault)
-take_stops form at piece i b s now after (Damaged place kind) within is so_far h = (
-  h.0,
-  λ rest.
-      let split : piece ≡ take i piece ++ (b ∷ drop (i + 1) piece) = sym (take-append-drop i piece) ∙ ap (λ (xs : List ℕ). take i piece ++ xs) (drop_more piece i 0 within ∙ ap (λ (c : ℕ). c ∷ drop (i + 1) piece) (sym is)) in
-      ap (λ (xs : List ℕ). read form at (xs ++ rest)) split
-      ∙ ap (read form at) (append_assoc (take i piece) (b ∷ drop (i + 1) piece) rest)
-      ∙ so_far ((b ∷ drop (i + 1) piece) ++ rest) ∙ h.1 (drop (i + 1) piece ++ rest),
-)
-take_stops form at piece i b s now after NoMemory within is so_far h = tt

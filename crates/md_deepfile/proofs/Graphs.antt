@@ -2,7 +2,7 @@
 use Rattle.std.proofs.Common.{◌≡◌, ℕ, suc, ◌+◌, ◌-◌, ◌<◌, ◌≤◌, Bool, true, false, cond, not, ◌&&◌, ◌||◌, ◌==◌, nat_lt, List, [], ◌∷◌, ◌++◌, length, get_or, set, Option, None, Some, IfSome, refl, sym, ap, subst, ◌∙◌, arith, inl, inr}
 use Rattle.std.specs.Prelude.{slice_get}
 use Rattle.std.specs.List.{All, list_any}
-use Rattle.std.proofs.lemmas.Bool.{cases_lt, cases_eq, eq-eqb, ne_eqb, cond-true, cond-false, lt-ltb, le-ltb, not-true, and_left}
+use Rattle.std.proofs.lemmas.Bool.{cases_lt, cases_eq, eq-eqb, ne_eqb, cond-true, cond-false, lt-ltb, le-ltb, and_left}
 use Rattle.std.proofs.lemmas.List.{length-append, length-set, get_or_append_left, get_or_at, get_or-set_same, get_or-set_other}
 use Rattle.std.proofs.lemmas.List.Elements.{All-push, All-nil, All-weaker, All-head, All-tail}
 use Rattle.std.proofs.lemmas.List.Folds.{list_any-append, list_any_none}
@@ -11,7 +11,7 @@ use Rattle.md_base.specs.declared.measure.Counts.{Counts}
 use Rattle.md_dynamic.specs.declared.link.LinkRow.{LinkRow}
 use Rattle.md_dynamic.specs.Valid.{is_below, leads_down}
 use Rattle.md_deepfile.specs.Rules.{is_number, has_key, has_any_key, orphan_from}
-use Rattle.md_deepfile.specs.Sets.{GraphRows, is_key, AreGraph}
+use Rattle.md_deepfile.specs.Sets.{GraphRows, is_key, Seating, has_seated, AreGraph}
 
 abbrev IsLed : ℕ → LinkRow → Type 0
 IsLed n l = IfSome l.caller (λ v. l.callee < n)
@@ -20,8 +20,25 @@ or_nothing : (b : Bool) → (b || false) ≡ b
 or_nothing true = refl
 or_nothing false = refl
 
-pub empty_graph : (keys : List (ℕ × ℕ × ℕ)) → keys ≡ [] → AreGraph [] [] keys []
-empty_graph keys none = record { lead = All-nil (IsLed 0); keyed = λ v s q. ap (list_any (is_key v s q)) none; each = refl; marked = λ u below. absurd (omega (arith, below)) }
+-- which callers, sites and procedures links have
+abbrev pub KeysOf : Type 0
+KeysOf = ℕ → ℕ → ℕ → Bool
+
+pub empty_graph : (keys : KeysOf) → ((v s q : ℕ) → keys v s q ≡ false) → AreGraph [] [] keys []
+empty_graph keys none = record { lead = All-nil (IsLed 0); keyed = none; each = refl; marked = λ u below. absurd (omega (arith, below)) }
+
+-- where there is no link, none has a key
+pub no_keys : (nodes : List ℕ) (links : List LinkRow) (keys : KeysOf) (reached : List Bool) → AreGraph nodes links keys reached → length links ≡ 0 → (v s q : ℕ) → keys v s q ≡ false
+no_keys nodes links keys reached graph none v s q = graph.keyed v s q ∙ ap (list_any (has_key nodes v s q)) (length-zero links none)
+  where
+    length-zero : (ls : List LinkRow) → length ls ≡ 0 → ls ≡ []
+    length-zero [] e = refl
+    length-zero (l ∷ ls) e = absurd (omega (arith, e))
+
+-- and none has one where seats were made
+pub still_no_keys : (nodes : List ℕ) (links : List LinkRow) (keys now : KeysOf) (reached : List Bool) → AreGraph nodes links keys reached → length links ≡ 0 → ((v s q : ℕ) → now v s q ≡ false) → AreGraph nodes links now reached
+still_no_keys nodes links keys now reached graph none empty =
+    record { lead = graph.lead; keyed = λ v s q. empty v s q ∙ sym (no_keys nodes links keys reached graph none v s q) ∙ graph.keyed v s q; each = graph.each; marked = graph.marked }
 
 led_more : (n : ℕ) (o : Option ℕ) (w : ℕ) → IfSome o (λ v. w < n) → IfSome o (λ v. w < n + 1)
 led_more n None w h = tt
@@ -57,7 +74,7 @@ not_led n l None is led = ap (λ (o : Option ℕ). (l.callee == n) && is_below o
     no_right false = refl
 not_led n l (Some a) is led = and_left (l.callee == n) (is_below l.caller n) (ne_eqb l.callee n (λ same. absurd (omega (arith, led, same))))
 
-pub context_added : (nodes : List ℕ) (links : List LinkRow) (keys : List (ℕ × ℕ × ℕ)) (reached more : List Bool) (all : List ℕ) (p : ℕ) → AreGraph nodes links keys reached → all ≡ nodes ++ p ∷ [] → more ≡ reached ++ false ∷ []
+pub context_added : (nodes : List ℕ) (links : List LinkRow) (keys : KeysOf) (reached more : List Bool) (all : List ℕ) (p : ℕ) → AreGraph nodes links keys reached → all ≡ nodes ++ p ∷ [] → more ≡ reached ++ false ∷ []
     → AreGraph all links keys more
 context_added nodes links keys reached more all p old nodes_are marks_are =
     let size : length (nodes ++ p ∷ []) ≡ length nodes + 1 = length-append nodes (p ∷ []) in
@@ -85,7 +102,7 @@ nothing_led u own = no_right (0 == u)
     no_right true = refl
     no_right false = refl
 
-pub root_added : (nodes : List ℕ) (links all : List LinkRow) (keys : List (ℕ × ℕ × ℕ)) (reached : List Bool) (own : Counts) → AreGraph nodes links keys reached → all ≡ links ++ record { caller = None; site = None; callee = 0; own = own } ∷ []
+pub root_added : (nodes : List ℕ) (links all : List LinkRow) (keys : KeysOf) (reached : List Bool) (own : Counts) → AreGraph nodes links keys reached → all ≡ links ++ record { caller = None; site = None; callee = 0; own = own } ∷ []
     → AreGraph nodes all keys reached
 root_added nodes links all keys reached own old are =
     let root : LinkRow = record { caller = None; site = None; callee = 0; own = own } in
@@ -146,17 +163,22 @@ below_same v w u = elim (cases_eq w u) [
   | inr other ↦ ap (λ (b : Bool). b && nat_lt v w) (ne_eqb w u other) ∙ sym (ap (λ (b : Bool). b && nat_lt v u) (ne_eqb w u other))
 ]
 
-pub link_added : (nodes : List ℕ) (links all : List LinkRow) (keys now : List (ℕ × ℕ × ℕ)) (reached marks : List Bool) (v s w q : ℕ) (own : Counts) → AreGraph nodes links keys reached → w < length nodes → slice_get nodes w ≡ Some q
-    → all ≡ links ++ record { caller = Some v; site = Some s; callee = w; own = own } ∷ [] → now ≡ keys ++ (v, s, q) ∷ [] → marks ≡ marked_as v w reached → AreGraph nodes all now marks
+pub same_graph : (nodes : List ℕ) (links all : List LinkRow) (keys now : Seating) (reached : List Bool) → AreGraph nodes links (has_seated keys) reached → all ≡ links → now ≡ keys → AreGraph nodes all (has_seated now) reached
+same_graph nodes links all keys now reached graph same is =
+    subst (λ (ls : List LinkRow). AreGraph nodes ls (has_seated now) reached) (sym same) (subst (λ (ks : Seating). AreGraph nodes links (has_seated ks) reached) (sym is) graph)
+
+pub link_added : (nodes : List ℕ) (links all : List LinkRow) (keys now : KeysOf) (reached marks : List Bool) (v s w q : ℕ) (own : Counts) → AreGraph nodes links keys reached → w < length nodes → slice_get nodes w ≡ Some q
+    → all ≡ links ++ record { caller = Some v; site = Some s; callee = w; own = own } ∷ [] → ((a b c : ℕ) → now a b c ≡ (keys a b c || is_key a b c (v, s, q))) → marks ≡ marked_as v w reached → AreGraph nodes all now marks
 unfolding marked_as
 link_added nodes links all keys now reached marks v s w q own old there at all_are now_are marks_are =
     let l : LinkRow = record { caller = Some v; site = Some s; callee = w; own = own } in
     let down : Bool = nat_lt v w in
-    let grown : AreGraph nodes (links ++ l ∷ []) (keys ++ (v, s, q) ∷ []) (marked_as v w reached) = record {
+    let grown : AreGraph nodes (links ++ l ∷ []) now (marked_as v w reached) = record {
       lead = All-push (IsLed (length nodes)) links l old.lead there;
       keyed = λ a b c.
-          list_any-append (is_key a b c) keys ((v, s, q) ∷ [])
-          ∙ ap (λ (t : Bool). t || (is_key a b c (v, s, q) || false)) (old.keyed a b c)
+          now_are a b c
+          ∙ ap (λ (t : Bool). t || is_key a b c (v, s, q)) (old.keyed a b c)
+          ∙ ap (λ (t : Bool). list_any (has_key nodes a b c) links || t) (sym (or_nothing (is_key a b c (v, s, q))))
           ∙ ap (λ (t : Bool). list_any (has_key nodes a b c) links || (t || false)) (link_key_is nodes v s w q a b c own at)
           ∙ sym (list_any-append (has_key nodes a b c) links (l ∷ []));
       each = mark_size reached w down ∙ old.each;
@@ -165,21 +187,15 @@ link_added nodes links all keys now reached marks v s w q own old there at all_a
           ∙ ap (λ (t : Bool). Some (list_any (leads_down u) links || t)) (below_same v w u ∙ sym (or_nothing ((w == u) && nat_lt v u)))
           ∙ ap (λ (t : Bool). Some t) (sym (list_any-append (leads_down u) links (l ∷ [])));
     } in
-    let one : AreGraph nodes (links ++ l ∷ []) (keys ++ (v, s, q) ∷ []) marks = subst (λ (m : List Bool). AreGraph nodes (links ++ l ∷ []) (keys ++ (v, s, q) ∷ []) m) (sym marks_are) grown in
-    let two : AreGraph nodes (links ++ l ∷ []) now marks = subst (λ (ks : List (ℕ × ℕ × ℕ)). AreGraph nodes (links ++ l ∷ []) ks marks) (sym now_are) one in
-    subst (λ (ls : List LinkRow). AreGraph nodes ls now marks) (sym all_are) two
+    let one : AreGraph nodes (links ++ l ∷ []) now marks = subst (λ (m : List Bool). AreGraph nodes (links ++ l ∷ []) now m) (sym marks_are) grown in
+    subst (λ (ls : List LinkRow). AreGraph nodes ls now marks) (sym all_are) one
 
 -- the answer of the set of keys is whether no link has the key
-pub fresh_is : (nodes : List ℕ) (links : List LinkRow) (keys : List (ℕ × ℕ × ℕ)) (reached : List Bool) (v s w q : ℕ) (fresh answer : Bool) (seen : GraphRows) → AreGraph nodes links keys reached → slice_get nodes w ≡ Some q
-    → record { nodes = nodes; links = links } ≡ seen → fresh ≡ answer → fresh ≡ not (list_any (is_key v s q) keys) → answer ≡ not (has_any_key seen.nodes seen.links v s (slice_get seen.nodes w))
+pub fresh_is : (nodes : List ℕ) (links : List LinkRow) (keys : KeysOf) (reached : List Bool) (v s w q : ℕ) (fresh answer : Bool) (seen : GraphRows) → AreGraph nodes links keys reached → slice_get nodes w ≡ Some q
+    → record { nodes = nodes; links = links } ≡ seen → fresh ≡ answer → fresh ≡ not (keys v s q) → answer ≡ not (has_any_key seen.nodes seen.links v s (slice_get seen.nodes w))
 fresh_is nodes links keys reached v s w q fresh answer seen old at are is told =
     sym is ∙ told ∙ ap not (old.keyed v s q) ∙ sym (ap (λ (o : Option ℕ). not (has_any_key nodes links v s o)) at)
     ∙ ap (λ (g : GraphRows). not (has_any_key g.nodes g.links v s (slice_get g.nodes w))) are
-
-pub keys_now : (keys now : List (ℕ × ℕ × ℕ)) (v s q : ℕ) (fresh : Bool) → fresh ≡ true → fresh ≡ not (list_any (is_key v s q) keys) → now ≡ cond (list_any (is_key v s q) keys) keys (keys ++ (v, s, q) ∷ [])
-    → now ≡ keys ++ (v, s, q) ∷ []
-keys_now keys now v s q fresh is told put =
-    put ∙ cond-false (list_any (is_key v s q) keys) keys (keys ++ (v, s, q) ∷ []) (not-true (list_any (is_key v s q) keys) (sym told ∙ is))
 
 pub marked_down : (v w : ℕ) (reached : List Bool) → v < w → set reached w true ≡ marked_as v w reached
 unfolding marked_as
@@ -190,7 +206,7 @@ unfolding marked_as
 not_marked v w reached le = sym (cond-false (nat_lt v w) (set reached w true) reached (le-ltb v w le))
 
 -- a context that is reached is no orphan
-pub orphan_on : (nodes : List ℕ) (links : List LinkRow) (keys : List (ℕ × ℕ × ℕ)) (reached : List Bool) (v : ℕ) (mark : Bool) (seen : GraphRows) → AreGraph nodes links keys reached → record { nodes = nodes; links = links } ≡ seen → v < length reached → slice_get reached v ≡ Some mark → mark ≡ true
+pub orphan_on : (nodes : List ℕ) (links : List LinkRow) (keys : KeysOf) (reached : List Bool) (v : ℕ) (mark : Bool) (seen : GraphRows) → AreGraph nodes links keys reached → record { nodes = nodes; links = links } ≡ seen → v < length reached → slice_get reached v ≡ Some mark → mark ≡ true
     → orphan_from seen.links v (length seen.nodes - v) ≡ orphan_from seen.links (v + 1) (length seen.nodes - (v + 1))
 orphan_on nodes links keys reached v mark seen old are below at is =
     subst (λ (g : GraphRows). orphan_from g.links v (length g.nodes - v) ≡ orphan_from g.links (v + 1) (length g.nodes - (v + 1))) are

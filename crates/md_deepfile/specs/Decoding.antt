@@ -1,5 +1,5 @@
 -- What a decoder knows of the bytes that it was fed.
-use Rattle.std.specs.Prelude.{ℕ, ◌≡◌, ◌<◌, true, false, List, ◌++◌, Option, None, Some, Result, Ok, Err, All}
+use Rattle.std.specs.Prelude.{ℕ, ◌≡◌, ◌<◌, ◌≤◌, true, false, List, ◌++◌, length, drop, Option, None, Some, Result, Ok, Err, All}
 use Rattle.md_deepfile.specs.Fields.{Text, profile_file}
 use Rattle.md_deepfile.specs.Format.{Damage, read, is_decided}
 use Rattle.md_deepfile.specs.State.{State, form_of, IsReady}
@@ -38,3 +38,13 @@ abbrev pub FollowsBytes : Text → List ℕ → ℕ → State → Result (Unit {
 FollowsBytes form piece at now (Ok u) = (rest : List ℕ) → read form at (piece ++ rest) ≡ read (form_of now) now.at rest
 FollowsBytes form piece at now (Err (Damaged place kind)) = (is_decided kind ≡ true) × ((rest : List ℕ) → read form at (piece ++ rest) ≡ Err (record { at = place; kind = kind }))
 FollowsBytes form piece at now (Err NoMemory) = Unit {0}
+
+-- all these bytes are taken, and it goes on where the reader stands now
+abbrev pub TakesAll : Text → List ℕ → ℕ → State → Type 0
+TakesAll form piece at now = (rest : List ℕ) → read form at (piece ++ rest) ≡ read (form_of now) now.at rest
+
+-- so many of these bytes are taken, at least one, and it goes on with the others where the reader stands now, or this is their damage
+abbrev pub FollowsSome : Text → List ℕ → ℕ → State → Result ℕ DecodeFault → Type 0
+FollowsSome form piece at now (Ok n) = (1 ≤ n) × (n ≤ length piece) × ((rest : List ℕ) → read form at (piece ++ rest) ≡ read (form_of now) now.at (drop n piece ++ rest))
+FollowsSome form piece at now (Err (Damaged place kind)) = (is_decided kind ≡ true) × ((rest : List ℕ) → read form at (piece ++ rest) ≡ Err (record { at = place; kind = kind }))
+FollowsSome form piece at now (Err NoMemory) = Unit {0}

@@ -1,5 +1,5 @@
 -- Where the decoder stands: in which field, behind what, and which format takes the rest of the file.
-use Rattle.std.specs.Prelude.{ℕ, ◌≡◌, ◌+◌, ◌-◌, ◌*◌, ◌<◌, ◌≤◌, true, List, [], ◌∷◌, ◌++◌, length, drop, Result, Ok, Err}
+use Rattle.std.specs.Prelude.{ℕ, zero, suc, ◌≡◌, ◌+◌, ◌-◌, ◌*◌, ◌<◌, ◌≤◌, true, List, [], ◌∷◌, ◌++◌, length, drop, get_or, Result, Ok, Err}
 use Rattle.std.specs.Int.{w32, from_le_bytes}
 use Rattle.md_dynamic.specs.Profile.{ProfileRows}
 use Rattle.md_deepfile.specs.Bytes.{magic}
@@ -17,6 +17,15 @@ use Rattle.md_deepfile.specs.declared.part.Part.TheVariants as parts
 use Rattle.md_deepfile.specs.declared.reader.Reader.{Reader}
 use Rattle.md_deepfile.specs.declared.part.Version.{Version}
 use Rattle.md_deepfile.specs.declared.part.Version.TheVariants as versions
+
+-- the number whose four bytes begin at this place
+abbrev pub number_at : List ℕ → ℕ → ℕ
+number_at bs place = from_le_bytes w32 (get_or bs place 0 ∷ get_or bs (place + 1) 0 ∷ get_or bs (place + 2) 0 ∷ get_or bs (place + 3) 0 ∷ [])
+
+-- so many numbers from this place on
+abbrev pub numbers_at : ℕ → List ℕ → ℕ → List ℕ
+numbers_at zero bs place = []
+numbers_at (suc n) bs place = number_at bs place ∷ numbers_at n bs (place + 4)
 
 -- how many counts a link has in a version
 abbrev pub width : Version → ℕ

@@ -115,15 +115,17 @@ pub fn decode(alloc: Global, bytes: &[u8]) -> Result<Profile, DecodeFault>
     }
 }
 
-/// Takes bytes one after the other.
+/// Takes these bytes.
 fn take(reader: &mut Reader, piece: &[u8]) -> Result<(), DecodeFault>
     requires { IsReady (state_of reader.old) }
     ensures follows { FollowsBytes (form_of (state_of reader.old)) piece.now reader.old.at (state_of reader.new) result }
     ensures ready { OnOk result (IsReady (state_of reader.new)) }
 {
-    for byte in piece {
-        if let Err(fault) = reader.byte(*byte) {
-            return Err(fault);
+    let mut done = 0;
+    while done < piece.len() {
+        match reader.some(&piece[done..]) {
+            Ok(count) => done += count,
+            Err(fault) => return Err(fault),
         }
     }
     Ok(())

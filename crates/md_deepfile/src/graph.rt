@@ -1,31 +1,31 @@
 // The contexts and links that were read.
-ghost use Rattle.std.specs.Prelude.{◌≡◌, ◌++◌, ◌∷◌, [], ◌<◌, ◌-◌, not, true, length, slice_get, None, Some, IfOk, OnOk, IsTrue};
+ghost use Rattle.std.specs.Prelude.{◌≡◌, ◌++◌, ◌∷◌, [], ◌<◌, ◌-◌, not, true, false, length, slice_get, None, Some, IfOk, OnOk, IsTrue};
 ghost use Rattle.md_deepfile.specs.Rules.{has_any_key, orphan_from};
 
-use indexmap::IndexSet;
+use crate::seats::LinkKeys;
 use md_base::{Counts, NoMemory, PdId, ProcId, SiteId};
 use md_dynamic::LinkRow;
 use std::alloc::Global;
 use std::marker::Model;
 
-/// Contexts and links in their order. A set of the links' callers, sites and called procedures finds one that was there
-/// before at once, and each context has a mark whether a link leads to it from one of a lower number.
+/// Contexts and links in their order. The links' callers, sites and called procedures are kept so that one that was there
+/// before is found at once, and each context has a mark whether a link leads to it from one of a lower number.
 #[derive(Drop)]
 pub struct Graph {
     nodes: Vec<ProcId>,
     links: Vec<LinkRow>,
-    keys: IndexSet<(u32, u32, u32)>,
+    keys: LinkKeys,
     reached: Vec<bool>,
 }
 
 impl Model for Graph {
-    ghost use Rattle.md_deepfile.specs.Sets.{GraphRows, AreGraph};
+    ghost use Rattle.md_deepfile.specs.Sets.{GraphRows, AreGraph, has_seated};
 
     ghost Value = { GraphRows };
 
     ghost view = { λ g. record { nodes = g.nodes.items; links = g.links.items } };
 
-    ghost invariant = { λ g. AreGraph g.nodes.items g.links.items g.keys.keys g.reached.items };
+    ghost invariant = { λ g. AreGraph g.nodes.items g.links.items (has_seated g.keys) g.reached.items };
 }
 
 impl Graph {
@@ -36,7 +36,7 @@ impl Graph {
         Graph {
             nodes: Vec::new(alloc),
             links: Vec::new(alloc),
-            keys: IndexSet::new(alloc),
+            keys: LinkKeys::new(alloc),
             reached: Vec::new(alloc),
         }
     }
@@ -59,9 +59,20 @@ impl Graph {
     pub fn add_context(&mut self, proc: ProcId) -> Result<(), NoMemory>
         ensures { OnOk result (self.new ≡ record self.old { nodes = self.old.nodes ++ proc ∷ [] }) }
     {
+        self.seat_context()?;
         self.nodes.reserve(1)?;
         self.reached.push(false)?;
         self.nodes.push(proc)?;
+        Ok(())
+    }
+
+    /// Gives seats to a context more, where it comes before all links.
+    fn seat_context(&mut self) -> Result<(), NoMemory>
+        ensures { OnOk result (self.new ≡ self.old) }
+    {
+        if self.links.is_empty() {
+            self.keys.add_context()?;
+        }
         Ok(())
     }
 
@@ -91,10 +102,11 @@ impl Graph {
         ensures added { IfOk result (λ added. added ≡ not (has_any_key self.old.nodes self.old.links caller site (slice_get self.old.nodes callee))) }
         ensures links { IfOk result (λ added. added ≡ true
             → self.new ≡ record self.old { links = self.old.links ++ record { caller = Some caller; site = Some site; callee = callee; own = own } ∷ [] }) }
+        ensures kept { IfOk result (λ added. added ≡ false → self.new ≡ self.old) }
     {
         let proc = self.nodes[callee as usize].number();
         self.links.reserve(1)?;
-        if !self.keys.insert((caller, site, proc))? {
+        if !self.keys.insert(caller, site, proc)? {
             return Ok(false);
         }
         self.links.push(LinkRow {

@@ -1,6 +1,7 @@
 //! The profile file: a profile as bytes, and bytes as a profile, in pieces of any size (`docs/FILE.md`).
 #![tactic(auto)]
 
+mod at_once;
 mod damage;
 mod decoder;
 mod encoder;
@@ -14,6 +15,7 @@ mod names;
 mod part;
 mod procs;
 mod reader;
+mod seats;
 mod spelled;
 mod writing;
 

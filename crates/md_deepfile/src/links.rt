@@ -99,7 +99,7 @@ impl Reader {
 
     // Each other link.
 
-    fn next_link(&mut self)
+    pub(crate) fn next_link(&mut self)
         requires { HasPlaces (40 * self.old.more) (state_of self.old) }
         ensures leads { Leads (next_link (state_of self.old) (state_of self.old).rows) self.old.at (state_of self.new) }
         ensures ready { IsReady (state_of self.new) }
@@ -199,7 +199,7 @@ impl Reader {
     }
 
     /// Whether a site of one context's procedure may call that of another.
-    fn fits(&self, caller: u32, site: u32, callee: u32) -> bool
+    pub(crate) fn fits(&self, caller: u32, site: u32, callee: u32) -> bool
         ensures { result ≡ fits_site (state_of self.now).rows caller site callee }
     {
         let Some(from) = self.graph.nodes().get(caller as usize) else {

@@ -166,7 +166,7 @@ impl Reader {
     }
 
     /// A number of which all bytes came.
-    fn number(&mut self, field: Field, number: u32) -> Result<(), DecodeFault>
+    pub(crate) fn number(&mut self, field: Field, number: u32) -> Result<(), DecodeFault>
         requires ready { IsReadyNumber field (state_of self.old) }
         requires room { HasPlaces (after_number field (state_of self.old)) (state_of self.old) }
         ensures follows { Follows (number_told field (state_of self.old) number) self.old.at (state_of self.new) result }
