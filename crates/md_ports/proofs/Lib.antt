@@ -8,5 +8,5 @@ mod Numbers
 mod Sound
 mod Words
 mod Onward
-mod Spelled
+pub mod Spelled
 mod Worked

@@ -22,23 +22,28 @@ use Rattle.md_reader.proofs.Steps.{bind_ok, chosen, ok_input, ok_value, past_thr
 use Rattle.md_reader.proofs.Taking.{Taken, signed, expected, word_behind}
 use Rattle.md_static.specs.Names.{is_name}
 use Rattle.md_ports.proofs.Bytes.{bytes_same}
-use Rattle.md_ports.proofs.Words.{IsCut, ArePieces, IsWord, AreWords, written_words, word_name}
+use Rattle.md_ports.proofs.Words.{IsCut, ArePieces, IsLine, HaveLines, IsWord, AreWords, written_words, word_name}
 
 pub record Onward (i j : Input) : Type 0 where
   pub limits : j.limits ≡ i.limits
   pub home : j.home ≡ i.home
   pub pieces : ArePieces i.rest → ArePieces j.rest
+  pub lines : (most : ℕ) → HaveLines most i.rest → HaveLines most j.rest
   pub count : length j.rest ≤ length i.rest
 
 pub then : {i j k : Input} → Onward i j → Onward j k → Onward i k
-then a b = record { limits = b.limits ∙ a.limits; home = b.home ∙ a.home; pieces = λ p. b.pieces (a.pieces p); count = omega (arith, a.count, b.count) }
+then a b = record { limits = b.limits ∙ a.limits; home = b.home ∙ a.home; pieces = λ p. b.pieces (a.pieces p); lines = λ most l. b.lines most (a.lines most l); count = omega (arith, a.count, b.count) }
 
 pub stay : (i : Input) → Onward i i
-stay i = record { limits = refl; home = refl; pieces = λ p. p; count = omega arith }
+stay i = record { limits = refl; home = refl; pieces = λ p. p; lines = λ most l. l; count = omega arith }
 
 pieces_behind : (ts : List Lexeme) → ArePieces ts → ArePieces (drop 1 ts)
 pieces_behind [] p = tt
 pieces_behind (t ∷ ts) p = p.1
+
+lines_behind : (ts : List Lexeme) (most : ℕ) → HaveLines most ts → HaveLines most (drop 1 ts)
+lines_behind [] most l = tt
+lines_behind (t ∷ ts) most l = l.1
 
 fewer_behind : (ts : List Lexeme) → length (drop 1 ts) ≤ length ts
 fewer_behind [] = omega arith
@@ -46,7 +51,7 @@ fewer_behind (t ∷ ts) = omega arith
 
 pub to_next : (i : Input) → Onward i (next i)
 unfolding next
-to_next i = record { limits = refl; home = refl; pieces = pieces_behind i.rest; count = fewer_behind i.rest }
+to_next i = record { limits = refl; home = refl; pieces = pieces_behind i.rest; lines = lines_behind i.rest; count = fewer_behind i.rest }
 
 -- ---- one token
 
@@ -99,15 +104,15 @@ variable_on seen x i j h =
     let at = place_of (token i).text i.vars in
     let p = past_three (not (sees kind.Variable i)) (list_any (λ y. y == at) seen) (nat_lt i.limits.items (length (token i).text)) _ _ _ _ _ h in
     subst (λ (m : Input). Onward i m) (ok_input at x (record (next i) { vars = with_variable (token i).text i.vars }) j p.3)
-    (record { limits = refl; home = refl; pieces = pieces_behind i.rest; count = fewer_behind i.rest })
+    (record { limits = refl; home = refl; pieces = pieces_behind i.rest; lines = lines_behind i.rest; count = fewer_behind i.rest })
 
 pub site_on : (n : ℕ) (i j : Input) → Is site n i j → Onward i j
 unfolding site
-site_on n i j h = subst (λ (m : Input). Onward i m) (ok_input i.sites n (record i { sites = i.sites + 1 }) j h) (record { limits = refl; home = refl; pieces = λ p. p; count = omega arith })
+site_on n i j h = subst (λ (m : Input). Onward i m) (ok_input i.sites n (record i { sites = i.sites + 1 }) j h) (record { limits = refl; home = refl; pieces = λ p. p; lines = λ most l. l; count = omega arith })
 
 pub end_on : (vs : List (List ℕ)) (i j : Input) → Is end_clause vs i j → Onward i j
 unfolding end_clause
-end_on vs i j h = subst (λ (m : Input). Onward i m) (ok_input i.vars vs (record i { vars = [] }) j h) (record { limits = refl; home = refl; pieces = λ p. p; count = omega arith })
+end_on vs i j h = subst (λ (m : Input). Onward i m) (ok_input i.vars vs (record i { vars = [] }) j h) (record { limits = refl; home = refl; pieces = λ p. p; lines = λ most l. l; count = omega arith })
 
 -- ---- words
 
@@ -221,14 +226,14 @@ pub one_less : (k : Kind) (i : Input) → kind_at i ≡ k → same_kind k kind.S
 unfolding next token
 one_less k i is not_stop = fewer_by i.rest (ap (λ (x : Kind). same_kind x kind.Stop) is ∙ not_stop)
 
-line_by : (ts : List Lexeme) → same_kind (first ts).kind kind.Stop ≡ false → ArePieces ts → 1 ≤ (first ts).line
+line_by : (ts : List Lexeme) → same_kind (first ts).kind kind.Stop ≡ false → (most : ℕ) → HaveLines most ts → IsLine most (first ts).line
 unfolding same_kind
-line_by [] not_stop p = absurd (cc)
-line_by (t ∷ ts) not_stop p = p.0.line
+line_by [] not_stop most l = absurd (cc)
+line_by (t ∷ ts) not_stop most l = l.0
 
-pub line_at : (k : Kind) (i : Input) → kind_at i ≡ k → same_kind k kind.Stop ≡ false → ArePieces i.rest → 1 ≤ (token i).line
+pub line_at : (k : Kind) (i : Input) → kind_at i ≡ k → same_kind k kind.Stop ≡ false → (most : ℕ) → HaveLines most i.rest → IsLine most (token i).line
 unfolding token
-line_at k i is not_stop p = line_by i.rest (ap (λ (x : Kind). same_kind x kind.Stop) is ∙ not_stop) p
+line_at k i is not_stop most l = line_by i.rest (ap (λ (x : Kind). same_kind x kind.Stop) is ∙ not_stop) most l
 
 pub sign_less : (k : Kind) (i j : Input) → Sign k i j → same_kind k kind.Stop ≡ false → suc (length j.rest) ≤ length i.rest
 sign_less k i j s not_stop =
@@ -250,7 +255,7 @@ not_stop text k w h = elim (written_kinds text k w h) [ inl e ↦ rw e refl | in
 -- the name of a predicate takes a token, which has a line
 pub record IsAt (i j : Input) : Type 0 where
   pub less : suc (length j.rest) ≤ length i.rest
-  pub line : ArePieces i.rest → 1 ≤ (token i).line
+  pub line : (most : ℕ) → HaveLines most i.rest → IsLine most (token i).line
 
 taken_at : (o : Option rule.Written) (q : PredName) (i j : Input) → ((w : rule.Written) → o ≡ Some w → same_kind (kind_at i) kind.Stop ≡ false) → rule.take_written o i ≡ Ok (q, j) → IsAt i j
 taken_at None q i j there h = absurd (cc)
@@ -271,7 +276,7 @@ pred_name_at q i j h = taken_at (rule.written (token i)) q i j (λ w is. not_sto
 -- a call of a closure takes one too
 pub call_at : (i j : Input) → Sign kind.Call i j → IsAt i j
 unfolding same_kind
-call_at i j s = record { less = sign_less kind.Call i j s refl; line = λ p. line_at kind.Call i (signed kind.Call i j s).is refl p }
+call_at i j s = record { less = sign_less kind.Call i j s refl; line = λ most l. line_at kind.Call i (signed kind.Call i j s).is refl most l }
 
 pub declare_goes : same_kind kind.Declare kind.Stop ≡ false
 unfolding same_kind
@@ -279,7 +284,7 @@ declare_goes = refl
 
 first_piece : (ts : List Lexeme) → ArePieces ts → IsCut (first ts)
 first_piece [] p = inr (inl refl)
-first_piece (t ∷ ts) p = p.0.token
+first_piece (t ∷ ts) p = p.0
 
 pub next_piece : (i : Input) → ArePieces i.rest → IsCut (token i)
 unfolding token

@@ -172,8 +172,8 @@ procs_differ s h = pairs_over (proc_of s) (λ p q. p.«module» ≡ q.«module»
 all_of_map : {A B : Type 0} (f : A → B) (P : B → Type 0) (xs : List A) → All P (map f xs) → All (λ x. P (f x)) xs
 all_of_map f P xs h k d lt = subst P (get_or-map f xs k d (f d) lt) (h k (f d) (omega (arith, length-map xs f, lt)))
 
-sites_lined : (s : Hlds) → All (λ x. 1 ≤ x.1) (sites_of s) → All (λ x. 1 ≤ x.line) (statics_of s).sites
-sites_lined s h = all_of_map owner_and_line (λ x. 1 ≤ x.1) (statics_of s).sites (subst (λ (xs : List (ℕ × ℕ)). All (λ x. 1 ≤ x.1) xs) (sym (lines_kept s)) h)
+pub sites_lined : (P : ℕ → Type 0) (s : Hlds) → All (λ x. P x.1) (sites_of s) → All (λ x. P x.line) (statics_of s).sites
+sites_lined P s h = all_of_map owner_and_line (λ x. P x.1) (statics_of s).sites (subst (λ (xs : List (ℕ × ℕ)). All (λ x. P x.1) xs) (sym (lines_kept s)) h)
 
 length_sites : (s : Hlds) → length (statics_of s).sites ≡ length (sites_of s)
 length_sites s = sym (length-map (statics_of s).sites owner_and_line) ∙ ap length (lines_kept s)
@@ -207,6 +207,6 @@ tables_sound s h = record {
       (λ k d lt. number_within (modules_of s) (module_of s (get_or s.procedures k d)) (omega arith));
   owners_there = owners_within s 0 (length (statics_of s).procs) s.procedures (omega (arith, length_procs s));
   callees_there = subst (λ (n : ℕ). All (Callee n) (statics_of s).sites) (sym (length_procs s)) (callees_there s 0 s.procedures);
-  lines_from_one = sites_lined s h.lines_from_one;
+  lines_from_one = sites_lined (λ line. 1 ≤ line) s h.lines_from_one;
   owners_rise = owners_rise s 0 s.procedures;
 }

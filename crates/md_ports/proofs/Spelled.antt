@@ -4,17 +4,17 @@ use Rattle.std.specs.Prelude.{IsTrue, codes}
 use Rattle.std.proofs.Common.{◌≡◌, ◌≢◌, refl, sym, ap, ◌∙◌, subst, arith, ℕ, suc, ◌≤◌, ◌<◌, Bool, true, false, not, cond, ◌&&◌, nat_lt, List, [], ◌∷◌, ◌++◌, length, map, Option, Some, None, Ok, Err, Result, append-nil, append_assoc, length-append, ◌+◌, inl, inr, All, AllPairs, get_or}
 use Rattle.std.proofs.lemmas.Bool.{ltb-false, false≢true, true≢false}
 use Rattle.std.proofs.lemmas.List.{length-map}
-use Rattle.std.proofs.lemmas.List.Elements.{All-nil, All-cons, All-append, All-map}
+use Rattle.std.proofs.lemmas.List.Elements.{All-nil, All-cons, All-append, All-map, All-weaker}
 use Rattle.std.proofs.lemmas.List.Kept.{AllPairs-cons}
 use Rattle.md_hlds.specs.declared.goal.PredName.{PredName}
 use Rattle.md_hlds.specs.HldsGoal.{HldsGoal, GoalExpr, SimpleGoal, Raises, EndsLine, WritesInt, WritesText, gathered, site_lines, expr_lines, goals_lines}
-use Rattle.md_hlds.specs.Hlds.{HldsType, HldsFunctor, HldsTypeDef, Procedure, Hlds, same_qualifier, find_procedure, procedure_called, owned_by, sites_from}
+use Rattle.md_hlds.specs.Hlds.{HldsType, HldsFunctor, HldsTypeDef, Procedure, Hlds, same_qualifier, find_procedure, procedure_called, owned_by, sites_from, sites_of}
 use Rattle.md_hlds.specs.Run.{main_name}
 use Rattle.md_hlds.specs.declared.types.Mode.{Mode}
 use Rattle.md_hlds.specs.declared.types.Det.{Det}
 use Rattle.md_token.specs.declared.kind.Kind.{Kind}
 use Rattle.md_token.specs.declared.kind.Kind.TheVariants as kind
-use Rattle.md_token.specs.Token.{tokens_of}
+use Rattle.md_token.specs.Token.{Lexeme, tokens_of}
 use Rattle.md_reader.specs.Input.{Input, ◌>>◌, pure, standard, refuse, limit, token, sees, next, variable, take_name}
 use Rattle.md_reader.specs.Duplicates as second
 use Rattle.md_reader.specs.Duplicates.{same_declared, is_among, first_second, declared_procedure, earlier, second_procedure, duplicate}
@@ -24,8 +24,10 @@ use Rattle.md_reader.specs.Grammar.{Is, Sign, Listed, Enclosed, Variables, Argum
 use Rattle.md_reader.proofs.Steps.{bind_ok, chosen, ok_input, ok_value}
 use Rattle.md_static.specs.Names.{is_name}
 use Rattle.md_ports.specs.Orderly.{IsOrderly}
+use Rattle.md_ports.specs.Ports.{statics_of}
 use Rattle.md_ports.proofs.Bytes.{bytes_same}
-use Rattle.md_ports.proofs.Words.{ArePieces, text_pieces, few_tokens, piece_word, word_name}
+use Rattle.md_ports.proofs.Sound.{sites_lined}
+use Rattle.md_ports.proofs.Words.{ArePieces, IsLine, HaveLines, text_pieces, text_lines, few_tokens, piece_word, word_name}
 use Rattle.md_ports.proofs.Onward.{Onward, then, stay, to_next, sign_on, expect_on, word_on, name_on, type_name_on, variable_on, site_on, end_on, mode_on, ho_mode_on, determinism_on, positive_on, negated_on, literal_on, pred_name_on, this_name_on, simple_type_on, declared_name_is, next_piece, Fits, IsAt, pred_name_at, call_at, expect_less, declare_goes}
 
 -- ---- lists
@@ -70,23 +72,23 @@ relation_on _ _ _ (grammar.comparison x y c i j k m first (grammar.comparison n 
 pub record Lined (i j : Input) (lines : List ℕ) : Type 0 where
   pub on : Onward i j
   pub count : length lines + length j.rest ≤ length i.rest
-  pub lines_from_one : ArePieces i.rest → All (λ l. 1 ≤ l) lines
+  pub lines_there : (most : ℕ) → HaveLines most i.rest → All (IsLine most) lines
 
 silent : {i j : Input} → Onward i j → Lined i j []
-silent a = record { on = a; count = omega (arith, a.count); lines_from_one = λ p. All-nil (λ l. 1 ≤ l) }
+silent a = record { on = a; count = omega (arith, a.count); lines_there = λ most h. All-nil (IsLine most) }
 
 lined_then : {i j k : Input} {xs ys : List ℕ} → Lined i j xs → Lined j k ys → Lined i k (xs ++ ys)
 lined_then {xs = xs} {ys = ys} a b = record {
   on = then a.on b.on;
   count = omega (arith, a.count, b.count, length-append xs ys);
-  lines_from_one = λ p. All-append (λ l. 1 ≤ l) xs ys (a.lines_from_one p) (b.lines_from_one (a.on.pieces p));
+  lines_there = λ most h. All-append (IsLine most) xs ys (a.lines_there most h) (b.lines_there most (a.on.lines most h));
 }
 
 behind : {i j k : Input} {xs : List ℕ} → Onward i j → Lined j k xs → Lined i k xs
 behind a b = lined_then (silent a) b
 
 before : {i j k : Input} {xs : List ℕ} → Lined i j xs → Onward j k → Lined i k xs
-before a b = record { on = then a.on b; count = omega (arith, a.count, b.count); lines_from_one = a.lines_from_one }
+before a b = record { on = then a.on b; count = omega (arith, a.count, b.count); lines_there = a.lines_there }
 
 -- a goal without call sites
 abbrev Silent : GoalExpr → Type 0
@@ -146,7 +148,7 @@ one_line : (i j k : Input) → IsAt i j → Onward i j → Onward j k → Lined 
 one_line i j k at first rest = record {
   on = then first rest;
   count = omega (arith, at.less, rest.count);
-  lines_from_one = λ p. All-cons (λ l. 1 ≤ l) (token i).line [] (at.line p) (All-nil (λ l. 1 ≤ l));
+  lines_there = λ most h. All-cons (IsLine most) (token i).line [] (at.line most h) (All-nil (IsLine most));
 }
 
 call_lined : (t : GoalExpr) (i j : Input) → Call t i j → Lined i j (expr_lines (token i).line t)
@@ -274,8 +276,8 @@ abbrev pub FitsAt : List ℕ → Procedure → Type 0
 FitsAt home p = Fits home (record { qualifier = p.qualifier; name = p.name })
 
 -- a procedure's call sites have lines
-abbrev HasLines : Procedure → Type 0
-HasLines p = All (λ l. 1 ≤ l) (site_lines p.body)
+abbrev HasLines : ℕ → Procedure → Type 0
+HasLines most p = All (IsLine most) (site_lines p.body)
 
 -- procedures and call sites together
 abbrev weight : List Procedure → ℕ
@@ -290,7 +292,7 @@ weight_more (q ∷ ps) p = omega (arith, weight_more ps p)
 pub record Adds (i j : Input) (before l : Hlds) : Type 0 where
   pub module_name : l.module_name ≡ before.module_name
   pub fit : All (FitsAt i.home) before.procedures → All (FitsAt i.home) l.procedures
-  pub lined : All HasLines before.procedures → All HasLines l.procedures
+  pub lined : (most : ℕ) → HaveLines most i.rest → All (HasLines most) before.procedures → All (HasLines most) l.procedures
   pub count : weight l.procedures + length j.rest ≤ weight before.procedures + length i.rest
 
 one_more : (P : Procedure → Type 0) (ps : List Procedure) (p : Procedure) → P p → All P ps → All P (ps ++ p ∷ [])
@@ -300,7 +302,7 @@ declared_adds : (before l : Hlds) (i j : Input) → Declared before l i j → Go
 unfolding rule.with_type_definition rule.with_procedure rule.procedure_from
 declared_adds before _ _ _ (grammar.type t line i j k is declaration) good =
     let on = then (expect_on kind.Declare line i j is) (type_on line t j k declaration) in
-    (on, record { module_name = refl; fit = λ h. h; lined = λ h. h; count = omega (arith, on.count) })
+    (on, record { module_name = refl; fit = λ h. h; lined = λ most lines h. h; count = omega (arith, on.count) })
 declared_adds before _ _ _ (grammar.predicate d c line i j k l is declaration clause) good =
     let first = expect_on kind.Declare line i j is in
     let there = good_then i j good first in
@@ -311,13 +313,13 @@ declared_adds before _ _ _ (grammar.predicate d c line i j k l is declaration cl
       record {
         module_name = refl;
         fit = one_more (FitsAt i.home) before.procedures _ fits;
-        lined = one_more HasLines before.procedures _ (lined.lines_from_one (named.0.pieces there.pieces));
+        lined = λ most lines. one_more (HasLines most) before.procedures _ (lined.lines_there most (named.0.lines most (first.lines most lines)));
         count = omega (arith, weight_more before.procedures (rule.procedure_from line d c), lined.count, named.0.count, expect_less kind.Declare line i j is declare_goes);
       },
     )
 
 declarations_add : (before l : Hlds) (i j : Input) → Declarations before l i j → Good i → Adds i j before l
-declarations_add _ _ _ _ (grammar.none l i) good = record { module_name = refl; fit = λ h. h; lined = λ h. h; count = omega arith }
+declarations_add _ _ _ _ (grammar.none l i) good = record { module_name = refl; fit = λ h. h; lined = λ most lines h. h; count = omega arith }
 declarations_add _ _ _ _ (grammar.also before l after i j k one rest) good =
     let first = declared_adds before l i j one good in
     let later = declarations_add l after j k rest (good_then i j good first.0) in
@@ -325,7 +327,7 @@ declarations_add _ _ _ _ (grammar.also before l after i j k one rest) good =
       module_name = later.module_name ∙ first.1.module_name;
       fit = λ h. subst (λ (home : List ℕ). All (FitsAt home) after.procedures) first.0.home
           (later.fit (subst (λ (home : List ℕ). All (FitsAt home) l.procedures) (sym first.0.home) (first.1.fit h)));
-      lined = λ h. later.lined (first.1.lined h);
+      lined = λ most lines h. later.lined most (first.0.lines most lines) (first.1.lined most lines h);
       count = omega (arith, later.count, first.1.count);
     }
 
@@ -333,6 +335,7 @@ declarations_add _ _ _ _ (grammar.also before l after i j k one rest) good =
 pub record IsHome (m : List ℕ) (i j : Input) : Type 0 where
   pub home : j.home ≡ m
   pub count : length j.rest ≤ length i.rest
+  pub lines : (most : ℕ) → HaveLines most i.rest → HaveLines most j.rest
   pub name : IsTrue (is_name m)
   pub good : Good j
 
@@ -354,6 +357,7 @@ module_is m i j h good =
                 record {
                   home = sym (ap (λ k. k.home) there) ∙ text;
                   count = subst (λ (k : Input). length k.rest ≤ length i.rest) there step.count;
+                  lines = subst (λ (k : Input). (most : ℕ) → HaveLines most i.rest → HaveLines most k.rest) there step.lines;
                   name = subst (λ (x : List ℕ). IsTrue (is_name x)) text (word_name (token i).text (piece_word (token i) (next_piece i good.pieces) (first_true _ _ l.0)) short);
                   good = subst Good there (record { pieces = on.pieces; limits = on.limits });
                 }
@@ -366,13 +370,13 @@ module_is m i j h good =
     first_true false b h = h
 
 -- what a program's text gives of its tables
-pub record HasNames (l : Hlds) (tokens : ℕ) : Type 0 where
+pub record HasNames (l : Hlds) (tokens : List Lexeme) : Type 0 where
   pub module_name : IsTrue (is_name l.module_name)
   pub fit : All (FitsAt l.module_name) l.procedures
-  pub lined : All HasLines l.procedures
-  pub few : weight l.procedures < tokens
+  pub lined : (most : ℕ) → HaveLines most tokens → All (HasLines most) l.procedures
+  pub few : weight l.procedures < length tokens
 
-program_named : (l : Hlds) (i j : Input) → Program l i j → Good i → HasNames l (length i.rest)
+program_named : (l : Hlds) (i j : Input) → Program l i j → Good i → HasNames l i.rest
 program_named _ _ _ (grammar.program m line at l i j k n o p heading word name end declarations) good =
     let zeroth = expect_on kind.Declare line i j heading in
     let first = good_then i j good zeroth in
@@ -385,29 +389,42 @@ program_named _ _ _ (grammar.program m line at l i j k n o p heading word name e
     record {
       module_name = subst (λ (x : List ℕ). IsTrue (is_name x)) (sym rest.module_name) home.name;
       fit = subst (λ (x : List ℕ). All (FitsAt x) l.procedures) own (rest.fit (All-nil (FitsAt o.home)));
-      lined = rest.lined (All-nil HasLines);
+      lined = λ most lines. rest.lined most (mark.lines most (home.lines most (next'.lines most (zeroth.lines most lines)))) (All-nil (HasLines most));
       few = omega (arith, rest.count, mark.count, home.count, next'.count, expect_less kind.Declare line i j heading declare_goes);
     }
 
-text_named : (text : List ℕ) (l : Hlds) → Spells text l → HasNames l (length (tokens_of text))
+text_named : (text : List ℕ) (l : Hlds) → Spells text l → HasNames l (tokens_of text)
 unfolding tokens_of
 text_named text l h = program_named l _ h.end h.program (record { pieces = text_pieces text; limits = refl })
 
 -- ---- call sites
 
-owned_lines : (n : ℕ) (ls : List ℕ) → All (λ l. 1 ≤ l) ls → All (λ x. 1 ≤ x.1) (map (owned_by n) ls)
-owned_lines n ls h = All-map (λ x. 1 ≤ x.1) (owned_by n) ls h
+abbrev OnLine : ℕ → ℕ × ℕ → Type 0
+OnLine most x = IsLine most x.1
 
-sites_lined : (n : ℕ) (ps : List Procedure) → All HasLines ps → All (λ x. 1 ≤ x.1) (sites_from n ps)
-sites_lined n [] h = All-nil (λ x. 1 ≤ x.1)
-sites_lined n (p ∷ ps) h =
-    All-append (λ x. 1 ≤ x.1) (map (owned_by n) (site_lines p.body)) (sites_from (suc n) ps) (owned_lines n (site_lines p.body) (h 0 p (omega arith)))
-    (sites_lined (suc n) ps (λ k d lt. h (suc k) d (omega (arith, lt))))
+owned_lines : (most n : ℕ) (ls : List ℕ) → All (IsLine most) ls → All (OnLine most) (map (owned_by n) ls)
+owned_lines most n ls h = All-map (OnLine most) (owned_by n) ls h
+
+owned_on : (most n : ℕ) (ps : List Procedure) → All (HasLines most) ps → All (OnLine most) (sites_from n ps)
+owned_on most n [] h = All-nil (OnLine most)
+owned_on most n (p ∷ ps) h =
+    All-append (OnLine most) (map (owned_by n) (site_lines p.body)) (sites_from (suc n) ps) (owned_lines most n (site_lines p.body) (h 0 p (omega arith)))
+    (owned_on most (suc n) ps (λ k d lt. h (suc k) d (omega (arith, lt))))
+
+-- each call site of a program that a text spells stands on a line of the text
+pub text_sites : (text : List ℕ) (l : Hlds) → Spells text l → All (λ x. IsLine (length text + 1) x.1) (sites_of l)
+text_sites text l h = owned_on (length text + 1) 0 l.procedures ((text_named text l h).lined (length text + 1) (text_lines text))
 
 sites_few : (n : ℕ) (ps : List Procedure) → length (sites_from n ps) + length ps ≤ weight ps
 sites_few n [] = omega arith
 sites_few n (p ∷ ps) =
     omega (arith, sites_few (suc n) ps, length-append (map (owned_by n) (site_lines p.body)) (sites_from (suc n) ps), length-map (site_lines p.body) (owned_by n))
+
+-- so does each call site of its tables
+pub text_table_lines : (text : List ℕ) (l : Hlds) → Spells text l → All (λ x. x.line ≤ length text + 1) (statics_of l).sites
+text_table_lines text l h =
+    sites_lined (λ line. line ≤ length text + 1) l
+    (All-weaker (λ (x : ℕ × ℕ). IsLine (length text + 1) x.1) (λ (x : ℕ × ℕ). x.1 ≤ length text + 1) (λ x on. on.last) (sites_of l) (text_sites text l h))
 
 -- ---- second declarations
 
@@ -481,7 +498,7 @@ text_orderly text l h short main called =
       names_are_names = λ k d lt. (names.fit k d lt).name;
       qualifiers_are_others = λ k d lt. (names.fit k d lt).other;
       predicates_differ = predicates_differ [] l.procedures (no_second l h.once);
-      lines_from_one = sites_lined 0 l.procedures names.lined;
+      lines_from_one = All-weaker (λ (x : ℕ × ℕ). IsLine (length text + 1) x.1) (λ (x : ℕ × ℕ). 1 ≤ x.1) (λ x on. on.first) (sites_of l) (text_sites text l h);
       some_predicates = some_procedure main_name 0 l.procedures main called;
       few_predicates = omega (arith, names.few, tokens, sites, short);
       few_sites = omega (arith, names.few, tokens, sites, short);

@@ -29,31 +29,53 @@ pub record IsWord (t : List ℕ) : Type 0 where
 abbrev pub IsCut : Lexeme → Type 0
 IsCut t = ((after : List ℕ) × IsToken after t.kind t.text) ⊎ ((t.kind ≡ kind.Stop) ⊎ (t.kind ≡ kind.Bad))
 
--- it has a line
-pub record IsPiece (t : Lexeme) : Type 0 where
-  pub token : IsCut t
-  pub line : 1 ≤ t.line
-
 abbrev pub ArePieces : List Lexeme → Type 0
 ArePieces [] = ⊤
-ArePieces (t ∷ ts) = IsPiece t × ArePieces ts
+ArePieces (t ∷ ts) = IsCut t × ArePieces ts
 
-further : (line b : ℕ) → 1 ≤ line → 1 ≤ spelling.line_behind b line
-further line b le = here (b == 10)
-  where
-    here : (c : Bool) → 1 ≤ cond c (line + 1) line
-    here true = omega (arith, le)
-    here false = le
-
-cut_pieces : (line : ℕ) (text : List ℕ) (ts : List Lexeme) → Cut line text ts → 1 ≤ line → ArePieces ts
-cut_pieces _ _ _ (spelling.stop line) le = (record { token = inr (inl refl); line = le }, tt)
-cut_pieces _ _ _ (spelling.blank line b text ts is rest) le = cut_pieces _ text ts rest (further line b le)
-cut_pieces _ _ _ (spelling.comment line w text ts in_line ends rest) le = cut_pieces line text ts rest le
-cut_pieces _ _ _ (spelling.token line k text w after ts begins rest) le = (record { token = inl (after, begins.token); line = le }, cut_pieces line after ts rest le)
-cut_pieces _ _ _ (spelling.bad line b bytes no_blank no_comment none) le = (record { token = inr (inr refl); line = le }, tt)
+cut_pieces : (line : ℕ) (text : List ℕ) (ts : List Lexeme) → Cut line text ts → ArePieces ts
+cut_pieces _ _ _ (spelling.stop line) = (inr (inl refl), tt)
+cut_pieces _ _ _ (spelling.blank line b text ts is rest) = cut_pieces _ text ts rest
+cut_pieces _ _ _ (spelling.comment line w text ts in_line ends rest) = cut_pieces line text ts rest
+cut_pieces _ _ _ (spelling.token line k text w after ts begins rest) = (inl (after, begins.token), cut_pieces line after ts rest)
+cut_pieces _ _ _ (spelling.bad line b bytes no_blank no_comment none) = (inr (inr refl), tt)
 
 pub text_pieces : (text : List ℕ) → ArePieces (tokens_of text)
-text_pieces text = cut_pieces 1 text (tokens_of text) (tokens_cut text) (omega arith)
+text_pieces text = cut_pieces 1 text (tokens_of text) (tokens_cut text)
+
+-- one of so many lines, which count from 1
+pub record IsLine (most line : ℕ) : Type 0 where
+  pub first : 1 ≤ line
+  pub last : line ≤ most
+
+-- each token stands on one
+abbrev pub HaveLines : ℕ → List Lexeme → Type 0
+HaveLines most [] = ⊤
+HaveLines most (t ∷ ts) = IsLine most t.line × HaveLines most ts
+
+further : (line b : ℕ) → (line ≤ spelling.line_behind b line) × (spelling.line_behind b line ≤ line + 1)
+further line b = here (b == 10)
+  where
+    here : (c : Bool) → (line ≤ cond c (line + 1) line) × (cond c (line + 1) line ≤ line + 1)
+    here true = (omega arith, omega arith)
+    here false = (omega arith, omega arith)
+
+-- each byte ends one line at most
+cut_lines : (most line : ℕ) (text : List ℕ) (ts : List Lexeme) → Cut line text ts → 1 ≤ line → line + length text ≤ most → HaveLines most ts
+cut_lines most _ _ _ (spelling.stop line) le room = (record { first = le; last = omega (arith, room) }, tt)
+cut_lines most _ _ _ (spelling.blank line b text ts is rest) le room =
+    let on = further line b in
+    let after : line ≤ spelling.line_behind b line = on.0 in
+    let next : spelling.line_behind b line ≤ line + 1 = on.1 in
+    cut_lines most _ text ts rest (omega (arith, le, after)) (omega (arith, room, next))
+cut_lines most _ _ _ (spelling.comment line w text ts in_line ends rest) le room = cut_lines most line text ts rest le (omega (arith, room, length-append w text))
+cut_lines most _ _ _ (spelling.token line k text w after ts begins rest) le room =
+    let whole : length text ≡ length w + length after = ap length begins.whole ∙ length-append w after in
+    (record { first = le; last = omega (arith, room) }, cut_lines most line after ts rest le (omega (arith, room, whole)))
+cut_lines most _ _ _ (spelling.bad line b bytes no_blank no_comment none) le room = (record { first = le; last = omega (arith, room) }, tt)
+
+pub text_lines : (text : List ℕ) → HaveLines (length text + 1) (tokens_of text)
+text_lines text = cut_lines (length text + 1) 1 text (tokens_of text) (tokens_cut text) (omega arith) (omega arith)
 
 -- there are no more tokens than bytes, and the end
 sign_size : (k : Kind) (t : List ℕ) → IsSign k t → 1 ≤ length t

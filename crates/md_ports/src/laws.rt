@@ -1,5 +1,5 @@
 // Laws of the tables of a program. Each is the contract of a function that does nothing.
-ghost use Rattle.std.specs.Prelude.{ℕ, ◌≡◌, ◌<◌, ◌^◌, ◌-◌, List, length, map, Some};
+ghost use Rattle.std.specs.Prelude.{ℕ, ◌≡◌, ◌<◌, ◌≤◌, ◌^◌, ◌+◌, ◌-◌, All, List, length, map, Some};
 ghost use Rattle.md_hlds.specs.Hlds.{Procedure, Hlds, sites_of, procedure_called};
 ghost use Rattle.md_hlds.specs.Run.{main_name};
 ghost use Rattle.md_reader.specs.Grammar.{Spells};
@@ -17,6 +17,11 @@ pub fn tables_are_sound()
 /// So are those of a program that a text spells and that declares a main.
 pub fn tables_of_a_text_are_sound()
     ensures { (text : List ℕ) (program : Hlds) (main : ℕ × Procedure) → Spells text program → length text < 2 ^ 32 - 1 → procedure_called program main_name ≡ Some main → IsSound (statics_of program) }
+{}
+
+/// Each call site of a text's program stands on a line of the text, which has no more line feeds than bytes.
+pub fn sites_of_a_text_have_its_lines()
+    ensures { (text : List ℕ) (program : Hlds) → Spells text program → All (λ x. x.line ≤ length text + 1) (statics_of program).sites }
 {}
 
 /// The call sites of the tables have the owners and lines of the program's call sites, in the same order.

@@ -8,7 +8,7 @@ mod sites;
 mod tables;
 
 pub use laws::{
-    sites_keep_their_lines, tables_are_sound, tables_give_the_site_table,
-    tables_of_a_text_are_sound,
+    sites_keep_their_lines, sites_of_a_text_have_its_lines, tables_are_sound,
+    tables_give_the_site_table, tables_of_a_text_are_sound,
 };
 pub use tables::statics;
