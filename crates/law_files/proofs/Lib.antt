@@ -1,0 +1,9 @@
+pub mod Reaching
+pub mod CliquesThere
+pub mod SpelledFiles
+pub mod SpelledTexts
+pub mod ViewsThere
+pub mod OfRuns
+pub mod Rooms
+pub mod ThroughFiles
+pub mod WorkedFiles

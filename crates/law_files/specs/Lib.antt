@@ -1,0 +1,3 @@
+pub mod Spelled
+pub mod Views
+pub mod Through

@@ -1,0 +1,19 @@
+//! What a profile says on its way through a file and through a text: laws over definitions alone, each the contract of a
+//! function that does nothing.
+#![tactic(auto)]
+
+mod spelled;
+mod through;
+mod views;
+
+pub use spelled::{
+    dumped_profiles_are_spelled, encoded_profiles_are_spelled, files_are_whole_or_damaged,
+    files_spell_one_profile, texts_are_whole_or_faulty, texts_spell_one_profile,
+};
+pub use through::{
+    files_say_what_the_run_says, pages_show_the_run, run_leaves_its_file, serving_tells_the_run,
+};
+pub use views::{
+    cliques_of_runs_are_entered_once, graphs_have_cliques, profiles_have_one_view,
+    profiles_have_views_or_two_entries,
+};
