@@ -6,13 +6,13 @@ ghost use Rattle.std.specs.Prelude.{ℕ, ◌<◌, ◌^◌, IfSome};
 ghost use Rattle.md_hlds.specs.Hlds.{hlds_of};
 ghost use Rattle.md_machine.specs.Ran.{CanBeRun};
 
+use law_events::programs_have_tables;
+use law_spelled::accepted_texts_are_within_bounds;
 use md_base::NoMemory;
 use md_det::{Checked, check_det};
-use md_events::programs_have_tables;
 use md_machine::{Ran, interpret};
 use md_modes::check_modes;
 use md_reader::read;
-use md_spelled::accepted_texts_are_within_bounds;
 use md_trace::Silent;
 use std::alloc::Global;
 use std::io::{self, ErrorKind};

@@ -14,11 +14,11 @@ use Rattle.md_dynamic.specs.OfHistory.{row_of}
 use Rattle.md_dynamic.specs.Profile.{ProfileRows}
 use Rattle.md_dynamic.specs.declared.link.LinkRow.{LinkRow}
 use Rattle.md_deepfile.specs.Spells.{AreSmall, HasRoom}
-use Rattle.md_events.specs.History.{history}
-use Rattle.md_events.specs.Table.{site_table}
+use Rattle.law_events.specs.History.{history}
+use Rattle.law_events.specs.Table.{site_table}
 use Rattle.md_ports.specs.Ports.{arity_of, proc_of, statics_of}
 use Rattle.md_ports.proofs.Spelled.{text_table_lines}
-use Rattle.md_profile.specs.OfRun.{IsProfileOfRun}
+use Rattle.md_profiled.specs.OfRun.{IsProfileOfRun}
 use Rattle.md_tool.specs.Due.{longest}
 
 -- a count stands still at the greatest number

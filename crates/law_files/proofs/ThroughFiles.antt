@@ -6,23 +6,23 @@ use Rattle.md_base.specs.Nets.{Connections}
 use Rattle.md_hlds.specs.Hlds.{Hlds}
 use Rattle.md_hlds.specs.Run.{is_finished, run}
 use Rattle.md_trace.specs.PortHistory.{IsPortHistory}
-use Rattle.md_events.specs.History.{history}
-use Rattle.md_events.specs.Table.{site_table}
-use Rattle.md_spelled.proofs.TextLaws.{accepted_runs_are_histories}
+use Rattle.law_events.specs.History.{history}
+use Rattle.law_events.specs.Table.{site_table}
+use Rattle.law_spelled.proofs.TextLaws.{accepted_runs_are_histories}
 use Rattle.md_ports.specs.Ports.{statics_of}
 use Rattle.md_dynamic.specs.Profile.{ProfileRows}
 use Rattle.md_deepfile.specs.Loads.{FileSpells}
 use Rattle.md_deepfile.specs.Spells.{Spells}
 use Rattle.md_cost.specs.FileView.{IsFileView}
 use Rattle.md_cost.specs.View.{View}
-use Rattle.md_view.proofs.OneView.{file_view_of, run_view_of}
+use Rattle.law_views.proofs.OneView.{file_view_of, run_view_of}
 use Rattle.md_query.specs.Asked.{Asked}
 use Rattle.md_query.specs.Page.{PageRows}
 use Rattle.md_query.specs.PageOf.{page_of}
 use Rattle.md_render.specs.Text.{text_of}
 use Rattle.md_http.specs.declared.serving.ServeFault.{ServeFault}
 use Rattle.md_http.specs.declared.serving.Tally.{Tally}
-use Rattle.md_profile.specs.OfRun.{IsViewOfRun}
+use Rattle.md_profiled.specs.OfRun.{IsViewOfRun}
 use Rattle.md_tool.specs.Accepted.{Accepted}
 use Rattle.md_tool.specs.Due.{longest}
 use Rattle.md_tool.specs.Kept.{IsKept, IsRunFile}

@@ -14,7 +14,7 @@ use Rattle.md_query.specs.PageOf.{page_of}
 use Rattle.md_render.specs.Text.{text_of}
 use Rattle.md_http.specs.declared.serving.ServeFault.{ServeFault}
 use Rattle.md_http.specs.declared.serving.Tally.{Tally}
-use Rattle.md_profile.specs.OfRun.{IsViewOfRun}
+use Rattle.md_profiled.specs.OfRun.{IsViewOfRun}
 use Rattle.md_tool.specs.Due.{IsWritten}
 use Rattle.md_tool.specs.Kept.{IsRunFile}
 use Rattle.md_tool.specs.Reported.{IsPageOfRun, HasNoPageOfRun}

@@ -13,9 +13,9 @@ use Rattle.md_hlds.specs.Value.{Value, Number, Literal, Built, Closure, listed_v
 use Rattle.md_hlds.specs.Simple.{Outcome, No, answer, unify_values, unify_constant, build, take_part, take_apart, same_functor, unify_functor, close, unify_predicate, unify_name, unify, holds, compute, compare, write, write_int, write_text, raise, simple}
 use Rattle.md_inst.specs.Instantiation.{times}
 use Rattle.md_modes.specs.Goals.{simple_variables}
-use Rattle.md_safety.specs.Turns.{AreDistinct, IsTidySimple}
-use Rattle.md_safety.proofs.Environments.{value_at-bound_other}
-use Rattle.md_safety.proofs.Handing.{more_times, first_times}
+use Rattle.law_safety.specs.Turns.{AreDistinct, IsTidySimple}
+use Rattle.law_safety.proofs.Environments.{value_at-bound_other}
+use Rattle.law_safety.proofs.Handing.{more_times, first_times}
 use Rattle.law_fits.specs.Fast.{Effect, Puts, Misses, Bursts, Sticks, outcome, told, Tells, all_have, tested, fast_variables, fast_constant, fast_build, also_puts, fast_part, fast_parts, fast_same, fast_take, fast_functor, fast_close, fast_predicate, fast_name, fast_unify, fast_compute, fast_compare, fast_write, fast_write_int, fast_write_text, fast_raise, fast_simple}
 
 -- ---- variables

@@ -11,17 +11,17 @@ use Rattle.md_modes.specs.Goals.{variables, parts_variables, goal, each}
 use Rattle.md_det.specs.declared.finding.Switch.{Switch}
 use Rattle.md_det.specs.Switches.{switch_on_known, switch_with, switch_of}
 use Rattle.md_det.specs.Findings.{expr_switch, program_findings, switch_of_finding, switch_at}
-use Rattle.md_safety.specs.Values.{Agrees, Fits}
-use Rattle.md_safety.specs.Known as known
-use Rattle.md_safety.specs.Known.{place, Begins, BeginsParts, BeginsArms, FitsAt}
-use Rattle.md_safety.specs.Unfolding.{expr_in, switch_value}
-use Rattle.md_safety.proofs.Accepted.{each_ok, if_ok}
-use Rattle.md_safety.proofs.Safe.{fits_left}
-use Rattle.md_safety.proofs.SwitchLemmas.{shape_occurs}
-use Rattle.md_safety.proofs.NotedGoals.{noted}
-use Rattle.md_safety.proofs.FoundGoals.{pairs_are_found}
+use Rattle.law_safety.specs.Values.{Agrees, Fits}
+use Rattle.law_safety.specs.Known as known
+use Rattle.law_safety.specs.Known.{place, Begins, BeginsParts, BeginsArms, FitsAt}
+use Rattle.law_safety.specs.Unfolding.{expr_in, switch_value}
+use Rattle.law_safety.proofs.Accepted.{each_ok, if_ok}
+use Rattle.law_safety.proofs.Safe.{fits_left}
+use Rattle.law_safety.proofs.SwitchLemmas.{shape_occurs}
+use Rattle.law_safety.proofs.NotedGoals.{noted}
+use Rattle.law_safety.proofs.FoundGoals.{pairs_are_found}
 use Rattle.law_fits.specs.Handing.{HandsOpen}
-use Rattle.md_compile.specs.Leaves.{has_choices, named_leaves, role_leaves, leaves, expr_leaves, found_leaves, leaves_table}
+use Rattle.md_code.specs.Leaves.{has_choices, named_leaves, role_leaves, leaves, expr_leaves, found_leaves, leaves_table}
 use Rattle.law_fits.specs.Leaves.{EachInTable, PartsInTable, MeetsSwitch}
 
 -- ---- the table at the goals of a clause

@@ -12,9 +12,9 @@ use Rattle.md_modes.specs.Goals.{variables, parts_variables, clause_variables}
 use Rattle.md_modes.specs.Modes.{enter, entry_from}
 use Rattle.md_modes.proofs.Counts.{times-append}
 use Rattle.md_modes.proofs.InstantiationLemmas.{length-put}
-use Rattle.md_safety.specs.Known as known
-use Rattle.md_safety.specs.Known.{place, Begins, BeginsParts, BeginsArms, FitsAt}
-use Rattle.md_safety.proofs.Growing.{goal_later}
+use Rattle.law_safety.specs.Known as known
+use Rattle.law_safety.specs.Known.{place, Begins, BeginsParts, BeginsArms, FitsAt}
+use Rattle.law_safety.proofs.Growing.{goal_later}
 use Rattle.law_fits.proofs.RangeLemmas.{in_range}
 
 enter_size : (m : Mode) (t : HldsType) (x : ℕ) (kn : InstMap) → length (enter m t x kn) ≡ length kn

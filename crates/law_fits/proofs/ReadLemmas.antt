@@ -6,8 +6,8 @@ use Rattle.md_hlds.specs.declared.types.Mode.TheVariants.{In, Out, Di, Uo}
 use Rattle.md_hlds.specs.Hlds.{HldsType, Hlds}
 use Rattle.md_hlds.specs.Value.{Value, Env, value_at, values_at, prepend_value}
 use Rattle.md_inst.specs.Instantiation.{times}
-use Rattle.md_safety.specs.Arguments.{IsArgument, AreArguments, taken}
-use Rattle.md_safety.specs.Roles.{valued_places}
+use Rattle.law_safety.specs.Arguments.{IsArgument, AreArguments, taken}
+use Rattle.law_safety.specs.Roles.{valued_places}
 use Rattle.law_fits.specs.Reads.{is_input, is_given, is_among, is_valued}
 
 -- ---- numbers

@@ -5,19 +5,19 @@ use Rattle.md_hlds.specs.Hlds.{Procedure, Hlds, procedure_called}
 use Rattle.md_hlds.specs.Value.{Env}
 use Rattle.md_hlds.specs.Trace.{Frame}
 use Rattle.md_hlds.specs.Run.{main_name}
-use Rattle.md_steps.specs.State.{Wait, Others, Again, Over, Condition, Negation, Single, Returning, Goes, Fails, state}
-use Rattle.md_steps.specs.Steps.{answered, returned, retried, thrown_on, unwound}
-use Rattle.md_steps.specs.Makes.{beginning}
+use Rattle.law_steps.specs.State.{Wait, Others, Again, Over, Condition, Negation, Single, Returning, Goes, Fails, state}
+use Rattle.law_steps.specs.Steps.{answered, returned, retried, thrown_on, unwound}
+use Rattle.law_steps.specs.Makes.{beginning}
 use Rattle.md_reader.specs.Grammar.{Spells}
 use Rattle.md_modes.specs.Goals.{variables, goal}
 use Rattle.md_modes.specs.Modes.{entry, end, scope_of, is_main, mode_fault}
 use Rattle.md_modes.proofs.Counts.{times-append}
-use Rattle.md_safety.specs.Known.{body}
-use Rattle.md_safety.proofs.Verdicts.{ok_then}
-use Rattle.md_safety.proofs.Functors.{called_at}
-use Rattle.md_safety.proofs.Safe.{Proper}
-use Rattle.md_safety.proofs.Whole.{accepted, proper, main_fits}
-use Rattle.md_safety.proofs.OneMain.{one_main}
+use Rattle.law_safety.specs.Known.{body}
+use Rattle.law_safety.proofs.Verdicts.{ok_then}
+use Rattle.law_safety.proofs.Functors.{called_at}
+use Rattle.law_safety.proofs.Safe.{Proper}
+use Rattle.law_safety.proofs.Whole.{accepted, proper, main_fits}
+use Rattle.law_safety.proofs.OneMain.{one_main}
 use Rattle.law_fits.specs.States.{FitsAnswer, FitsFrame, FitWaits, FitsState, FitsStep}
 
 -- ---- the beginning

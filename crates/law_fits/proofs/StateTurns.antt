@@ -16,8 +16,8 @@ use Rattle.md_hlds.specs.Simple.{Outcome, Go, No, Stop}
 use Rattle.md_hlds.specs.Simple.{Throws as Raised}
 use Rattle.md_hlds.specs.Switch.{Key, switch_shape, arm_for, has_the_key}
 use Rattle.md_hlds.specs.Trace.{Frame, back, pairs_of, without, doing, entered, body_frame}
-use Rattle.md_steps.specs.State.{Wait, Goes, state}
-use Rattle.md_steps.specs.Steps.{goes_simply, takes_arm, switches, chooses, enters, calls, applies, unfolds_expr, unfolds}
+use Rattle.law_steps.specs.State.{Wait, Goes, state}
+use Rattle.law_steps.specs.Steps.{goes_simply, takes_arm, switches, chooses, enters, calls, applies, unfolds_expr, unfolds}
 use Rattle.md_inst.specs.Instantiation.{InstMap, known_at, times}
 use Rattle.md_inst.specs.Named.{predicate_called}
 use Rattle.md_inst.specs.Simple as rules
@@ -28,26 +28,26 @@ use Rattle.md_modes.specs.Goals.{variables, expr_variables, parts_variables, sim
 use Rattle.md_modes.specs.Modes.{entry, end, scope_of}
 use Rattle.md_modes.proofs.Counts.{times-append}
 use Rattle.md_det.specs.Switches.{switch_of, variable_of}
-use Rattle.md_safety.specs.Values.{Fits}
-use Rattle.md_safety.specs.Arguments.{IsArgument, AreArguments, taken, IsResult, AreResults}
-use Rattle.md_safety.specs.Turns.{LeadsTo, AreDistinct, AreTidy}
-use Rattle.md_safety.specs.Roles.{HasValue}
-use Rattle.md_safety.specs.Known.{place, Begins, BeginsParts, BeginsArms, body, part, arm, next_parts, next_arms, switches_on, parts_switch_on, arms_switch_on, IsChosen, FitsAt}
-use Rattle.md_safety.specs.Known as known
-use Rattle.md_safety.specs.Unfolding.{switch_value}
-use Rattle.md_safety.proofs.Environments.{fits_fewer}
-use Rattle.md_safety.proofs.Verdicts.{ok_then, ok_is, ok_reached}
-use Rattle.md_safety.proofs.Handing.{more_times, first_times, handed}
-use Rattle.md_safety.proofs.Functors.{predicate_number}
-use Rattle.md_safety.proofs.SimpleGoals.{simple_leads}
-use Rattle.md_safety.proofs.Accepted.{each_ok, arms_ok}
-use Rattle.md_safety.proofs.Growing.{arms_later}
-use Rattle.md_safety.proofs.JoinLemmas.{Joins, EndsJoin, joined_join, fits_joined}
-use Rattle.md_safety.proofs.Calls.{call_fits, others_return, without_size, IsApplied, type_of, known_applied}
-use Rattle.md_safety.proofs.Safe.{Proper, HasRoom, IsCall, in_left, fits_left, fits_right, room_outside, end_results, back_fits, both_reach}
-use Rattle.md_safety.proofs.SwitchLemmas.{IsFirstChosen, first_chosen, none_chosen}
-use Rattle.md_safety.proofs.ChosenArms.{no_switch_chosen, arm_is_chosen}
-use Rattle.md_safety.proofs.TurnsFit.{Placed, AreToCome, come_after, come_inside, first_fits, named_call, placed_if, placed_not, placed_some}
+use Rattle.law_safety.specs.Values.{Fits}
+use Rattle.law_safety.specs.Arguments.{IsArgument, AreArguments, taken, IsResult, AreResults}
+use Rattle.law_safety.specs.Turns.{LeadsTo, AreDistinct, AreTidy}
+use Rattle.law_safety.specs.Roles.{HasValue}
+use Rattle.law_safety.specs.Known.{place, Begins, BeginsParts, BeginsArms, body, part, arm, next_parts, next_arms, switches_on, parts_switch_on, arms_switch_on, IsChosen, FitsAt}
+use Rattle.law_safety.specs.Known as known
+use Rattle.law_safety.specs.Unfolding.{switch_value}
+use Rattle.law_safety.proofs.Environments.{fits_fewer}
+use Rattle.law_safety.proofs.Verdicts.{ok_then, ok_is, ok_reached}
+use Rattle.law_safety.proofs.Handing.{more_times, first_times, handed}
+use Rattle.law_safety.proofs.Functors.{predicate_number}
+use Rattle.law_safety.proofs.SimpleGoals.{simple_leads}
+use Rattle.law_safety.proofs.Accepted.{each_ok, arms_ok}
+use Rattle.law_safety.proofs.Growing.{arms_later}
+use Rattle.law_safety.proofs.JoinLemmas.{Joins, EndsJoin, joined_join, fits_joined}
+use Rattle.law_safety.proofs.Calls.{call_fits, others_return, without_size, IsApplied, type_of, known_applied}
+use Rattle.law_safety.proofs.Safe.{Proper, HasRoom, IsCall, in_left, fits_left, fits_right, room_outside, end_results, back_fits, both_reach}
+use Rattle.law_safety.proofs.SwitchLemmas.{IsFirstChosen, first_chosen, none_chosen}
+use Rattle.law_safety.proofs.ChosenArms.{no_switch_chosen, arm_is_chosen}
+use Rattle.law_safety.proofs.TurnsFit.{Placed, AreToCome, come_after, come_inside, first_fits, named_call, placed_if, placed_not, placed_some}
 use Rattle.law_fits.specs.States.{FitsHere, FitsGoals, GivesBack, FitsJob, FitsAnswer, FitsFrame, FitArms, FitWaits, FitsState, FitsUnfolded}
 
 -- ---- places

@@ -19,20 +19,20 @@ use Rattle.md_modes.specs.Branches.{After}
 use Rattle.md_modes.specs.Goals.{goal, variables, expr_variables, simple_variables}
 use Rattle.md_modes.specs.Notes.{Role, takes_apart, applies, role_of_variables, role_of_term, role_of_name, role_of_unification, role_of_sort, role_of_closure, role_of, program_notes}
 use Rattle.md_modes.specs.Classes.{role_at}
-use Rattle.md_safety.specs.Values.{HasType, AreHeld, IsClosureOf, Agrees, Fits}
-use Rattle.md_safety.specs.Turns.{AreDistinct, IsTidy, IsTidySimple, IsTidyExpr}
-use Rattle.md_safety.specs.Roles.{arguments_of, HaveValues, IsComparable, IsMet}
-use Rattle.md_safety.specs.Known.{place, FitsAt}
-use Rattle.md_safety.specs.Unfolding.{expr_in}
-use Rattle.md_safety.proofs.Environments.{fits_fewer}
-use Rattle.md_safety.proofs.Verdicts.{ok_where, ok_unless, ok_reached}
-use Rattle.md_safety.proofs.Handing.{In', first_times, more_times, in_first, in_rest, handed}
-use Rattle.md_safety.proofs.Functors.{predicate_number}
-use Rattle.md_safety.proofs.Calls.{without_size}
-use Rattle.md_safety.proofs.Safe.{Proper, in_left, fits_left}
-use Rattle.md_safety.proofs.RoleLemmas.{unification_met}
-use Rattle.md_safety.proofs.NotedGoals.{noted}
-use Rattle.md_safety.proofs.TurnsFit.{named_call}
+use Rattle.law_safety.specs.Values.{HasType, AreHeld, IsClosureOf, Agrees, Fits}
+use Rattle.law_safety.specs.Turns.{AreDistinct, IsTidy, IsTidySimple, IsTidyExpr}
+use Rattle.law_safety.specs.Roles.{arguments_of, HaveValues, IsComparable, IsMet}
+use Rattle.law_safety.specs.Known.{place, FitsAt}
+use Rattle.law_safety.specs.Unfolding.{expr_in}
+use Rattle.law_safety.proofs.Environments.{fits_fewer}
+use Rattle.law_safety.proofs.Verdicts.{ok_where, ok_unless, ok_reached}
+use Rattle.law_safety.proofs.Handing.{In', first_times, more_times, in_first, in_rest, handed}
+use Rattle.law_safety.proofs.Functors.{predicate_number}
+use Rattle.law_safety.proofs.Calls.{without_size}
+use Rattle.law_safety.proofs.Safe.{Proper, in_left, fits_left}
+use Rattle.law_safety.proofs.RoleLemmas.{unification_met}
+use Rattle.law_safety.proofs.NotedGoals.{noted}
+use Rattle.law_safety.proofs.TurnsFit.{named_call}
 use Rattle.md_hlds.specs.Simple.{simple}
 use Rattle.law_fits.specs.Fast.{told, outcome, fast_simple}
 use Rattle.law_fits.proofs.FastLemmas.{simple_by_slots}

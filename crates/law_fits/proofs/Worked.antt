@@ -15,13 +15,13 @@ use Rattle.md_modes.specs.Modes.{entry}
 use Rattle.md_modes.specs.Notes.{program_notes}
 use Rattle.md_det.specs.Findings.{program_findings}
 use Rattle.md_modes.proofs.Worked.{unqualified, same, places, program, hand_over, one_member, closures, picks, code}
-use Rattle.md_safety.specs.Values.{Agrees}
-use Rattle.md_safety.specs.Known.{body}
-use Rattle.md_safety.proofs.NotedGoals.{one_known}
+use Rattle.law_safety.specs.Values.{Agrees}
+use Rattle.law_safety.specs.Known.{body}
+use Rattle.law_safety.proofs.NotedGoals.{one_known}
 use Rattle.law_fits.specs.Fast.{Puts, Misses, Bursts, Sticks, outcome, fast_simple}
 use Rattle.law_fits.specs.States.{FitsHere, GivesBack}
 use Rattle.law_fits.specs.Reads.{reads_at}
-use Rattle.md_compile.specs.Leaves.{leaves_table}
+use Rattle.md_code.specs.Leaves.{leaves_table}
 
 -- ---- choices
 

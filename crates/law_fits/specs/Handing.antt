@@ -6,8 +6,8 @@ use Rattle.md_hlds.specs.Value.{Values, Closure, listed_values, Env, value_at}
 use Rattle.md_modes.specs.Notes.{applies, program_notes}
 use Rattle.md_modes.specs.Classes.{role_at}
 use Rattle.md_inst.specs.Simple.{left_open}
-use Rattle.md_safety.specs.Values.{AreHeld}
-use Rattle.md_safety.specs.Arguments.{AreArguments, taken}
+use Rattle.law_safety.specs.Values.{AreHeld}
+use Rattle.law_safety.specs.Arguments.{AreArguments, taken}
 
 -- A call of a predicate: there is such a procedure, and each variable in the place of an input has a value of its type, and
 -- each in the place of an output none.

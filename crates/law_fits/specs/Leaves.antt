@@ -5,8 +5,8 @@ use Rattle.md_hlds.specs.Hlds.{Hlds}
 use Rattle.md_hlds.specs.Value.{Value, Env, value_at}
 use Rattle.md_hlds.specs.Switch.{Key, switch_shape}
 use Rattle.md_det.specs.declared.finding.Switch.{Switch}
-use Rattle.md_safety.specs.Unfolding.{switch_value}
-use Rattle.md_compile.specs.Leaves.{leaves, leaves_table}
+use Rattle.law_safety.specs.Unfolding.{switch_value}
+use Rattle.md_code.specs.Leaves.{leaves, leaves_table}
 
 -- the table has what these goals leave, the first of which has the number n
 abbrev pub EachInTable : Hlds → ℕ → HldsGoals → Type 0

@@ -9,7 +9,7 @@ use Rattle.md_hlds.specs.Hlds.{HldsType, number, text, closure, listed_types, Pr
 use Rattle.md_inst.specs.Simple.{builtin, arithmetic, comparison, line_end, raised, pairs}
 use Rattle.md_modes.specs.Notes.{Role, constructs, closes, takes_apart, assigns, tests, applies, program_notes}
 use Rattle.md_modes.specs.Classes.{role_at}
-use Rattle.md_safety.specs.Roles.{arguments_of}
+use Rattle.law_safety.specs.Roles.{arguments_of}
 
 -- ---- arguments
 

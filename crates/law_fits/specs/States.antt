@@ -5,15 +5,15 @@ use Rattle.md_hlds.specs.HldsGoal.{Numbered}
 use Rattle.md_hlds.specs.Hlds.{Procedure, Hlds}
 use Rattle.md_hlds.specs.Value.{Env, value_at}
 use Rattle.md_hlds.specs.Trace.{Frame, back}
-use Rattle.md_steps.specs.State.{Wait, Others, Again, Over, Condition, Negation, Single, Returning, Doing, Goes, Fails, Throws, State}
-use Rattle.md_steps.specs.Steps.{Step, On, Ends, Unfolded, Turns, Sticks}
+use Rattle.law_steps.specs.State.{Wait, Others, Again, Over, Condition, Negation, Single, Returning, Doing, Goes, Fails, Throws, State}
+use Rattle.law_steps.specs.Steps.{Step, On, Ends, Unfolded, Turns, Sticks}
 use Rattle.md_inst.specs.Instantiation.{InstMap, times}
 use Rattle.md_modes.specs.Branches.{After}
 use Rattle.md_modes.specs.Goals.{variables, clause_variables, goal}
-use Rattle.md_safety.specs.Values.{Fits}
-use Rattle.md_safety.specs.Turns.{IsTidy}
-use Rattle.md_safety.specs.Roles.{AreVariablesOf, HasValue}
-use Rattle.md_safety.specs.Known.{place, Begins, switches_on, IsChosen, goals_variables}
+use Rattle.law_safety.specs.Values.{Fits}
+use Rattle.law_safety.specs.Turns.{IsTidy}
+use Rattle.law_safety.specs.Roles.{AreVariablesOf, HasValue}
+use Rattle.law_safety.specs.Known.{place, Begins, switches_on, IsChosen, goals_variables}
 
 -- A goal that is to be done, with these goals of its frame after it. The mode rules come to it in its clause with `known`, and
 -- accept it; it is as the grammar has it. The variables of `rest` may still be read after it: those of the goals after it and

@@ -5,9 +5,9 @@ ghost use Rattle.md_hlds.specs.HldsGoal.{At, GoalExpr, CallGoal, HoCallGoal, Dis
 ghost use Rattle.md_hlds.specs.Hlds.{Procedure, Hlds, procedure_called};
 ghost use Rattle.md_hlds.specs.Value.{Env};
 ghost use Rattle.md_det.specs.Findings.{program_findings, switch_at};
-ghost use Rattle.md_safety.specs.Known.{FitsAt};
+ghost use Rattle.law_safety.specs.Known.{FitsAt};
 ghost use Rattle.law_fits.specs.Handing.{HandsOpen};
-ghost use Rattle.md_compile.specs.Leaves.{has_choices, expr_leaves, leaves_table};
+ghost use Rattle.md_code.specs.Leaves.{has_choices, expr_leaves, leaves_table};
 ghost use Rattle.law_fits.specs.Leaves.{PartsInTable, MeetsSwitch};
 
 /// The table of the goals that may leave choices has, for each goal that a run comes to, what the goal and its parts leave; a

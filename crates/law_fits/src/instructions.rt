@@ -14,7 +14,7 @@ ghost use Rattle.md_hlds.specs.Value.{Value, Values, Number, Literal, Built, Clo
 ghost use Rattle.md_hlds.specs.Simple.{result_of, holds};
 ghost use Rattle.md_modes.specs.Notes.{constructs, closes, takes_apart, assigns, tests, program_notes};
 ghost use Rattle.md_modes.specs.Classes.{role_at};
-ghost use Rattle.md_safety.specs.Known.{FitsAt};
+ghost use Rattle.law_safety.specs.Known.{FitsAt};
 ghost use Rattle.law_fits.specs.Fast.{Puts, Misses, Bursts, Hold, IsConstant, beside, tested, fast_same, fast_simple};
 ghost use Rattle.law_fits.specs.Reads.{reads_at};
 

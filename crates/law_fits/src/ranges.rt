@@ -6,7 +6,7 @@ ghost use Rattle.md_hlds.specs.Value.{Env};
 ghost use Rattle.md_inst.specs.Instantiation.{times};
 ghost use Rattle.md_modes.specs.Goals.{variables, clause_variables};
 ghost use Rattle.md_reader.specs.Grammar.{Spells};
-ghost use Rattle.md_safety.specs.Known.{FitsAt};
+ghost use Rattle.law_safety.specs.Known.{FitsAt};
 
 /// In a program that a text spells each variable of a clause, of its head and of its goals, is a number below how many
 /// variables the clause has. At a turn that fits the environment has so many places.

@@ -5,7 +5,7 @@ ghost use Rattle.md_hlds.specs.Hlds.{Hlds};
 ghost use Rattle.md_hlds.specs.Value.{Value, Env};
 ghost use Rattle.md_hlds.specs.Simple.{simple};
 ghost use Rattle.md_modes.specs.Goals.{simple_variables};
-ghost use Rattle.md_safety.specs.Turns.{IsTidySimple};
+ghost use Rattle.law_safety.specs.Turns.{IsTidySimple};
 ghost use Rattle.law_fits.specs.Fast.{outcome, Tells, fast_simple};
 
 /// Where bits tell which of a simple goal's variables have values, and slots which these are, what the goal does is what

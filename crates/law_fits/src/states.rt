@@ -4,12 +4,12 @@ ghost use Rattle.md_hlds.specs.HldsGoal.{Numbered};
 ghost use Rattle.md_hlds.specs.Hlds.{Hlds, Procedure, procedure_called};
 ghost use Rattle.md_hlds.specs.Trace.{Frame};
 ghost use Rattle.md_hlds.specs.Run.{main_name};
-ghost use Rattle.md_steps.specs.State.{Wait, Goes, Fails, Throws, state};
-ghost use Rattle.md_steps.specs.Steps.{returned, retried, unwound, unfolds};
-ghost use Rattle.md_steps.specs.Makes.{beginning};
+ghost use Rattle.law_steps.specs.State.{Wait, Goes, Fails, Throws, state};
+ghost use Rattle.law_steps.specs.Steps.{returned, retried, unwound, unfolds};
+ghost use Rattle.law_steps.specs.Makes.{beginning};
 ghost use Rattle.md_modes.specs.Modes.{mode_fault};
 ghost use Rattle.md_reader.specs.Grammar.{Spells};
-ghost use Rattle.md_safety.specs.Known.{FitsAt};
+ghost use Rattle.law_safety.specs.Known.{FitsAt};
 ghost use Rattle.law_fits.specs.States.{FitsState, FitsStep, FitsUnfolded};
 
 /// The modes of a program that a text spells and that has no fault of modes hold where main's body begins, and each step of

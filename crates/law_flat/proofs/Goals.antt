@@ -7,10 +7,10 @@ use Rattle.md_det.specs.declared.finding.Switch.{Switch}
 use Rattle.md_det.specs.Findings.{program_findings, switch_at}
 use Rattle.md_flat.specs.declared.instruction.Instruction.{Instruction}
 use Rattle.md_flat.specs.declared.instruction.Operation.TheVariants as act
-use Rattle.md_compile.specs.Leaves.{is_tried, parts_leave, found_leaves, leaves_table}
-use Rattle.md_compile.specs.Tables.{pop_address, head_at, second_at, end_at, ended_at, try_at}
-use Rattle.md_compile.specs.Blocks.{Place, instruction, other_after, pending_after, pending_parts, pending_expr, cut_or_pass, end_code, try_code, parts_begin, condition_code, some_code, disjunction_code, called_weight, own_code, block, height_if, joining, if_condition, then_place, else_place, negated_place, some_place, conjunct_place, arm_place}
-use Rattle.md_compile.specs.Details.{switch_detail, call_detail}
+use Rattle.md_code.specs.Leaves.{is_tried, parts_leave, found_leaves, leaves_table}
+use Rattle.md_code.specs.Tables.{pop_address, head_at, second_at, end_at, ended_at, try_at}
+use Rattle.md_code.specs.Blocks.{Place, instruction, other_after, pending_after, pending_parts, pending_expr, cut_or_pass, end_code, try_code, parts_begin, condition_code, some_code, disjunction_code, called_weight, own_code, block, height_if, joining, if_condition, then_place, else_place, negated_place, some_place, conjunct_place, arm_place}
+use Rattle.md_code.specs.Details.{switch_detail, call_detail}
 use Rattle.law_frames.specs.Ways.{Address, pop, port, to, tries, redoes, Way, on, holds, denies, finds, after, ends, part_way, parts_way, condition_way, negation_way, some_way}
 use Rattle.law_flat.specs.Flat.{Flat, HasAt, HasDetail, StandsFrom}
 use Rattle.law_flat.specs.Shapes.{Shape, KeepsIn, InRange}

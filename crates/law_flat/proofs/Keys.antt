@@ -13,18 +13,18 @@ use Rattle.md_inst.specs.Simple as rules
 use Rattle.md_modes.specs.Branches.{After, outside, joined}
 use Rattle.md_modes.specs.Goals.{Scope, variables, parts_variables, goal, arms, simple_variables}
 use Rattle.md_modes.specs.Notes.{role_of_term, role_of_name, role_of_unification}
-use Rattle.md_safety.specs.Known.{FitsAt, place}
-use Rattle.md_safety.specs.Roles.{IsComparable, IsMet}
-use Rattle.md_safety.proofs.Verdicts.{ok_then, ok_reached}
-use Rattle.md_safety.proofs.Accepted.{each_ok, arms_ok}
-use Rattle.md_safety.proofs.SwitchLemmas.{first_key, shape_keys, first_keys}
-use Rattle.md_safety.proofs.RoleLemmas.{unification_met}
-use Rattle.md_safety.proofs.Safe.{fits_left, fits_right}
-use Rattle.md_safety.specs.Values.{Fits}
-use Rattle.md_safety.proofs.Handing.{first_times}
+use Rattle.law_safety.specs.Known.{FitsAt, place}
+use Rattle.law_safety.specs.Roles.{IsComparable, IsMet}
+use Rattle.law_safety.proofs.Verdicts.{ok_then, ok_reached}
+use Rattle.law_safety.proofs.Accepted.{each_ok, arms_ok}
+use Rattle.law_safety.proofs.SwitchLemmas.{first_key, shape_keys, first_keys}
+use Rattle.law_safety.proofs.RoleLemmas.{unification_met}
+use Rattle.law_safety.proofs.Safe.{fits_left, fits_right}
+use Rattle.law_safety.specs.Values.{Fits}
+use Rattle.law_safety.proofs.Handing.{first_times}
 use Rattle.law_frames.specs.Ways.{Mentions, SomeMentions, Address, Way, on, parts_way, joins, holds, denies, finds, exits, yields, halts}
-use Rattle.md_compile.specs.Leaves.{leaves_table}
-use Rattle.md_compile.specs.Tables.{functors_of}
+use Rattle.md_code.specs.Leaves.{leaves_table}
+use Rattle.md_code.specs.Tables.{functors_of}
 use Rattle.law_flat.specs.Flat.{Flat}
 use Rattle.law_flat.specs.Shapes.{Shape}
 use Rattle.law_flat.specs.Told.{names_among}

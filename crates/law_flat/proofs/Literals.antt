@@ -8,7 +8,7 @@ use Rattle.md_hlds.specs.declared.goal.Term.TheVariants.{Var, Int, Str, Name}
 use Rattle.md_hlds.specs.HldsGoal.{Simple, Unifies, HldsGoal, At, GoalExpr, SimpleGoal, CallGoal, HoCallGoal, ConjGoal, DisjGoal, IfGoal, NotGoal, SomeGoal, HldsGoals, nothing, also}
 use Rattle.md_hlds.specs.Hlds.{Procedure, Hlds}
 use Rattle.md_hlds.specs.Value as value
-use Rattle.md_compile.specs.Tables.{literal_place, with_literal, with_term, with_simple, with_goal, with_expr, with_goals, with_clauses, functors_of, literals_of}
+use Rattle.md_code.specs.Tables.{literal_place, with_literal, with_term, with_simple, with_goal, with_expr, with_goals, with_clauses, functors_of, literals_of}
 use Rattle.law_flat.specs.Told.{bytes_among, zeros, bytes_or, literal_bytes, names_among, literal_or, untold, told_numbered}
 
 -- ---- bytes

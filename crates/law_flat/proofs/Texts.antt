@@ -6,10 +6,10 @@ use Rattle.md_hlds.specs.HldsGoal.{Simple, Succeeds, Fails, Unifies, Computes, C
 use Rattle.md_hlds.specs.Hlds.{Procedure, Hlds, clause_goals, is_functor}
 use Rattle.md_hlds.specs.Switch.{Key, IntKey, TextKey, FunctorKey, term_key, keys_of, switch_shape}
 use Rattle.md_switch.proofs.Tells.{length-within}
-use Rattle.md_safety.proofs.SwitchLemmas as switches
-use Rattle.md_safety.proofs.SwitchLemmas.{first_keys}
-use Rattle.md_compile.specs.Tables.{with_goal, with_expr, with_goals, with_clauses}
-use Rattle.md_compile.specs.Blocks.{keys_of_shape, shape_keys}
+use Rattle.law_safety.proofs.SwitchLemmas as switches
+use Rattle.law_safety.proofs.SwitchLemmas.{first_keys}
+use Rattle.md_code.specs.Tables.{with_goal, with_expr, with_goals, with_clauses}
+use Rattle.md_code.specs.Blocks.{keys_of_shape, shape_keys}
 use Rattle.law_flat.specs.Flat.{StandsFrom}
 use Rattle.law_flat.specs.Keyed.{IsLiteral, HasLiterals, AreLiterals}
 use Rattle.law_flat.proofs.Lists.{stands_left, stands_right}

@@ -10,9 +10,9 @@ use Rattle.md_modes.specs.Notes.{program_notes}
 use Rattle.md_det.specs.Findings.{program_findings}
 use Rattle.md_flat.specs.declared.instruction.Instruction.{Instruction}
 use Rattle.md_flat.specs.declared.instruction.Operation.TheVariants as act
-use Rattle.md_compile.specs.Leaves.{leaves_table}
-use Rattle.md_compile.specs.Tables.{entry_at}
-use Rattle.md_compile.specs.Blocks.{instruction, unused, program_code, Along, NoArm, Place}
+use Rattle.md_code.specs.Leaves.{leaves_table}
+use Rattle.md_code.specs.Tables.{entry_at}
+use Rattle.md_code.specs.Blocks.{instruction, unused, program_code, Along, NoArm, Place}
 use Rattle.law_frames.specs.Ways.{pop, port, Way, on, yields, cut_body, whole_body}
 use Rattle.law_flat.specs.Flat.{Flat, flat_of}
 use Rattle.law_flat.specs.Shapes.{Shape, KeepsIn, InRange, shape_of}

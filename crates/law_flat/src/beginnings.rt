@@ -2,7 +2,7 @@
 ghost use Rattle.law_flat.specs.Begins.{Begins};
 ghost use Rattle.law_flat.specs.Flat.{HasRoutine, flat_told};
 ghost use Rattle.law_flat.specs.Stays.{Stays};
-ghost use Rattle.md_compile.specs.Details.{IsCodeOf, routine_of};
+ghost use Rattle.md_code.specs.Details.{IsCodeOf, routine_of};
 ghost use Rattle.md_flat.specs.Meaning.{State};
 ghost use Rattle.md_flat.specs.declared.code.Code.{Code};
 ghost use Rattle.md_hlds.specs.Hlds.{Hlds, Procedure, procedure_called};

@@ -5,7 +5,7 @@ ghost use Rattle.law_flat.specs.Stays.{AfterSeeing, Here, MainHere};
 ghost use Rattle.law_frames.specs.Standing.{Misses, Raises, Runs};
 ghost use Rattle.law_frames.specs.Stores.{Act, Choice, Store, trimmed};
 ghost use Rattle.law_frames.specs.Ways.{Address, exits, port, yields};
-ghost use Rattle.md_compile.specs.Tables.{halt_address, over_address, unwind_address};
+ghost use Rattle.md_code.specs.Tables.{halt_address, over_address, unwind_address};
 ghost use Rattle.md_flat.specs.Meaning.{Ended, On, State, if_charged};
 ghost use Rattle.md_flat.specs.declared.state.Frame.{Frame};
 ghost use Rattle.md_hlds.specs.Hlds.{Hlds};

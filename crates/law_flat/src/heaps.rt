@@ -8,7 +8,7 @@ ghost use Rattle.md_heap.specs.declared.value.Value.{Value};
 ghost use Rattle.md_heap.specs.declared.value.Value.TheVariants.{Cell};
 ghost use Rattle.md_heap.specs.Tree as tree;
 ghost use Rattle.md_heap.specs.Cells.{Node, Cells, tree_of};
-ghost use Rattle.md_compile.specs.Tables.{functors_of, functor_number, closure_head};
+ghost use Rattle.md_code.specs.Tables.{functors_of, functor_number, closure_head};
 ghost use Rattle.law_flat.specs.Told.{literal_bytes, told, IsHead, IsGood, AreBuilt, found};
 
 /// A new cell whose head is that of a functor tells the functor of what its parts tell, and one whose head is a closure's a

@@ -8,7 +8,7 @@ ghost use Rattle.law_flat.specs.Stays.{Here};
 ghost use Rattle.law_frames.specs.Standing.{Runs};
 ghost use Rattle.law_frames.specs.Stores.{Act, Choice, Store};
 ghost use Rattle.law_frames.specs.Ways.{Address, Way, on};
-ghost use Rattle.md_compile.specs.Details.{IsCodeOf};
+ghost use Rattle.md_code.specs.Details.{IsCodeOf};
 ghost use Rattle.md_flat.specs.Meaning.{State};
 ghost use Rattle.md_flat.specs.declared.code.Code.{Code};
 ghost use Rattle.md_hlds.specs.Hlds.{Hlds, Procedure, procedure_called};

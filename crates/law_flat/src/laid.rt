@@ -4,8 +4,8 @@ ghost use Rattle.md_hlds.specs.HldsGoal.{HldsGoal, At, ConjGoal, DisjGoal, IfGoa
 ghost use Rattle.md_hlds.specs.Hlds.{Procedure, Hlds, body_number};
 ghost use Rattle.md_det.specs.Findings.{program_findings, switch_at};
 ghost use Rattle.md_flat.specs.declared.code.Code.{Code};
-ghost use Rattle.md_compile.specs.Blocks.{Place, if_condition, then_place, else_place, negated_place, some_place, body_place};
-ghost use Rattle.md_compile.specs.Details.{IsCodeOf};
+ghost use Rattle.md_code.specs.Blocks.{Place, if_condition, then_place, else_place, negated_place, some_place, body_place};
+ghost use Rattle.md_code.specs.Details.{IsCodeOf};
 ghost use Rattle.law_flat.specs.Flat.{Flat, flat_told};
 ghost use Rattle.law_flat.specs.Shapes.{Shape, shape_of};
 ghost use Rattle.law_flat.specs.Calls.{IsShape};

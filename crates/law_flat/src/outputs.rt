@@ -7,7 +7,7 @@ ghost use Rattle.law_flat.specs.Stays.{AfterSeeing, Here};
 ghost use Rattle.law_frames.specs.Standing.{Runs};
 ghost use Rattle.law_frames.specs.Stores.{Act, Choice, Store};
 ghost use Rattle.law_frames.specs.Ways.{Address, Way, on};
-ghost use Rattle.md_compile.specs.Tables.{literals_of};
+ghost use Rattle.md_code.specs.Tables.{literals_of};
 ghost use Rattle.md_flat.specs.Meaning.{State, slot};
 ghost use Rattle.md_heap.specs.declared.value.Value.TheVariants.{Int, Lit};
 ghost use Rattle.md_hlds.specs.Hlds.{Hlds};

@@ -10,8 +10,8 @@ use Rattle.md_hlds.specs.Simple.{Throws as Raised}
 use Rattle.md_hlds.specs.Simple as run
 use Rattle.md_hlds.specs.Switch.{Key, switch_shape, arm_for}
 use Rattle.md_hlds.specs.Trace.{Frame, entered, pairs_of, without}
-use Rattle.md_steps.specs.State.{Wait, State}
-use Rattle.md_steps.specs.Steps.{Sticks, calls_if, calls, applies, unfolds}
+use Rattle.law_steps.specs.State.{Wait, State}
+use Rattle.law_steps.specs.Steps.{Sticks, calls_if, calls, applies, unfolds}
 use Rattle.law_frames.specs.Ways.{Leaves, Address, Way, on, goals_of, IsAmong, some_leaves}
 use Rattle.law_frames.specs.Stores.{Act, Choice, Store, top, HandsOver}
 use Rattle.law_frames.specs.Standing.{Runs, Stands, runs}

@@ -3,7 +3,7 @@ use Rattle.std.proofs.Common.{◌≡◌, refl, ap, sym, ◌∙◌, subst, arith,
 use Rattle.std.proofs.lemmas.Bool.{eq-eqb, eqb-true}
 use Rattle.md_hlds.specs.Value.{Value, Env, value_at}
 use Rattle.md_hlds.specs.Trace.{Frame}
-use Rattle.md_steps.specs.State.{Wait}
+use Rattle.law_steps.specs.State.{Wait}
 use Rattle.law_frames.specs.Ways.{Leaves, Address, to, Way, after, passes, Reads, Later}
 use Rattle.law_frames.specs.Stores.{Act, Choice, choice, choice_if, Store, with_height_if, Cell, slot, height, header, Perm, Below, AlikeBelow, IsFree, top, Same, IsKept, Kept, KeepsHeight, heads}
 use Rattle.law_frames.specs.Standing.{Failing, popped, Ending, past_choice}

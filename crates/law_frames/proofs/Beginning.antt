@@ -3,7 +3,7 @@ use Rattle.std.proofs.Common.{◌≡◌, refl, ap, sym, subst, arith, ℕ, true,
 use Rattle.md_hlds.specs.Hlds.{Hlds, Procedure}
 use Rattle.md_hlds.specs.Value.{Env, blank}
 use Rattle.md_hlds.specs.Run.{main_env}
-use Rattle.md_steps.specs.Makes.{beginning}
+use Rattle.law_steps.specs.Makes.{beginning}
 use Rattle.law_frames.specs.Ways.{Leaves, port, Way, on, joins, holds, denies, finds, exits, yields, halts, address, end_of, passes, after, goals_of, IsWay, Later, cut_body, whole_body, main_body}
 use Rattle.law_frames.specs.Stores.{Act, Store, Perm, top}
 use Rattle.law_frames.specs.Standing.{loses, going, Ending, ended, IsBodyEnd, Runs, Stands, runs}

@@ -8,8 +8,8 @@ use Rattle.md_hlds.specs.HldsGoal.{HldsGoal, At, CallGoal, HoCallGoal, Numbered,
 use Rattle.md_hlds.specs.Hlds.{Hlds, Procedure, procedure_called, nth_procedure}
 use Rattle.md_hlds.specs.Value.{Value, Values, Closure, listed_values, Env, value_at}
 use Rattle.md_hlds.specs.Trace.{Call, Frame, doing, body_frame, cut_off, call_weight, entered, pairs_of, without}
-use Rattle.md_steps.specs.State.{Wait, Over, Returning, Goes, State, state}
-use Rattle.md_steps.specs.Steps.{Turns, enters, calls_if, calls, applies, unfolds}
+use Rattle.law_steps.specs.State.{Wait, Over, Returning, Goes, State, state}
+use Rattle.law_steps.specs.Steps.{Turns, enters, calls_if, calls, applies, unfolds}
 use Rattle.law_frames.specs.Ways.{Leaves, Address, Way, on, after, goals_of, cut_body, whole_body, IsAmong, Mentions}
 use Rattle.law_frames.specs.Stores.{Act, Choice, Store, Perm, Below, IsStacked, top, Same, HandsOver, none_over, had, handed, AreOfGoal, Hands}
 use Rattle.law_frames.specs.Standing.{fails_cut, fails_whole, Going, going, past_over, exited, yielded, Runs, Stands, runs}

@@ -3,7 +3,7 @@ use Rattle.std.proofs.Common.{◌≡◌, refl, ap, sym, ◌∙◌, subst, arith,
 use Rattle.md_hlds.specs.HldsGoal.{HldsGoal, At, IfGoal, NotGoal, SomeGoal, Numbered, numbered_goal, goal_size}
 use Rattle.md_hlds.specs.Hlds.{Hlds}
 use Rattle.md_hlds.specs.Trace.{Frame, doing, alone}
-use Rattle.md_steps.specs.State.{Wait, Condition, Negation, Single, State}
+use Rattle.law_steps.specs.State.{Wait, Condition, Negation, Single, State}
 use Rattle.law_frames.specs.Ways.{Leaves, Address, to, Way, on, holds, denies, finds, after, goals_of, part_way, condition_way, negation_way, some_way, ends, Reads, Later}
 use Rattle.law_frames.specs.Stores.{Act, Choice, choice, choice_if, Store, Perm, top, KeepsHeight, heads, with_height_if}
 use Rattle.law_frames.specs.Standing.{Failing, unfound, otherwise, denied, Going, going, Ending, held, refuted, found, Runs, Stands, runs}

@@ -5,8 +5,8 @@ use Rattle.md_hlds.specs.Hlds.{Hlds}
 use Rattle.md_hlds.specs.Value.{Value, Env, value_at}
 use Rattle.md_hlds.specs.Switch.{Key, switch_shape, has_the_key, arm_for}
 use Rattle.md_hlds.specs.Trace.{Frame, doing}
-use Rattle.md_steps.specs.State.{Wait, Others, State}
-use Rattle.md_steps.specs.Steps.{tries, takes_arm, switches, chooses}
+use Rattle.law_steps.specs.State.{Wait, Others, State}
+use Rattle.law_steps.specs.Steps.{tries, takes_arm, switches, chooses}
 use Rattle.law_frames.specs.Ways.{Leaves, Address, pop, Way, on, after, goals_of, part_way, arms_address, Mentions, SomeMentions, some_leaves}
 use Rattle.law_frames.specs.Stores.{Act, Choice, Store, Perm, Kept}
 use Rattle.law_frames.specs.Standing.{AreKept, Failing, tried, arms, Going, Runs, Misses, Stands, runs, misses}

@@ -2,7 +2,7 @@
 use Rattle.std.proofs.Common.{List, ◌≡◌, refl, ap, sym, ◌∙◌, subst, arith, ℕ, zero, suc, ◌<◌, ◌≤◌, Bool, true, false, cond, not, nat_eq, nat_lt, Option, Some, None, is_some, true≢false}
 use Rattle.std.proofs.lemmas.Bool.{eq-eqb, eqb-true, le-leb, lt-leb, leb-true, leb-false}
 use Rattle.md_hlds.specs.Value.{Value, Env, value_at}
-use Rattle.md_steps.specs.State.{State}
+use Rattle.law_steps.specs.State.{State}
 use Rattle.law_frames.specs.Ways.{Leaves, Way, Later}
 use Rattle.law_frames.specs.Stores.{Act, Choice, Store, Cell, slot, height, header, Perm, Below, AlikeBelow, IsFree, top, Same, Framed, IsKept, Kept, KeepsHeight}
 use Rattle.law_frames.specs.Calls.{NewFrame, AgreeBelow}

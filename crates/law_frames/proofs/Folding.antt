@@ -5,9 +5,9 @@ use Rattle.md_hlds.specs.Hlds.{Hlds}
 use Rattle.md_hlds.specs.Trace.{Item, Turn, Call, Exit, Redo, Fail, Excp, Alloc, Out, Throw, Answer, Stuck, Deep, Items}
 use Rattle.md_hlds.specs.Run.{run, cut, events, output, is_finished, error}
 use Rattle.md_hlds.proofs.TraceLemmas.{cut_allowed, cut_refused}
-use Rattle.md_steps.specs.State.{State}
-use Rattle.md_steps.specs.Steps.{Turns}
-use Rattle.md_steps.specs.Standing.{StandsIn}
+use Rattle.law_steps.specs.State.{State}
+use Rattle.law_steps.specs.Steps.{Turns}
+use Rattle.law_steps.specs.Standing.{StandsIn}
 use Rattle.law_frames.specs.Ways.{Leaves}
 use Rattle.law_frames.specs.Stores.{Store, Choice}
 use Rattle.law_frames.specs.Standing.{Doing}

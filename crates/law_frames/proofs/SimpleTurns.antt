@@ -6,8 +6,8 @@ use Rattle.md_hlds.specs.Value.{Value, Env, value_at}
 use Rattle.md_hlds.specs.Simple.{Go, No, Stop, simple}
 use Rattle.md_hlds.specs.Simple.{Throws as Raised}
 use Rattle.md_hlds.specs.Trace.{Throw, knowing, allocated, written}
-use Rattle.md_steps.specs.State.{Goes, State, state}
-use Rattle.md_steps.specs.Steps.{Turns, Sticks, goes_simply}
+use Rattle.law_steps.specs.State.{Goes, State, state}
+use Rattle.law_steps.specs.Steps.{Turns, Sticks, goes_simply}
 use Rattle.law_frames.specs.Ways.{Leaves, Address, Way, on, goals_of, after, parts_way, Mentions, Reads, Later, some_leaves}
 use Rattle.law_frames.specs.Stores.{Act, Choice, Store, Perm, top, Same, Kept, heads, with_values, bind_all, AreFresh, AreMentioned}
 use Rattle.law_frames.specs.Standing.{Failing, going, Ending, Runs, Misses, Raises, Stands, runs, misses, raises}

@@ -4,8 +4,8 @@ use Rattle.md_hlds.specs.HldsGoal.{Numbered, goal_size}
 use Rattle.md_hlds.specs.Hlds.{Hlds}
 use Rattle.md_hlds.specs.Value.{Env}
 use Rattle.md_hlds.specs.Trace.{Items, Frame, doing, knowing}
-use Rattle.md_steps.specs.State.{Wait, Goes, State, state}
-use Rattle.md_steps.specs.Steps.{Unfolded, Turns, unfolds}
+use Rattle.law_steps.specs.State.{Wait, Goes, State, state}
+use Rattle.law_steps.specs.Steps.{Unfolded, Turns, unfolds}
 use Rattle.law_frames.specs.Ways.{Leaves, Address, Way, on, goals_of, after, ends, part_way, Mentions, Reads, Later}
 use Rattle.law_frames.specs.Stores.{Act, Choice, Store, Perm, Below, AlikeBelow, IsFree, top, Same, Kept, heads}
 use Rattle.law_frames.specs.Standing.{Failing, Going, going, Ending, Doing, Stands}

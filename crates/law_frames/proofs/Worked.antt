@@ -14,7 +14,7 @@ use Rattle.law_frames.specs.Ways.{Leaves, Address, pop, port, to, tries, redoes,
 use Rattle.law_frames.specs.Stores.{Act, Choice, choice, Store, arms_choices, trimmed, copy_all, with_height, top, HandsOver, had, handed, none_over}
 use Rattle.law_frames.specs.Standing.{Doing, Runs, Misses}
 use Rattle.law_frames.specs.Running.{InRun}
-use Rattle.md_steps.specs.Makes.{with_main}
+use Rattle.law_steps.specs.Makes.{with_main}
 use Rattle.law_frames.proofs.Beginning.{begins_cut}
 use Rattle.law_frames.proofs.RunLemmas.{in_run_begins, in_run_turns, in_run_moves, in_run_stops}
 use Rattle.law_frames.proofs.Conditions.{if_goes}

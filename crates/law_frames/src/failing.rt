@@ -3,7 +3,7 @@ ghost use Rattle.std.specs.Prelude.{◌≡◌, ◌≤◌, ◌<◌, ℕ, suc, Boo
 ghost use Rattle.md_hlds.specs.HldsGoal.{Numbered};
 ghost use Rattle.md_hlds.specs.Value.{Value};
 ghost use Rattle.md_hlds.specs.Trace.{Exit, Fail, Answer, Frame};
-ghost use Rattle.md_steps.specs.State.{Wait, State};
+ghost use Rattle.law_steps.specs.State.{Wait, State};
 ghost use Rattle.law_frames.specs.Ways.{Leaves, Address, pop, port, to, tries, redoes, Way, joins, holds, denies, finds, exits, yields, halts, arm_way};
 ghost use Rattle.law_frames.specs.Stores.{Act, Choice, choice, Store, Perm, Below, AlikeBelow, Same, arms_choices, trimmed, top, IsStacked, with_values, copy_all};
 ghost use Rattle.law_frames.specs.Standing.{Failing, Going, Ending, Runs, Misses, Raises, Stands};

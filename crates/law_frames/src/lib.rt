@@ -1,6 +1,6 @@
 //! The laws of a machine that changes its frames in place. It keeps one stack of choices and frames whose slots are
 //! written over and over; it has no trail and copies no environments, and where no choice can be open a failure goes to
-//! an address that is known before it runs. What it does is what the abstract machine of `md_steps` does, and so it makes
+//! an address that is known before it runs. What it does is what the abstract machine of `law_steps` does, and so it makes
 //! the run. Which variables have values is nothing that these laws decide.
 #![tactic(auto)]
 

@@ -3,10 +3,10 @@ ghost use Rattle.std.specs.Prelude.{◌≡◌, ◌≤◌, ◌<◌, ℕ, ◌+◌,
 ghost use Rattle.md_hlds.specs.Hlds.{Hlds, Procedure, procedure_called};
 ghost use Rattle.md_hlds.specs.Trace.{Turn, Items, call_weight};
 ghost use Rattle.md_hlds.specs.Run.{run, main_name, cut, events, output, is_finished, error};
-ghost use Rattle.md_steps.specs.State.{State};
-ghost use Rattle.md_steps.specs.Steps.{Turns, Sticks};
-ghost use Rattle.md_steps.specs.Standing.{StandsIn};
-ghost use Rattle.md_steps.specs.Makes.{beginning, with_main};
+ghost use Rattle.law_steps.specs.State.{State};
+ghost use Rattle.law_steps.specs.Steps.{Turns, Sticks};
+ghost use Rattle.law_steps.specs.Standing.{StandsIn};
+ghost use Rattle.law_steps.specs.Makes.{beginning, with_main};
 ghost use Rattle.law_frames.specs.Ways.{Leaves, Way, cut_body, whole_body, main_body};
 ghost use Rattle.law_frames.specs.Stores.{Act, Choice, Store, IsStacked};
 ghost use Rattle.law_frames.specs.Standing.{Doing, Runs, Stands, AreFramed};

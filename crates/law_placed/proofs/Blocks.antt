@@ -9,9 +9,9 @@ use Rattle.md_det.specs.declared.finding.Switch.{Switch}
 use Rattle.md_det.specs.Findings.{program_findings, switch_at}
 use Rattle.md_flat.specs.declared.instruction.Operation.TheVariants as act
 use Rattle.md_flat.specs.Placed.{Bounds, is_operation_placed, is_placed}
-use Rattle.md_compile.specs.Leaves.{leaves_table}
-use Rattle.md_compile.specs.Tables.{head_at, second_at, ended_at, one_if}
-use Rattle.md_compile.specs.Blocks.{End, Along, Joining, Holding, Denying, Exiting, Yielding, Trial, NoArm, LastArm, ArmBefore, Keeping, Place, pending_expr, cut_or_pass, join_or_pass, end_code, try_code, parts_begin, condition_code, some_code, switch_by, shape_keys, first_trial, disjunction_code, own_code, block}
+use Rattle.md_code.specs.Leaves.{leaves_table}
+use Rattle.md_code.specs.Tables.{head_at, second_at, ended_at, one_if}
+use Rattle.md_code.specs.Blocks.{End, Along, Joining, Holding, Denying, Exiting, Yielding, Trial, NoArm, LastArm, ArmBefore, Keeping, Place, pending_expr, cut_or_pass, join_or_pass, end_code, try_code, parts_begin, condition_code, some_code, switch_by, shape_keys, first_trial, disjunction_code, own_code, block}
 use Rattle.law_placed.proofs.Numbers.{each_both, below_at}
 use Rattle.law_placed.proofs.Noted.{role_noted, switch_variable}
 use Rattle.law_placed.proofs.SimpleGoals.{ArePlaced, IsFull, goes, unused_placed, alone_placed, two_below, simple_placed}

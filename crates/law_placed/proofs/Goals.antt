@@ -7,10 +7,10 @@ use Rattle.md_det.specs.declared.finding.Switch.{Switch}
 use Rattle.md_det.specs.Findings.{program_findings, switch_at}
 use Rattle.md_flat.specs.declared.instruction.Instruction.{Instruction}
 use Rattle.md_flat.specs.Placed.{Bounds, is_placed}
-use Rattle.md_compile.specs.Leaves.{leaves_table}
-use Rattle.md_compile.specs.Tables.{heights_of}
-use Rattle.md_compile.specs.Blocks.{Place, other_after, pending_after, block, goal_code, inner_code, parts_code, arms_code, if_condition, then_place, else_place, negated_place, some_place, conjunct_place, arm_place, pending_behind}
-use Rattle.md_compile.specs.Details.{Detail, detail_of, goal_details, inner_details, parts_details, arms_details}
+use Rattle.md_code.specs.Leaves.{leaves_table}
+use Rattle.md_code.specs.Tables.{heights_of}
+use Rattle.md_code.specs.Blocks.{Place, other_after, pending_after, block, goal_code, inner_code, parts_code, arms_code, if_condition, then_place, else_place, negated_place, some_place, conjunct_place, arm_place, pending_behind}
+use Rattle.md_code.specs.Details.{Detail, detail_of, goal_details, inner_details, parts_details, arms_details}
 use Rattle.law_placed.proofs.Numbers.{each_both}
 use Rattle.law_placed.proofs.SimpleGoals.{ArePlaced, is_told_placed, IsFull}
 use Rattle.law_placed.proofs.Standing.{Stands, PartsStand, conjunction_stands, disjunction_stands, first_part, other_parts, first_arm, other_arms, if_stands, negated_stands, quantified_stands}

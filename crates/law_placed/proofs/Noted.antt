@@ -14,7 +14,7 @@ use Rattle.md_det.specs.declared.finding.Finding.{Finding}
 use Rattle.md_det.specs.declared.finding.Switch.{Switch}
 use Rattle.md_det.specs.Switches.{is_whole, switch_on_known, switch_with, switch_of, variable_of}
 use Rattle.md_det.specs.Findings.{expr_switch, findings, inner_findings, each_findings, arm_findings, findings_from, program_findings, switch_of_finding, switch_at}
-use Rattle.md_safety.proofs.SwitchLemmas.{shape_occurs}
+use Rattle.law_safety.proofs.SwitchLemmas.{shape_occurs}
 
 -- ---- two lists, side by side
 

@@ -5,8 +5,8 @@ use Rattle.std.proofs.lemmas.List.Elements.{All-from_recursion, recursion_from_A
 use Rattle.std.proofs.lemmas.Map.Steps.{length-le_from_distinct_below}
 use Rattle.std.specs.List.{AllByRecursion, IsDistinct, list_any}
 use Rattle.md_inst.specs.Instantiation.{times}
-use Rattle.md_safety.specs.Turns.{AreDistinct}
-use Rattle.md_safety.proofs.Handing.{first_times, more_times}
+use Rattle.law_safety.specs.Turns.{AreDistinct}
+use Rattle.law_safety.proofs.Handing.{first_times, more_times}
 use Rattle.md_flat.specs.Placed.{are_slots_placed, are_targets_placed}
 use Rattle.law_flat.proofs.Heads.{fewer_heads}
 

@@ -9,8 +9,8 @@ use Rattle.md_modes.specs.Notes.{program_notes}
 use Rattle.md_det.specs.Findings.{program_findings}
 use Rattle.md_flat.specs.declared.instruction.Instruction.{Instruction}
 use Rattle.md_flat.specs.Placed.{Bounds, bounds, is_placed}
-use Rattle.md_compile.specs.Blocks.{program_code}
-use Rattle.md_compile.specs.Details.{Detail, clauses_details}
+use Rattle.md_code.specs.Blocks.{program_code}
+use Rattle.md_code.specs.Details.{Detail, clauses_details}
 use Rattle.law_placed.proofs.SimpleGoals.{is_told_placed}
 
 abbrev goal : GoalExpr → HldsGoal

@@ -4,7 +4,7 @@ ghost use Rattle.md_hlds.specs.Hlds.{Hlds};
 ghost use Rattle.md_reader.specs.Grammar.{Spells};
 ghost use Rattle.md_flat.specs.declared.code.Code.{Code};
 ghost use Rattle.md_flat.specs.Placed.{bounds, is_placed, is_detail_placed, is_routine_good};
-ghost use Rattle.md_compile.specs.Details.{IsCodeOf};
+ghost use Rattle.md_code.specs.Details.{IsCodeOf};
 
 /// The code of a program that a text spells is in range: no instruction, detail or routine names an address, a slot or a detail
 /// that isn't there, and each routine has a mark for each variable of its head. Their number is below 2^32 where that of the

@@ -10,9 +10,9 @@ use Rattle.md_hlds.specs.Run.{main_name, main_env}
 use Rattle.md_reader.specs.Grammar.{Spells}
 use Rattle.md_inst.specs.HldsTypes.{same_det}
 use Rattle.md_modes.specs.Modes.{are_main_args, mode_fault}
-use Rattle.md_safety.proofs.Functors.{called_at}
-use Rattle.md_safety.proofs.Whole.{accepted}
-use Rattle.md_safety.proofs.OneMain.{one_main, main_there}
+use Rattle.law_safety.proofs.Functors.{called_at}
+use Rattle.law_safety.proofs.Whole.{accepted}
+use Rattle.law_safety.proofs.OneMain.{one_main, main_there}
 use Rattle.law_frames.specs.Stores.{Act, Store}
 use Rattle.law_frames.specs.Calls.{MainFrame}
 use Rattle.law_runs.proofs.FitCalls.{bound_or_had, none_blank}

@@ -7,14 +7,14 @@ use Rattle.md_hlds.specs.HldsGoal.{HldsGoal, HldsGoals, gathered, numbered_goal}
 use Rattle.md_hlds.specs.Hlds.{HldsType, number, world}
 use Rattle.md_hlds.specs.Value.{Value, Built, no_values}
 use Rattle.md_hlds.specs.Trace.{Alloc, Out as WritesOut, Throw}
-use Rattle.md_steps.specs.State.{State}
+use Rattle.law_steps.specs.State.{State}
 use Rattle.md_modes.proofs.Worked.{conj, is_int, made, code}
 use Rattle.law_frames.specs.Ways.{Address, Way, tries, part_way}
 use Rattle.law_frames.specs.Stores.{Act, Choice, Store, with_value}
 use Rattle.law_frames.specs.Standing.{Runs, Misses, Raises}
 use Rattle.law_fits.specs.Fast.{Puts, Bursts}
 use Rattle.law_fits.specs.Fast.{Misses as MissesBy}
-use Rattle.md_compile.specs.Leaves.{leaves_table}
+use Rattle.md_code.specs.Leaves.{leaves_table}
 use Rattle.law_runs.specs.FitRuns.{FitsTurn, AfterEffect, AfterSwitch, outs_of, ins_of}
 
 -- ---- calls

@@ -6,7 +6,7 @@ ghost use Rattle.md_hlds.specs.HldsGoal.{At, CallGoal, HoCallGoal, numbered_goal
 ghost use Rattle.md_hlds.specs.Hlds.{Procedure, Hlds, procedure_called};
 ghost use Rattle.md_hlds.specs.Value.{Values, Closure, listed_values};
 ghost use Rattle.md_hlds.specs.Trace.{Call, call_weight, without};
-ghost use Rattle.md_steps.specs.State.{State};
+ghost use Rattle.law_steps.specs.State.{State};
 ghost use Rattle.md_modes.specs.Modes.{mode_fault};
 ghost use Rattle.md_reader.specs.Grammar.{Spells};
 ghost use Rattle.law_frames.specs.Ways.{Address, Way, on, cut_body, whole_body};
@@ -15,7 +15,7 @@ ghost use Rattle.law_frames.specs.Standing.{Runs, Stands};
 ghost use Rattle.law_frames.specs.Leaving.{has_many};
 ghost use Rattle.law_frames.specs.Calls.{body_of, captured};
 ghost use Rattle.law_fits.specs.States.{FitsState};
-ghost use Rattle.md_compile.specs.Leaves.{leaves_table};
+ghost use Rattle.md_code.specs.Leaves.{leaves_table};
 ghost use Rattle.law_runs.specs.FitRuns.{FitsTurn, ins_of, CallFrame, called_act, ClosureThere};
 
 /// A call of a predicate: the procedure is there, with as many variables in its head as the call has. In a frame that has

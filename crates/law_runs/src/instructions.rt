@@ -12,7 +12,7 @@ ghost use Rattle.md_hlds.specs.Hlds.{Procedure, Hlds, procedure_called};
 ghost use Rattle.md_hlds.specs.Value.{Value, Values, Number, Literal, Built, Closure, listed_values, gathered_values, value_count, compared};
 ghost use Rattle.md_hlds.specs.Simple.{result_of, holds};
 ghost use Rattle.md_hlds.specs.Trace.{Out, Throw, allocated};
-ghost use Rattle.md_steps.specs.State.{State};
+ghost use Rattle.law_steps.specs.State.{State};
 ghost use Rattle.md_modes.specs.Modes.{mode_fault};
 ghost use Rattle.md_modes.specs.Notes.{constructs, closes, takes_apart, assigns, tests, program_notes};
 ghost use Rattle.md_modes.specs.Classes.{role_at};
@@ -23,7 +23,7 @@ ghost use Rattle.law_frames.specs.Standing.{Runs, Raises, Stands};
 ghost use Rattle.law_fits.specs.Fast.{Puts, Misses, IsConstant, beside, tested, fast_same};
 ghost use Rattle.law_fits.specs.States.{FitsState};
 ghost use Rattle.law_fits.specs.Reads.{reads_at};
-ghost use Rattle.md_compile.specs.Leaves.{leaves_table};
+ghost use Rattle.md_code.specs.Leaves.{leaves_table};
 ghost use Rattle.law_runs.specs.FitRuns.{FitsTurn, AfterEffect};
 
 /// The turns of unifications with a name, by the role that the checks note at the goal: a construction, a closing, and a

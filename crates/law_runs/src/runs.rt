@@ -5,9 +5,9 @@ ghost use Rattle.md_hlds.specs.Hlds.{Hlds, Procedure, procedure_called};
 ghost use Rattle.md_hlds.specs.Value.{Number};
 ghost use Rattle.md_hlds.specs.Trace.{Turn, Items, call_weight};
 ghost use Rattle.md_hlds.specs.Run.{run, main_name};
-ghost use Rattle.md_steps.specs.State.{State};
-ghost use Rattle.md_steps.specs.Steps.{Sticks};
-ghost use Rattle.md_steps.specs.Makes.{with_main};
+ghost use Rattle.law_steps.specs.State.{State};
+ghost use Rattle.law_steps.specs.Steps.{Sticks};
+ghost use Rattle.law_steps.specs.Makes.{with_main};
 ghost use Rattle.md_modes.specs.Modes.{mode_fault};
 ghost use Rattle.md_reader.specs.Grammar.{Spells};
 ghost use Rattle.law_frames.specs.Ways.{cut_body, main_body};
@@ -17,7 +17,7 @@ ghost use Rattle.law_frames.specs.Moves.{Unfolds, MovesTo, Stops};
 ghost use Rattle.law_frames.specs.Running.{visible};
 ghost use Rattle.law_frames.specs.Calls.{MainFrame, body_of};
 ghost use Rattle.law_fits.specs.States.{FitsState};
-ghost use Rattle.md_compile.specs.Leaves.{leaves_table};
+ghost use Rattle.md_code.specs.Leaves.{leaves_table};
 ghost use Rattle.law_runs.specs.FitRuns.{FitsTurn, FitsMove, FitRun, FitPends, FitTurns, FitCharges};
 
 /// A machine in place begins a run in main's frame, with the code of main's procedure or with code of its own. At each turn a

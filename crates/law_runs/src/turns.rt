@@ -3,12 +3,12 @@ ghost use Rattle.std.specs.Prelude.{◌≡◌, ℕ, suc, ◌+◌, List, [], ◌�
 ghost use Rattle.md_hlds.specs.HldsGoal.{Simple, HldsGoal, At, SimpleGoal, ConjGoal, DisjGoal, IfGoal, NotGoal, SomeGoal, HldsGoals, goal_size, Numbered, numbered_goal};
 ghost use Rattle.md_hlds.specs.Hlds.{Hlds};
 ghost use Rattle.md_hlds.specs.Value.{Env};
-ghost use Rattle.md_steps.specs.State.{State};
+ghost use Rattle.law_steps.specs.State.{State};
 ghost use Rattle.md_modes.specs.Goals.{simple_variables};
 ghost use Rattle.md_modes.specs.Modes.{mode_fault};
 ghost use Rattle.md_det.specs.Findings.{program_findings, switch_at};
 ghost use Rattle.md_reader.specs.Grammar.{Spells};
-ghost use Rattle.md_safety.specs.Known.{FitsAt};
+ghost use Rattle.law_safety.specs.Known.{FitsAt};
 ghost use Rattle.law_frames.specs.Ways.{Address, to, Way, on, goals_of, part_way, parts_way, condition_way, negation_way, some_way};
 ghost use Rattle.law_frames.specs.Stores.{Act, Choice, choice, choice_if, Store, with_height_if};
 ghost use Rattle.law_frames.specs.Standing.{Runs, Stands};
@@ -17,7 +17,7 @@ ghost use Rattle.law_frames.specs.Leaving.{LeavesRight};
 ghost use Rattle.law_fits.specs.Fast.{Hold, fast_simple};
 ghost use Rattle.law_fits.specs.States.{FitsState};
 ghost use Rattle.law_fits.specs.Reads.{reads_at};
-ghost use Rattle.md_compile.specs.Leaves.{leaves_table};
+ghost use Rattle.md_code.specs.Leaves.{leaves_table};
 ghost use Rattle.law_runs.specs.FitRuns.{FitsTurn, AfterEffect, AfterSwitch};
 
 /// What the checks find of the goals that leave choices is right at each turn that fits; and the turn of a goal on a way of a

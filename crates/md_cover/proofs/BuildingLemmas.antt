@@ -9,8 +9,8 @@ use Rattle.md_hlds.specs.HldsGoal.{HldsGoal, ConjGoal, DisjGoal, IfGoal, HldsGoa
 use Rattle.md_hlds.proofs.Bridge.{expr_of-Conj, expr_of-Disj}
 use Rattle.md_det.specs.declared.finding.Finding.{Finding}
 use Rattle.md_det.specs.declared.finding.Switch.{Switch}
-use Rattle.md_turns.specs.Counts.{PortCounts}
-use Rattle.md_turns.specs.Equations as spec
+use Rattle.law_turns.specs.Counts.{PortCounts}
+use Rattle.law_turns.specs.Equations as spec
 use Rattle.md_cover.specs.Told.{chosen_by, chosen}
 
 -- ---- goals that hold others

@@ -13,16 +13,16 @@ use Rattle.md_hlds.specs.HldsGoal.{HldsGoal, goal_size}
 use Rattle.md_hlds.specs.Hlds.{Hlds, Procedure, body_number}
 use Rattle.md_hlds.specs.Run.{run, is_finished}
 use Rattle.md_det.specs.Findings.{program_findings}
-use Rattle.md_events.specs.History.{history}
+use Rattle.law_events.specs.History.{history}
 use Rattle.md_dynamic.specs.Profile.{ProfileRows}
 use Rattle.md_dynamic.specs.Valid.{IsValid}
 use Rattle.md_dynamic.specs.declared.link.LinkRow.{LinkRow}
 use Rattle.md_cost.specs.FileView.{IsFileView, procedure_at}
 use Rattle.md_cost.specs.Totals.{sum_where}
 use Rattle.md_cost.specs.View.{View}
-use Rattle.md_turns.specs.Counts.{PortCounts, turns_of, port_counts}
-use Rattle.md_turns.specs.Equations as spec
-use Rattle.md_turns.specs.Laws.{run_equations, TurnsSolve}
+use Rattle.law_turns.specs.Counts.{PortCounts, turns_of, port_counts}
+use Rattle.law_turns.specs.Equations as spec
+use Rattle.law_turns.specs.Laws.{run_equations, TurnsSolve}
 use Rattle.md_cover.specs.declared.coverage.GoalCount.{GoalCount}
 use Rattle.md_cover.specs.declared.equation.Equation.{Equation}
 use Rattle.md_cover.specs.Covered.{Covered}

@@ -6,8 +6,8 @@ use Rattle.md_hlds.specs.Hlds.{Procedure}
 use Rattle.md_det.specs.declared.finding.Finding.{Finding}
 use Rattle.md_det.specs.declared.finding.Switch.{Switch}
 use Rattle.md_det.specs.Findings.{switch_at, pair_at}
-use Rattle.md_turns.specs.Counts.{PortCounts}
-use Rattle.md_turns.specs.Equations.{Quantity, Entries, Exits, Equation, sums, numbers_from, if_one, simple_equations, one_arm, entering, choosing, goal_equations, expr_equations, each_equations, arm_equations, procedure_equations}
+use Rattle.law_turns.specs.Counts.{PortCounts}
+use Rattle.law_turns.specs.Equations.{Quantity, Entries, Exits, Equation, sums, numbers_from, if_one, simple_equations, one_arm, entering, choosing, goal_equations, expr_equations, each_equations, arm_equations, procedure_equations}
 
 abbrev pub number_of : Quantity → ℕ
 number_of (Entries n) = n

@@ -22,7 +22,7 @@ use Rattle.md_trace.proofs.LinkFacts.{are-calls, are-right}
 use Rattle.md_trace.proofs.Numbered.{numbered-there}
 use Rattle.md_trace.proofs.Placing.{numbered-placed}
 use Rattle.md_static.specs.Tables.{Static}
-use Rattle.md_events.specs.History.{history}
+use Rattle.law_events.specs.History.{history}
 use Rattle.md_dynamic.specs.declared.link.LinkRow.{LinkRow}
 use Rattle.md_dynamic.specs.OfHistory.{IsProfileOf, row_of}
 use Rattle.md_dynamic.specs.Profile.{ProfileRows}
@@ -30,10 +30,10 @@ use Rattle.md_dynamic.specs.Valid.{IsValid}
 use Rattle.md_cost.proofs.ValidSteps.{procedure_there, site_below}
 use Rattle.md_cost.specs.FileView.{IsFileView}
 use Rattle.md_cost.specs.View.{Row, View, OfProcedure, OfSite}
-use Rattle.md_view.specs.RunView.{IsRunView}
-use Rattle.md_view.proofs.OneView.{run_view_of}
-use Rattle.md_view.proofs.OwnCounts.{at_map, at_node, turned}
-use Rattle.md_turns.specs.Counts.{is_number, is_of_procedure, is_called_at}
+use Rattle.law_views.specs.RunView.{IsRunView}
+use Rattle.law_views.proofs.OneView.{run_view_of}
+use Rattle.law_views.proofs.OwnCounts.{at_map, at_node, turned}
+use Rattle.law_turns.specs.Counts.{is_number, is_of_procedure, is_called_at}
 use Rattle.md_cover.specs.Coverage.{has_full_count, has_full_link, HasCountsOf, IsCountedIn}
 use Rattle.md_cover.specs.Told.{count_of}
 use Rattle.md_cover.proofs.PlainCounts.{plain_count, sum_none}

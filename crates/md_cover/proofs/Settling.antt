@@ -1,8 +1,8 @@
 -- Laws for solving: what one equation settles is derived and has its value, and where no equation settles anything all that is
 -- derived is known.
 use Rattle.std.proofs.Common.{◌≡◌, refl, ap, ◌∙◌, arith, ℕ, ◌+◌, ◌-◌, List, [], ◌∷◌, ◌++◌, Option, Some, None, slice_get}
-use Rattle.md_turns.specs.Equations.{Quantity, Equation, Solution, value, total, Holds}
-use Rattle.md_turns.specs.Derived.{IsDerived, AreDerived, only_one, none, both}
+use Rattle.law_turns.specs.Equations.{Quantity, Equation, Solution, value, total, Holds}
+use Rattle.law_turns.specs.Derived.{IsDerived, AreDerived, only_one, none, both}
 
 -- what is known of quantities
 abbrev pub Knowledge : Type 0

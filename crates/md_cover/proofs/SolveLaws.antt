@@ -2,8 +2,8 @@
 use Rattle.std.proofs.Common.{◌≡◌, refl, sym, ap, ◌∙◌, subst, arith, inl, inr, ◌⊎◌, ℕ, zero, suc, ◌+◌, ◌-◌, ◌≤◌, Bool, true, false, cond, List, [], ◌∷◌, ◌++◌, length, min, append_assoc, append-nil, length-append, Option, Some, None, nat_lt, slice_get, slice_set}
 use Rattle.std.proofs.lemmas.Bool.{ltb-false}
 use Rattle.std.specs.Prelude.{⊤}
-use Rattle.md_turns.specs.Equations as spec
-use Rattle.md_turns.specs.Derived.{IsDerived}
+use Rattle.law_turns.specs.Equations as spec
+use Rattle.law_turns.specs.Derived.{IsDerived}
 use Rattle.md_cover.specs.declared.equation.Quantity.{Quantity}
 use Rattle.md_cover.specs.declared.equation.Quantity.TheVariants.{Entries, Exits}
 use Rattle.md_cover.specs.declared.equation.Equation.{Equation}

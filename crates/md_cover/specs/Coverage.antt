@@ -8,14 +8,14 @@ use Rattle.md_hlds.specs.Run.{run, is_finished}
 use Rattle.md_reader.specs.Grammar.{Spells}
 use Rattle.md_modes.specs.Modes.{mode_fault}
 use Rattle.md_det.specs.Faults.{det_fault}
-use Rattle.md_events.specs.History.{history}
+use Rattle.law_events.specs.History.{history}
 use Rattle.md_dynamic.specs.Profile.{ProfileRows}
 use Rattle.md_cost.specs.FileView.{IsFileView}
 use Rattle.md_cost.specs.View.{View}
-use Rattle.md_turns.specs.Counts.{turns_of, port_counts}
-use Rattle.md_turns.specs.Equations.{Entries}
-use Rattle.md_turns.specs.Derived.{IsDerived}
-use Rattle.md_turns.specs.Laws.{run_equations}
+use Rattle.law_turns.specs.Counts.{turns_of, port_counts}
+use Rattle.law_turns.specs.Equations.{Entries}
+use Rattle.law_turns.specs.Derived.{IsDerived}
+use Rattle.law_turns.specs.Laws.{run_equations}
 use Rattle.md_cover.specs.declared.coverage.GoalCount.{GoalCount}
 use Rattle.md_cover.specs.Covered.{Covered}
 use Rattle.md_cover.specs.Rows.{goal_rows}

@@ -3,8 +3,8 @@ use Rattle.std.specs.Prelude.{ℕ, ◌≡◌, ◌<◌, ◌^◌, List, ◌∷◌,
 use Rattle.md_hlds.specs.HldsGoal.{HldsGoal}
 use Rattle.md_det.specs.declared.finding.Finding.{Finding}
 use Rattle.md_dynamic.specs.declared.link.LinkRow.{LinkRow}
-use Rattle.md_turns.specs.Counts.{PortCounts}
-use Rattle.md_turns.specs.Equations as spec
+use Rattle.law_turns.specs.Counts.{PortCounts}
+use Rattle.law_turns.specs.Equations as spec
 use Rattle.md_cover.specs.declared.coverage.GoalCount.{GoalCount}
 use Rattle.md_cover.specs.declared.equation.Equation.{Equation}
 use Rattle.md_cover.specs.Told.{equations_of}

@@ -3,8 +3,8 @@ use Rattle.std.specs.Prelude.{ℕ, Bool, true, false, List, [], ◌∷◌, Optio
 use Rattle.md_base.specs.declared.measure.Measure.TheVariants as measure
 use Rattle.md_cost.specs.View.{View, OfProcedure, OfSite}
 use Rattle.md_det.specs.declared.finding.Switch.{Switch}
-use Rattle.md_turns.specs.Counts.{PortCounts}
-use Rattle.md_turns.specs.Equations as spec
+use Rattle.law_turns.specs.Counts.{PortCounts}
+use Rattle.law_turns.specs.Equations as spec
 use Rattle.md_cover.specs.declared.equation.Quantity.{Quantity}
 use Rattle.md_cover.specs.declared.equation.Quantity.TheVariants.{Entries, Exits}
 use Rattle.md_cover.specs.declared.equation.Equation.{Equation}

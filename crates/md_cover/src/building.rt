@@ -5,7 +5,7 @@ ghost use Rattle.md_hlds.specs.HldsGoal.{NotGoal, goal_of, goals_of, gathered, e
 ghost use Rattle.md_det.specs.Findings.{program_findings, switch_at, pair_at};
 ghost use Rattle.md_cost.specs.FileView.{IsFileView};
 ghost use Rattle.md_cost.specs.View.{View};
-ghost use Rattle.md_turns.specs.Equations as spec;
+ghost use Rattle.law_turns.specs.Equations as spec;
 ghost use Rattle.md_cover.specs.Told.{quantity_of, quantities_of, equations_of, view_counts, is_whole, chosen};
 ghost use Rattle.md_cover.specs.Solved.{body_equations};
 

@@ -1,6 +1,6 @@
 // Equations between quantities.
 ghost use Rattle.std.specs.Prelude.{◌≡◌, ◌++◌, ◌∷◌, [], IfOk, OnOk};
-ghost use Rattle.md_turns.specs.Equations as spec;
+ghost use Rattle.law_turns.specs.Equations as spec;
 ghost use Rattle.md_cover.specs.Told.{quantity_of, quantities_of, equations_of};
 
 use md_base::NoMemory;

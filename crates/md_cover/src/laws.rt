@@ -4,7 +4,7 @@ ghost use Rattle.md_hlds.specs.Hlds.{Hlds};
 ghost use Rattle.md_hlds.specs.Run.{run, is_finished};
 ghost use Rattle.md_trace.specs.PortHistory.{SiteTable, IsPortHistory};
 ghost use Rattle.md_static.specs.Tables.{Static};
-ghost use Rattle.md_events.specs.History.{history};
+ghost use Rattle.law_events.specs.History.{history};
 ghost use Rattle.md_dynamic.specs.OfHistory.{IsProfileOf};
 ghost use Rattle.md_dynamic.specs.Profile.{ProfileRows};
 ghost use Rattle.md_dynamic.specs.Valid.{IsValid};

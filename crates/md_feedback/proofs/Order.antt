@@ -5,7 +5,7 @@ use Rattle.md_hlds.specs.declared.goal.PredName.{PredName}
 use Rattle.md_hlds.specs.HldsGoal.{HldsGoal, At, GoalExpr, SimpleGoal, CallGoal, HoCallGoal, ConjGoal, DisjGoal, IfGoal, NotGoal, SomeGoal, HldsGoals, nothing, also, goal_size, goals_within, goals_below, goals_among, Numbered, numbered_goal, numbered_from}
 use Rattle.md_hlds.specs.Hlds.{Hlds, Procedure}
 use Rattle.md_trace.specs.PortHistory.{CallSite}
-use Rattle.md_events.specs.Table.{AreNumberedFrom, goal_sites, expr_sites, goals_sites, clause_sites}
+use Rattle.law_events.specs.Table.{AreNumberedFrom, goal_sites, expr_sites, goals_sites, clause_sites}
 use Rattle.md_feedback.specs.declared.pairs.Pair.{Pair}
 use Rattle.md_feedback.specs.Text.{IsBefore, Rise}
 use Rattle.md_feedback.specs.Search.{Reading, reading, costly_call, calls_det, call_at, binds_in, mentions, pair_of, pair_with, partners, led_by, goal_pairs, expr_pairs, each_pairs, arm_pairs, clause_pairs}

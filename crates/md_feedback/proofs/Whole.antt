@@ -16,8 +16,8 @@ use Rattle.md_static.specs.Names.{is_name}
 use Rattle.md_static.specs.Tables.{Static}
 use Rattle.md_static.specs.Tables as static
 use Rattle.md_trace.specs.PortHistory.{SiteTable}
-use Rattle.md_events.specs.Table as events
-use Rattle.md_events.specs.Table.{HasSites, program_sites, goal_sites, goals_sites}
+use Rattle.law_events.specs.Table as events
+use Rattle.law_events.specs.Table.{HasSites, program_sites, goal_sites, goals_sites}
 use Rattle.md_cost.specs.View.{View}
 use Rattle.md_feedback.specs.declared.pairs.Pair.{Pair}
 use Rattle.md_feedback.specs.declared.pairs.Feedback.{Feedback}

@@ -9,7 +9,7 @@ use Rattle.md_hlds.specs.Hlds.{Hlds, hlds_of, Procedure, nth_procedure}
 use Rattle.md_names.specs.declared.named.Named.{Named}
 use Rattle.md_names.specs.declared.named.Named.TheVariants as name
 use Rattle.md_names.specs.Named.{name_at}
-use Rattle.md_events.specs.Table.{HasSites, program_sites}
+use Rattle.law_events.specs.Table.{HasSites, program_sites}
 use Rattle.md_static.specs.Tables.{Static}
 use Rattle.md_modes.specs.Branches.{some_of}
 use Rattle.md_modes.specs.Classes.{binds_at}

@@ -2,7 +2,7 @@
 ghost use Rattle.std.specs.Prelude.{ℕ, ◌≡◌, List};
 ghost use Rattle.md_hlds.specs.Hlds.{Hlds};
 ghost use Rattle.md_static.specs.Tables as tables;
-ghost use Rattle.md_events.specs.Table as events;
+ghost use Rattle.law_events.specs.Table as events;
 ghost use Rattle.md_feedback.specs.declared.pairs.Feedback.{Feedback};
 ghost use Rattle.md_feedback.specs.Search.{HasSitesOf};
 ghost use Rattle.md_feedback.specs.Text.{IsFaultAt, IsValid, Spells, feedback_text};

@@ -6,7 +6,7 @@ use Rattle.md_flat.specs.declared.code.Code.{Code}
 use Rattle.md_flat.specs.declared.state.Frame.{Frame}
 use Rattle.md_flat.specs.declared.state.Choice.{Choice}
 use Rattle.md_flat.specs.Meaning.{value_in, no_value, io_state, no_choice}
-use Rattle.md_compile.specs.Details.{detail_told}
+use Rattle.md_code.specs.Details.{detail_told}
 use Rattle.law_flat.specs.Begins.{functor_cells}
 use Rattle.law_flat.specs.Shows.{choice_in, IsBottom}
 use Rattle.md_machine.specs.declared.stacks.Stacks.{Stacks}

@@ -2,15 +2,15 @@
 ghost use Rattle.std.specs.Prelude.{[], ◌<◌, IfOk, OnOk, OnErr};
 ghost use Rattle.md_hlds.specs.Hlds.{hlds_of};
 ghost use Rattle.md_hlds.specs.Run.{run};
-ghost use Rattle.md_events.specs.History.{history};
-ghost use Rattle.md_events.specs.Table.{site_table};
+ghost use Rattle.law_events.specs.History.{history};
+ghost use Rattle.law_events.specs.Table.{site_table};
 ghost use Rattle.md_machine.specs.Ran.{CanBeRun, IsRunOf, StandsForFront};
 
 use crate::ran::Ran;
 use crate::run::execute;
 use law_placed::code_is_placed;
 use md_base::NoMemory;
-use md_compile::compile;
+use md_code::compile;
 use md_det::Checked;
 use md_fold::fold;
 use md_trace::PortSink;

@@ -5,11 +5,11 @@ use denote.Ref.{Bor}
 use Rattle.md_hlds.specs.Hlds.{Hlds}
 use Rattle.md_hlds.specs.Trace.{Items}
 use Rattle.md_hlds.specs.HldsGoal.{Numbered as MeantNumbered}
-use Rattle.md_steps.specs.State.{state}
-use Rattle.md_steps.specs.Steps.{returned, retried, unwound, unfolds}
-use Rattle.md_steps.specs.Steps.{Step as MeantStep, Unfolded as MeantUnfolded}
-use Rattle.md_steps.specs.Standing.{StandsIn, AfterIn, AfterTurnIn}
-use Rattle.md_steps.proofs.MakesLemmas.{returns_in, retries_in, unwinds_in, unfolds_in}
+use Rattle.law_steps.specs.State.{state}
+use Rattle.law_steps.specs.Steps.{returned, retried, unwound, unfolds}
+use Rattle.law_steps.specs.Steps.{Step as MeantStep, Unfolded as MeantUnfolded}
+use Rattle.law_steps.specs.Standing.{StandsIn, AfterIn, AfterTurnIn}
+use Rattle.law_steps.proofs.MakesLemmas.{returns_in, retries_in, unwinds_in, unfolds_in}
 use Rattle.md_plain.specs.declared.goal.Numbered.{Numbered}
 use Rattle.md_plain.specs.declared.state.Frame.{Frame}
 use Rattle.md_plain.specs.declared.state.Doing.{Doing}

@@ -3,10 +3,10 @@ use Rattle.std.proofs.Common.{◌≡◌, ap, sym, subst, arith, ℕ, ◌-◌, �
 use Rattle.md_hlds.specs.Hlds.{Hlds, Procedure, procedure_called}
 use Rattle.md_hlds.specs.Trace.{Items, Frame, Turn, Call, call_weight}
 use Rattle.md_hlds.specs.Run.{run, run_main, main_name, main_frame}
-use Rattle.md_steps.specs.State.{Goes, state}
-use Rattle.md_steps.specs.Makes.{beginning}
-use Rattle.md_steps.specs.Standing.{StandsIn}
-use Rattle.md_steps.proofs.MakesLemmas.{begins_there, no_budget_for_main}
+use Rattle.law_steps.specs.State.{Goes, state}
+use Rattle.law_steps.specs.Makes.{beginning}
+use Rattle.law_steps.specs.Standing.{StandsIn}
+use Rattle.law_steps.proofs.MakesLemmas.{begins_there, no_budget_for_main}
 
 -- a program without main has no run, nor has one whose main weighs too much
 pub no_main : (s : Hlds) (b : ℕ) → None ≡ procedure_called s main_name → [] ≡ run s b

@@ -3,8 +3,8 @@ use Rattle.std.proofs.Common.{◌≡◌, refl, ap, ◌∙◌, sym, subst, ℕ, z
 use Rattle.md_hlds.specs.Hlds.{Hlds}
 use Rattle.md_hlds.specs.Trace.{Items, Alloc, allocated}
 use Rattle.md_hlds.specs.Run.{run}
-use Rattle.md_steps.specs.State.{State}
-use Rattle.md_steps.specs.Standing.{StandsIn}
+use Rattle.law_steps.specs.State.{State}
+use Rattle.law_steps.specs.Standing.{StandsIn}
 use Rattle.md_plain.specs.declared.state.Item.{Item}
 use Rattle.md_plain.specs.States.{item_of, items_told}
 

@@ -3,7 +3,7 @@ use Rattle.std.specs.Prelude.{ℕ, ◌≡◌, ◌++◌}
 use Rattle.md_hlds.specs.Hlds.{Hlds}
 use Rattle.md_hlds.specs.Trace.{Items}
 use Rattle.md_hlds.specs.Run.{run}
-use Rattle.md_steps.specs.Standing.{StandsIn}
+use Rattle.law_steps.specs.Standing.{StandsIn}
 use Rattle.md_plain.specs.declared.runner.Move.{Move}
 use Rattle.md_plain.specs.declared.runner.Move.TheVariants.{On, Ends}
 use Rattle.md_plain.specs.States.{state_of, items_told}

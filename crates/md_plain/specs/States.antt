@@ -2,7 +2,7 @@
 use Rattle.std.specs.Prelude.{List, [], ◌∷◌}
 use Rattle.md_hlds.specs.Trace.{Items}
 use Rattle.md_hlds.specs.Trace as trace
-use Rattle.md_steps.specs.State as machine
+use Rattle.law_steps.specs.State as machine
 use Rattle.md_plain.specs.declared.state.Frame.{Frame}
 use Rattle.md_plain.specs.declared.state.Wait.{Wait}
 use Rattle.md_plain.specs.declared.state.Wait.TheVariants.{Others, Again, Over, Condition, Negation, Single, Returning}

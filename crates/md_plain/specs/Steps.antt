@@ -1,5 +1,5 @@
 -- The steps of the program as those of the abstract machine.
-use Rattle.md_steps.specs.Steps as machine
+use Rattle.law_steps.specs.Steps as machine
 use Rattle.md_plain.specs.declared.step.Step.{Step}
 use Rattle.md_plain.specs.declared.step.Step.TheVariants.{On, Ends}
 use Rattle.md_plain.specs.States.{state_of, items_told}

@@ -1,5 +1,5 @@
 -- A turn of the program as one of the abstract machine.
-use Rattle.md_steps.specs.Steps as machine
+use Rattle.law_steps.specs.Steps as machine
 use Rattle.md_plain.specs.declared.unfold.Unfolded.{Unfolded}
 use Rattle.md_plain.specs.declared.unfold.Unfolded.TheVariants.{Turns, Sticks}
 use Rattle.md_plain.specs.States.{state_of, items_told}

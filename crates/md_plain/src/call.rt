@@ -4,7 +4,7 @@ ghost use Rattle.md_hlds.specs.Hlds.{hlds_of, procedure_of};
 ghost use Rattle.md_hlds.specs.Trace.{body_frame, entered, pairs_of, without};
 ghost use Rattle.md_hlds.specs.Trace.{doing as DoingOf};
 ghost use Rattle.md_hlds.specs.declared.types.Det.TheVariants.{Multi, Semidet};
-ghost use Rattle.md_steps.specs.Steps.{enters, calls_if, calls, applies};
+ghost use Rattle.law_steps.specs.Steps.{enters, calls_if, calls, applies};
 ghost use Rattle.md_plain.specs.Values.{parts_of, option_value, env_of};
 ghost use Rattle.md_plain.specs.Names.{option_procedure};
 ghost use Rattle.md_plain.specs.Goals.{numbereds_of};

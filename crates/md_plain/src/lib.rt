@@ -1,6 +1,6 @@
 //! A plain, slow program that computes the run of a program by its definition, for other machines to be compared with.
 //! It makes the steps of the abstract machine one after the other; all that it makes stays in an arena.
-//! Its tests stand in `machine_comparison`, where programs are read from texts.
+//! Its tests stand in `test_machine`, where programs are read from texts.
 #![tactic(auto)]
 
 mod arena;

@@ -3,10 +3,10 @@ ghost use Rattle.std.specs.Prelude.{ℕ, ◌≡◌, ◌++◌, length, Some, IfOk
 ghost use Rattle.md_hlds.specs.Hlds.{Hlds, hlds_of, procedures_of, procedure_of, is_called, find_procedure, procedure_called};
 ghost use Rattle.md_hlds.specs.Trace.{Items};
 ghost use Rattle.md_hlds.specs.Run.{run, main_name, main_env, main_frame};
-ghost use Rattle.md_steps.specs.Steps.{Turns, Sticks, unfolds};
+ghost use Rattle.law_steps.specs.Steps.{Turns, Sticks, unfolds};
 ghost use Rattle.md_hlds.specs.HldsGoal.{goal_of};
 ghost use Rattle.md_plain.specs.Goals.{numbereds_of};
-ghost use Rattle.md_steps.specs.Standing.{StandsIn, AfterIn, AfterTurnIn};
+ghost use Rattle.law_steps.specs.Standing.{StandsIn, AfterIn, AfterTurnIn};
 ghost use Rattle.md_plain.specs.Values.{env_of};
 ghost use Rattle.md_plain.specs.Names.{option_procedure};
 ghost use Rattle.md_plain.specs.States.{frame_of, frames_of, waits_of, state_of, items_told};

@@ -1,8 +1,8 @@
 // The steps that unfold no goal.
 ghost use Rattle.std.specs.Prelude.{ℕ, ◌≡◌, ◌∷◌, [], IfOk};
 ghost use Rattle.md_hlds.specs.Trace.{knowing, doing};
-ghost use Rattle.md_steps.specs.State.{Others, Goes, Fails, Throws, state};
-ghost use Rattle.md_steps.specs.Steps.{On, answered, returned, retried, thrown_on, unwound};
+ghost use Rattle.law_steps.specs.State.{Others, Goes, Fails, Throws, state};
+ghost use Rattle.law_steps.specs.Steps.{On, answered, returned, retried, thrown_on, unwound};
 ghost use Rattle.md_plain.specs.Values.{env_of};
 ghost use Rattle.md_plain.specs.Goals.{numbered_of, numbereds_of};
 ghost use Rattle.md_plain.specs.States.{frame_of, frames_of, wait_of, waits_of, item_of, items_told};

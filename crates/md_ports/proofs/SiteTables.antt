@@ -7,7 +7,7 @@ use Rattle.md_hlds.specs.Hlds.{Procedure, Hlds, procedure_called, owned_by}
 use Rattle.md_static.specs.declared.entry.Site.{Site}
 use Rattle.md_static.specs.Tables.{callee_of, call_site, site_table}
 use Rattle.md_trace.specs.PortHistory.{CallSite}
-use Rattle.md_events.specs.Table as events
+use Rattle.law_events.specs.Table as events
 use Rattle.md_ports.specs.Ports.{kind_found, goal_sites, all_sites, sites_from, proc_of, statics_of, owner_and_line}
 use Rattle.md_ports.proofs.Lists.{sites-also, sites-parts}
 

@@ -3,7 +3,7 @@ ghost use Rattle.std.specs.Prelude.{ℕ, ◌≡◌, ◌<◌, ◌≤◌, ◌^◌,
 ghost use Rattle.md_hlds.specs.Hlds.{Procedure, Hlds, sites_of, procedure_called};
 ghost use Rattle.md_hlds.specs.Run.{main_name};
 ghost use Rattle.md_reader.specs.Grammar.{Spells};
-ghost use Rattle.md_events.specs.Table as events;
+ghost use Rattle.law_events.specs.Table as events;
 ghost use Rattle.md_static.specs.Sound.{IsSound};
 ghost use Rattle.md_static.specs.Tables.{site_table};
 ghost use Rattle.md_ports.specs.Ports.{statics_of, owner_and_line};

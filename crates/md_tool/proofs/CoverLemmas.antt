@@ -11,20 +11,20 @@ use Rattle.md_cover.specs.Text.{cover_text}
 use Rattle.md_dynamic.specs.OfHistory.{IsProfileOf}
 use Rattle.md_dynamic.specs.Profile.{ProfileRows}
 use Rattle.md_dynamic.specs.Valid.{IsValid}
-use Rattle.md_events.specs.History.{history}
-use Rattle.md_events.specs.Laws.{IsWithinBounds, RunsAreHistories}
-use Rattle.md_events.specs.Table.{site_table}
+use Rattle.law_events.specs.History.{history}
+use Rattle.law_events.specs.Laws.{IsWithinBounds, RunsAreHistories}
+use Rattle.law_events.specs.Table.{site_table}
 use Rattle.md_hlds.specs.Hlds.{Hlds, Procedure}
 use Rattle.md_hlds.specs.Run.{run, is_finished}
 use Rattle.md_machine.specs.Ran.{IsRunOf}
 use Rattle.md_people.specs.Words.{full_name, proc_named}
 use Rattle.md_ports.specs.Ports.{proc_of, statics_of}
-use Rattle.md_profile.specs.OfRun.{IsProfileOfRun}
+use Rattle.md_profiled.specs.OfRun.{IsProfileOfRun}
 use Rattle.md_query.proofs.ListSteps.{found_there}
 use Rattle.md_static.specs.Tables.{Static}
 use Rattle.md_trace.specs.PortHistory.{SiteTable, IsPortHistory}
 use Rattle.md_tool.specs.Accepted.{Accepts}
-use Rattle.md_words.specs.Form.{Meant, Number, Name}
+use Rattle.md_commands.specs.Form.{Meant, Number, Name}
 use Rattle.md_tool.specs.Turns.{HasNoProcedure, IsCoverageOfRun, IsTextOfTurns, IsCounted, number_in}
 use Rattle.md_tool.specs.declared.turns.Counted.{Counted}
 

@@ -2,8 +2,8 @@
 use Rattle.std.proofs.Common.{◌≡◌, ◌∙◌, refl, sym, subst, inl, inr, ℕ, Bool, false, List, Option}
 use Rattle.std.specs.Prelude.{Result, Ok, Err}
 use Rattle.md_hlds.specs.Run.{run}
-use Rattle.md_profile.specs.OfRun.{IsViewOfRun}
-use Rattle.md_profile.specs.declared.profiled.Profiled.{Profiled}
+use Rattle.md_profiled.specs.OfRun.{IsViewOfRun}
+use Rattle.md_profiled.specs.declared.profiled.Profiled.{Profiled}
 use Rattle.md_query.specs.Asked.{Menu}
 use Rattle.md_query.specs.PageOf.{page_of}
 use Rattle.md_tool.specs.declared.fault.Fault.{Fault}

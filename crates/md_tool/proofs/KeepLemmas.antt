@@ -8,8 +8,8 @@ use Rattle.md_hlds.specs.Hlds.{Hlds}
 use Rattle.md_hlds.specs.Run.{run, output}
 use Rattle.md_machine.specs.Ran.{IsRunOf}
 use Rattle.md_machine.specs.declared.ran.Ran.{Ran}
-use Rattle.md_profile.specs.OfRun.{IsProfiled}
-use Rattle.md_profile.specs.declared.profiled.Profiled.{Profiled}
+use Rattle.md_profiled.specs.OfRun.{IsProfiled}
+use Rattle.md_profiled.specs.declared.profiled.Profiled.{Profiled}
 use Rattle.md_tool.specs.declared.fault.Fault.{Fault}
 use Rattle.md_tool.specs.declared.fault.Fault.TheVariants.{Usage, Read, TooLong, Refused, OutOfSteps, Thrown, Damaged, TooLarge, TwoEntries, DamagedLine, AnotherProgram, NoSuchPage, Write, NoMemory, Network}
 use Rattle.md_tool.specs.Accepted.{Accepted}

@@ -6,8 +6,8 @@ use Rattle.md_base.specs.declared.number.NoMemory.{NoMemory}
 use Rattle.md_cost.specs.FileView.{IsFileView}
 use Rattle.md_cost.specs.View.{View}
 use Rattle.md_dynamic.specs.Profile.{ProfileRows}
-use Rattle.md_events.specs.Laws.{IsWithinBounds}
-use Rattle.md_events.specs.Table as events
+use Rattle.law_events.specs.Laws.{IsWithinBounds}
+use Rattle.law_events.specs.Table as events
 use Rattle.md_feedback.specs.declared.pairs.Feedback.{Feedback}
 use Rattle.md_feedback.specs.Candidates.{AreCandidates}
 use Rattle.md_feedback.specs.Search.{HasSitesOf}
@@ -16,8 +16,8 @@ use Rattle.md_hlds.specs.Hlds.{Hlds, procedure_called}
 use Rattle.md_hlds.specs.Run.{main_name}
 use Rattle.md_machine.specs.Ran.{IsRunOf}
 use Rattle.md_ports.specs.Ports.{statics_of}
-use Rattle.md_profile.specs.OfRun.{IsProfileOfRun, IsViewOfRun}
-use Rattle.md_spelled.specs.Laws.{TextsHaveNames}
+use Rattle.md_profiled.specs.OfRun.{IsProfileOfRun, IsViewOfRun}
+use Rattle.law_spelled.specs.Laws.{TextsHaveNames}
 use Rattle.md_static.specs.Names.{is_name}
 use Rattle.md_static.specs.Tables.{Static, site_table}
 use Rattle.md_tool.specs.Accepted.{Accepts}

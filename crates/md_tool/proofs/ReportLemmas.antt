@@ -6,17 +6,17 @@ use Rattle.md_base.specs.Files.{Files}
 use Rattle.md_cost.specs.FileView.{IsFileView}
 use Rattle.md_cost.specs.View.{View}
 use Rattle.md_dynamic.specs.Profile.{ProfileRows}
-use Rattle.md_events.specs.Laws.{IsWithinBounds}
+use Rattle.law_events.specs.Laws.{IsWithinBounds}
 use Rattle.md_hlds.specs.Hlds.{Hlds, Procedure, procedure_called}
 use Rattle.md_hlds.specs.Run.{run, main_name}
 use Rattle.md_machine.specs.Ran.{IsRunOf}
 use Rattle.md_machine.specs.declared.ran.Ran.{Ran}
 use Rattle.md_ports.specs.Ports.{statics_of}
-use Rattle.md_profile.specs.OfRun.{CanBeProfiled, IsProfiled, IsViewOfRun}
+use Rattle.md_profiled.specs.OfRun.{CanBeProfiled, IsProfiled, IsViewOfRun}
 use Rattle.md_reader.specs.Grammar.{Spells}
-use Rattle.md_spelled.specs.Laws.{AcceptedTextsAreWithinBounds, MainIsCalled}
+use Rattle.law_spelled.specs.Laws.{AcceptedTextsAreWithinBounds, MainIsCalled}
 use Rattle.md_static.specs.Sound.{IsSound}
-use Rattle.md_profile.specs.declared.profiled.Profiled.{Profiled}
+use Rattle.md_profiled.specs.declared.profiled.Profiled.{Profiled}
 use Rattle.md_query.specs.Asked.{Asked}
 use Rattle.md_query.specs.Page.{PageRows}
 use Rattle.md_query.specs.PageOf.{page_of}

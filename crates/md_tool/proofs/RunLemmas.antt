@@ -3,8 +3,8 @@ use Rattle.std.proofs.Common.{◌≡◌, ◌∙◌, refl, ap, subst, ℕ, ◌<�
 use Rattle.std.specs.Prelude.{is_some, unwrap_or}
 use Rattle.md_hlds.specs.Hlds.{Hlds}
 use Rattle.md_hlds.specs.Run.{run, is_finished, error}
-use Rattle.md_events.specs.Laws.{IsWithinBounds}
-use Rattle.md_spelled.specs.Laws.{AcceptedTextsAreWithinBounds}
+use Rattle.law_events.specs.Laws.{IsWithinBounds}
+use Rattle.law_spelled.specs.Laws.{AcceptedTextsAreWithinBounds}
 use Rattle.md_machine.specs.Ran.{IsRunOf}
 use Rattle.md_machine.specs.Ran as machine
 use Rattle.md_machine.specs.declared.ran.End.{End}

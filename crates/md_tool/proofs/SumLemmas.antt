@@ -8,7 +8,7 @@ use Rattle.md_cost.specs.Loading.{LoadedRows}
 use Rattle.md_dump.specs.Sums.{IsFirstOther, AreOfOne, AreProcSums, SumRows, statics_at}
 use Rattle.md_dump.proofs.Adding.{have_views}
 use Rattle.md_static.specs.Tables.{Static}
-use Rattle.md_words.specs.Told.{texts}
+use Rattle.md_commands.specs.Told.{texts}
 use Rattle.md_tool.specs.declared.fault.Fault.{Fault}
 use Rattle.md_tool.specs.declared.fault.Fault.TheVariants.{Usage, Read, TooLong, Refused, OutOfSteps, Thrown, Damaged, TooLarge, TwoEntries, DamagedLine, AnotherProgram, NoSuchPage, Write, NoMemory, Network}
 use Rattle.md_tool.specs.declared.fault.Stopped.{Stopped}

@@ -7,7 +7,7 @@ use Rattle.md_base.specs.Nets.{Connections}
 use Rattle.md_base.specs.declared.measure.Measure.{Measure}
 use Rattle.md_hlds.specs.Hlds.{Hlds}
 use Rattle.md_query.specs.Asked.{Asked}
-use Rattle.md_words.specs.Form.{Form, Meant, Check, Run, Report, Page, Serve, Gen, Migrate, Feedback, Dump, Undump, Cover, Sum, Compare}
+use Rattle.md_commands.specs.Form.{Form, Meant, Check, Run, Report, Page, Serve, Gen, Migrate, Feedback, Dump, Undump, Cover, Sum, Compare}
 use Rattle.md_tool.specs.declared.fault.Fault.{Fault}
 use Rattle.md_tool.specs.declared.fault.Fault.TheVariants.{Usage, Read, TooLong, Refused, OutOfSteps, Thrown, Damaged, TooLarge, TwoEntries, DamagedLine, AnotherProgram, NoSuchPage, Write, NoMemory, Network}
 use Rattle.md_tool.specs.Compared.{CompareEnds}

@@ -19,7 +19,7 @@ use Rattle.md_static.specs.Tables.{Static}
 use Rattle.md_cost.specs.declared.sums.Sums.{Sums}
 use Rattle.md_tool.specs.Summed.{sum_text}
 use Rattle.md_tool.specs.Turns.{number_in}
-use Rattle.md_words.specs.Form.{Number, Name}
+use Rattle.md_commands.specs.Form.{Number, Name}
 
 -- ---- how a run ends
 

@@ -6,7 +6,7 @@ use Rattle.md_feedback.specs.Candidates.{AreCandidates}
 use Rattle.md_feedback.specs.Text.{Spells}
 use Rattle.md_hlds.specs.Hlds.{Hlds}
 use Rattle.md_machine.specs.Ran.{IsRunOf}
-use Rattle.md_profile.specs.OfRun.{IsViewOfRun}
+use Rattle.md_profiled.specs.OfRun.{IsViewOfRun}
 use Rattle.md_tool.specs.declared.pairs.Paired.{Paired}
 use Rattle.md_tool.specs.Accepted.{Accepted}
 

@@ -2,7 +2,7 @@
 use Rattle.std.specs.Prelude.{ℕ, zero, suc, ◌≡◌, ◌⊎◌, ◌+◌, ◌==◌, Bool, true, false, List, [], ◌++◌, Option, Result, Ok, Err, codes, if◌then◌else◌}
 use Rattle.std.specs.Fmt.{decimal}
 use Rattle.md_hlds.specs.Run.{run}
-use Rattle.md_profile.specs.OfRun.{IsViewOfRun}
+use Rattle.md_profiled.specs.OfRun.{IsViewOfRun}
 use Rattle.md_query.specs.Asked.{Menu}
 use Rattle.md_tool.specs.declared.fault.Fault.{Fault}
 use Rattle.md_tool.specs.declared.fault.Fault.TheVariants.{Refused, OutOfSteps, Thrown, Write, NoMemory}

@@ -8,7 +8,7 @@ use Rattle.md_dynamic.specs.Profile.{ProfileRows}
 use Rattle.md_dynamic.specs.Valid.{IsValid}
 use Rattle.md_hlds.specs.Hlds.{Hlds}
 use Rattle.md_hlds.specs.Run.{run, output}
-use Rattle.md_profile.specs.OfRun.{IsProfileOfRun}
+use Rattle.md_profiled.specs.OfRun.{IsProfileOfRun}
 use Rattle.md_tool.specs.declared.fault.Fault.{Fault}
 use Rattle.md_tool.specs.declared.fault.Fault.TheVariants.{Read, TooLong, Refused, OutOfSteps, Thrown, Write, NoMemory}
 use Rattle.md_tool.specs.Accepted.{Accepted}

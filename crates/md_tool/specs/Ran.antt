@@ -1,10 +1,10 @@
 -- A run of the program that a text spells, and its profile.
 use Rattle.std.specs.Prelude.{ℕ, List}
-use Rattle.md_events.specs.Laws.{IsWithinBounds}
+use Rattle.law_events.specs.Laws.{IsWithinBounds}
 use Rattle.md_machine.specs.Ran.{IsRunOf}
 use Rattle.md_machine.specs.declared.ran.Ran.{Ran}
-use Rattle.md_profile.specs.OfRun.{IsProfiled}
-use Rattle.md_profile.specs.declared.profiled.Profiled.{Profiled}
+use Rattle.md_profiled.specs.OfRun.{IsProfiled}
+use Rattle.md_profiled.specs.declared.profiled.Profiled.{Profiled}
 use Rattle.md_tool.specs.Accepted.{Accepted}
 
 -- an accepted text whose program was run within so many steps

@@ -6,7 +6,7 @@ use Rattle.md_base.specs.Files.{Files, FileIsLonger}
 use Rattle.md_cost.specs.View.{View}
 use Rattle.md_hlds.specs.Hlds.{Hlds}
 use Rattle.md_hlds.specs.Run.{run, output}
-use Rattle.md_profile.specs.OfRun.{IsViewOfRun}
+use Rattle.md_profiled.specs.OfRun.{IsViewOfRun}
 use Rattle.md_query.specs.Asked.{Asked}
 use Rattle.md_query.specs.Page.{PageRows}
 use Rattle.md_query.specs.PageOf.{page_of}

@@ -10,9 +10,9 @@ use Rattle.md_hlds.specs.Hlds.{Hlds, Procedure}
 use Rattle.md_people.specs.Words.{proc_named}
 use Rattle.md_ports.specs.Ports.{statics_of}
 use Rattle.md_machine.specs.Ran.{IsRunOf}
-use Rattle.md_profile.specs.OfRun.{IsProfileOfRun}
+use Rattle.md_profiled.specs.OfRun.{IsProfileOfRun}
 use Rattle.md_static.specs.Tables.{Static}
-use Rattle.md_words.specs.Form.{Meant, Number, Name}
+use Rattle.md_commands.specs.Form.{Meant, Number, Name}
 use Rattle.md_tool.specs.Accepted.{Accepted}
 use Rattle.md_tool.specs.declared.turns.Counted.{Counted}
 

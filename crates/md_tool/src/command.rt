@@ -1,8 +1,8 @@
 // The commands, with what each does to the store, the streams and the net.
 ghost use Rattle.std.specs.Prelude.{ℕ, ◌≡◌, ◌≤◌, List, length, Result, Some, true};
 ghost use Rattle.md_base.specs.Outside.{Rose};
-ghost use Rattle.md_words.specs.Form.{words_of, HasBounds, form};
-ghost use Rattle.md_words.specs.Told.{told, texts};
+ghost use Rattle.md_commands.specs.Form.{words_of, HasBounds, form};
+ghost use Rattle.md_commands.specs.Told.{told, texts};
 ghost use Rattle.md_tool.specs.Compared.{CompareEnds};
 ghost use Rattle.md_tool.specs.Summed.{SumEnds};
 ghost use Rattle.md_tool.specs.Told.{Tells, EndIsTold, TopEnds};
@@ -21,7 +21,7 @@ use crate::sums::sum_files;
 use crate::texts::{dump_file, undump_file};
 use crate::turns::cover_file;
 use md_base::{Measure, Net, Sink, Store, WriteFault, write_whole};
-use md_words::{Command, command_of};
+use md_commands::{Command, command_of};
 use std::alloc::Global;
 
 /// An exit status: 0 where all was done and a run was finished, and else the status of a fault.

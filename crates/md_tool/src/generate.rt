@@ -9,7 +9,7 @@ use crate::report::{profile_text, show_page};
 use crate::run::ended;
 use crate::write::write;
 use md_base::{NoMemory, Sink};
-use md_profile::Profiled;
+use md_profiled::Profiled;
 use md_query::Query;
 use std::alloc::{AllocError, Global};
 

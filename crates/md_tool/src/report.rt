@@ -2,9 +2,9 @@
 ghost use Rattle.std.specs.Prelude.{ℕ, ◌≡◌, ◌≤◌, ◌++◌, length, codes, MatchResult};
 ghost use Rattle.md_base.specs.Outside.{Rose};
 ghost use Rattle.md_dynamic.specs.Valid.{IsValid};
-ghost use Rattle.md_events.specs.Laws.{IsWithinBounds};
+ghost use Rattle.law_events.specs.Laws.{IsWithinBounds};
 ghost use Rattle.md_hlds.specs.Hlds.{Hlds};
-ghost use Rattle.md_profile.specs.OfRun.{IsOfRun, IsProfiled, IsProfileOfRun, IsViewOfRun};
+ghost use Rattle.md_profiled.specs.OfRun.{IsOfRun, IsProfiled, IsProfileOfRun, IsViewOfRun};
 ghost use Rattle.md_query.specs.Told.{asked};
 ghost use Rattle.md_tool.specs.Accepted.{TextFault};
 ghost use Rattle.md_tool.specs.Due.{WriteEnds};
@@ -17,12 +17,12 @@ use crate::fault::Fault;
 use crate::paged::write_page;
 use crate::run::ended;
 use crate::write::write;
+use law_spelled::{accepted_texts_are_within_bounds, accepted_texts_have_mains};
 use md_base::{Sink, Store};
 use md_dynamic::Profile;
 use md_ports::tables_of_a_text_are_sound;
-use md_profile::{Profiled, load_run, profile_run};
+use md_profiled::{Profiled, load_run, profile_run};
 use md_query::Query;
-use md_spelled::{accepted_texts_are_within_bounds, accepted_texts_have_mains};
 use std::alloc::Global;
 
 /// Runs the program of a file within so many steps, writes what it writes to `err`, and then the page that is asked for

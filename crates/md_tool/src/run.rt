@@ -4,7 +4,7 @@ ghost use Rattle.md_base.specs.Outside.{Rose, added};
 ghost use Rattle.md_deepfile.specs.Bytes.{file_bytes};
 ghost use Rattle.md_dynamic.specs.Valid.{IsValid};
 ghost use Rattle.md_hlds.specs.Hlds.{Hlds};
-ghost use Rattle.md_profile.specs.OfRun.{IsProfiled};
+ghost use Rattle.md_profiled.specs.OfRun.{IsProfiled};
 ghost use Rattle.md_tool.specs.Due.{StoreEnds, WriteEnds};
 ghost use Rattle.md_tool.specs.Ends.{TellsEnd, ran_end};
 ghost use Rattle.md_tool.specs.Kept.{IsRunFile, RunEnds, KeepEnds};
@@ -17,7 +17,7 @@ use md_base::{Sink, Store, WriteFault};
 use md_deepfile::write_profile;
 use md_dynamic::Profile;
 use md_machine::{End, Ran};
-use md_profile::Profiled;
+use md_profiled::Profiled;
 use std::alloc::Global;
 
 /// Runs the program of a file within so many steps, writes what it writes, and stores its profile under a name.

@@ -4,7 +4,7 @@ ghost use Rattle.md_base.specs.Files.{Files};
 ghost use Rattle.md_base.specs.Outside.{Rose};
 ghost use Rattle.md_cost.specs.Loading.{LoadedRows};
 ghost use Rattle.md_dump.specs.Sums.{IsSumOver};
-ghost use Rattle.md_words.specs.Told.{texts};
+ghost use Rattle.md_commands.specs.Told.{texts};
 ghost use Rattle.md_tool.specs.Stored.{IsLoadedFrom, ViewFails};
 ghost use Rattle.md_tool.specs.Summed.{AreSummed, SumStops, AddUpFails, StopsAt, IsSumOf, sum_lines, sum_title, sum_text};
 

@@ -3,15 +3,15 @@ ghost use Rattle.std.specs.Prelude.{ℕ, ◌≡◌, ◌≤◌, ◌<◌, ◌^◌,
 ghost use Rattle.md_base.specs.Outside.{Rose};
 ghost use Rattle.md_cover.specs.Coverage.{IsAccepted};
 ghost use Rattle.md_dynamic.specs.Valid.{IsValid};
-ghost use Rattle.md_events.specs.Laws.{IsWithinBounds};
+ghost use Rattle.law_events.specs.Laws.{IsWithinBounds};
 ghost use Rattle.md_hlds.specs.Hlds.{Hlds, hlds_of};
 ghost use Rattle.md_machine.specs.Ran.{IsRunOf};
-ghost use Rattle.md_profile.specs.OfRun.{CanBeProfiled, IsProfileOfRun};
+ghost use Rattle.md_profiled.specs.OfRun.{CanBeProfiled, IsProfileOfRun};
 ghost use Rattle.md_tool.specs.Accepted.{TextFault};
 ghost use Rattle.md_tool.specs.Due.{TextEnds};
 ghost use Rattle.md_tool.specs.Reported.{ReportEnds, ShowEnds};
-ghost use Rattle.md_words.specs.Form.{Meant, Number};
-ghost use Rattle.md_words.specs.Told.{meant};
+ghost use Rattle.md_commands.specs.Form.{Meant, Number};
+ghost use Rattle.md_commands.specs.Told.{meant};
 ghost use Rattle.md_tool.specs.Turns.{IsCoverageOfRun, HasNoProcedure, IsCounted, IsTextOfTurns, number_in};
 
 use crate::accept::{accept, read_text};
@@ -19,19 +19,19 @@ use crate::fault::Fault;
 use crate::report::show_output;
 use crate::run::ended;
 use crate::write::write;
+use law_events::runs_are_histories;
+use law_spelled::{accepted_texts_are_within_bounds, accepted_texts_have_mains};
 use md_base::{NoMemory, ProcId, Sink, Store};
+use md_commands::ProcWord;
 use md_cost::Loaded;
 use md_cover::{CoverFault, cover, cover_text, profiles_of_runs_have_their_counts};
 use md_det::Checked;
 use md_dynamic::Profile;
-use md_events::runs_are_histories;
 use md_machine::Ran;
 use md_people::proc_named;
 use md_ports::tables_of_a_text_are_sound;
-use md_profile::{Profiled, load_run, profile_run};
-use md_spelled::{accepted_texts_are_within_bounds, accepted_texts_have_mains};
+use md_profiled::{Profiled, load_run, profile_run};
 use md_static::Statics;
-use md_words::ProcWord;
 use std::alloc::Global;
 
 /// A run, and the text of the turns of a procedure's goals, where the program has the procedure.

@@ -1,4 +1,4 @@
-use Rattle.md_safety.proofs.Whole.{proper}
+use Rattle.law_safety.proofs.Whole.{proper}
 use Rattle.law_fits.proofs.StateSteps.{fits_begins, fits_returns, fits_retries, fits_unwinds}
 use Rattle.law_fits.proofs.StateTurns.{turn_fits}
 use Rattle.law_fits.proofs.states.modes_hold_at_each_state.Goals as goal

@@ -1,4 +1,4 @@
-use Rattle.md_safety.proofs.Whole.{proper}
+use Rattle.law_safety.proofs.Whole.{proper}
 use Rattle.law_fits.proofs.TurnReads.{named_hands, open_hands}
 use Rattle.law_fits.proofs.turns.calls_hand_over.Goals as goal
 

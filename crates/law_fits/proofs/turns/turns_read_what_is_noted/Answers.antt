@@ -1,4 +1,4 @@
-use Rattle.md_safety.proofs.Whole.{proper}
+use Rattle.law_safety.proofs.Whole.{proper}
 use Rattle.law_fits.proofs.TurnReads.{variables_agree, simple_reads_noted, named_reads_noted, open_reads_noted}
 use Rattle.law_fits.proofs.turns.turns_read_what_is_noted.Goals as goal
 

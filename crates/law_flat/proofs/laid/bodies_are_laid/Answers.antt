@@ -1,6 +1,6 @@
 use Rattle.std.proofs.Common.{sym, subst}
 use Rattle.md_hlds.specs.Hlds.{body_number}
-use Rattle.md_compile.specs.Blocks.{body_place}
+use Rattle.md_code.specs.Blocks.{body_place}
 use Rattle.law_flat.specs.Flat.{Flat}
 use Rattle.law_flat.specs.Shapes.{shape_of}
 use Rattle.law_flat.specs.Laid.{Laid, IsCommon}

@@ -2,8 +2,8 @@ use Rattle.std.proofs.Common.{sym, subst}
 use Rattle.md_hlds.specs.HldsGoal.{numbered_goal}
 use Rattle.md_hlds.specs.Hlds.{body_number}
 use Rattle.law_frames.specs.Ways.{cut_body, whole_body}
-use Rattle.md_compile.specs.Leaves.{leaves_table}
-use Rattle.md_compile.specs.Tables.{head_at, entry_at}
+use Rattle.md_code.specs.Leaves.{leaves_table}
+use Rattle.md_code.specs.Tables.{head_at, entry_at}
 use Rattle.law_flat.specs.Flat.{Flat}
 use Rattle.law_flat.specs.Shapes.{shape_of}
 use Rattle.law_flat.specs.Leads.{Leads, Enters}

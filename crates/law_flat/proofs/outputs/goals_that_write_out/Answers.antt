@@ -1,4 +1,4 @@
-use Rattle.md_safety.proofs.Whole.{proper}
+use Rattle.law_safety.proofs.Whole.{proper}
 use Rattle.law_flat.proofs.Written.{writes_int_here, writes_text_here, ends_line_here}
 use Rattle.law_flat.proofs.outputs.goals_that_write_out.Goals as goal
 

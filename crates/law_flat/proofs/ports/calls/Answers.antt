@@ -1,4 +1,4 @@
-use Rattle.md_safety.proofs.Whole.{proper}
+use Rattle.law_safety.proofs.Whole.{proper}
 use Rattle.law_flat.proofs.Calling.{calls_whole_here, calls_cut_here}
 use Rattle.law_flat.proofs.ports.calls.Goals as goal
 

@@ -1,4 +1,4 @@
-use Rattle.md_safety.proofs.Whole.{proper}
+use Rattle.law_safety.proofs.Whole.{proper}
 use Rattle.law_flat.proofs.Leaving.{throws_here}
 use Rattle.law_flat.proofs.ports.exceptions.Goals as goal
 

@@ -1,4 +1,4 @@
-use Rattle.md_safety.proofs.Whole.{proper}
+use Rattle.law_safety.proofs.Whole.{proper}
 use Rattle.law_flat.proofs.Plain.{puts_integer_here, puts_literal_here, tests_integer_here, tests_literal_here}
 use Rattle.law_flat.proofs.simple.constants.Goals as goal
 

@@ -1,4 +1,4 @@
-use Rattle.md_safety.proofs.Whole.{proper}
+use Rattle.law_safety.proofs.Whole.{proper}
 use Rattle.law_flat.proofs.Terms.{builds_here, closes_here}
 use Rattle.law_flat.proofs.simple.goals_that_build.Goals as goal
 

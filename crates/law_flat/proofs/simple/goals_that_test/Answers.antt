@@ -1,4 +1,4 @@
-use Rattle.md_safety.proofs.Whole.{proper}
+use Rattle.law_safety.proofs.Whole.{proper}
 use Rattle.law_flat.proofs.Charging.{fails_here, less_here, less_or_equal_here, greater_here, greater_or_equal_here}
 use Rattle.law_flat.proofs.simple.goals_that_test.Goals as goal
 

@@ -1,4 +1,4 @@
-use Rattle.md_safety.proofs.Whole.{proper}
+use Rattle.law_safety.proofs.Whole.{proper}
 use Rattle.law_flat.proofs.Simply.{succeeds_here, assigns_here, adds_here, subtracts_here, multiplies_here}
 use Rattle.law_flat.proofs.simple.goals_that_write.Goals as goal
 

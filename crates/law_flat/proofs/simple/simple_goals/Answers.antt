@@ -1,4 +1,4 @@
-use Rattle.md_safety.proofs.Whole.{proper}
+use Rattle.law_safety.proofs.Whole.{proper}
 use Rattle.law_flat.proofs.Whole.{simple_here}
 use Rattle.law_flat.proofs.simple.simple_goals.Goals as goal
 

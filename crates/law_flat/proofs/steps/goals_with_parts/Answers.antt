@@ -1,4 +1,4 @@
-use Rattle.md_safety.proofs.Whole.{proper}
+use Rattle.law_safety.proofs.Whole.{proper}
 use Rattle.law_flat.proofs.Silent.{conjunction_on, condition_on, condition_keeps, negation_on, negation_keeps, quantified_on, quantified_keeps, disjunction_on}
 use Rattle.law_flat.proofs.steps.goals_with_parts.Goals as goal
 

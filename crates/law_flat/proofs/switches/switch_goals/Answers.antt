@@ -1,4 +1,4 @@
-use Rattle.md_safety.proofs.Whole.{proper}
+use Rattle.law_safety.proofs.Whole.{proper}
 use Rattle.law_flat.proofs.Whole.{switch_goal_here}
 use Rattle.law_flat.proofs.switches.switch_goals.Goals as goal
 

@@ -1,4 +1,4 @@
-use Rattle.md_safety.proofs.Whole.{proper}
+use Rattle.law_safety.proofs.Whole.{proper}
 use Rattle.law_flat.proofs.Switching.{selects_integer, selects_literal, falls_here}
 use Rattle.law_flat.proofs.switches.switches_by_constants.Goals as goal
 

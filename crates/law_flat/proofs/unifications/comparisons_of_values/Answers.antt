@@ -1,4 +1,4 @@
-use Rattle.md_safety.proofs.Whole.{proper}
+use Rattle.law_safety.proofs.Whole.{proper}
 use Rattle.law_flat.proofs.Comparing.{same_here}
 use Rattle.law_flat.proofs.unifications.comparisons_of_values.Goals as goal
 

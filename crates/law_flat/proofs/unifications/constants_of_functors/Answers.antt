@@ -1,4 +1,4 @@
-use Rattle.md_safety.proofs.Whole.{proper}
+use Rattle.law_safety.proofs.Whole.{proper}
 use Rattle.law_flat.proofs.Functors.{puts_functor_here}
 use Rattle.law_flat.proofs.unifications.constants_of_functors.Goals as goal
 

@@ -1,4 +1,4 @@
-use Rattle.md_safety.proofs.Whole.{proper}
+use Rattle.law_safety.proofs.Whole.{proper}
 use Rattle.law_flat.proofs.Taking.{heads_taken, heads_found}
 use Rattle.law_flat.proofs.unifications.heads_of_cells.Goals as goal
 

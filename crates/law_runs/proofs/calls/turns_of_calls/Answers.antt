@@ -1,4 +1,4 @@
-use Rattle.md_safety.proofs.Whole.{proper}
+use Rattle.law_safety.proofs.Whole.{proper}
 use Rattle.law_runs.proofs.FitCalls.{fit_call_cut, fit_call_whole, call_there}
 use Rattle.law_runs.proofs.calls.turns_of_calls.Goals as goal
 

@@ -1,4 +1,4 @@
-use Rattle.md_safety.proofs.Whole.{proper}
+use Rattle.law_safety.proofs.Whole.{proper}
 use Rattle.law_runs.proofs.FitCalls.{fit_open_cut, fit_open_whole, closure_there, open_are_last}
 use Rattle.law_runs.proofs.calls.turns_of_closures.Goals as goal
 

@@ -1,4 +1,4 @@
-use Rattle.md_safety.proofs.Whole.{proper}
+use Rattle.law_safety.proofs.Whole.{proper}
 use Rattle.law_frames.specs.Ways.{goals_of}
 use Rattle.law_frames.specs.Moves.{env_of}
 use Rattle.law_fits.proofs.InstructionLemmas.{assignments, tests_of_variables, constants, tests_of_constants}

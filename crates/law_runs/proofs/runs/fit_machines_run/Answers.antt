@@ -1,4 +1,4 @@
-use Rattle.md_safety.proofs.Whole.{proper}
+use Rattle.law_safety.proofs.Whole.{proper}
 use Rattle.law_runs.proofs.Joining.{move_with, unfolded_fits}
 use Rattle.law_runs.proofs.FitLifts.{fit_begins_main, fit_begins_cut, fit_moves, fit_turns, fit_stops}
 use Rattle.law_runs.proofs.runs.fit_machines_run.Goals as goal

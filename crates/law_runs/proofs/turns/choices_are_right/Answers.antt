@@ -1,4 +1,4 @@
-use Rattle.md_safety.proofs.Whole.{proper}
+use Rattle.law_safety.proofs.Whole.{proper}
 use Rattle.law_runs.proofs.Joining.{known_here, leaves_right}
 use Rattle.law_runs.proofs.turns.choices_are_right.Goals as goal
 

@@ -1,4 +1,4 @@
-use Rattle.md_safety.proofs.Whole.{proper}
+use Rattle.law_safety.proofs.Whole.{proper}
 use Rattle.law_runs.proofs.FitTurns.{fit_simple}
 use Rattle.law_runs.proofs.turns.simple_turns.Goals as goal
 

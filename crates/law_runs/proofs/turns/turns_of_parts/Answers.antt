@@ -1,4 +1,4 @@
-use Rattle.md_safety.proofs.Whole.{proper}
+use Rattle.law_safety.proofs.Whole.{proper}
 use Rattle.law_runs.proofs.FitTurns.{fit_conjunction, fit_if, fit_not, fit_some}
 use Rattle.law_runs.proofs.turns.turns_of_parts.Goals as goal
 

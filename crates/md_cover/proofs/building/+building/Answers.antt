@@ -3,7 +3,7 @@ use Rattle.std.proofs.lemmas.Grind.{common_steps}
 use Rattle.md_hlds.specs.Hlds.{hlds_of}
 use Rattle.md_hlds.specs.HldsGoal.{GoalExpr, goal_of, goals_of, gathered, goals_size, parts_size}
 use Rattle.md_det.specs.Findings.{program_findings}
-use Rattle.md_turns.specs.Equations as spec
+use Rattle.law_turns.specs.Equations as spec
 use Rattle.md_cover.specs.declared.equation.Quantity.{Quantity}
 use Rattle.md_cover.specs.Told.{quantity_of, quantities_of, equations_of, view_counts}
 use Rattle.md_cover.proofs.BuildingLemmas.{conj-is, disj-is, if-is, if-built, entered, arms-begin, parts-step, conj-step, size-step, numbers-step, arm-step}

@@ -4,7 +4,7 @@ use Rattle.md_hlds.specs.HldsGoal.{goals_of, gathered, goals_size}
 use Rattle.md_det.specs.Findings.{program_findings, switch_at}
 use Rattle.md_cost.specs.FileView.{IsFileView}
 use Rattle.md_cost.specs.View.{View}
-use Rattle.md_turns.specs.Equations as spec
+use Rattle.law_turns.specs.Equations as spec
 use Rattle.md_cover.specs.Told.{quantity_of, quantities_of, equations_of, view_counts}
 use Rattle.md_cover.proofs.building.+building.Given as goal
 

@@ -1,5 +1,5 @@
 use Rattle.std.proofs.Common.{◌≡◌, ◌∙◌, ◌++◌, sym, subst, List, OnOk}
-use Rattle.md_turns.specs.Equations as spec
+use Rattle.law_turns.specs.Equations as spec
 use Rattle.md_cover.specs.Told.{equations_of}
 use Rattle.md_cover.proofs.BuildingLemmas.{enters-one, none-of, some-there}
 use Rattle.md_cover.proofs.building.enter_first.Goals as goal

@@ -4,7 +4,7 @@ use Rattle.md_hlds.specs.declared.program.Program.{Program}
 use Rattle.md_hlds.specs.HldsGoal.{goal_of, goal_size}
 use Rattle.md_hlds.specs.Hlds.{hlds_of, procedure_of, procedures_of}
 use Rattle.md_dynamic.specs.Profile.{ProfileRows}
-use Rattle.md_turns.proofs.TurnLaws.{turns_of_runs_solve}
+use Rattle.law_turns.proofs.TurnLaws.{turns_of_runs_solve}
 use Rattle.md_cover.specs.declared.coverage.GoalCount.{GoalCount}
 use Rattle.md_cover.specs.Coverage.{gives_turns}
 use Rattle.md_cover.specs.Known.{table_of}

@@ -1,6 +1,6 @@
 use Rattle.std.proofs.Common.{◌∙◌, ap, sym, subst, List, ◌++◌}
 use Rattle.md_hlds.specs.Hlds.{hlds_of}
-use Rattle.md_steps.specs.Standing.{StandsIn}
+use Rattle.law_steps.specs.Standing.{StandsIn}
 use Rattle.md_plain.specs.declared.state.Item.{Item}
 use Rattle.md_plain.specs.declared.runner.Move.{Move}
 use Rattle.md_plain.specs.States.{state_of, items_told}

@@ -1,6 +1,6 @@
 use Rattle.std.proofs.Common.{ℕ}
 use Rattle.md_hlds.specs.Hlds.{hlds_of}
-use Rattle.md_steps.specs.Standing.{StandsIn}
+use Rattle.law_steps.specs.Standing.{StandsIn}
 use Rattle.md_plain.specs.States.{state_of, items_told}
 use Rattle.md_plain.proofs.runner.run_on.Given as goal
 

@@ -2,7 +2,7 @@ use Rattle.std.proofs.Common.{◌≡◌, subst, IfOk, arith}
 use Rattle.std.proofs.lemmas.Grind.{common_steps}
 use Rattle.md_hlds.specs.HldsGoal.{GoalExpr}
 use Rattle.md_hlds.specs.Hlds.{hlds_of}
-use Rattle.md_steps.specs.Steps.{unfolds_expr}
+use Rattle.law_steps.specs.Steps.{unfolds_expr}
 use Rattle.md_plain.specs.Goals.{numbereds_of}
 use Rattle.md_plain.specs.States.{frame_of, frames_of, waits_of}
 use Rattle.md_plain.specs.Unfolded.{unfolded_of}

@@ -2,8 +2,8 @@ use Rattle.std.proofs.Common.{sym, subst, Some, arith}
 use Rattle.std.proofs.lemmas.Grind.{common_steps}
 use Rattle.md_base.specs.Outside.{Rose}
 use Rattle.md_query.specs.Told.{asked}
-use Rattle.md_words.specs.declared.command.Command.{Command}
-use Rattle.md_words.specs.Told.{meant, told, texts}
+use Rattle.md_commands.specs.declared.command.Command.{Command}
+use Rattle.md_commands.specs.Told.{meant, told, texts}
 use Rattle.md_tool.specs.Told.{TopEnds}
 use Rattle.md_tool.proofs.SumLemmas.{as_many_texts}
 use Rattle.md_tool.proofs.TopLemmas.{report_told, cover_told, gen_told, sum_told, compare_told}

@@ -1,8 +1,8 @@
 use Rattle.std.proofs.Common.{sym, ap, ◌∙◌, arith}
 use Rattle.std.proofs.lemmas.Grind.{common_steps}
 use Rattle.md_base.specs.Outside.{Rose}
-use Rattle.md_words.specs.Form.{words_of, form}
-use Rattle.md_words.specs.Told.{command_told}
+use Rattle.md_commands.specs.Form.{words_of, form}
+use Rattle.md_commands.specs.Told.{command_told}
 use Rattle.md_tool.proofs.TopLemmas.{usage_told, memory_told}
 use Rattle.md_tool.proofs.command.run_command.Goals as goal
 

@@ -1,5 +1,5 @@
 use Rattle.md_base.specs.Outside.{Rose}
-use Rattle.md_words.specs.Form.{words_of, form}
+use Rattle.md_commands.specs.Form.{words_of, form}
 use Rattle.md_tool.proofs.StatusLemmas.{top_means, store_kept}
 use Rattle.md_tool.proofs.command.top.Goals as goal
 

@@ -4,7 +4,7 @@ use Rattle.std.proofs.lemmas.List.{length-take}
 use Rattle.std.specs.Borrow.{Bor}
 use Rattle.std.specs.Prelude.{slice_index_or}
 use Rattle.md_base.specs.Outside.{Rose}
-use Rattle.md_words.specs.Told.{texts}
+use Rattle.md_commands.specs.Told.{texts}
 use Rattle.md_tool.proofs.StreamLemmas.{rose_after}
 use Rattle.md_tool.proofs.SumLemmas.{one_more_loaded, next_texts, stops_at, as_many_summed}
 use Rattle.md_tool.proofs.sums.add_files.Goals as goal

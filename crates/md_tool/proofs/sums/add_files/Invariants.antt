@@ -1,5 +1,5 @@
 use Rattle.std.proofs.Common.{◌≡◌, ◌≤◌, take}
-use Rattle.md_words.specs.Told.{texts}
+use Rattle.md_commands.specs.Told.{texts}
 use Rattle.md_tool.specs.Summed.{AreSummed}
 use Rattle.md_tool.proofs.sums.add_files.Given as goal
 

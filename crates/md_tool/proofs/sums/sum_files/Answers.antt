@@ -1,7 +1,7 @@
 use Rattle.std.proofs.Common.{arith}
 use Rattle.std.proofs.lemmas.Grind.{common_steps}
 use Rattle.md_base.specs.Outside.{Rose}
-use Rattle.md_words.specs.Told.{texts}
+use Rattle.md_commands.specs.Told.{texts}
 use Rattle.md_tool.proofs.SumLemmas.{sums_after}
 use Rattle.md_tool.proofs.sums.sum_files.Goals as goal
 

@@ -1,7 +1,7 @@
 use Rattle.std.proofs.Common.{ℕ, List, subst}
 use Rattle.std.specs.Prelude.{Err}
 use Rattle.md_base.specs.Outside.{Rose}
-use Rattle.md_words.specs.Told.{texts}
+use Rattle.md_commands.specs.Told.{texts}
 use Rattle.md_tool.specs.Due.{WriteEnds}
 use Rattle.md_tool.proofs.SumLemmas.{stopped_ends, sum_written}
 use Rattle.md_tool.proofs.sums.write_sums.Goals as goal

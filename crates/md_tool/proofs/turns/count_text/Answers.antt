@@ -1,5 +1,5 @@
 use Rattle.md_hlds.specs.Hlds.{hlds_of}
-use Rattle.md_words.specs.Told.{meant}
+use Rattle.md_commands.specs.Told.{meant}
 use Rattle.md_tool.proofs.CoverLemmas.{counted_text}
 use Rattle.md_tool.proofs.ReportLemmas.{can_be_profiled}
 use Rattle.md_tool.proofs.turns.count_text.Goals as goal

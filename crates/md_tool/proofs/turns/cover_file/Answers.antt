@@ -1,5 +1,5 @@
 use Rattle.md_base.specs.Outside.{Rose}
-use Rattle.md_words.specs.Told.{meant}
+use Rattle.md_commands.specs.Told.{meant}
 use Rattle.md_tool.specs.Turns.{IsCoverageOfRun, HasNoProcedure}
 use Rattle.md_tool.proofs.ReportLemmas.{reported}
 use Rattle.md_tool.proofs.turns.cover_file.Goals as goal

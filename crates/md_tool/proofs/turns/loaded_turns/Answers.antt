@@ -2,7 +2,7 @@ use Rattle.std.proofs.Common.{◌≡◌, ◌∙◌, ap, sym, Some}
 use Rattle.std.proofs.lemmas.Result.{IfOk-weaker}
 use Rattle.md_hlds.specs.Hlds.{hlds_of}
 use Rattle.md_static.specs.Tables.{Static}
-use Rattle.md_words.specs.Told.{meant}
+use Rattle.md_commands.specs.Told.{meant}
 use Rattle.md_tool.specs.Turns.{number_in}
 use Rattle.md_tool.proofs.CoverLemmas.{meant_turns}
 use Rattle.md_tool.proofs.turns.loaded_turns.Goals as goal

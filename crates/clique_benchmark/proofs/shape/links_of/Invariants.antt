@@ -1,5 +1,0 @@
-use Rattle.std.proofs.Common.{◌<◌, All}
-use Rattle.clique_benchmark.proofs.shape.links_of.Given as goal
-
-abbrev pub invariant-loop-place : goal.invariant-loop-place
-invariant-loop-place l = All (λ link. (link.0 < l.nodes) × (link.1 < l.nodes)) l.links.items

@@ -1,0 +1,5 @@
+use Rattle.law_safety.proofs.Whole.{never_stuck}
+use Rattle.law_safety.proofs.laws.never_stuck.Goals as goal
+
+pub returns : goal.returns
+returns c = never_stuck

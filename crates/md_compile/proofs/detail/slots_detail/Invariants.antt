@@ -1,6 +1,0 @@
-use Rattle.std.proofs.Common.{◌≡◌, ◌++◌, drop}
-use Rattle.md_compile.specs.Details.{from_slots}
-use Rattle.md_compile.proofs.detail.slots_detail.Given as goal
-
-abbrev pub invariant-loop-from : goal.invariant-loop-from
-invariant-loop-from l = from_slots l.places ≡ l.inputs.items ++ from_slots (drop l.from-index l.places)

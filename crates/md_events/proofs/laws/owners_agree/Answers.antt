@@ -1,5 +1,0 @@
-use Rattle.md_events.proofs.SiteLemmas.{owners_agree}
-use Rattle.md_events.proofs.laws.owners_agree.Goals as goal
-
-pub returns : goal.returns
-returns c = owners_agree

@@ -1,5 +1,0 @@
-use Rattle.md_events.proofs.SiteLemmas.{programs_have_tables}
-use Rattle.md_events.proofs.laws.programs_have_tables.Goals as goal
-
-pub returns : goal.returns
-returns c = programs_have_tables

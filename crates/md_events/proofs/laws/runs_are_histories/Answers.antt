@@ -1,5 +1,0 @@
-use Rattle.md_events.proofs.RunLaw.{runs_are_histories}
-use Rattle.md_events.proofs.laws.runs_are_histories.Goals as goal
-
-pub returns : goal.returns
-returns c = runs_are_histories

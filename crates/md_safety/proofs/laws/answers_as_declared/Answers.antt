@@ -1,5 +1,0 @@
-use Rattle.md_safety.proofs.Declared.{answers_as_declared}
-use Rattle.md_safety.proofs.laws.answers_as_declared.Goals as goal
-
-pub returns : goal.returns
-returns c = answers_as_declared

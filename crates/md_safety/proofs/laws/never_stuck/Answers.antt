@@ -1,5 +1,0 @@
-use Rattle.md_safety.proofs.Whole.{never_stuck}
-use Rattle.md_safety.proofs.laws.never_stuck.Goals as goal
-
-pub returns : goal.returns
-returns c = never_stuck

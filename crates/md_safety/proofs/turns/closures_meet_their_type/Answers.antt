@@ -1,5 +1,0 @@
-use Rattle.md_safety.proofs.RoleLemmas.{closure_met}
-use Rattle.md_safety.proofs.turns.closures_meet_their_type.Goals as goal
-
-pub returns : goal.returns
-returns c = closure_met

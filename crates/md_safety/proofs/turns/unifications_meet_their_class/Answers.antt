@@ -1,5 +1,0 @@
-use Rattle.md_safety.proofs.RoleLemmas.{unification_met}
-use Rattle.md_safety.proofs.turns.unifications_meet_their_class.Goals as goal
-
-pub returns : goal.returns
-returns c = unification_met

@@ -1,5 +1,0 @@
-use Rattle.md_spelled.proofs.TextLaws.{texts_have_few_parts}
-use Rattle.md_spelled.proofs.laws.texts_have_few_parts.Goals as goal
-
-pub returns : goal.returns
-returns c = texts_have_few_parts

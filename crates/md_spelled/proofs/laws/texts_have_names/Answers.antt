@@ -1,5 +1,0 @@
-use Rattle.md_spelled.proofs.TextLaws.{texts_have_names}
-use Rattle.md_spelled.proofs.laws.texts_have_names.Goals as goal
-
-pub returns : goal.returns
-returns c = texts_have_names

@@ -1,5 +1,0 @@
-use Rattle.md_turns.proofs.TurnLaws.{derived_entries_are_turns}
-use Rattle.md_turns.proofs.laws.derived_entries_are_turns.Goals as goal
-
-pub returns : goal.returns
-returns c = derived_entries_are_turns

@@ -1,5 +1,0 @@
-use Rattle.md_words.proofs.WordLemmas.{few_texts}
-use Rattle.md_words.proofs.command.are_few.Goals as goal
-
-pub returns-then-words-ge1 : goal.returns-then-words-ge1
-returns-then-words-ge1 c = few_texts c.args.words.now c.if-words-ge1.true

@@ -1,6 +1,0 @@
-use Rattle.std.proofs.Common.{◌≡◌, ◌+◌, length}
-use Rattle.md_heap.specs.Cells.{IsThere}
-use Rattle.outside_cases.proofs.heaps.list.Given as goal
-
-abbrev pub invariant-loop-i : goal.invariant-loop-i
-invariant-loop-i l = record { longer : length l.heap ≡ length l.fn.heap + 1 + l.i; there : IsThere (length l.heap) l.list }

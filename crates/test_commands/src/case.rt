@@ -1,0 +1,135 @@
+// A case: what the program is given, and what has to come of it.
+use crate::connections::Connections;
+use std::alloc::{AllocError, Global};
+use test_cases::unescaped;
+
+/// A file by its name.
+#[derive(Drop)]
+pub struct File {
+    pub name: String,
+    pub bytes: Vec<u8>,
+}
+
+/// What the program is given, and what has to come of it.
+#[derive(Drop)]
+pub struct Case {
+    pub name: String,
+    pub words: Vec<String>,
+    /// The files that are there.
+    pub files: Vec<File>,
+    /// The calls on the store, on `out` and on `err` that fail, counted from 1; 0 is none.
+    pub store_fails: u64,
+    pub out_fails: u64,
+    pub err_fails: u64,
+    /// The most bytes that one call takes or gives.
+    pub most: usize,
+    pub status: u64,
+    pub out: Vec<u8>,
+    pub err: Vec<u8>,
+    /// The files that have to be there in the end.
+    pub left: Vec<File>,
+    pub connections: Connections,
+}
+
+impl Case {
+    /// A case that gives nothing and expects nothing.
+    pub fn new(alloc: Global) -> Case {
+        Case {
+            name: String::new(alloc),
+            words: Vec::new(alloc),
+            files: Vec::new(alloc),
+            store_fails: 0,
+            out_fails: 0,
+            err_fails: 0,
+            most: 4096,
+            status: 0,
+            out: Vec::new(alloc),
+            err: Vec::new(alloc),
+            left: Vec::new(alloc),
+            connections: Connections::new(alloc),
+        }
+    }
+
+    /// Takes one line more: a key, a space and its value.
+    pub fn add(&mut self, alloc: Global, line: &str) -> Result<(), AllocError> {
+        let (key, value) = halves(line);
+        match key {
+            "case" => self.name = String::from_str(alloc, value)?,
+            "word" => {
+                let word = String::from_str(alloc, value)?;
+                self.words.push(word)?;
+            }
+            "file" => {
+                let file = file_of(alloc, value)?;
+                self.files.push(file)?;
+            }
+            "copies" => {
+                let file = copies_of(alloc, value)?;
+                self.files.push(file)?;
+            }
+            "left" => {
+                let file = file_of(alloc, value)?;
+                self.left.push(file)?;
+            }
+            "out" => self.out = unescaped(alloc, value)?,
+            "err" => self.err = unescaped(alloc, value)?,
+            _ => {
+                self.set(key, number_of(value));
+                self.connections.add(alloc, key, value)?;
+            }
+        }
+        Ok(())
+    }
+
+    /// Sets a number.
+    fn set(&mut self, key: &str, number: u64) {
+        match key {
+            "status" => self.status = number,
+            "store-fails" => self.store_fails = number,
+            "out-fails" => self.out_fails = number,
+            "err-fails" => self.err_fails = number,
+            "most" => self.most = number as usize,
+            _ => {}
+        }
+    }
+}
+
+/// A name, a space and the bytes.
+fn file_of(alloc: Global, value: &str) -> Result<File, AllocError> {
+    let (name, bytes) = halves(value);
+    Ok(File {
+        name: String::from_str(alloc, name)?,
+        bytes: unescaped(alloc, bytes)?,
+    })
+}
+
+/// A name, a space, a number, a space, and bytes that the file has so many times.
+fn copies_of(alloc: Global, value: &str) -> Result<File, AllocError> {
+    let (name, value) = halves(value);
+    let (count, bytes) = halves(value);
+    let bytes = unescaped(alloc, bytes)?;
+    let mut copies = Vec::new(alloc);
+    for _turn in 0..number_of(count) {
+        copies.extend_from_slice(bytes.as_slice())?;
+    }
+    Ok(File {
+        name: String::from_str(alloc, name)?,
+        bytes: copies,
+    })
+}
+
+/// What stands on the two sides of the first space.
+pub fn halves(value: &str) -> (&str, &str) {
+    match value.split_once(' ') {
+        Some(halves) => halves,
+        None => (value, ""),
+    }
+}
+
+/// The number that a text is, or 0.
+pub fn number_of(text: &str) -> u64 {
+    match text.parse() {
+        Ok(number) => number,
+        Err(_) => 0,
+    }
+}

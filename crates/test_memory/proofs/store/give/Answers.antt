@@ -1,0 +1,15 @@
+use Rattle.std.proofs.Common.{arith}
+use Rattle.std.proofs.lemmas.Grind.{common_steps}
+use Rattle.test_memory.proofs.store.give.Goals as goal
+
+pub returns-clause-count : goal.returns-clause-count
+returns-clause-count c = grind (arith, common_steps)
+
+pub returns-clause-gives : goal.returns-clause-gives
+returns-clause-gives c = grind (arith, common_steps)
+
+pub returns-then-at-bytes-clause-count : goal.returns-then-at-bytes-clause-count
+returns-then-at-bytes-clause-count c = grind (arith, common_steps)
+
+pub returns-then-at-bytes-clause-gives : goal.returns-then-at-bytes-clause-gives
+returns-then-at-bytes-clause-gives c = grind (arith, common_steps)

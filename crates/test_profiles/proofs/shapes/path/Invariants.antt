@@ -1,0 +1,5 @@
+use Rattle.std.proofs.Common.{◌<◌, All, ℕ}
+use Rattle.test_profiles.proofs.shapes.path.Given as goal
+
+abbrev pub invariant-loop-node : goal.invariant-loop-node
+invariant-loop-node l = All (λ (link : ℕ × ℕ). (link.0 < l.nodes) × (link.1 < l.nodes)) l.links.items
