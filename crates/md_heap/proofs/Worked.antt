@@ -1,9 +1,10 @@
 -- Small heaps, worked out by hand: what their cells stand for, and how many pairs of nodes comparisons look at.
-use Rattle.std.proofs.Common.{pos, ◌≡◌, [], ◌∷◌, refl}
+use Rattle.std.proofs.Common.{pos, negsuc, ◌≡◌, [], ◌∷◌, refl}
 use Rattle.md_heap.specs.declared.same.Same.TheVariants.{Equal, Differ, Over}
 use Rattle.md_heap.specs.declared.value.Value.TheVariants.{Int, Lit, Cell}
 use Rattle.md_heap.specs.Tree.{Number, Built, no_trees, also_tree, compared, same_within}
 use Rattle.md_heap.specs.Cells.{Cells, tree_of}
+use Rattle.md_heap.specs.Rank.{rank}
 
 -- the empty list is the cell 0, [2] the cell 1, [1, 2] the cell 2, another [2] the cell 3, [1, 2] the cell 4 and
 -- [1, 3, 2] the cells 5 and 6; head 1 is that of a list with members
@@ -42,3 +43,10 @@ kinds-differ = refl
 
 nothing-is-allowed : same_within 0 (compared (tree_of lists (Int (pos 1))) (tree_of lists (Int (pos 1)))) ≡ Over
 nothing-is-allowed = refl
+
+-- an integer has the rank of the one below 0 that is as far from it (the wrong rule: that of its bits)
+ranks-are-without-a-sign : rank (Int (negsuc 6)) ≡ 7
+ranks-are-without-a-sign = refl
+
+a-literal-ranks-by-its-number : rank (Lit 3) ≡ 3
+a-literal-ranks-by-its-number = refl

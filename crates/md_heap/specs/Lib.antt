@@ -2,3 +2,4 @@ pub mod Tree
 pub mod Cells
 pub mod Layout
 pub mod Pending
+pub mod Rank
