@@ -10,7 +10,6 @@ mod run;
 mod running;
 mod stacks;
 
-pub use program::interpret;
+pub use program::{execute, interpret};
 pub use ran::{End, Ran};
 pub use rounds::what_is_seen_is_a_history;
-pub use run::execute;

@@ -1,5 +1,5 @@
 // The run of a program that the checks accept.
-ghost use Rattle.std.specs.Prelude.{[], ◌<◌, IfOk, OnOk, OnErr};
+ghost use Rattle.std.specs.Prelude.{[], IfOk, OnOk, OnErr};
 ghost use Rattle.md_hlds.specs.Hlds.{hlds_of};
 ghost use Rattle.md_hlds.specs.Run.{run};
 ghost use Rattle.law_events.specs.History.{history};
@@ -7,21 +7,42 @@ ghost use Rattle.law_events.specs.Table.{site_table};
 ghost use Rattle.md_machine.specs.Ran.{CanBeRun, IsRunOf, StandsForFront};
 
 use crate::ran::Ran;
-use crate::run::execute;
-use law_placed::code_is_placed;
+use crate::run::perform;
+use law_spelled::accepted_texts_are_within_bounds;
 use md_base::NoMemory;
 use md_code::compile;
 use md_det::Checked;
-use md_fold::fold;
+use md_ports::{Instrumented, instrument};
 use md_trace::PortSink;
 use std::alloc::Global;
 
-/// Runs a program that a text spells within a budget of steps (a turn costs its weight), and hands each port and each allocation
-/// to the sink. The output and the end are those of the definition of the run, and the sink, which stood for the empty history
-/// over the program's call sites, stands then for that of the run's events; after want of memory, for that of a front of
-/// them. Time grows with the weight of the run and its ports; memory grows with the depth of calls, the open choices and the
-/// values built, and not with turns or events. `NoMemory` also comes where code, cells, frames, choices or words want a number of
-/// more than 32 bits, and where a run makes 2^64 - 1 steps.
+/// Runs code with its ports within a budget of steps (a turn costs its weight), and hands each port and each allocation to the sink. The
+/// output and the end are those of the definition of the run, and the sink, which stood for the empty history over the program's call
+/// sites, stands then for that of the run's events; after want of memory, for that of a front of them. Time grows with the weight of the
+/// run and its ports; memory grows with the depth of calls, the open choices and the values built, and not with turns or events.
+///
+/// # Errors
+///
+/// `NoMemory` where memory was refused or the sink wants it, where cells, frames or choices want a number of more than 32 bits, and where
+/// a run makes 2^64 - 1 steps.
+pub fn execute<S: PortSink>(
+    alloc: Global,
+    code: &Instrumented<'_>,
+    budget: u32,
+    sink: &mut S,
+) -> Result<Ran, NoMemory>
+    requires begins { S.stands_for sink.old (site_table (hlds_of code.now)) [] }
+    ensures run { IfOk result (λ ran. IsRunOf (hlds_of code.now) budget ran) }
+    ensures whole { OnOk result (S.stands_for sink.new (site_table (hlds_of code.now)) (history (run (hlds_of code.now) budget))) }
+    ensures front { OnErr result (StandsForFront (hlds_of code.now) budget (S.stands_for sink.new (site_table (hlds_of code.now)))) }
+    ensures alike { S.alike sink.old sink.new }
+{
+    accepted_texts_are_within_bounds();
+    perform(alloc, code.code(), budget, sink)
+}
+
+/// Compiles a program that the checks accept, and runs its code as `execute` does. `NoMemory` also comes where code or words want a
+/// number of more than 32 bits.
 pub fn interpret<S: PortSink>(
     alloc: Global,
     checked: &Checked,
@@ -35,16 +56,7 @@ pub fn interpret<S: PortSink>(
     ensures front { OnErr result (StandsForFront (hlds_of checked.now) budget (S.stands_for sink.new (site_table (hlds_of checked.now)))) }
     ensures alike { S.alike sink.old sink.new }
 {
-    // A checked program has no fault of modes, as this call tells.
-    let _ = checked.program();
     let code = compile(alloc, checked)?;
-    code_is_placed();
-    fits(code.reach);
-    let folded = fold(alloc, code)?;
-    execute(alloc, &folded, budget, sink)
+    let code = instrument(alloc, checked, code)?;
+    execute(alloc, &code, budget, sink)
 }
-
-/// A number of 32 bits is below 2^32.
-fn fits(number: u32)
-    ensures { number < 4294967296 }
-{}
