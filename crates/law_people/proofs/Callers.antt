@@ -1,5 +1,5 @@
 -- The rows of a procedure's callers add up to its own counts: each link to it comes from the root or from one call site.
-use Rattle.std.proofs.Common.{◌≡◌, ℕ, zero, suc, ◌+◌, ◌<◌, ◌≤◌, Bool, true, false, ◌&&◌, eqb, cond, List, [], ◌∷◌, length, map, All, Option, Some, None, IfSome, refl, sym, ap, subst, ◌∙◌, inl, inr, arith}
+use Rattle.std.proofs.Common.{◌≡◌, ℕ, zero, suc, ◌+◌, ◌<◌, Bool, true, false, ◌&&◌, eqb, cond, List, [], ◌∷◌, length, map, All, Option, Some, None, IfSome, refl, sym, ap, subst, ◌∙◌, inl, inr, arith}
 use Rattle.std.specs.Prelude.{codes, slice_index}
 use Rattle.std.specs.List.{flat_map, range_with_len, slice_get, sum_by}
 use Rattle.std.proofs.lemmas.Bool.{cases_eq, cases_Bool, eq-eqb, ne_eqb}
@@ -21,16 +21,13 @@ use Rattle.md_cost.specs.Tree.{IsTree}
 use Rattle.md_cost.proofs.SumSteps.{sum_of_both, sum_same}
 use Rattle.md_cost.proofs.ValidSteps.{all_sites_there, valid_sound}
 use Rattle.md_cost.proofs.ViewSteps.{callee_there}
+use Rattle.md_people.proofs.Adding.{no_sum, range_one}
 use Rattle.md_people.specs.Callers.{caller_rows, caller_rows_at, comes_first, in_order, links_row, links_to, placed_with, row_if_any}
 use Rattle.md_people.specs.Counts.{own_counts, sums_by}
 use Rattle.md_people.specs.Ports.{PortsRow}
 use Rattle.md_people.specs.Words.{caller_words, proc_at}
 
 -- ---- sums
-
-no_sum : {Y : Type 0} (ys : List Y) → sum_by (λ _. 0) ys ≡ 0
-no_sum [] = refl
-no_sum {Y} (y ∷ ys) = let first = sum_by-cons (λ (_ : Y). 0) y ys in let rest = no_sum ys in omega arith
 
 flat_sum : {X Y : Type 0} (h : Y → ℕ) (F : X → List Y) (xs : List X) → sum_by h (flat_map F xs) ≡ sum_by (λ x. sum_by h (F x)) xs
 flat_sum h F [] = refl
@@ -39,24 +36,6 @@ flat_sum {X} h F (x ∷ xs) =
     let all = sum_by-cons (λ (z : X). sum_by h (F z)) x xs in
     let rest = flat_sum h F xs in
     omega arith
-
--- one number of a range
-number_none : (w i n x : ℕ) → x < i → sum_by (λ j. cond (eqb x j) w 0) (range_with_len i n) ≡ 0
-number_none w i zero x lt = refl
-number_none w i (suc n) x lt =
-    let rest = number_none w (i + 1) n x (omega arith) in
-    let split = sum_by-cons (λ (j : ℕ). cond (eqb x j) w 0) i (range_with_len (i + 1) n) in
-    let other : cond (eqb x i) w 0 ≡ 0 = rw (ne_eqb x i (λ e. absurd (omega arith))) refl in
-    omega arith
-
-number_one : (w i n x : ℕ) → i ≤ x → x < i + n → sum_by (λ j. cond (eqb x j) w 0) (range_with_len i n) ≡ w
-number_one w i zero x le lt = absurd (omega arith)
-number_one w i (suc n) x le lt =
-    let split = sum_by-cons (λ (j : ℕ). cond (eqb x j) w 0) i (range_with_len (i + 1) n) in
-    elim (cases_eq x i) [
-      | inl here ↦ (let rest = number_none w (i + 1) n x (omega arith) in let one : cond (eqb x i) w 0 ≡ w = rw (eq-eqb x i here) refl in omega arith)
-      | inr later ↦ (let rest = number_one w (i + 1) n x (omega arith) (omega arith) in let other : cond (eqb x i) w 0 ≡ 0 = rw (ne_eqb x i later) refl in omega arith)
-    ]
 
 -- places of a list's elements that pass
 places_cons : {X : Type 0} (o : ℕ → ℕ) (p : X → Bool) (k : ℕ) (x : X) (xs : List X) → sum_by o (places_from p k (x ∷ xs)) ≡ cond (p x) (o k) 0 + sum_by o (places_from p (k + 1) xs)
@@ -113,7 +92,7 @@ IsBelow o n = IfSome o (λ t. t < n)
 site_sum : (P : Bool) (o : Option ℕ) (w n : ℕ) → IsBelow o n → cond (P && same_option o None) w 0 + sum_by (λ s. cond (P && same_option o (Some s)) w 0) (range_with_len 0 n) ≡ cond P w 0
 site_sum false o w n there = ap (λ k. 0 + k) (no_sum (range_with_len 0 n)) ∙ omega arith
 site_sum true None w n there = let z : sum_by (λ (s : ℕ). cond (true && same_option None (Some s)) w 0) (range_with_len 0 n) ≡ 0 = no_sum (range_with_len 0 n) in ap (λ k. w + k) z ∙ omega arith
-site_sum true (Some t) w n there = ap (λ k. 0 + k) (number_one w 0 n t (omega arith) (omega arith)) ∙ omega arith
+site_sum true (Some t) w n there = ap (λ k. 0 + k) (range_one w 0 n t (omega arith) (omega arith)) ∙ omega arith
 
 by_site : (P : Join → Bool) (o : ℕ → ℕ) (n k : ℕ) (xs : List Join) → All (λ x. IsBelow x.site n) xs
     → sum_by o (places_from (λ x. P x && same_option x.site None) k xs) + sum_by (λ s. sum_by o (places_from (λ x. P x && same_option x.site (Some s)) k xs)) (range_with_len 0 n) ≡ sum_by o (places_from P k xs)

@@ -2,7 +2,7 @@
 ghost use Rattle.std.specs.Prelude.{◌≡◌, ◌≤◌, IfSome, List, codes, true};
 ghost use Rattle.clap.specs.Matches.{found_of};
 ghost use Rattle.clap.specs.Walk.{rows_of};
-ghost use Rattle.md_query.specs.Pair.{measure_named, number_from};
+ghost use Rattle.md_query.specs.Pair.{number_from};
 ghost use Rattle.md_commands.specs.Parts.{Part, Usage, takes_value};
 ghost use Rattle.md_commands.specs.Form.{number_or, steps_of, profile_of, least_of, by_of, thousandths_of, port_of, requests_of};
 ghost use Rattle.md_commands.specs.Told.{text_told};
@@ -11,7 +11,7 @@ ghost use Rattle.md_commands.specs.Reading.{Tells};
 use crate::reading::value_of;
 use clap::ArgMatches;
 use md_base::Measure;
-use md_query::number_within;
+use md_query::{measure_named, number_within};
 
 /// The steps of a run to which the words give none.
 const USUAL_STEPS: u32 = 1_000_000;
@@ -112,27 +112,4 @@ fn number_in(least: u32, most: u32, value: Option<&str>) -> Option<u32>
     ensures most { IfSome result (λ n. n ≤ most) }
 {
     number_within(least, most, value?.as_bytes())
-}
-
-/// The measure of this name.
-fn measure_named(name: &str) -> Option<Measure>
-    ensures { result ≡ measure_named name.now }
-{
-    if name == "calls" {
-        Some(Measure::Calls)
-    } else if name == "exits" {
-        Some(Measure::Exits)
-    } else if name == "fails" {
-        Some(Measure::Fails)
-    } else if name == "redos" {
-        Some(Measure::Redos)
-    } else if name == "allocs" {
-        Some(Measure::Allocs)
-    } else if name == "words" {
-        Some(Measure::Words)
-    } else if name == "excps" {
-        Some(Measure::Excps)
-    } else {
-        None
-    }
 }

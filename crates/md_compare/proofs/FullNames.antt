@@ -1,15 +1,16 @@
 -- Full names of a program differ, since the signs that part them are in no name.
-use Rattle.std.proofs.Common.{◌≡◌, ℕ, ◌<◌, Bool, true, false, List, [], ◌∷◌, ◌++◌, length, get_or, drop, refl, sym, ap, ◌∙◌, inl, inr, arith}
-use Rattle.std.specs.Prelude.{◌≢◌, ◌&&◌, ◌||◌, ◌==◌, nat_le, AllPairs}
+use Rattle.std.proofs.Common.{◌≡◌, ℕ, ◌<◌, true, false, List, [], ◌∷◌, ◌++◌, length, get_or, drop, refl, sym, ap, ◌∙◌, inl, inr, arith}
+use Rattle.std.specs.Prelude.{◌≢◌, AllPairs}
 use Rattle.std.specs.Fmt.{decimal}
 use Rattle.std.specs.List.{range_with_len}
 use Rattle.std.proofs.lemmas.Bool.{and_parts, cases_order}
 use Rattle.std.proofs.lemmas.List.{length-map}
 use Rattle.std.proofs.lemmas.List.FromFn.{get_or-map-range_with_len, length-range_with_len}
 use Rattle.std.proofs.lemmas.Option.{slice_get-get_or, unwrap_or-slice_get}
+use Rattle.md_people.proofs.Names.{words_of_name}
 use Rattle.md_people.specs.Words.{full_name, full_name_of}
 use Rattle.md_static.specs.declared.entry.Proc.{Proc}
-use Rattle.md_static.specs.Names.{are_words, is_digit, is_lower, is_name, is_upper, is_word}
+use Rattle.md_static.specs.Names.{are_words, is_word}
 use Rattle.md_static.specs.Sound.{IsSound}
 use Rattle.md_static.specs.Tables.{Static}
 use Rattle.md_compare.specs.Told.{names_in}
@@ -35,15 +36,6 @@ parted sign apart (d ∷ a) (f ∷ b) x y wa wb e =
     let rest = parted sign apart a b x y (and_parts (is_word d) (are_words a) wa).1 (and_parts (is_word f) (are_words b) wb).1 (same_tails e) in
     let first : d ≡ f = same_heads e in
     (rw (first, rest.0) refl, rest.1)
-
-lower_and_words : (lower upper digit under words short : Bool) → (lower && words && short) ≡ true → ((lower || upper || digit || under) && words) ≡ true
-lower_and_words true upper digit under true short e = refl
-lower_and_words true upper digit under false short e = cc
-lower_and_words false upper digit under words short e = cc
-
-words_of_name : (name : List ℕ) → is_name name ≡ true → are_words name ≡ true
-words_of_name [] e = cc
-words_of_name (c ∷ cs) e = lower_and_words (is_lower c) (is_upper c) (is_digit c) (c == 95) (are_words cs) (nat_le (length cs) 254) e
 
 abbrev some_proc : Proc
 some_proc = record { «module» = 0; name = []; arity = 0 }

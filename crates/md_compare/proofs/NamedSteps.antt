@@ -4,7 +4,7 @@ use Rattle.std.specs.Prelude.{Vec}
 use Rattle.std.specs.declared.alloc.Global.{Global}
 use Rattle.std.specs.BTreeMap.{BTreeMap, insert_entry}
 use Rattle.std.specs.Cmp.Lexicographic.{slice_cmp, nat_list_eq_equiv}
-use Rattle.std.specs.List.{filter, range_with_len, slice_get}
+use Rattle.std.specs.List.{find, range_with_len}
 use Rattle.std.specs.Map.{lookup}
 use Rattle.std.specs.Option.{option_map}
 use Rattle.std.specs.Ordering.{is_eq, match_ordering, nat_cmp}
@@ -23,7 +23,7 @@ use Rattle.md_compare.specs.declared.cost.Cost.{Cost}
 -- what the first procedure of a name costs, of those from number i on
 abbrev pub cost_from : View → Measure → (i : ℕ) → (name : List ℕ) → Option Cost
 cost_from v by i name =
-    option_map (cost_of v by) (slice_get (filter (λ q. same_name (full_name v.statics q) name) (range_with_len i (length v.statics.procs - i))) 0)
+    option_map (cost_of v by) (find (λ q. same_name (full_name v.statics q) name) (range_with_len i (length v.statics.procs - i)))
 
 abbrev Key : Type 0
 Key = Vec ℕ Global

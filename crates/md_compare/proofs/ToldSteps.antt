@@ -2,16 +2,16 @@
 use Rattle.std.proofs.Common.{◌≡◌, ℕ, ◌+◌, Bool, not, List, [], ◌∷◌, ◌++◌, length, map, Option, Some, None, append_assoc, refl, sym, ap, ◌∙◌, inl, inr, arith}
 use Rattle.std.specs.Prelude.{All, is_some}
 use Rattle.std.specs.Cmp.Lexicographic.{nat_list_eq_equiv}
-use Rattle.std.specs.List.{filter, list_any, range_with_len, slice_get}
+use Rattle.std.specs.List.{filter, find, list_any, range_with_len}
 use Rattle.std.specs.Option.{option_map}
 use Rattle.std.proofs.lemmas.Bool.{cases_Bool}
 use Rattle.std.proofs.lemmas.List.Elements.{All-weaker, filter-append, filter_agree}
 use Rattle.std.proofs.lemmas.List.FromFn.{map-range_with_len_more}
 use Rattle.md_base.specs.declared.measure.Measure.{Measure}
 use Rattle.md_cost.specs.View.{View}
-use Rattle.md_people.specs.Compare.{all_names, difference, is_told, names_of, own_named, proc_named, same_name, total_named}
+use Rattle.md_people.specs.Compare.{all_names, difference, is_told, names_of, own_named, same_name, total_named}
 use Rattle.md_people.specs.Counts.{whole_of}
-use Rattle.md_people.specs.Words.{full_name}
+use Rattle.md_people.specs.Words.{full_name, proc_named}
 use Rattle.md_static.specs.Tables.{Static}
 use Rattle.md_compare.specs.Cost.{cost_named, cost_of, difference_of, own_in, total_in}
 use Rattle.md_compare.specs.Named.{AreCostsOf}
@@ -44,16 +44,16 @@ option_twice f g None = refl
 option_twice f g (Some x) = refl
 
 pub own_told : (v : View) (by : Measure) (name : List ℕ) → own_in (cost_named v by name) ≡ own_named v by name
-own_told v by name = option_twice (cost_of v by) (λ (c : Cost). c.own) (proc_named v name)
+own_told v by name = option_twice (cost_of v by) (λ (c : Cost). c.own) (proc_named v.statics name)
 
 pub total_told : (v : View) (by : Measure) (name : List ℕ) → total_in (cost_named v by name) ≡ total_named v by name
-total_told v by name = option_twice (cost_of v by) (λ (c : Cost). c.total) (proc_named v name)
+total_told v by name = option_twice (cost_of v by) (λ (c : Cost). c.total) (proc_named v.statics name)
 
 pub difference_told : (v w : View) (by : Measure) (name : List ℕ) → difference_of (cost_named v by name) (cost_named w by name) ≡ difference v w by name
 difference_told v w by name = rw (own_told v by name, own_told w by name, total_told v by name, total_told w by name) refl
 
 -- a name that no procedure has
-any_named : (h : ℕ → Cost) (f : ℕ → List ℕ) (name : List ℕ) (qs : List ℕ) → is_some (option_map h (slice_get (filter (λ q. same_name (f q) name) qs) 0)) ≡ list_any (same_name name) (map f qs)
+any_named : (h : ℕ → Cost) (f : ℕ → List ℕ) (name : List ℕ) (qs : List ℕ) → is_some (option_map h (find (λ q. same_name (f q) name) qs)) ≡ list_any (same_name name) (map f qs)
 any_named h f name [] = refl
 any_named h f name (q ∷ qs) =
     let turned : same_name name (f q) ≡ same_name (f q) name = nat_list_eq_equiv.symm name (f q) in

@@ -3,8 +3,9 @@ use Rattle.std.specs.Prelude.{ℕ, max, List, Option}
 use Rattle.std.specs.Option.{option_map}
 use Rattle.md_base.specs.declared.measure.Measure.{Measure}
 use Rattle.md_cost.specs.View.{View, OfProcedure}
-use Rattle.md_people.specs.Compare.{apart, proc_named}
+use Rattle.md_people.specs.Compare.{apart}
 use Rattle.md_people.specs.Counts.{own_counts, total_counts}
+use Rattle.md_people.specs.Words.{proc_named}
 use Rattle.md_compare.specs.declared.cost.Cost.{Cost}
 
 abbrev pub cost_of : View → Measure → (procedure : ℕ) → Cost
@@ -12,7 +13,7 @@ cost_of v by q = record { own = own_counts v (OfProcedure q) by; total = total_c
 
 -- what the procedure of a name costs, if one has it
 abbrev pub cost_named : View → Measure → (name : List ℕ) → Option Cost
-cost_named v by name = option_map (cost_of v by) (proc_named v name)
+cost_named v by name = option_map (cost_of v by) (proc_named v.statics name)
 
 abbrev pub own_in : Option Cost → Option ℕ
 own_in cost = option_map (λ c. c.own) cost

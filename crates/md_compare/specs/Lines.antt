@@ -13,8 +13,5 @@ abbrev pub told_line : (whole : ℕ) → Told → LineCells
 told_line whole told = compared_line whole told.difference.0 (own_in told.old) (own_in told.new) (total_in told.old) (total_in told.new) told.name.items
 
 -- the row of the whole, and one for each name
-abbrev pub told_rows : (old new : ℕ) → List Told → List LineCells
-told_rows old new told = whole_line old new ∷ map (told_line old) told
-
 abbrev pub told_table : (old new : ℕ) → List Told → TableCells
-told_table old new told = record { heading = compare_heading; rows = told_rows old new told }
+told_table old new told = record { heading = compare_heading; rows = whole_line old new ∷ map (told_line old) told }

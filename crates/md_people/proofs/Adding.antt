@@ -29,7 +29,7 @@ use Rattle.md_people.proofs.StationSteps.{clique_told, entered_told, start_lower
 
 -- ---- sums over lists
 
-no_sum : {Y : Type 0} (ys : List Y) → sum_by (λ _. 0) ys ≡ 0
+pub no_sum : {Y : Type 0} (ys : List Y) → sum_by (λ _. 0) ys ≡ 0
 no_sum [] = refl
 no_sum {Y} (y ∷ ys) = let first = sum_by-cons (λ (_ : Y). 0) y ys in let rest = no_sum ys in omega arith
 
@@ -111,7 +111,7 @@ module _ (w : ℕ) where
       let other : cond (eqb x i) w 0 ≡ 0 = rw (ne_eqb x i (λ e. absurd (omega arith))) refl in
       omega arith
 
-  range_one : (i n x : ℕ) → i ≤ x → x < i + n → sum_by (λ j. cond (eqb x j) w 0) (range_with_len i n) ≡ w
+  pub range_one : (i n x : ℕ) → i ≤ x → x < i + n → sum_by (λ j. cond (eqb x j) w 0) (range_with_len i n) ≡ w
   range_one i zero x le lt = absurd (omega arith)
   range_one i (suc n) x le lt =
       let split = sum_by-cons (λ (j : ℕ). cond (eqb x j) w 0) i (range_with_len (i + 1) n) in

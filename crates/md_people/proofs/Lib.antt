@@ -1,3 +1,4 @@
+pub mod Names
 pub mod Orders
 pub mod Ranges
 pub mod Views

@@ -38,6 +38,12 @@ pub rows_added : {X : Type 0} (f : ℕ → List X) (n : ℕ) (rows new more : Li
 rows_added {X} f n rows new more rows_are new_is is =
     new_is ∙ ap (λ (rs : List X). rs ++ more) rows_are ∙ ap (λ (rs : List X). flat_map f (range_with_len 0 n) ++ rs) is ∙ sym (flat_more f n)
 
+-- the same below a heading
+pub rows_below : {X : Type 0} (f : ℕ → List X) (heading : X) (n : ℕ) (rows new more : List X) → rows ≡ heading ∷ flat_map f (range_with_len 0 n) → new ≡ rows ++ more → more ≡ f n
+    → new ≡ heading ∷ flat_map f (range_with_len 0 (n + 1))
+rows_below {X} f heading n rows new more rows_are new_is is =
+    new_is ∙ ap (λ (rs : List X). rs ++ more) rows_are ∙ ap (λ (rs : List X). heading ∷ (flat_map f (range_with_len 0 n) ++ rs)) is ∙ ap (λ (rs : List X). heading ∷ rs) (sym (flat_more f n))
+
 -- a test that one number below the end passes, and one that none has passed so far
 pub any_at : (p : ℕ → Bool) (n i : ℕ) → i < n → p i ≡ true → list_any p (range_with_len 0 n) ≡ true
 any_at p n i lt passes =

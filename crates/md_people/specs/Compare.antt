@@ -1,5 +1,5 @@
 -- Two profiles compared, procedure by procedure. Procedures are joined by their full names, which differ within a program.
-use Rattle.std.specs.Prelude.{ℕ, ◌+◌, ◌-◌, ◌*◌, ◌==◌, ◌&&◌, ◌||◌, nat_eq, nat_le, nat_lt, max, not, Bool, List, [], ◌∷◌, ◌++◌, length, map, Option, Some, None, codes, if◌then◌else◌, slice_get, unwrap_or}
+use Rattle.std.specs.Prelude.{ℕ, ◌+◌, ◌-◌, ◌*◌, ◌==◌, ◌&&◌, ◌||◌, nat_eq, nat_le, nat_lt, max, not, Bool, List, [], ◌∷◌, ◌++◌, length, map, Option, Some, None, codes, if◌then◌else◌, unwrap_or}
 use Rattle.std.specs.List.{filter, list_any, range_with_len}
 use Rattle.std.specs.Fmt.{decimal}
 use Rattle.std.specs.Option.{option_map}
@@ -11,7 +11,7 @@ use Rattle.md_table.specs.Cells.{change_words, share_words}
 use Rattle.md_table.specs.Table.{LineCells, TableCells}
 use Rattle.md_people.specs.Costs.{line_of}
 use Rattle.md_people.specs.Counts.{own_counts, total_counts, whole_of}
-use Rattle.md_people.specs.Words.{full_name}
+use Rattle.md_people.specs.Words.{full_name, proc_named}
 
 -- ---- names
 
@@ -26,18 +26,14 @@ names_of v = map (full_name v.statics) (range_with_len 0 (length v.statics.procs
 abbrev pub all_names : (old new : View) → List (List ℕ)
 all_names old new = names_of old ++ filter (λ name. not (list_any (same_name name) (names_of old))) (names_of new)
 
--- the procedure that has a name, if one has it
-abbrev pub proc_named : View → (name : List ℕ) → Option ℕ
-proc_named v name = slice_get (filter (λ q. same_name (full_name v.statics q) name) (range_with_len 0 (length v.statics.procs))) 0
-
 -- ---- numbers
 
 -- the own count and the total of the procedure of a name, where there is one
 abbrev pub own_named : View → Measure → (name : List ℕ) → Option ℕ
-own_named v by name = option_map (λ q. own_counts v (OfProcedure q) by) (proc_named v name)
+own_named v by name = option_map (λ q. own_counts v (OfProcedure q) by) (proc_named v.statics name)
 
 abbrev pub total_named : View → Measure → (name : List ℕ) → Option ℕ
-total_named v by name = option_map (λ q. total_counts v (OfProcedure q) by) (proc_named v name)
+total_named v by name = option_map (λ q. total_counts v (OfProcedure q) by) (proc_named v.statics name)
 
 -- how far two counts are apart, whichever is the greater. What isn't there counts as 0
 abbrev pub apart : Option ℕ → Option ℕ → ℕ

@@ -3,11 +3,12 @@ ghost use Rattle.std.specs.Prelude.{◌≡◌, ◌<◌, ◌^◌, ◌++◌, ◌�
 ghost use Rattle.md_cost.specs.SumOf.{sum_of};
 ghost use Rattle.md_people.specs.Ports.{is_counted, ports_heading, ports_line, ports_table, shown_measures, total_cells};
 ghost use Rattle.md_people.specs.Words.{measure_word};
+ghost use Rattle.md_table.specs.Table.{with_cells};
 
 use crate::costs::push_counted;
 use md_base::{Measure, NoMemory};
 use md_cost::Sums;
-use md_table::{Cells, Line, Lines, Table};
+use md_table::{Lines, Table};
 use std::alloc::Global;
 use std::marker::Model;
 
@@ -82,13 +83,12 @@ pub fn ports_table(
     ensures { IfOk result (λ table. table ≡ ports_table whole last.now rows.now) }
 {
     let shown = shown_measures(alloc, rows)?;
-    let heading = ports_heading(alloc, &shown, last)?;
     let mut lines = Lines::new(alloc);
+    push_heading(&mut lines, &shown, last)?;
     for row in rows {
-        let line = ports_line(alloc, whole, &shown, row)?;
-        lines.push(&line)?;
+        push_row(&mut lines, whole, &shown, row)?;
     }
-    Ok(Table::from_parts(heading, lines))
+    Ok(Table::from_lines(lines))
 }
 
 /// The measures that have a column behind calls.
@@ -131,65 +131,64 @@ fn is_counted(rows: &[PortsRow], measure: Measure) -> bool
     false
 }
 
-/// The heading, with these measures behind calls.
-fn ports_heading(alloc: Global, shown: &[Measure], last: &[u8]) -> Result<Line, NoMemory>
-    ensures { IfOk result (λ line. line ≡ ports_heading shown.now last.now) }
+/// Adds the heading, with these measures behind calls.
+fn push_heading(lines: &mut Lines, shown: &[Measure], last: &[u8]) -> Result<(), NoMemory>
+    ensures { OnOk result (lines.new.ended ≡ lines.old.ended ++ ports_heading shown.now last.now ∷ []) }
 {
-    let mut cells = Cells::new(alloc);
-    cells.add_words(b"total")?;
-    cells.add_words(b"%")?;
-    cells.add_words(b"calls")?;
-    push_measures(&mut cells, shown)?;
-    Ok(Line::from_parts(cells, Vec::from_slice(alloc, last)?))
+    lines.begin();
+    lines.add_words(b"total")?;
+    lines.add_words(b"%")?;
+    lines.add_words(b"calls")?;
+    push_measures(lines, shown)?;
+    lines.end(last)
 }
 
 /// Adds the words of these measures.
-fn push_measures(cells: &mut Cells, shown: &[Measure]) -> Result<(), NoMemory>
-    ensures { OnOk result (cells.new ≡ cells.old ++ map measure_word shown.now) }
+fn push_measures(lines: &mut Lines, shown: &[Measure]) -> Result<(), NoMemory>
+    ensures { OnOk result (lines.new ≡ with_cells lines.old (map measure_word shown.now)) }
 {
     for measure in shown {
-        cells.add_words(measure_word(*measure))?;
+        lines.add_words(measure_word(*measure))?;
     }
     Ok(())
 }
 
-/// The line of a row, with its own counts of these measures behind calls.
-fn ports_line(
-    alloc: Global,
+/// Adds the line of a row, with its own counts of these measures behind calls.
+fn push_row(
+    lines: &mut Lines,
     whole: u64,
     shown: &[Measure],
     row: &PortsRow,
-) -> Result<Line, NoMemory>
-    ensures { IfOk result (λ line. line ≡ ports_line whole shown.now row.now) }
+) -> Result<(), NoMemory>
+    ensures { OnOk result (lines.new.ended ≡ lines.old.ended ++ ports_line whole shown.now row.now ∷ []) }
 {
-    let mut cells = Cells::new(alloc);
-    push_total(&mut cells, row.total(), whole)?;
-    cells.add_count(row.own(Measure::Calls) as u128)?;
-    push_counts(&mut cells, shown, row)?;
-    Ok(Line::from_parts(cells, Vec::from_slice(alloc, row.last())?))
+    lines.begin();
+    push_total(lines, row.total(), whole)?;
+    lines.add_count(row.own(Measure::Calls) as u128)?;
+    push_counts(lines, shown, row)?;
+    lines.end(row.last())
 }
 
 /// Adds a total and its share, or that there is none.
-fn push_total(cells: &mut Cells, total: Option<u128>, whole: u64) -> Result<(), NoMemory>
+fn push_total(lines: &mut Lines, total: Option<u128>, whole: u64) -> Result<(), NoMemory>
     requires { IfSome total (λ n. n < 2 ^ 118) }
-    ensures { OnOk result (cells.new ≡ cells.old ++ total_cells total whole) }
+    ensures { OnOk result (lines.new ≡ with_cells lines.old (total_cells total whole)) }
 {
     match total {
-        Some(total) => push_counted(cells, total, whole),
+        Some(total) => push_counted(lines, total, whole),
         None => {
-            cells.add_words(b"-")?;
-            cells.add_words(b"-")?;
-            Ok(())
+            lines.add_words(b"-")?;
+            lines.add_words(b"-")
         }
     }
 }
 
 /// Adds the own counts of these measures.
-fn push_counts(cells: &mut Cells, shown: &[Measure], row: &PortsRow) -> Result<(), NoMemory>
-    ensures { OnOk result (cells.new ≡ cells.old ++ map (λ m. decimal (sum_of row.now.own m)) shown.now) }
+fn push_counts(lines: &mut Lines, shown: &[Measure], row: &PortsRow) -> Result<(), NoMemory>
+    ensures { OnOk result (lines.new ≡ with_cells lines.old (map (λ m. decimal (sum_of row.now.own m)) shown.now)) }
 {
     for measure in shown {
-        cells.add_count(row.own(*measure) as u128)?;
+        lines.add_count(row.own(*measure) as u128)?;
     }
     Ok(())
 }

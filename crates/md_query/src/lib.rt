@@ -15,7 +15,7 @@ mod tables;
 mod threads;
 
 pub use answer::{PageFault, page};
-pub use pair::number_within;
+pub use pair::{measure_named, number_within};
 pub use query::{Query, QueryFault};
 pub use read::read_query;
 pub use row::{Page, Row, Title, What};

@@ -156,8 +156,8 @@ fn are_digits(bytes: &[u8]) -> bool
     bytes.iter().all(|byte| byte.is_ascii_digit())
 }
 
-/// The measure of this name.
-fn measure_named(name: &str) -> Option<Measure>
+/// The measure of this name, if it is one's.
+pub fn measure_named(name: &str) -> Option<Measure>
     ensures { result ≡ measure_named name.now }
 {
     if name == "calls" {

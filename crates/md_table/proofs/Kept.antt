@@ -1,10 +1,10 @@
--- What is added behind the bytes of cells, or behind the cells of lines, leaves these as they are.
+-- What is added behind the bytes of cells, or behind the cells of rows, leaves these as they are.
 use Rattle.std.proofs.Common.{◌≡◌, ℕ, ◌+◌, ◌-◌, ◌≤◌, List, [], ◌∷◌, ◌++◌, All, length, map, take, drop, get_or, refl, ap, sym, ◌∙◌, arith}
 use Rattle.std.specs.List.{between}
-use Rattle.std.proofs.lemmas.List.{append_assoc, drop_at, drop-append-le, get_or_append_left, get_or_push, length-append, length-drop, map-append, take-append-le, take_all}
+use Rattle.std.proofs.lemmas.List.{drop_all, drop_at, drop-append-le, get_or_append_left, get_or_push, length-append, length-drop, map-append, take-append-le, take_all}
 use Rattle.std.proofs.lemmas.List.Elements.{All-head, All-tail}
 use Rattle.md_table.specs.Spans.{HasLast, IsWithin, cell_in, line_in}
-use Rattle.md_table.specs.Table.{LineCells}
+use Rattle.md_table.specs.Table.{LineCells, RowsCells, with_cells, with_last}
 use Rattle.md_table.specs.declared.span.Span.{Span}
 
 -- a part that ends before the end
@@ -35,6 +35,10 @@ cell_more old new more spans from to within added starts ends =
     ∙ ap (λ (n : ℕ). map (cell_in old) spans ++ between n to (old ++ more) ∷ []) starts
     ∙ ap (λ (cell : List ℕ). map (cell_in old) spans ++ cell ∷ []) (between_end old more to whole)
 
+-- the rows that these spans are, and the one that is begun from a cell on
+abbrev rows_in : (cells : List (List ℕ)) → List Span → (begun : ℕ) → RowsCells
+rows_in cells spans begun = record { ended = map (line_in cells) spans; begun = drop begun cells }
+
 last_kept : (cells more : List (List ℕ)) (span : Span) → HasLast (length cells) span → line_in (cells ++ more) span ≡ line_in cells span
 last_kept cells more span there =
     ap (λ (cs : List (List ℕ)). record { cells = cs; last = get_or (cells ++ more) span.to [] }) (between_kept cells more span.from span.to there.rising (omega (arith, there.inside)))
@@ -46,20 +50,31 @@ lines_kept cells more (span ∷ spans) there =
     ap (λ (line : LineCells). line ∷ map (line_in (cells ++ more)) spans) (last_kept cells more span (All-head (HasLast (length cells)) span spans there))
     ∙ ap (λ (lines : List LineCells). line_in cells span ∷ lines) (lines_kept cells more spans (All-tail (HasLast (length cells)) span spans there))
 
--- one more line, whose cells were added, and behind them that of its last column
-pub line_more : (old most new cells : List (List ℕ)) (last : List ℕ) (spans : List Span) (from to : ℕ) → All (HasLast (length old)) spans
-    → most ≡ old ++ cells → new ≡ most ++ last ∷ [] → from ≡ length old → to ≡ length most
-    → map (line_in new) (spans ++ record { from = from; to = to } ∷ []) ≡ map (line_in old) spans ++ record { cells = cells; last = last } ∷ []
-line_more old most new cells last spans from to there added ended starts ends =
-    let whole : to ≡ length old + length cells = ends ∙ ap length added ∙ length-append old cells in
-    let all : new ≡ old ++ (cells ++ last ∷ []) = ended ∙ ap (λ (cs : List (List ℕ)). cs ++ last ∷ []) added ∙ append_assoc old cells (last ∷ []) in
-    let told : between from to new ≡ cells =
-    ap (λ (cs : List (List ℕ)). between from to cs) ended
-    ∙ between_kept most (last ∷ []) from to (omega (arith, starts, whole)) (omega (arith, ends))
-    ∙ ap (λ (cs : List (List ℕ)). between from to cs) added ∙ ap (λ (n : ℕ). between n to (old ++ cells)) starts ∙ between_end old cells to whole in
-    let behind : get_or new to [] ≡ last = ap (λ (cs : List (List ℕ)). get_or cs to []) ended ∙ get_or_push most last [] to (sym ends) in
-    map-append (line_in new) spans (record { from = from; to = to } ∷ [])
-    ∙ ap (λ (cs : List (List ℕ)). map (line_in cs) spans ++ line_in new (record { from = from; to = to }) ∷ []) all
-    ∙ ap (λ (lines : List LineCells). lines ++ line_in new (record { from = from; to = to }) ∷ []) (lines_kept old (cells ++ last ∷ []) spans there)
+-- one more cell in the row that is begun
+pub cell_added : (old new : List (List ℕ)) (cell : List ℕ) (spans : List Span) (begun : ℕ) → All (HasLast (length old)) spans → begun ≤ length old
+    → new ≡ old ++ cell ∷ []
+    → rows_in new spans begun ≡ with_cells (rows_in old spans begun) (cell ∷ [])
+cell_added old new cell spans begun there within added =
+    ap (λ (cs : List (List ℕ)). rows_in cs spans begun) added
+    ∙ ap (λ (lines : List LineCells). record { ended = lines; begun = drop begun (old ++ cell ∷ []) }) (lines_kept old (cell ∷ []) spans there)
+    ∙ ap (λ (cs : List (List ℕ)). record { ended = map (line_in old) spans; begun = cs }) (drop-append-le begun old (cell ∷ []) within)
+
+-- the row that is begun, ended by its last cell
+pub last_added : (old new : List (List ℕ)) (last : List ℕ) (spans more : List Span) (begun to next : ℕ) → All (HasLast (length old)) spans → begun ≤ length old
+    → new ≡ old ++ last ∷ [] → more ≡ spans ++ record { from = begun; to = to } ∷ [] → to ≡ length old → next ≡ length new
+    → rows_in new more next ≡ with_last (rows_in old spans begun) last
+last_added old new last spans more begun to next there within added pushed ends steps =
+    let told : between begun to new ≡ drop begun old =
+    ap (λ (cs : List (List ℕ)). between begun to cs) added
+    ∙ between_kept old (last ∷ []) begun to (omega (arith, ends)) (omega (arith, ends))
+    ∙ take_all (to - begun) (drop begun old) (omega (arith, ends, length-drop begun old)) in
+    let behind : get_or new to [] ≡ last = ap (λ (cs : List (List ℕ)). get_or cs to []) added ∙ get_or_push old last [] to (sym ends) in
+    let all : map (line_in new) more ≡ map (line_in old) spans ++ record { cells = drop begun old; last = last } ∷ [] =
+    ap (λ (ss : List Span). map (line_in new) ss) pushed
+    ∙ map-append (line_in new) spans (record { from = begun; to = to } ∷ [])
+    ∙ ap (λ (cs : List (List ℕ)). map (line_in cs) spans ++ line_in new (record { from = begun; to = to }) ∷ []) added
+    ∙ ap (λ (lines : List LineCells). lines ++ line_in new (record { from = begun; to = to }) ∷ []) (lines_kept old (last ∷ []) spans there)
     ∙ ap (λ (cs : List (List ℕ)). map (line_in old) spans ++ record { cells = cs; last = get_or new to [] } ∷ []) told
-    ∙ ap (λ (l : List ℕ). map (line_in old) spans ++ record { cells = cells; last = l } ∷ []) behind
+    ∙ ap (λ (l : List ℕ). map (line_in old) spans ++ record { cells = drop begun old; last = l } ∷ []) behind in
+    ap (λ (lines : List LineCells). record { ended = lines; begun = drop next new }) all
+    ∙ ap (λ (cs : List (List ℕ)). record { ended = map (line_in old) spans ++ record { cells = drop begun old; last = last } ∷ []; begun = cs }) (drop_all next new (omega (arith, steps)))

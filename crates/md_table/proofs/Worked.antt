@@ -1,5 +1,5 @@
 -- Cells and tables, worked out by hand.
-use Rattle.std.proofs.Common.{◌≡◌, ℕ, List, [], ◌∷◌, ◌++◌, codes, length, refl}
+use Rattle.std.proofs.Common.{◌≡◌, ℕ, List, [], ◌∷◌, ◌++◌, codes, length, refl, arith}
 use Rattle.std.specs.Prelude.{⊤}
 use Rattle.std.specs.Fmt.{digits}
 use Rattle.md_table.specs.Cells.{change_words, indent_of, ratio_words, share_words, tenths_words}
@@ -7,8 +7,8 @@ use Rattle.percent_encoding.specs.Percent.{percent_encode, percent_encode_byte}
 use Rattle.percent_encoding.specs.AsciiSet.{should_percent_encode}
 use Rattle.md_table.specs.Anchors.{escaped, text_html, words_of}
 use Rattle.md_table.specs.Html.{cells_html, headings_html, html_of, last_html}
-use Rattle.md_table.specs.Spans.{cell_in, line_at, line_in}
-use Rattle.md_table.specs.Table.{LineCells, TableCells, text_of}
+use Rattle.md_table.specs.Spans.{HasLast, IsWithin, cell_in, line_at, line_in}
+use Rattle.md_table.specs.Table.{LineCells, TableCells, text_of, with_cells, with_last}
 
 unfoldable on_tables : ⊤
 unfolding text_of html_of digits percent_encode percent_encode_byte should_percent_encode
@@ -138,6 +138,18 @@ a-table-may-have-a-heading-alone = refl
 a-cell-ends-before-the-next-one : cell_in (codes "8100.0t") (record { from = 1; to = 6 }) ≡ codes "100.0"
 a-cell-ends-before-the-next-one = refl
 
+-- a cell may be empty, and end where the bytes do
+a-cell-may-be-empty-at-the-end : IsWithin 6 (record { from = 6; to = 6 })
+a-cell-may-be-empty-at-the-end = record { rising = omega arith; inside = omega arith }
+
+-- with an end alone that lies within the bytes it would begin behind it
+no-cell-ends-before-it-begins : IsWithin 6 (record { from = 2; to = 1 }) → ⊥
+no-cell-ends-before-it-begins within = omega (arith, within.rising)
+
+-- and with no bound for its end it would have bytes that aren't there
+no-cell-ends-behind-the-bytes : IsWithin 6 (record { from = 1; to = 7 }) → ⊥
+no-cell-ends-behind-the-bytes within = omega (arith, within.inside)
+
 -- the cell that stands right behind those of a line is its last one, and no cell of the next line
 the-last-cell-stands-behind-the-others :
     line_in (codes "8" ∷ codes "a" ∷ codes "6" ∷ codes "75.0" ∷ codes "b" ∷ codes "4" ∷ []) (record { from = 2; to = 4 }) ≡ line (codes "6" ∷ codes "75.0" ∷ []) (codes "b")
@@ -145,6 +157,23 @@ the-last-cell-stands-behind-the-others = refl
 
 a-line-may-have-its-last-cell-alone : line_in (codes "a" ∷ codes "b" ∷ []) (record { from = 1; to = 1 }) ≡ line [] (codes "b")
 a-line-may-have-its-last-cell-alone = refl
+
+-- a line whose only cell is the last of all
+the-last-cell-of-all-may-be-that-of-a-line : HasLast 3 (record { from = 2; to = 2 })
+the-last-cell-of-all-may-be-that-of-a-line = record { rising = omega arith; inside = omega arith }
+
+-- a bound as that of a cell would let the last cell of a line be one that isn't there
+no-line-ends-without-its-last-cell : HasLast 3 (record { from = 1; to = 3 }) → ⊥
+no-line-ends-without-its-last-cell there = omega (arith, there.inside)
+
+no-line-ends-before-it-begins : HasLast 3 (record { from = 2; to = 1 }) → ⊥
+no-line-ends-before-it-begins there = omega (arith, there.rising)
+
+-- cells come behind those that the row has, and its end leaves no row begun
+a-row-is-ended-by-its-last-cell :
+    with_last (with_cells (record { ended = line [] (codes "a") ∷ []; begun = codes "8" ∷ [] }) (codes "1.0" ∷ codes "9" ∷ [])) (codes "b")
+    ≡ record { ended = line [] (codes "a") ∷ line (codes "8" ∷ codes "1.0" ∷ codes "9" ∷ []) (codes "b") ∷ []; begun = [] }
+a-row-is-ended-by-its-last-cell = refl
 
 lines-are-counted-from-0 : line_at costs.rows 1 ≡ line (codes "6" ∷ codes "75.0" ∷ codes "2" ∷ codes "25.0" ∷ codes "3.0" ∷ []) (codes "t.x/1")
 lines-are-counted-from-0 = refl

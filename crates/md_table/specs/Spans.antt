@@ -1,4 +1,4 @@
--- How cells and lines are kept: the bytes of cells one behind the other, and where each cell lies among them; and the cells of lines in the
+-- How cells and rows are kept: the bytes of cells one behind the other, and where each cell lies among them; and the cells of rows in the
 -- same way.
 use Rattle.std.specs.Prelude.{ℕ, ◌<◌, ◌≤◌, List, [], slice_index_or}
 use Rattle.std.specs.List.{between}

@@ -11,6 +11,19 @@ pub record TableCells : Type 0 where
   pub heading : LineCells
   pub rows : List LineCells
 
+-- the rows that are ended, and the cells so far of one that is begun
+pub record RowsCells : Type 0 where
+  pub ended : List LineCells
+  pub begun : List (List ℕ)
+
+-- cells more in the row that is begun
+abbrev pub with_cells : RowsCells → List (List ℕ) → RowsCells
+with_cells rows cells = record { ended = rows.ended; begun = rows.begun ++ cells }
+
+-- the row that is begun, ended by the cell of its last column
+abbrev pub with_last : RowsCells → (last : List ℕ) → RowsCells
+with_last rows last = record { ended = rows.ended ++ record { cells = rows.begun; last = last } ∷ []; begun = [] }
+
 -- the heading, and the rows below it
 abbrev pub lines_of : TableCells → List LineCells
 lines_of table = table.heading ∷ table.rows

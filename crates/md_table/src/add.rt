@@ -25,8 +25,8 @@ pub fn add_number(out: &mut Vec<u8>, number: u128) -> Result<(), AllocError>
 pub(crate) fn add_spaces(out: &mut Vec<u8>, count: usize) -> Result<(), AllocError>
     ensures { OnOk result (out.new.items ≡ out.old.items ++ replicate count 32) }
 {
-    for _place in 0..count {
-        out.push(b' ')?;
+    match out.len().checked_add(count) {
+        Some(len) => out.resize(len, b' '),
+        None => Err(AllocError),
     }
-    Ok(())
 }

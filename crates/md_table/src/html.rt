@@ -6,9 +6,6 @@ ghost use Rattle.md_table.specs.Html.{bar_words, cell_below, cells_html, heading
 
 use crate::add::add;
 use crate::anchor::{add_escaped, add_named, add_text_html};
-use crate::cells::Cells;
-use crate::line::Line;
-use crate::lines::Lines;
 use crate::row::Row;
 use crate::table::Table;
 use crate::target::Target;
@@ -30,28 +27,28 @@ pub fn add_html(
     ensures { OnOk result (out.new.items ≡ out.old.items ++ html_of by.now sort.now most table.now) }
 {
     add(out, b"<table>\n")?;
-    add_headings(out, sort, table.heading())?;
-    add_rows(out, by, table.heading(), table.rows(), most)?;
+    add_headings(out, sort, &table.heading())?;
+    add_rows(out, by, table, most)?;
     add(out, b"</table>\n")?;
     Ok(())
 }
 
 /// Adds the row of headings.
-fn add_headings(out: &mut Vec<u8>, sort: &[u8], line: &Line) -> Result<(), AllocError>
+fn add_headings(out: &mut Vec<u8>, sort: &[u8], line: &Row) -> Result<(), AllocError>
     ensures { OnOk result (out.new.items ≡ out.old.items ++ headings_html sort.now line.now) }
 {
     add(out, b"<tr>")?;
-    add_each_heading(out, sort, line.cells())?;
+    add_each_heading(out, sort, line)?;
     add_heading(out, b"", line.last())?;
     add(out, b"</tr>\n")
 }
 
 /// Adds the headings of all columns but the last.
-fn add_each_heading(out: &mut Vec<u8>, sort: &[u8], cells: &Cells) -> Result<(), AllocError>
-    ensures { OnOk result (out.new.items ≡ out.old.items ++ flat_map (heading_html sort.now) cells.now) }
+fn add_each_heading(out: &mut Vec<u8>, sort: &[u8], line: &Row) -> Result<(), AllocError>
+    ensures { OnOk result (out.new.items ≡ out.old.items ++ flat_map (heading_html sort.now) line.now.cells) }
 {
-    for column in 0..cells.len() {
-        add_heading(out, sort, cells.get(column))?;
+    for column in 0..line.len() {
+        add_heading(out, sort, line.get(column))?;
     }
     Ok(())
 }
@@ -95,47 +92,42 @@ fn is_sorted(sort: &[u8], heading: &[u8]) -> bool
 }
 
 /// Adds the first `most` rows.
-fn add_rows(
-    out: &mut Vec<u8>,
-    by: &[u8],
-    heading: &Line,
-    rows: &Lines,
-    most: usize,
-) -> Result<(), AllocError>
-    ensures { OnOk result (out.new.items ≡ out.old.items ++ flat_map (row_html by.now heading.now) (take most rows.now)) }
+fn add_rows(out: &mut Vec<u8>, by: &[u8], table: &Table, most: usize) -> Result<(), AllocError>
+    ensures { OnOk result (out.new.items ≡ out.old.items ++ flat_map (row_html by.now table.now.heading) (take most table.now.rows)) }
 {
-    for place in 0..most.min(rows.len()) {
-        add_row(out, by, heading, &rows.row(place))?;
+    let heading = table.heading();
+    for place in 0..most.min(table.len()) {
+        add_row(out, by, &heading, &table.row(place))?;
     }
     Ok(())
 }
 
 /// Adds a row below this heading.
-fn add_row(out: &mut Vec<u8>, by: &[u8], heading: &Line, line: &Row) -> Result<(), AllocError>
+fn add_row(out: &mut Vec<u8>, by: &[u8], heading: &Row, line: &Row) -> Result<(), AllocError>
     ensures { OnOk result (out.new.items ≡ out.old.items ++ row_html by.now heading.now line.now) }
 {
     add(out, b"<tr>")?;
-    add_cells(out, heading.cells(), line)?;
+    add_cells(out, heading, line)?;
     add_last(out, by, heading.last(), line.last())?;
     add(out, b"</tr>\n")
 }
 
 /// Adds the cells of a row but the last, each below its heading.
-fn add_cells(out: &mut Vec<u8>, headings: &Cells, line: &Row) -> Result<(), AllocError>
-    ensures { OnOk result (out.new.items ≡ out.old.items ++ cells_html headings.now line.now.cells) }
+fn add_cells(out: &mut Vec<u8>, heading: &Row, line: &Row) -> Result<(), AllocError>
+    ensures { OnOk result (out.new.items ≡ out.old.items ++ cells_html heading.now.cells line.now.cells) }
 {
     for column in 0..line.len() {
-        add_below(out, heading_at(headings, column), line.get(column))?;
+        add_below(out, heading_at(heading, column), line.get(column))?;
     }
     Ok(())
 }
 
 /// The heading of a column, which is empty where there is none.
-fn heading_at(headings: &Cells, column: usize) -> &[u8]
-    ensures { result.now ≡ slice_index_or headings.now column [] }
+fn heading_at<'a>(heading: &'a Row<'_>, column: usize) -> &'a [u8]
+    ensures { result.now ≡ slice_index_or heading.now.cells column [] }
 {
-    if column < headings.len() {
-        headings.get(column)
+    if column < heading.len() {
+        heading.get(column)
     } else {
         b""
     }

@@ -5,7 +5,6 @@ mod add;
 mod anchor;
 mod cells;
 mod html;
-mod line;
 mod lines;
 mod number;
 mod row;
@@ -17,9 +16,7 @@ mod width;
 
 pub use add::add_number;
 pub use anchor::{add_encoded, add_escaped};
-pub use cells::Cells;
 pub use html::add_html;
-pub use line::Line;
 pub use lines::Lines;
 pub use number::{add_indent, add_share};
 pub use table::Table;

@@ -68,6 +68,7 @@ fn add_tenths(out: &mut Vec<u8>, tenths: u128) -> Result<(), AllocError>
     ensures grown { length out.old.items ≤ length out.new.items }
 {
     add_number(out, tenths / 10)?;
-    add(out, b".")?;
-    add_number(out, tenths % 10)
+    out.push(b'.')?;
+    out.push(b'0' + (tenths % 10) as u8)?;
+    Ok(())
 }

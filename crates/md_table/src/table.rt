@@ -1,44 +1,56 @@
 // A table.
-use crate::line::Line;
 use crate::lines::Lines;
+use crate::row::Row;
 use std::marker::Model;
 
 /// A table: its heading, and its rows from top to bottom.
 #[derive(Drop)]
 pub struct Table {
-    heading: Line,
-    rows: Lines,
+    lines: Lines,
 }
 
 impl Model for Table {
+    ghost use Rattle.std.specs.Prelude.{drop};
+    ghost use Rattle.md_table.specs.Spans.{line_at};
     ghost use Rattle.md_table.specs.Table.{TableCells};
 
     ghost Value = { TableCells };
 
-    ghost view = { λ table. record { heading = table.heading; rows = table.rows } };
+    ghost view = { λ table. record { heading = line_at table.lines.ended 0; rows = drop 1 table.lines.ended } };
 }
 
 impl Table {
-    ghost use Rattle.std.specs.Prelude.{◌≡◌};
+    ghost use Rattle.std.specs.Prelude.{◌≡◌, ◌<◌, drop, length};
+    ghost use Rattle.md_table.specs.Spans.{line_at};
 
-    /// A table of this heading and these rows. Takes no memory.
-    pub fn from_parts(heading: Line, rows: Lines) -> Table
-        ensures { result ≡ record { heading = heading; rows = rows } }
+    /// A table of the rows that are ended, of which the first is the heading. The heading is empty where there is none. Takes no memory.
+    pub fn from_lines(lines: Lines) -> Table
+        ensures { result ≡ record { heading = line_at lines.ended 0; rows = drop 1 lines.ended } }
     {
-        Table { heading, rows }
+        Table { lines }
     }
 
-    /// The heading.
-    pub(crate) fn heading(&self) -> &Line
-        ensures { result.now ≡ self.now.heading }
+    /// How many rows there are below the heading.
+    pub fn len(&self) -> usize
+        ensures { result ≡ length self.now.rows }
     {
-        &self.heading
+        self.lines.len().saturating_sub(1)
     }
 
-    /// The rows, from top to bottom.
-    pub fn rows(&self) -> &Lines
-        ensures { result.now ≡ self.now.rows }
+    /// The heading, to be read.
+    pub(crate) fn heading(&self) -> Row<'_>
+        ensures { result ≡ self.now.heading }
     {
-        &self.rows
+        self.lines.row(0)
+    }
+
+    /// A row below the heading, to be read.
+    pub(crate) fn row(&self, place: usize) -> Row<'_>
+        requires { place < length self.now.rows }
+        ensures { result ≡ line_at self.now.rows place }
+    {
+        // a place among the lines is a number of 64 bits
+        let _lines = self.lines.len();
+        self.lines.row(place + 1)
     }
 }

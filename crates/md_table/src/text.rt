@@ -4,7 +4,6 @@ ghost use Rattle.std.specs.List.{flat_map};
 ghost use Rattle.md_table.specs.Table.{text_of, line_words, cells_words, at_right, width_in};
 
 use crate::add::{add, add_spaces};
-use crate::lines::Lines;
 use crate::row::Row;
 use crate::table::Table;
 use crate::width::widths_of;
@@ -18,17 +17,17 @@ pub fn add_text(out: &mut Vec<u8>, table: &Table) -> Result<(), NoMemory>
     let alloc: Global = *out.allocator();
     let widths = widths_of(alloc, table)?;
     out.push(b'\n')?;
-    add_line(out, &widths, &table.heading().row())?;
-    add_rows(out, &widths, table.rows())?;
+    add_line(out, &widths, &table.heading())?;
+    add_rows(out, &widths, table)?;
     Ok(())
 }
 
 /// Adds the line of each row.
-fn add_rows(out: &mut Vec<u8>, widths: &[usize], rows: &Lines) -> Result<(), AllocError>
-    ensures { OnOk result (out.new.items ≡ out.old.items ++ flat_map (line_words (width_in widths.now)) rows.now) }
+fn add_rows(out: &mut Vec<u8>, widths: &[usize], table: &Table) -> Result<(), AllocError>
+    ensures { OnOk result (out.new.items ≡ out.old.items ++ flat_map (line_words (width_in widths.now)) table.now.rows) }
 {
-    for place in 0..rows.len() {
-        add_line(out, widths, &rows.row(place))?;
+    for place in 0..table.len() {
+        add_line(out, widths, &table.row(place))?;
     }
     Ok(())
 }

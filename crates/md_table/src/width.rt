@@ -12,10 +12,9 @@ pub(crate) fn widths_of(alloc: Global, table: &Table) -> Result<Vec<usize>, NoMe
     ensures { IfOk result (λ widths. (column : ℕ) → width_in widths.items column ≡ width_of (lines_of table.now) column) }
 {
     let mut widths = Vec::new(alloc);
-    let rows = table.rows();
-    widen(&mut widths, &table.heading().row())?;
-    for place in 0..rows.len() {
-        widen(&mut widths, &rows.row(place))?;
+    widen(&mut widths, &table.heading())?;
+    for place in 0..table.len() {
+        widen(&mut widths, &table.row(place))?;
     }
     Ok(widths)
 }

@@ -125,10 +125,11 @@ module _ (v : View) (by : Measure) (least : ℕ) (cs : List Child) where
         ∙ rows_of_hidden v by least b.level b.hidden b.sum c.2 (cliques_left cs (past b.rest)) hidden
         ∙ ap (λ (t : ℕ). rows_of_left v by least b.level (b.hidden + 1) (b.sum + t) (cliques_left cs (past b.rest))) (sym total_is)
 
-    pub step_shown : (b d : Branch) (c : Child) (row : LineCells) (rows new : List LineCells) (before after : List Branch) → IsNext cs b.rest c → HasAllOf cs c.2 d.rest → d ≡ branch_at b d.rest → is_shown v by least c.2 ≡ true
-        → row ≡ clique_row v by b.level c.2 → new ≡ rows ++ row ∷ [] → after ≡ (before ++ past_shown b ∷ []) ++ d ∷ []
+    pub step_shown : (b d : Branch) (c : Child) (rows new : List LineCells) (before after : List Branch) → IsNext cs b.rest c → HasAllOf cs c.2 d.rest → d ≡ branch_at b d.rest → is_shown v by least c.2 ≡ true
+        → new ≡ rows ++ clique_row v by b.level c.2 ∷ [] → after ≡ (before ++ past_shown b ∷ []) ++ d ∷ []
         → new ++ open_rows v by least cs after ≡ rows ++ (branch_rows v by least cs b ++ open_rows v by least cs before)
-    step_shown b d c row rows new before after next whole d_is shown row_is new_is after_is =
+    step_shown b d c rows new before after next whole d_is shown new_is after_is =
+        let row = clique_row v by b.level c.2 in
         let at_d = branch_rows v by least cs (branch_at b d.rest) in
         let at_past = branch_rows v by least cs (past_shown b) in
         let others = open_rows v by least cs before in
@@ -136,8 +137,7 @@ module _ (v : View) (by : Measure) (least : ℕ) (cs : List Child) where
         ∙ ap (λ (bs : List Branch). (rows ++ row ∷ []) ++ open_rows v by least cs bs) (after_is ∙ ap (λ (x : Branch). (before ++ past_shown b ∷ []) ++ x ∷ []) d_is)
         ∙ ap (λ (xs : List LineCells). (rows ++ row ∷ []) ++ xs) (open_push (before ++ past_shown b ∷ []) (branch_at b d.rest) ∙ ap (λ (xs : List LineCells). at_d ++ xs) (open_push before (past_shown b)))
         ∙ append_assoc rows (row ∷ []) (at_d ++ (at_past ++ others))
-        ∙ ap (λ (r : LineCells). rows ++ (r ∷ (at_d ++ (at_past ++ others)))) row_is
-        ∙ ap (λ (xs : List LineCells). rows ++ xs) (sym (append_assoc (clique_row v by b.level c.2 ∷ at_d) at_past others))
+        ∙ ap (λ (xs : List LineCells). rows ++ xs) (sym (append_assoc (row ∷ at_d) at_past others))
         ∙ ap (λ (xs : List LineCells). rows ++ (xs ++ others)) (sym (rows_shown b d.rest c next whole shown))
 
     pub step_hidden : (b : Branch) (c : Child) (total : ℕ) (rows : List LineCells) (before after : List Branch) → IsNext cs b.rest c → total ≡ clique_total v by c.2 → is_shown v by least c.2 ≡ false

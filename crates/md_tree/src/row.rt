@@ -1,32 +1,30 @@
 // The rows of the tree.
-ghost use Rattle.std.specs.Prelude.{◌≡◌, ◌<◌, ◌++◌, ◌^◌, ℕ, codes, decimal, IfOk, OnOk};
+ghost use Rattle.std.specs.Prelude.{◌≡◌, ◌<◌, ◌++◌, ◌∷◌, [], ◌^◌, ℕ, codes, decimal, OnOk};
 ghost use Rattle.md_clique.specs.Cliques.{clique_count};
 ghost use Rattle.md_cost.specs.FileView.{IsFileView};
 ghost use Rattle.md_cost.specs.View.{View};
+ghost use Rattle.md_people.specs.Costs.{counted_cells, line_of};
 ghost use Rattle.md_people.specs.Counts.{whole_of};
 ghost use Rattle.md_people.specs.Tree.{clique_own, clique_row, clique_total, is_shown, tree_heading};
-ghost use Rattle.md_tree.specs.Branches.{more_of, more_row};
+ghost use Rattle.md_tree.specs.Branches.{more_of};
 
 use crate::entry::add_where;
 use crate::scale::Scale;
 use md_base::{Measure, NoMemory, PdId};
 use md_cost::Loaded;
 use md_people::{add_number, push_counted};
-use md_table::{Cells, Line, Lines, add_indent};
-use std::alloc::{AllocError, Global};
+use md_table::{Lines, add_indent};
+use std::alloc::AllocError;
 
-/// How many bytes the words of most cliques have room in.
-const ROOM: usize = 128;
-
-/// The heading of the tree.
-pub(crate) fn tree_heading(alloc: Global) -> Result<Line, NoMemory>
-    ensures { IfOk result (λ line. line ≡ tree_heading) }
+/// Adds the heading of the tree.
+pub(crate) fn push_heading(rows: &mut Lines) -> Result<(), NoMemory>
+    ensures { OnOk result (rows.new.ended ≡ rows.old.ended ++ tree_heading ∷ []) }
 {
-    let mut cells = Cells::new(alloc);
-    cells.add_words(b"total")?;
-    cells.add_words(b"%")?;
-    cells.add_words(b"own")?;
-    Ok(Line::from_parts(cells, Vec::from_slice(alloc, b"where")?))
+    rows.begin();
+    rows.add_words(b"total")?;
+    rows.add_words(b"%")?;
+    rows.add_words(b"own")?;
+    rows.end(b"where")
 }
 
 /// Whether a clique of this total has a row.
@@ -37,27 +35,41 @@ pub(crate) fn is_shown(scale: Scale, total: u64) -> bool
         && (scale.least == 0 || total > 0)
 }
 
-/// The row of a clique at this level.
-pub(crate) fn clique_row(
-    alloc: Global,
+/// Adds the row of a clique at this level. The words of its last column are made in `words`, of which nothing else is left.
+pub(crate) fn push_clique(
+    rows: &mut Lines,
+    words: &mut Vec<u8>,
     loaded: &Loaded,
     scale: Scale,
     level: u32,
     clique: u32,
-) -> Result<Line, NoMemory>
+) -> Result<(), NoMemory>
     requires there { clique < clique_count loaded.now.cliques }
     requires whole { (v : View) → IsFileView loaded.now.profile v → scale.whole ≡ whole_of v scale.by }
-    ensures { IfOk result (λ line. (v : View) → IsFileView loaded.now.profile v → line ≡ clique_row v scale.by level clique) }
+    ensures { (v : View) → IsFileView loaded.now.profile v → OnOk result (rows.new.ended ≡ rows.old.ended ++ clique_row v scale.by level clique ∷ []) }
 {
     let total = loaded.clique_total(clique).of(scale.by);
     let own = clique_own(loaded, scale.by, clique);
-    let mut cells = Cells::new(alloc);
-    push_counted(&mut cells, total as u128, scale.whole)?;
-    cells.add_count(own)?;
-    let mut words = Vec::with_capacity(alloc, ROOM)?;
-    add_indent(&mut words, level)?;
-    add_where(&mut words, loaded, clique)?;
-    Ok(Line::from_parts(cells, words))
+    words.clear();
+    add_indent(words, level)?;
+    add_where(words, loaded, clique)?;
+    push_row(rows, scale.whole, total, own, words)
+}
+
+/// Adds a row with this total, own count and last cell.
+fn push_row(
+    rows: &mut Lines,
+    whole: u64,
+    total: u64,
+    own: u128,
+    last: &[u8],
+) -> Result<(), NoMemory>
+    ensures { OnOk result (rows.new.ended ≡ rows.old.ended ++ line_of (counted_cells total whole ++ decimal own ∷ []) last.now ∷ []) }
+{
+    rows.begin();
+    push_counted(rows, total as u128, whole)?;
+    rows.add_count(own)?;
+    rows.end(last)
 }
 
 /// The sum of the own counts of a clique's contexts, and so many steps. Takes no memory.
@@ -74,37 +86,37 @@ pub fn clique_own(loaded: &Loaded, by: Measure, clique: u32) -> u128
     sum
 }
 
-/// Adds the row of so many children that have none of their own, where there are any.
+/// Adds the row of so many children that have none of their own, where there are any. The words of its last column are made in `words`,
+/// of which nothing else is left.
 pub(crate) fn push_more(
-    alloc: Global,
     rows: &mut Lines,
+    words: &mut Vec<u8>,
     scale: Scale,
     level: u32,
     count: u32,
     sum: u128,
 ) -> Result<(), NoMemory>
     requires { sum < 2 ^ 118 }
-    ensures { (v : View) → scale.whole ≡ whole_of v scale.by → OnOk result (rows.new ≡ rows.old ++ more_of v scale.by level count sum) }
+    ensures { (v : View) → scale.whole ≡ whole_of v scale.by → OnOk result (rows.new.ended ≡ rows.old.ended ++ more_of v scale.by level count sum) }
 {
     if count == 0 {
         return Ok(());
     }
-    let line = more_row(alloc, scale.whole, level, count, sum)?;
-    rows.push(&line)
+    words.clear();
+    add_indent(words, level)?;
+    add_more(words, count)?;
+    push_sum(rows, scale.whole, sum, words)
 }
 
-/// The row of children that have none of their own.
-fn more_row(alloc: Global, whole: u64, level: u32, count: u32, sum: u128) -> Result<Line, NoMemory>
+/// Adds a row with this sum of totals, no own count and this last cell.
+fn push_sum(rows: &mut Lines, whole: u64, sum: u128, last: &[u8]) -> Result<(), NoMemory>
     requires { sum < 2 ^ 118 }
-    ensures { IfOk result (λ line. line ≡ more_row whole level count sum) }
+    ensures { OnOk result (rows.new.ended ≡ rows.old.ended ++ line_of (counted_cells sum whole ++ codes "-" ∷ []) last.now ∷ []) }
 {
-    let mut cells = Cells::new(alloc);
-    push_counted(&mut cells, sum, whole)?;
-    cells.add_words(b"-")?;
-    let mut words = Vec::new(alloc);
-    add_indent(&mut words, level)?;
-    add_more(&mut words, count)?;
-    Ok(Line::from_parts(cells, words))
+    rows.begin();
+    push_counted(rows, sum, whole)?;
+    rows.add_words(b"-")?;
+    rows.end(last)
 }
 
 /// Adds how many children have no row.

@@ -12,7 +12,7 @@ ghost use Rattle.md_tree.specs.Rests.{rest_work};
 use crate::branch::{Branch, branch_below, past_hidden, past_shown};
 use crate::child::{Child, children_of};
 use crate::rest::next_child;
-use crate::row::{clique_row, is_shown, push_more, tree_heading};
+use crate::row::{is_shown, push_clique, push_heading, push_more};
 use crate::scale::{Scale, scale_of};
 use md_base::{Measure, NoMemory};
 use md_cost::Loaded;
@@ -32,40 +32,56 @@ pub fn tree_table(
     ensures { IfOk result (λ table. (v : View) → IsFileView loaded.now.profile v → table ≡ tree_table v by least) }
 {
     let children = children_of(alloc, loaded, by)?;
-    let rows = tree_rows(alloc, loaded, scale_of(loaded, by, least), &children)?;
-    let heading = tree_heading(alloc)?;
-    Ok(Table::from_parts(heading, rows))
+    let mut rows = Lines::new(alloc);
+    push_heading(&mut rows)?;
+    push_rows(
+        alloc,
+        &mut rows,
+        loaded,
+        scale_of(loaded, by, least),
+        &children,
+    )?;
+    Ok(Table::from_lines(rows))
 }
 
-/// The rows of the tree.
-fn tree_rows(
+/// Adds the rows of the tree.
+fn push_rows(
     alloc: Global,
+    rows: &mut Lines,
     loaded: &Loaded,
     scale: Scale,
     children: &[Child],
-) -> Result<Lines, NoMemory>
+) -> Result<(), NoMemory>
     requires whole { (v : View) → IsFileView loaded.now.profile v → scale.whole ≡ whole_of v scale.by }
     requires children { AreChildren (clique_count loaded.now.cliques) children.now }
     requires view { (v : View) → IsFileView loaded.now.profile v → AreChildrenOf v scale.by children.now }
-    ensures { IfOk result (λ rows. (v : View) → IsFileView loaded.now.profile v → rows ≡ rows_from v scale.by scale.least (clique_count v.cliques) 0 0) }
+    ensures { (v : View) → IsFileView loaded.now.profile v → OnOk result (rows.new.ended ≡ rows.old.ended ++ rows_from v scale.by scale.least (clique_count v.cliques) 0 0) }
 {
     // it is valid and has a tree, which `profile` says
     let _profile = loaded.profile();
-    let mut rows = Lines::new(alloc);
     let mut branches = Vec::new(alloc);
-    let row = clique_row(alloc, loaded, scale, 0, 0)?;
-    rows.push(&row)?;
+    let mut words = Vec::new(alloc);
+    push_clique(rows, &mut words, loaded, scale, 0, 0)?;
     branches.push(branch_below(children, 0, 1))?;
     while let Some(branch) = branches.pop() {
-        go_on(&mut rows, &mut branches, loaded, scale, children, branch)?;
+        go_on(
+            rows,
+            &mut words,
+            &mut branches,
+            loaded,
+            scale,
+            children,
+            branch,
+        )?;
     }
-    Ok(rows)
+    Ok(())
 }
 
 /// Goes on in a branch: by the row of its next child and a branch below that, past a child that has no row, or by the row of those that
 /// have none.
 fn go_on(
     rows: &mut Lines,
+    words: &mut Vec<u8>,
     branches: &mut Vec<Branch>,
     loaded: &Loaded,
     scale: Scale,
@@ -77,19 +93,17 @@ fn go_on(
     requires view { (v : View) → IsFileView loaded.now.profile v → AreChildrenOf v scale.by children.now }
     requires branch { IsBranch (clique_count loaded.now.cliques) children.now branch }
     requires branches { All (IsBranch (clique_count loaded.now.cliques) children.now) branches.old.items }
-    ensures rows { (v : View) → IsFileView loaded.now.profile v → OnOk result (rows.new ++ open_rows v scale.by scale.least children.now branches.new.items ≡ rows.old ++ (branch_rows v scale.by scale.least children.now branch ++ open_rows v scale.by scale.least children.now branches.old.items)) }
+    ensures rows { (v : View) → IsFileView loaded.now.profile v → OnOk result (rows.new.ended ++ open_rows v scale.by scale.least children.now branches.new.items ≡ rows.old.ended ++ (branch_rows v scale.by scale.least children.now branch ++ open_rows v scale.by scale.least children.now branches.old.items)) }
     ensures branches { OnOk result (All (IsBranch (clique_count loaded.now.cliques) children.now) branches.new.items) }
     ensures work { OnOk result (open_work children.now (clique_count loaded.now.cliques) branches.new.items < rest_work children.now (clique_count loaded.now.cliques) branch.rest + open_work children.now (clique_count loaded.now.cliques) branches.old.items) }
 {
     // it is valid and has a tree, which `profile` says
     let _profile = loaded.profile();
-    let alloc: Global = *branches.allocator();
     let Some((_parent, total, clique)) = next_child(children, branch.rest) else {
-        return push_more(alloc, rows, scale, branch.level, branch.hidden, branch.sum);
+        return push_more(rows, words, scale, branch.level, branch.hidden, branch.sum);
     };
     if is_shown(scale, total.0) {
-        let row = clique_row(alloc, loaded, scale, branch.level, clique)?;
-        rows.push(&row)?;
+        push_clique(rows, words, loaded, scale, branch.level, clique)?;
         branches.push(past_shown(branch))?;
         branches.push(branch_below(children, clique, branch.level + 1))?;
     } else {

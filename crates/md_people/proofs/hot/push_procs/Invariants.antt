@@ -5,4 +5,4 @@ use Rattle.md_people.specs.Hot.{proc_line}
 use Rattle.md_people.proofs.hot.push_procs.Given as goal
 
 abbrev pub invariant-loop-id : goal.invariant-loop-id
-invariant-loop-id l = (v : View) → IsFileView l.loaded.profile v → l.rows ≡ l.fn.rows ++ map (proc_line v l.by) (take l.id-index l.ids)
+invariant-loop-id l = (v : View) → IsFileView l.loaded.profile v → l.rows.ended ≡ l.fn.rows.ended ++ map (proc_line v l.by) (take l.id-index l.ids)

@@ -1,4 +1,4 @@
-use Rattle.std.proofs.Common.{◌≡◌, ◌<◌, ℕ, Bool, false, length, sym, ap, ◌∙◌}
+use Rattle.std.proofs.Common.{◌≡◌, ◌<◌, ℕ, false, length}
 use Rattle.std.specs.Str.{bytes_eq}
 use Rattle.md_people.specs.Words.{full_name, proc_named}
 use Rattle.md_people.proofs.Ranges.{first_of_rest}

@@ -5,4 +5,4 @@ use Rattle.md_table.proofs.html.add_cells.Given as goal
 
 -- the cells so far, each below its heading
 abbrev pub invariant-loop-column : goal.invariant-loop-column
-invariant-loop-column l = l.out.items ≡ l.fn.out.items ++ flat_map (cell_html l.headings) (take l.column (enumerate_from 0 l.line.cells))
+invariant-loop-column l = l.out.items ≡ l.fn.out.items ++ flat_map (cell_html l.heading.cells) (take l.column (enumerate_from 0 l.line.cells))

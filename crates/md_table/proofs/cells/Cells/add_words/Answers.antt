@@ -1,4 +1,5 @@
 use Rattle.std.proofs.Common.{rules, List, ℕ, [], ◌∷◌, ◌++◌, ap, ◌∙◌, map}
+use Rattle.std.proofs.lemmas.Result.{on_ok_weaker}
 use Rattle.md_table.proofs.Kept.{cell_more}
 use Rattle.md_table.specs.Spans.{cell_in}
 use Rattle.md_table.specs.declared.span.Span.{Span}
@@ -6,6 +7,9 @@ use Rattle.md_table.proofs.cells.Cells.add_words.Goals as goal
 
 pub returns-clause-added : goal.returns-clause-added
 returns-clause-added c =
-    ap (λ (spans : List Span). map (cell_in c.add.new.out.items) spans) c.in_ok-push.ensures.items
+    on_ok_weaker c.end_cell.result
+    (λ spans_are.
+    ap (λ (spans : List Span). map (cell_in c.add.new.out.items) spans) spans_are
     ∙ cell_more c.self.inside.words.items c.add.new.out.items _ c.self.inside.spans.items _ _ c.self.invariant c.in_ok-add.ensures.added (search rules) (search rules)
-    ∙ ap (λ (cells : List (List ℕ)). cells ++ c.args.words.now ∷ []) c.self.view_is
+    ∙ ap (λ (cells : List (List ℕ)). cells ++ c.args.words.now ∷ []) c.self.view_is)
+    c.end_cell.ensures.ended

@@ -1,0 +1,13 @@
+use Rattle.std.proofs.Common.{[], ◌∷◌, ap, ◌∙◌}
+use Rattle.std.proofs.lemmas.Result.{on_ok_weaker}
+use Rattle.md_table.specs.Table.{RowsCells, with_cells}
+use Rattle.md_table.proofs.Kept.{cell_added}
+use Rattle.md_table.proofs.lines.Lines.add_words.Goals as goal
+
+pub returns : goal.returns
+returns c =
+    on_ok_weaker c.add_words.result
+    (λ added.
+    cell_added c.self.inside.cells c.add_words.new.self _ c.self.inside.spans.items c.self.inside.begun c.self.invariant.0 c.self.invariant.1 added
+    ∙ ap (λ (rows : RowsCells). with_cells rows ((c.args.words.now) ∷ [])) c.self.view_is)
+    c.add_words.ensures.added
