@@ -1,6 +1,6 @@
 -- The words of rows for people as HTML.
 use Rattle.std.proofs.Common.{◌≡◌, ◌<◌, ℕ, Bool, true, false, List, [], ◌∷◌, ◌++◌, length, get_or, codes, refl, sym, ap, ◌∙◌, subst, arith, append_assoc, eqb, min, ◌*◌}
-use Rattle.std.specs.Prelude.{◌≢◌, ◌==◌, ◌||◌, ◌&&◌, bytes_eq}
+use Rattle.std.specs.Prelude.{◌≢◌, ◌==◌, ◌||◌, bytes_eq}
 use Rattle.std.specs.Char.{digit_value}
 use Rattle.std.specs.Fmt.{decimal}
 use Rattle.std.specs.List.{list_any}
@@ -12,11 +12,12 @@ use Rattle.std.proofs.lemmas.List.Folds.{list_any-append}
 use Rattle.std.proofs.lemmas.Option.{slice_get-get_or, unwrap_or-slice_get}
 use Rattle.std.proofs.lemmas.Slice.Eq.{bytes_eq-Decides}
 use Rattle.md_static.specs.declared.entry.Proc.{Proc}
-use Rattle.md_static.specs.Names.{are_words, is_digit, is_lower, is_name, is_upper, is_word}
+use Rattle.md_static.specs.Names.{are_words, is_word}
 use Rattle.md_static.specs.Sound.{IsSound}
 use Rattle.md_static.specs.Tables.{Static}
 use Rattle.md_table.specs.Anchors.{behind_html, escaped, has_slash, text_html, word_html}
 use Rattle.md_table.specs.Cells.{indent_of}
+use Rattle.md_people.proofs.Names.{words_of_name}
 use Rattle.md_people.specs.declared.led.Led.{Led}
 use Rattle.md_people.specs.Words.{called_words, caller_words, from_words, full_name, full_name_of, led_words, left_words, line_at, line_words, owner_of, site_words, station_words}
 use Rattle.md_render.specs.Named.{AreAnchors, HaveArities, left_html, IsSmall, asked_html, clique_html, context_html, proc_html}
@@ -86,15 +87,6 @@ plain_word by before word other none = rw (none, other.0, other.1) refl
 or_true : (b : Bool) → (b || true) ≡ true
 or_true true = refl
 or_true false = refl
-
-lower_and_words : (lower upper digit under words short : Bool) → (lower && words && short) ≡ true → ((lower || upper || digit || under) && words) ≡ true
-lower_and_words true upper digit under true short e = refl
-lower_and_words true upper digit under false short e = cc
-lower_and_words false upper digit under words short e = cc
-
-words_of_name : (name : List ℕ) → is_name name ≡ true → are_words name ≡ true
-words_of_name [] e = cc
-words_of_name (c ∷ cs) e = lower_and_words (is_lower c) (is_upper c) (is_digit c) (c == 95) (are_words cs) _ e
 
 abbrev some_proc : Proc
 some_proc = record { «module» = 0; name = []; arity = 0 }

@@ -197,7 +197,7 @@ fn size_of(row: &Row) -> usize
     ensures { result ≡ size_of row.now }
 {
     match row {
-        Row::Table(table) => table.rows().len(),
+        Row::Table(table) => table.len(),
         _ => 0,
     }
 }
