@@ -1,34 +1,44 @@
-use Rattle.md_hlds.specs.Hlds.{hlds_of}
+use Rattle.std.proofs.Common.{ℕ, ◌<◌, ◌^◌}
+use Rattle.md_hlds.specs.Hlds.{Hlds, hlds_of}
+use Rattle.md_flat.specs.declared.code.Code.{Code}
+use Rattle.law_spelled.specs.Laws.{AcceptedTextsAreWithinBounds}
+use Rattle.md_ports.specs.Instrumented.{IsInstrumented}
 use Rattle.md_machine.specs.Running.{IsFoldedOf}
 use Rattle.md_machine.proofs.Executing.{ok_by, on_ok_by, on_err_by}
 use Rattle.md_machine.proofs.program.execute.Goals as goal
 
--- the code is that of the program, folded
-its : (g : goal.Generics) (c : goal.After-code g) → IsFoldedOf (hlds_of c.args.code.now) c.args.budget c.code.ensures.plain c.code.result.now
-its g c =
-    let is = c.code.ensures in
-    record {
-      its = record {
-        bounds = c.accepted_texts_are_within_bounds.ensures is.of_text.text (hlds_of c.args.code.now) c.args.budget is.of_text.spells is.modes c.ranges.budget.fits;
-        coded = is.coded;
-        text = is.of_text.text;
-        spells = is.of_text.spells;
-        modes = is.modes;
-      };
-      is = is.folded;
-    }
+-- code with its ports is the folded code of its program
+folded_of : (s : Hlds) (budget : ℕ) (code : Code) → AcceptedTextsAreWithinBounds → budget < 2 ^ 32 → (is : IsInstrumented s code) → IsFoldedOf s budget is.plain code
+folded_of s budget code within small is = record {
+  its = record { bounds = within is.of_text.text s budget is.of_text.spells is.modes small; coded = is.coded; text = is.of_text.text; spells = is.of_text.spells; modes = is.modes };
+  is = is.folded;
+}
 
 pub perform-requires : goal.perform-requires
 perform-requires g c = record {
   placed = c.code.ensures.placed;
-  begins = record { program = hlds_of c.args.code.now; plain = c.code.ensures.plain; its = ?; stood = c.requires.begins };
+  begins = record {
+    program = hlds_of c.args.code.now;
+    plain = c.code.ensures.plain;
+    its = folded_of (hlds_of c.args.code.now) c.args.budget c.code.result.now c.accepted_texts_are_within_bounds.ensures c.ranges.budget.fits c.code.ensures;
+    stood = c.requires.begins;
+  };
 }
 
 pub returns-clause-run : goal.returns-clause-run
-returns-clause-run g c = ok_by c.perform.result c.perform.ensures.run (λ ran is. is (hlds_of c.args.code.now) c.code.ensures.plain ? c.requires.begins)
+returns-clause-run g c =
+    let s = hlds_of c.args.code.now in
+    let its = folded_of s c.args.budget c.code.result.now c.accepted_texts_are_within_bounds.ensures c.ranges.budget.fits c.code.ensures in
+    ok_by c.perform.result c.perform.ensures.run (λ ran is. is s c.code.ensures.plain its c.requires.begins)
 
 pub returns-clause-whole : goal.returns-clause-whole
-returns-clause-whole g c = on_ok_by c.perform.result c.perform.ensures.whole (λ is. is (hlds_of c.args.code.now) c.code.ensures.plain ? c.requires.begins)
+returns-clause-whole g c =
+    let s = hlds_of c.args.code.now in
+    let its = folded_of s c.args.budget c.code.result.now c.accepted_texts_are_within_bounds.ensures c.ranges.budget.fits c.code.ensures in
+    on_ok_by c.perform.result c.perform.ensures.whole (λ is. is s c.code.ensures.plain its c.requires.begins)
 
 pub returns-clause-front : goal.returns-clause-front
-returns-clause-front g c = on_err_by c.perform.result c.perform.ensures.front (λ is. is (hlds_of c.args.code.now) c.code.ensures.plain ? c.requires.begins)
+returns-clause-front g c =
+    let s = hlds_of c.args.code.now in
+    let its = folded_of s c.args.budget c.code.result.now c.accepted_texts_are_within_bounds.ensures c.ranges.budget.fits c.code.ensures in
+    on_err_by c.perform.result c.perform.ensures.front (λ is. is s c.code.ensures.plain its c.requires.begins)
