@@ -11,6 +11,13 @@ FindsOrAdds old new node site q k taken =
     ((callee_in old node site q ≡ Some k) × (new ≡ old) × (taken ≡ 1))
     ⊎ ((callee_in old node site q ≡ None) × IfSome (slice_get old.active q) (λ to. Adds old new node site q to 0 k × (taken ≡ 2 + add_cost old q to)))
 
+-- The same where `to` is handed in: a new link leads there, or to a new context where there is none, and the active context is
+-- not read.
+abbrev pub FindsOrAddsTo : Rows → Rows → ℕ → ℕ → ℕ → Option ℕ → ℕ → ℕ → Type 0
+FindsOrAddsTo old new node site q to k taken =
+    ((callee_in old node site q ≡ Some k) × (new ≡ old) × (taken ≡ 1))
+    ⊎ ((callee_in old node site q ≡ None) × Adds old new node site q to 0 k × (taken ≡ 1 + add_cost old q to))
+
 -- the greatest number of table steps: 6, and one for each call site of q
 abbrev pub find_or_add_cost : Rows → ℕ → ℕ
 find_or_add_cost r q = 6 + length (sites_of q r.statics.sites)

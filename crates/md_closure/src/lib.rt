@@ -3,4 +3,4 @@
 
 mod callees;
 
-pub use callees::find_or_add;
+pub use callees::{find_or_add, find_or_add_to};

@@ -1,33 +1,40 @@
 -- The tables stay tables where a link, or a context and a link, are added.
-use Rattle.std.proofs.Common.{ℕ, zero, suc, All, MatchOption, ◌+◌, ◌-◌, ◌==◌, ◌&&◌, ◌≡◌, ◌≢◌, ◌<◌, ◌≤◌, ◌⊎◌, inl, inr, Bool, true, false, cond, List, [], ◌∷◌, ◌++◌, length, replicate, get_or, set, Option, Some, None, IfSome, IsSomeAnd, slice_get, refl, sym, ap, ◌∙◌, subst, arith}
+use Rattle.std.proofs.Common.{ℕ, zero, suc, All, MatchOption, ◌+◌, ◌-◌, ◌%◌, ◌^◌, ◌==◌, ◌&&◌, ◌≡◌, ◌<◌, ◌≤◌, inl, inr, Bool, true, false, cond, List, [], ◌∷◌, ◌++◌, length, replicate, get_or, set, Option, Some, None, IfSome, IsSomeAnd, IsTrue, ◌↔◌, slice_get, refl, sym, ap, ◌∙◌, subst, arith}
 use Rattle.std.specs.Map.{lookup}
-use Rattle.std.proofs.lemmas.Bool.{cases_eq, cases_order, eq-eqb, ne_eqb, and_left, and_right, and_from}
+use Rattle.std.proofs.lemmas.Bool.{cases_eq, eq-eqb, eqb-true, ne_eqb, and_left, and_right, and_from, and_parts}
 use Rattle.std.proofs.lemmas.List.{length-set, length-append, length-replicate}
 use Rattle.std.proofs.lemmas.Option.{get_or_from_slice_get}
 use Rattle.md_static.specs.declared.entry.Site.{Site}
-use Rattle.md_static.specs.declared.entry.SiteKind.{SiteKind}
 use Rattle.md_static.specs.Tables.{Static, callee_of}
 use Rattle.md_static.specs.Sound.{IsSound}
 use Rattle.md_static.specs.Sites.{OwnersRiseFrom, first_site, sites_of, place_of}
-use Rattle.md_static.proofs.SiteLists.{site-place}
+use Rattle.md_static.proofs.SiteLists.{site-place, sites_of-le}
 use Rattle.md_trace.specs.Context.{same_option}
-use Rattle.md_trace.proofs.Lists.{get-within, get-set-same, get-set-other, get-push-old, get-push-new, get-push-either}
+use Rattle.md_trace.proofs.Lists.{get-within, get-there, get-set-same, get-set-other, get-push-old, get-push-new, get-push-either}
 use Rattle.md_trace.proofs.Histories.{all-at, callee-of}
 use Rattle.md_dynamic.specs.declared.link.LinkRow.{LinkRow}
 use Rattle.md_dynamic.specs.declared.slot.CalleeKey.{CalleeKey}
 use Rattle.md_dynamic.specs.declared.slot.Slot.{Slot}
 use Rattle.md_dynamic.specs.declared.span.Span.{Span}
-use Rattle.md_dynamic.specs.Links.{link_row, root_row, number_from, number_of}
-use Rattle.md_dynamic.specs.Rows.{Rows, Owns, IsPlainSite, IsHigherOrderSite, MayLead, IsFresh, link_in, callee_in, place_by, place_in, is_from, is_call, place_at, AreFirsts, AreSlots, AreCallees, HasItsEnds, AreTables}
+use Rattle.md_dynamic.specs.Links.{link_row, root_row, number_of}
+use Rattle.md_dynamic.specs.Rows.{Rows, base_of, Owns, IsPlainSite, IsHigherOrderSite, MayLead, IsFresh, link_in, callee_in, place_by, place_in, is_from, is_call, place_at, AreSlots, IsFound, AreUsed, AreCallees, HasItsEnds, AreTables}
 use Rattle.md_dynamic.specs.Slots.{slot_of, slot_link, slots_before, is_key}
 use Rattle.md_dynamic.specs.Spans.{AreSpans, span_of}
-use Rattle.md_dynamic.proofs.Offsets.{before-push, before-next, place-inside, place-within, places-apart}
-use Rattle.md_dynamic.proofs.Positions.{number-same, number-some, number-other, number-new, number-set, none-passes}
+use Rattle.md_dynamic.proofs.Offsets.{before-push, before-next, place-inside, place-within, places-apart, wrapped}
+use Rattle.md_dynamic.proofs.Positions.{number-same, number-some, number-other, number-first, number-new, number-set, number-below, none-passes}
 
 -- the value of which a fact is told
 pub some-and : {A : Type 0} (P : A → Type 0) (o : Option A) → IsSomeAnd o P → (x : A) × (o ≡ Some x) × P x
 some-and P None is = absurd is
 some-and P (Some x) is = (x, refl, is)
+
+-- a fact of a value that is there
+pub and-some : {A : Type 0} (P : A → Type 0) (o : Option A) (x : A) → o ≡ Some x → P x → IsSomeAnd o P
+and-some P o x is holds = subst (λ z. IsSomeAnd z P) (sym is) holds
+
+pub if-some : {A : Type 0} (P Q : A → Type 0) (o : Option A) → ((x : A) → P x → Q x) → IfSome o P → IfSome o Q
+if-some P Q None all is = tt
+if-some P Q (Some x) all is = all x is
 
 -- the span that is read is that of the procedure
 pub span-read : (sites : List Site) (procs q v : ℕ) (spans : List Span) (span : Span) → AreSpans sites procs spans → q < procs → v ≡ q → span ≡ get_or spans v span → span ≡ span_of sites q
@@ -70,6 +77,21 @@ not-from v s n l (Some w) is below high =
     and_left (same_option (Some v) l.caller) (same_option (Some s) l.site) e
 
 -- ---- slots
+
+-- what is put into the slot of a higher-order site is no plain site's
+pub slots-other : (sites : List Site) (nodes : List ℕ) (slots : List Slot) (links : List LinkRow) (node site : ℕ) (x : Site) (slot : Slot) → OwnersRiseFrom 0 sites → AreSlots sites nodes slots links → slice_get sites site ≡ Some x → slice_get nodes node ≡ Some x.owner →
+    callee_of x.kind ≡ None → AreSlots sites nodes (set slots (place_at sites nodes node x.owner site) slot) links
+slots-other sites nodes slots links node site x slot rise are there owner many =
+    let place = place_at sites nodes node x.owner site in
+    record {
+      each = length-set slots place slot ∙ are.each;
+      right = λ v s d y at kind mine.
+          let apart : (v ≡ node) → (s ≡ site) → ⊥ = λ e f. (
+          let own : y ≡ x = (let z : slice_get sites site ≡ Some y = ap (slice_get sites) (sym f) ∙ at in cc (z, there)) in
+          let two : Some d ≡ None = sym kind ∙ ap (λ (z : Site). callee_of z.kind) own ∙ many in
+          cc) in
+          get-set-other slots place (place_at sites nodes v y.owner s) slot (places-apart sites nodes v s node site y x rise at mine there owner apart) ∙ are.right v s d y at kind mine;
+    }
 
 module _ (sites : List Site) (nodes : List ℕ) (slots : List Slot) (links : List LinkRow) (node site to calls : ℕ) (x : Site) (rise : OwnersRiseFrom 0 sites) (are : AreSlots sites nodes slots links)
     (there : slice_get sites site ≡ Some x) (owner : slice_get nodes node ≡ Some x.owner)
@@ -123,9 +145,10 @@ module _ (sites : List Site) (nodes : List ℕ) (slots : List Slot) (links : Lis
               ∙ ap (λ o. Some (slot_of o)) (sym (number-other (is_from v s) 0 links new (from-other v s node site to calls apart)));
         }
 
-    pub slots-entered : (o : Option ℕ) (slots2 : List Slot) → callee_of x.kind ≡ o → IfSome o (λ c. number_of (is_from node site) links ≡ None) → MatchOption o (slots2 ≡ slots) (λ c. slots2 ≡ set slots (place_at sites nodes node x.owner site) (slot_of (Some (length links)))) →
+    pub slots-entered : (o : Option ℕ) (slots2 : List Slot) → callee_of x.kind ≡ o → IfSome o (λ c. number_of (is_from node site) links ≡ None) → slots2 ≡ set slots (place_at sites nodes node x.owner site) (slot_of (Some (length links))) →
         AreSlots sites nodes slots2 (links ++ new ∷ [])
-    slots-entered None slots2 kind none now = slots-many slots2 kind now
+    slots-entered None slots2 kind none now =
+        subst (λ zs. AreSlots sites nodes zs (links ++ new ∷ [])) (sym now) (slots-other sites nodes slots (links ++ new ∷ []) node site x (slot_of (Some (length links))) rise (slots-many slots kind refl) there owner kind)
     slots-entered (Some c) slots2 kind none now = slots-plain c slots2 kind none now
 
 -- a context more, with its empty slots
@@ -243,9 +266,111 @@ module _ (sites : List Site) (nodes nodes2 : List ℕ) (callees callees2 : List 
           | inr ne ↦ other (λ e f g. ne e)
         ]
 
+    -- the new link is found by its callee
+    pub found-new : number_of (is_call nodes node site q) links ≡ None → IsFound nodes2 (links ++ row ∷ []) node site (length links)
+    found-new none =
+        let count : 0 + length links ≡ length links = omega arith in
+        let first : number_of (is_call nodes2 node site q) (links ++ row ∷ []) ≡ Some (length links) = number-new (is_call nodes2 node site q) 0 links row (older node site q ∙ none) call-same ∙ ap (λ k. Some k) count in
+        and-some (λ (l : LinkRow). IsSomeAnd (slice_get nodes2 l.callee) (λ p. number_of (is_call nodes2 node site p) (links ++ row ∷ []) ≡ Some (length links))) (slice_get (links ++ row ∷ []) (length links)) row (get-push-new links row)
+        (and-some (λ p. number_of (is_call nodes2 node site p) (links ++ row ∷ []) ≡ Some (length links)) (slice_get nodes2 to) q end first)
+
     pub callees-entered : (o : Option ℕ) → callee_of x.kind ≡ o → MatchOption o (number_of (is_call nodes node site q) links ≡ None) (λ c. Unit {0}) → IsEntered o node site q (length links) callees callees2 → AreCallees sites nodes2 callees2 (links ++ row ∷ [])
     callees-entered None kind none now = callees-many none now
     callees-entered (Some c) kind none now = callees-plain c kind now
+
+-- ---- the link that was used last
+
+-- the same, where contexts and links are more than those that have slots
+abbrev pub UsedIn : List Site → List ℕ → List Slot → List ℕ → List LinkRow → Type 0
+UsedIn sites nodes slots nodes2 links =
+    (v s : ℕ) (x : Site) → slice_get sites s ≡ Some x → callee_of x.kind ≡ None → slice_get nodes v ≡ Some x.owner
+    → IsSomeAnd (slice_get slots (place_at sites nodes v x.owner s)) (λ slot. IfSome (slot_link slot) (IsFound nodes2 links v s))
+
+-- what is found stays found as links are added
+found-more : (nodes nodes2 : List ℕ) (links : List LinkRow) (row : LinkRow) (v s k : ℕ) → ((j : ℕ) (l : LinkRow) → slice_get links j ≡ Some l → slice_get nodes2 l.callee ≡ slice_get nodes l.callee) → IsFound nodes links v s k → IsFound nodes2 (links ++ row ∷ []) v s k
+found-more nodes nodes2 links row v s k stay is =
+    let one = some-and (λ (l : LinkRow). IsSomeAnd (slice_get nodes l.callee) (λ q. number_of (is_call nodes v s q) links ≡ Some k)) (slice_get links k) is in
+    let two = some-and (λ q. number_of (is_call nodes v s q) links ≡ Some k) (slice_get nodes one.0.callee) one.2 in
+    let same = number-same (is_call nodes2 v s two.0) (is_call nodes v s two.0) 0 links (λ j l at. call-stays nodes nodes2 v s two.0 l (stay j l at)) in
+    and-some (λ (l : LinkRow). IsSomeAnd (slice_get nodes2 l.callee) (λ q. number_of (is_call nodes2 v s q) (links ++ row ∷ []) ≡ Some k)) (slice_get (links ++ row ∷ []) k) one.0
+    (get-push-old links row k (get-within links k one.0 one.1) ∙ one.1)
+    (and-some (λ q. number_of (is_call nodes2 v s q) (links ++ row ∷ []) ≡ Some k) (slice_get nodes2 one.0.callee) two.0 (stay k one.0 one.1 ∙ two.1)
+    (number-first (is_call nodes2 v s two.0) 0 links row k (same ∙ two.2)))
+
+-- and as a count of one changes
+found-counted : (nodes : List ℕ) (links : List LinkRow) (j : ℕ) (old new : LinkRow) (v s k : ℕ) → slice_get links j ≡ Some old → new.callee ≡ old.callee → ((q : ℕ) → is_call nodes v s q new ≡ is_call nodes v s q old) → IsFound nodes links v s k → IsFound nodes (set links j new) v s k
+found-counted nodes links j old new v s k at callee same is =
+    let one = some-and (λ (l : LinkRow). IsSomeAnd (slice_get nodes l.callee) (λ q. number_of (is_call nodes v s q) links ≡ Some k)) (slice_get links k) is in
+    let two = some-and (λ q. number_of (is_call nodes v s q) links ≡ Some k) (slice_get nodes one.0.callee) one.2 in
+    let first : number_of (is_call nodes v s two.0) (set links j new) ≡ Some k = number-set (is_call nodes v s two.0) 0 links j old new at (same two.0) ∙ two.2 in
+    let Q : LinkRow → Type 0 = λ l. IsSomeAnd (slice_get nodes l.callee) (λ q. number_of (is_call nodes v s q) (set links j new) ≡ Some k) in
+    elim (cases_eq k j) [
+      | inl equal ↦
+          let now : slice_get (set links j new) k ≡ Some new = ap (slice_get (set links j new)) equal ∙ get-set-same links j new (get-within links j old at) in
+          let own : one.0 ≡ old = (let z : slice_get links j ≡ Some one.0 = ap (slice_get links) (sym equal) ∙ one.1 in cc (z, at)) in
+          let end : slice_get nodes new.callee ≡ Some two.0 = ap (slice_get nodes) (callee ∙ ap (λ (l : LinkRow). l.callee) (sym own)) ∙ two.1 in
+          and-some Q (slice_get (set links j new) k) new now (and-some (λ q. number_of (is_call nodes v s q) (set links j new) ≡ Some k) (slice_get nodes new.callee) two.0 end first)
+      | inr other ↦
+          and-some Q (slice_get (set links j new) k) one.0 (get-set-other links j k new other ∙ one.1) (and-some (λ q. number_of (is_call nodes v s q) (set links j new) ≡ Some k) (slice_get nodes one.0.callee) two.0 two.1 first)
+    ]
+
+-- a link that is found is put into its site's slot
+pub used-set : (sites : List Site) (nodes nodes2 : List ℕ) (slots : List Slot) (links : List LinkRow) (node site k : ℕ) (x : Site) → OwnersRiseFrom 0 sites → UsedIn sites nodes slots nodes2 links → slice_get sites site ≡ Some x → slice_get nodes node ≡ Some x.owner → k < 4294967295 →
+    place_at sites nodes node x.owner site < length slots → (callee_of x.kind ≡ None → IsFound nodes2 links node site k) → UsedIn sites nodes (set slots (place_at sites nodes node x.owner site) (slot_of (Some k))) nodes2 links
+used-set sites nodes nodes2 slots links node site k x rise are there owner few within found = λ v s y at many mine.
+    let place = place_at sites nodes node x.owner site in
+    let slot = slot_of (Some k) in
+    let P : ℕ → ℕ → Slot → Type 0 = λ a b z. IfSome (slot_link z) (IsFound nodes2 links a b) in
+    let told : slot_link slot ≡ Some k = rw (ne_eqb k 4294967295 (λ same. absurd (omega (arith, same, few)))) refl in
+    let other : ((v ≡ node) → (s ≡ site) → ⊥) → IsSomeAnd (slice_get (set slots place slot) (place_at sites nodes v y.owner s)) (P v s) = λ ne.
+    subst (λ o. IsSomeAnd o (P v s)) (sym (get-set-other slots place (place_at sites nodes v y.owner s) slot (places-apart sites nodes v s node site y x rise at mine there owner ne))) (are v s y at many mine) in
+    elim (cases_eq v node) [
+      | inl one ↦ elim (cases_eq s site) [
+        | inl two ↦
+            let own : y ≡ x = (let z : slice_get sites site ≡ Some y = ap (slice_get sites) (sym two) ∙ at in cc (z, there)) in
+            let spot : place_at sites nodes v y.owner s ≡ place = ap (λ u. place_at sites nodes u y.owner s) one ∙ ap (λ u. place_at sites nodes node y.owner u) two ∙ ap (λ (z : Site). place_at sites nodes node z.owner site) own in
+            let now : slice_get (set slots place slot) (place_at sites nodes v y.owner s) ≡ Some slot = ap (slice_get (set slots place slot)) spot ∙ get-set-same slots place slot within in
+            let here : P node site slot = subst (λ o. IfSome o (IsFound nodes2 links node site)) (sym told) (found (ap (λ (z : Site). callee_of z.kind) (sym own) ∙ many)) in
+            and-some (P v s) (slice_get (set slots place slot) (place_at sites nodes v y.owner s)) slot now (subst (λ a. P a s slot) (sym one) (subst (λ b. P node b slot) (sym two) here))
+        | inr ne ↦ other (λ e f. ne f)
+      ]
+      | inr ne ↦ other (λ e f. ne e)
+    ]
+
+-- links are added
+used-more : (sites : List Site) (nodes nodes2 : List ℕ) (slots : List Slot) (links : List LinkRow) (row : LinkRow) → ((j : ℕ) (l : LinkRow) → slice_get links j ≡ Some l → slice_get nodes2 l.callee ≡ slice_get nodes l.callee) → AreUsed sites nodes slots links →
+    UsedIn sites nodes slots nodes2 (links ++ row ∷ [])
+used-more sites nodes nodes2 slots links row stay are = λ v s y at many mine.
+    let slot = some-and (λ slot. IfSome (slot_link slot) (IsFound nodes links v s)) (slice_get slots (place_at sites nodes v y.owner s)) (are v s y at many mine) in
+    and-some (λ slot. IfSome (slot_link slot) (IsFound nodes2 (links ++ row ∷ []) v s)) (slice_get slots (place_at sites nodes v y.owner s)) slot.0 slot.1
+    (if-some (IsFound nodes links v s) (IsFound nodes2 (links ++ row ∷ []) v s) (slot_link slot.0) (λ k is. found-more nodes nodes2 links row v s k stay is) slot.2)
+
+-- a context more, with its empty slots
+used-context : (sites : List Site) (nodes nodes2 : List ℕ) (slots : List Slot) (links : List LinkRow) (q : ℕ) → OwnersRiseFrom 0 sites → length slots ≡ slots_before sites nodes (length nodes) → UsedIn sites nodes slots nodes2 links →
+    UsedIn sites (nodes ++ q ∷ []) (slots ++ replicate (length (sites_of q sites)) (slot_of None)) nodes2 links
+used-context sites nodes nodes2 slots links q rise each are = λ v s y at many mine.
+    let own = length (sites_of q sites) in
+    let more = nodes ++ q ∷ [] in
+    let all = slots ++ replicate own (slot_of None) in
+    let old : slots_before sites more (length nodes) ≡ slots_before sites nodes (length nodes) = before-push sites nodes q (length nodes) (omega arith) in
+    let P : Slot → Type 0 = λ slot. IfSome (slot_link slot) (IsFound nodes2 links v s) in
+    elim (get-push-either nodes q y.owner v mine) [
+      | inl new ↦
+          let placed = site-place q s 0 sites y rise at new.1 in
+          let inside = get-within (sites_of q sites) (s - first_site q sites) y placed.1 in
+          let place : place_at sites more v y.owner s ≡ length slots + (s - first_site q sites) =
+          ap (λ p. place_at sites more v p s) new.1 ∙ ap (λ u. slots_before sites more u + place_of sites q s) new.0 ∙ ap (λ n. n + place_of sites q s) (old ∙ sym each) in
+          let read : slice_get all (place_at sites more v y.owner s) ≡ Some (slot_of None) =
+          ap (slice_get all) place ∙ get-right slots (replicate own (slot_of None)) (s - first_site q sites) ∙ get-replicate own (s - first_site q sites) (slot_of None) inside in
+          and-some P (slice_get all (place_at sites more v y.owner s)) (slot_of None) read tt
+      | inr was ↦
+          let below = get-within nodes v y.owner was in
+          let place : place_at sites more v y.owner s ≡ place_at sites nodes v y.owner s = ap (λ n. n + place_of sites y.owner s) (before-push sites nodes q v (omega (arith, below))) in
+          let within = place-within sites nodes v s y rise at was in
+          let read : slice_get all (place_at sites more v y.owner s) ≡ slice_get slots (place_at sites nodes v y.owner s) =
+          ap (slice_get all) place ∙ get-left slots (replicate own (slot_of None)) (place_at sites nodes v y.owner s) (omega (arith, within, each)) in
+          subst (λ o. IsSomeAnd o P) (sym read) (are v s y at many was)
+    ]
 
 -- ---- the tables
 
@@ -255,30 +380,48 @@ pub record Adding (sites : List Site) (nodes : List ℕ) (slots slots2 : List Sl
   pub there : slice_get sites site ≡ Some row
   pub owner : slice_get nodes node ≡ Some row.owner
   pub fresh : MatchOption (callee_of row.kind) (number_of (is_call nodes node site q) links ≡ None) (λ c. number_of (is_from node site) links ≡ None)
-  pub slots_now : MatchOption (callee_of row.kind) (slots2 ≡ slots) (λ c. slots2 ≡ set slots (place_at sites nodes node row.owner site) (slot_of (Some (length links))))
+  pub slots_now : slots2 ≡ set slots (place_at sites nodes node row.owner site) (slot_of (Some (length links)))
   pub callees_now : IsEntered (callee_of row.kind) node site q (length links) callees callees2
 
 fresh-plain : (A B : Type 0) (o : Option ℕ) → MatchOption o A (λ c. B) → IfSome o (λ c. B)
 fresh-plain A B None f = tt
 fresh-plain A B (Some c) f = f
 
+fresh-none : (A B : Type 0) (o : Option ℕ) → MatchOption o A (λ c. B) → o ≡ None → A
+fresh-none A B None f none = f
+fresh-none A B (Some c) f none = absurd (cc)
+
 fresh-many : (A B : Type 0) (o : Option ℕ) → MatchOption o A (λ c. B) → MatchOption o A (λ c. Unit {0})
 fresh-many A B None f = f
 fresh-many A B (Some c) f = tt
 
+-- the slot of the new link's site has it
+used-entered : (s : Static) (nodes nodes2 : List ℕ) (slots slots2 : List Slot) (callees callees2 : List (CalleeKey × ℕ)) (links : List LinkRow) (node site q to calls : ℕ) → OwnersRiseFrom 0 s.sites → length slots ≡ slots_before s.sites nodes (length nodes) → AreUsed s.sites nodes slots links → AreCallees s.sites nodes callees links →
+    Adding s.sites nodes slots slots2 callees callees2 links node site q → ((k : ℕ) (l : LinkRow) → slice_get links k ≡ Some l → slice_get nodes2 l.callee ≡ slice_get nodes l.callee) → slice_get nodes2 to ≡ Some q → length links < 4294967295 →
+    UsedIn s.sites nodes slots2 nodes2 (links ++ link_row node site to calls ∷ [])
+used-entered s nodes nodes2 slots slots2 callees callees2 links node site q to calls rise each used are a stay end few =
+    let new = link_row node site to calls in
+    let within = place-within s.sites nodes node site a.row rise a.there a.owner in
+    let more = used-more s.sites nodes nodes2 slots links new stay used in
+    let found : callee_of a.row.kind ≡ None → IsFound nodes2 (links ++ new ∷ []) node site (length links) = λ many.
+    found-new s.sites nodes nodes2 callees callees2 links node site q to calls a.row are a.there stay end (fresh-none _ _ (callee_of a.row.kind) a.fresh many) in
+    subst (λ zs. UsedIn s.sites nodes zs nodes2 (links ++ new ∷ [])) (sym a.slots_now)
+    (used-set s.sites nodes nodes2 slots (links ++ new ∷ []) node site (length links) a.row rise more a.there a.owner few (omega (arith, within, each)) found)
+
 -- one link more
-pub link-tables : (s : Static) (spans : List Span) (nodes firsts : List ℕ) (slots slots2 : List Slot) (callees callees2 : List (CalleeKey × ℕ)) (links links2 : List LinkRow) (active : List (Option ℕ)) (node site q to calls : ℕ) →
-    AreTables s spans nodes firsts slots callees links active → Adding s.sites nodes slots slots2 callees callees2 links node site q → slice_get nodes to ≡ Some q → links2 ≡ links ++ link_row node site to calls ∷ [] → length links < 4294967295 →
-    AreTables s spans nodes firsts slots2 callees2 links2 active
-link-tables s spans nodes firsts slots slots2 callees callees2 links links2 active node site q to calls t a end more few =
+pub link-tables : (s : Static) (spans : List Span) (nodes bases : List ℕ) (slots slots2 : List Slot) (callees callees2 : List (CalleeKey × ℕ)) (links links2 : List LinkRow) (active : List (Option ℕ)) (node site q to calls : ℕ) →
+    AreTables s spans nodes bases slots callees links active → Adding s.sites nodes slots slots2 callees callees2 links node site q → slice_get nodes to ≡ Some q → links2 ≡ links ++ link_row node site to calls ∷ [] → length links < 4294967295 →
+    AreTables s spans nodes bases slots2 callees2 links2 active
+link-tables s spans nodes bases slots slots2 callees callees2 links links2 active node site q to calls t a end more few =
     let new = link_row node site to calls in
     let len : length (links ++ new ∷ []) ≡ length links + 1 = length-append links (new ∷ []) in
-    let all : AreTables s spans nodes firsts slots2 callees2 (links ++ new ∷ []) active = record {
+    let all : AreTables s spans nodes bases slots2 callees2 (links ++ new ∷ []) active = record {
       sound = t.sound;
       spans_right = t.spans_right;
       nodes_there = t.nodes_there;
-      firsts_are = t.firsts_are;
+      bases_are = t.bases_are;
       slots_are = slots-entered s.sites nodes slots links node site to calls a.row t.sound.owners_rise t.slots_are a.there a.owner (callee_of a.row.kind) slots2 refl (fresh-plain _ _ (callee_of a.row.kind) a.fresh) a.slots_now;
+      used_are = used-entered s nodes nodes slots slots2 callees callees2 links node site q to calls t.sound.owners_rise t.slots_are.each t.used_are t.callees_are a (λ k l is. refl) end few;
       callees_are = callees-entered s.sites nodes nodes callees callees2 links node site q to calls a.row t.callees_are a.there (λ k l is. refl) end (callee_of a.row.kind) refl (fresh-many _ _ (callee_of a.row.kind) a.fresh) a.callees_now;
       ends = λ k l is. elim (get-push-either links new l k is) [
         | inl last ↦ subst (HasItsEnds nodes) (sym last.1) (get-within nodes node a.row.owner a.owner, get-within nodes to q end)
@@ -288,8 +431,9 @@ link-tables s spans nodes firsts slots slots2 callees callees2 links links2 acti
       active_there = t.active_there;
       fewer = omega (arith, t.fewer, len);
       few = omega (arith, few, len);
+      few_slots = omega (arith, t.few_slots, ap length a.slots_now, length-set slots (place_at s.sites nodes node a.row.owner site) (slot_of (Some (length links))));
     } in
-    subst (λ ls. AreTables s spans nodes firsts slots2 callees2 ls active) (sym more) all
+    subst (λ ls. AreTables s spans nodes bases slots2 callees2 ls active) (sym more) all
 
 ends-more : (nodes : List ℕ) (q : ℕ) (l : LinkRow) (caller : Option ℕ) → l.caller ≡ caller → HasItsEnds nodes l → HasItsEnds (nodes ++ q ∷ []) l
 ends-more nodes q l None is ends = (let P : Option ℕ → Type 0 = λ o. IfSome o (λ v. v < length (nodes ++ q ∷ [])) in subst P (sym is) tt, omega (arith, ends.1, length-append nodes (q ∷ [])))
@@ -300,10 +444,10 @@ ends-more nodes q l (Some v) is ends =
     (subst Q (sym is) (omega (arith, below, length-append nodes (q ∷ []))), omega (arith, ends.1, length-append nodes (q ∷ [])))
 
 -- a context more, and a link
-pub context-tables : (s : Static) (spans : List Span) (nodes nodes2 firsts firsts2 : List ℕ) (slots mid slots2 : List Slot) (callees callees2 : List (CalleeKey × ℕ)) (links links2 : List LinkRow) (active : List (Option ℕ)) (node site q calls : ℕ) →
-    AreTables s spans nodes firsts slots callees links active → Adding s.sites nodes slots mid callees callees2 links node site q → q < length s.procs → nodes2 ≡ nodes ++ q ∷ [] → firsts2 ≡ firsts ++ length slots ∷ [] →
-    slots2 ≡ mid ++ replicate (length (sites_of q s.sites)) (slot_of None) → links2 ≡ links ++ link_row node site (length nodes) calls ∷ [] → length links < 4294967295 → AreTables s spans nodes2 firsts2 slots2 callees2 links2 active
-context-tables s spans nodes nodes2 firsts firsts2 slots mid slots2 callees callees2 links links2 active node site q calls t a below nodes_are firsts_are slots_are more few =
+pub context-tables : (s : Static) (spans : List Span) (nodes nodes2 bases bases2 : List ℕ) (slots mid slots2 : List Slot) (callees callees2 : List (CalleeKey × ℕ)) (links links2 : List LinkRow) (active : List (Option ℕ)) (node site q calls base : ℕ) →
+    AreTables s spans nodes bases slots callees links active → Adding s.sites nodes slots mid callees callees2 links node site q → q < length s.procs → nodes2 ≡ nodes ++ q ∷ [] → bases2 ≡ bases ++ base ∷ [] → base ≡ (length slots + (2 ^ 32 - first_site q s.sites)) % 2 ^ 32 → length slots2 < 2 ^ 32 →
+    slots2 ≡ mid ++ replicate (length (sites_of q s.sites)) (slot_of None) → links2 ≡ links ++ link_row node site (length nodes) calls ∷ [] → length links < 4294967295 → AreTables s spans nodes2 bases2 slots2 callees2 links2 active
+context-tables s spans nodes nodes2 bases bases2 slots mid slots2 callees callees2 links links2 active node site q calls base t a below nodes_are bases_are base_is few_slots slots_are more few =
     let new = link_row node site (length nodes) calls in
     let ns = nodes ++ q ∷ [] in
     let len : length (links ++ new ∷ []) ≡ length links + 1 = length-append links (new ∷ []) in
@@ -313,22 +457,27 @@ context-tables s spans nodes nodes2 firsts firsts2 slots mid slots2 callees call
       | inl last ↦ subst (λ (z : LinkRow). IfSome z.caller (λ v. v < length nodes)) (sym last.1) (get-within nodes node a.row.owner a.owner)
       | inr old ↦ (t.ends k l old).0
     ] in
-    let all : AreTables s spans ns (firsts ++ length slots ∷ []) slots2 callees2 (links ++ new ∷ []) active = record {
+    let all : AreTables s spans ns (bases ++ base ∷ []) slots2 callees2 (links ++ new ∷ []) active = record {
       sound = t.sound;
       spans_right = t.spans_right;
       nodes_there = λ v p is. elim (get-push-either nodes q p v is) [ inl last ↦ omega (arith, last.1, below) | inr old ↦ t.nodes_there v p old ];
-      firsts_are = record {
-        each = omega (arith, length-append firsts (length slots ∷ []), count, t.firsts_are.each);
-        right = λ v within. elim (cases_eq v (length nodes)) [
+      bases_are = record {
+        each = omega (arith, length-append bases (base ∷ []), count, t.bases_are.each);
+        right = λ v p is. elim (get-push-either nodes q p v is) [
           | inl last ↦
-              ap (slice_get (firsts ++ length slots ∷ [])) (last ∙ sym t.firsts_are.each) ∙ get-push-new firsts (length slots)
-              ∙ ap (λ n. Some n) (t.slots_are.each ∙ sym (before-push s.sites nodes q (length nodes) (omega arith)) ∙ ap (slots_before s.sites ns) (sym last))
-          | inr other ↦
-              let before : v < length nodes = omega (arith, within, count, ne-below v (length nodes) other) in
-              get-push-old firsts (length slots) v (omega (arith, before, t.firsts_are.each)) ∙ t.firsts_are.right v before ∙ ap (λ n. Some n) (sym (before-push s.sites nodes q v (omega (arith, before))))
+              let start : length slots ≡ slots_before s.sites ns v = t.slots_are.each ∙ sym (before-push s.sites nodes q (length nodes) (omega arith)) ∙ ap (slots_before s.sites ns) (sym last.0) in
+              ap (slice_get (bases ++ base ∷ [])) (last.0 ∙ sym t.bases_are.each) ∙ get-push-new bases base
+              ∙ ap (λ n. Some n) (base_is ∙ ap (λ n. (n + (2 ^ 32 - first_site q s.sites)) % 2 ^ 32) start ∙ ap (λ n. (slots_before s.sites ns v + (2 ^ 32 - first_site n s.sites)) % 2 ^ 32) (sym last.1))
+          | inr old ↦
+              let before = get-within nodes v p old in
+              get-push-old bases base v (omega (arith, before, t.bases_are.each)) ∙ t.bases_are.right v p old
+              ∙ ap (λ n. Some ((n + (2 ^ 32 - first_site p s.sites)) % 2 ^ 32)) (sym (before-push s.sites nodes q v (omega (arith, before))))
         ];
       };
       slots_are = slots-context s.sites nodes ns mid slots2 (links ++ new ∷ []) q t.sound.owners_rise mids callers refl slots_are;
+      used_are =
+          let mid_used = used-entered s nodes ns slots mid callees callees2 links node site q (length nodes) calls t.sound.owners_rise t.slots_are.each t.used_are t.callees_are a (λ k l is. get-push-old nodes q l.callee (t.ends k l is).1) (get-push-new nodes q) few in
+          subst (λ zs. AreUsed s.sites ns zs (links ++ new ∷ [])) (sym slots_are) (used-context s.sites nodes ns mid (links ++ new ∷ []) q t.sound.owners_rise mids.each mid_used);
       callees_are = callees-entered s.sites nodes ns callees callees2 links node site q (length nodes) calls a.row t.callees_are a.there (λ k l is. get-push-old nodes q l.callee (t.ends k l is).1) (get-push-new nodes q)
           (callee_of a.row.kind) refl (fresh-many _ _ (callee_of a.row.kind) a.fresh) a.callees_now;
       ends = λ k l is. elim (get-push-either links new l k is) [
@@ -339,11 +488,9 @@ context-tables s spans nodes nodes2 firsts firsts2 slots mid slots2 callees call
       active_there = λ r v is. get-push-old nodes q v (get-within nodes v r (t.active_there r v is)) ∙ t.active_there r v is;
       fewer = omega (arith, t.fewer, len, count);
       few = omega (arith, few, len);
+      few_slots = few_slots;
     } in
-    subst (λ ls. AreTables s spans nodes2 firsts2 slots2 callees2 ls active) (sym more) (subst (λ fs. AreTables s spans nodes2 fs slots2 callees2 (links ++ new ∷ []) active) (sym firsts_are) (subst (λ xs. AreTables s spans xs (firsts ++ length slots ∷ []) slots2 callees2 (links ++ new ∷ []) active) (sym nodes_are) all))
-  where
-    ne-below : (v n : ℕ) → v ≢ n → (v < n) ⊎ (n < v)
-    ne-below v n ne = elim (cases_order v n) [ inl same ↦ absurd (ne same) | inr rest ↦ rest ]
+    subst (λ ls. AreTables s spans nodes2 bases2 slots2 callees2 ls active) (sym more) (subst (λ fs. AreTables s spans nodes2 fs slots2 callees2 (links ++ new ∷ []) active) (sym bases_are) (subst (λ xs. AreTables s spans xs (bases ++ base ∷ []) slots2 callees2 (links ++ new ∷ []) active) (sym nodes_are) all))
 
 no-pointer : (n q v : ℕ) → slice_get (replicate n None) q ≡ Some (Some v) → ⊥
 no-pointer zero q v is = absurd (cc)
@@ -355,14 +502,14 @@ only-member x y zero is = (refl, cc)
 only-member x y (suc v) is = absurd (cc)
 
 -- before the run
-pub new-tables : (s : Static) (spans : List Span) (main : ℕ) → IsSound s → AreSpans s.sites (length s.procs) spans → main < length s.procs →
-    AreTables s spans (main ∷ []) (0 ∷ []) (replicate (length (sites_of main s.sites)) (slot_of None)) [] (root_row ∷ []) (replicate (length s.procs) None)
-new-tables s spans main sound right below =
+pub new-tables : (s : Static) (spans : List Span) (main base : ℕ) → base ≡ (0 + (2 ^ 32 - first_site main s.sites)) % 2 ^ 32 → IsSound s → AreSpans s.sites (length s.procs) spans → main < length s.procs →
+    AreTables s spans (main ∷ []) (base ∷ []) (replicate (length (sites_of main s.sites)) (slot_of None)) [] (root_row ∷ []) (replicate (length s.procs) None)
+new-tables s spans main base base_is sound right below =
     record {
       sound = sound;
       spans_right = right;
       nodes_there = λ v p is. omega (arith, (only-member main p v is).1, below);
-      firsts_are = record { each = refl; right = λ v within. first v within };
+      bases_are = record { each = refl; right = λ v p is. first v p (only-member main p v is) };
       slots_are = record {
         each = omega (arith, length-replicate (length (sites_of main s.sites)) (slot_of None));
         right = λ v t c x at kind mine.
@@ -373,31 +520,41 @@ new-tables s spans main sound right below =
             ap (λ u. slots_before s.sites (main ∷ []) u + place_of s.sites x.owner t) only.0 ∙ (let e : 0 + place_of s.sites x.owner t ≡ place_of s.sites x.owner t = omega arith in e) ∙ ap (λ p. place_of s.sites p t) only.1 in
             ap (slice_get (replicate (length (sites_of main s.sites)) (slot_of None))) place ∙ get-replicate (length (sites_of main s.sites)) (t - first_site main s.sites) (slot_of None) inside;
       };
+      used_are = λ v t x at kind mine.
+          let only = only-member main x.owner v mine in
+          let placed = site-place main t 0 s.sites x sound.owners_rise at only.1 in
+          let inside = get-within (sites_of main s.sites) (t - first_site main s.sites) x placed.1 in
+          let place : place_at s.sites (main ∷ []) v x.owner t ≡ t - first_site main s.sites =
+          ap (λ u. slots_before s.sites (main ∷ []) u + place_of s.sites x.owner t) only.0 ∙ (let e : 0 + place_of s.sites x.owner t ≡ place_of s.sites x.owner t = omega arith in e) ∙ ap (λ p. place_of s.sites p t) only.1 in
+          let read = ap (slice_get (replicate (length (sites_of main s.sites)) (slot_of None))) place ∙ get-replicate (length (sites_of main s.sites)) (t - first_site main s.sites) (slot_of None) inside in
+          and-some (λ slot. IfSome (slot_link slot) (IsFound (main ∷ []) (root_row ∷ []) v t)) (slice_get (replicate (length (sites_of main s.sites)) (slot_of None)) (place_at s.sites (main ∷ []) v x.owner t)) (slot_of None) read tt;
       callees_are = λ v t q x at kind. refl;
       ends = λ k l is. subst (HasItsEnds (main ∷ [])) (sym (only-member root_row l k is).1) (tt, omega arith);
       pointers = length-replicate (length s.procs) None;
       active_there = λ q v is. absurd (no-pointer (length s.procs) q v is);
       fewer = omega arith;
       few = omega arith;
+      few_slots = omega (arith, length-replicate (length (sites_of main s.sites)) (slot_of None), sites_of-le main s.sites, sound.few_sites);
     }
   where
-    first : (v : ℕ) → v < 1 → slice_get (0 ∷ []) v ≡ Some (slots_before s.sites (main ∷ []) v)
-    first zero within = refl
-    first (suc v) within = absurd (omega (arith, within))
+    first : (v p : ℕ) → (v ≡ 0) × (p ≡ main) → slice_get (base ∷ []) v ≡ Some (base_of s.sites (main ∷ []) v p)
+    first v p is =
+        ap (slice_get (base ∷ [])) is.0 ∙ ap Some (base_is ∙ ap (λ u. (slots_before s.sites (main ∷ []) u + (2 ^ 32 - first_site main s.sites)) % 2 ^ 32) (sym is.0)
+        ∙ ap (λ n. (slots_before s.sites (main ∷ []) v + (2 ^ 32 - first_site n s.sites)) % 2 ^ 32) (sym is.1))
 
-pub first-tables : (s : Static) (spans : List Span) (main own p : ℕ) (span : Span) (nodes firsts : List ℕ) (slots : List Slot) (callees : List (CalleeKey × ℕ)) (links : List LinkRow) (active : List (Option ℕ)) → IsSound s → AreSpans s.sites (length s.procs) spans → main < length s.procs →
-    p ≡ main → span ≡ get_or spans p span → own ≡ span.count → nodes ≡ main ∷ [] → firsts ≡ 0 ∷ [] → slots ≡ replicate own (slot_of None) → callees ≡ [] → links ≡ root_row ∷ [] → active ≡ replicate (length s.procs) None → AreTables s spans nodes firsts slots callees links active
-first-tables s spans main own p span nodes firsts slots callees links active sound right below at read count n f x c l a =
+pub first-tables : (s : Static) (spans : List Span) (main base p : ℕ) (span : Span) (nodes bases : List ℕ) (slots : List Slot) (callees : List (CalleeKey × ℕ)) (links : List LinkRow) (active : List (Option ℕ)) → IsSound s → AreSpans s.sites (length s.procs) spans → main < length s.procs →
+    p ≡ main → span ≡ get_or spans p span → base ≡ (0 + (2 ^ 32 - span.first)) % 2 ^ 32 → nodes ≡ main ∷ [] → bases ≡ base ∷ [] → slots ≡ replicate span.count (slot_of None) → callees ≡ [] → links ≡ root_row ∷ [] → active ≡ replicate (length s.procs) None → AreTables s spans nodes bases slots callees links active
+first-tables s spans main base p span nodes bases slots callees links active sound right below at read start n f x c l a =
     let span_is = span-read s.sites (length s.procs) main p spans span right below at read in
-    let size : own ≡ length (sites_of main s.sites) = count ∙ ap (λ (z : Span). z.count) span_is in
-    let all = new-tables s spans main sound right below in
+    let size : span.count ≡ length (sites_of main s.sites) = ap (λ (z : Span). z.count) span_is in
+    let all = new-tables s spans main base (start ∙ ap (λ (z : Span). (0 + (2 ^ 32 - z.first)) % 2 ^ 32) span_is) sound right below in
     let e = x ∙ ap (λ k. replicate k (slot_of None)) size in
-    subst (λ z. AreTables s spans nodes firsts slots callees links z) (sym a)
-    (subst (λ z. AreTables s spans nodes firsts slots callees z (replicate (length s.procs) None)) (sym l)
-    (subst (λ z. AreTables s spans nodes firsts slots z (root_row ∷ []) (replicate (length s.procs) None)) (sym c)
-    (subst (λ z. AreTables s spans nodes firsts z [] (root_row ∷ []) (replicate (length s.procs) None)) (sym e)
+    subst (λ z. AreTables s spans nodes bases slots callees links z) (sym a)
+    (subst (λ z. AreTables s spans nodes bases slots callees z (replicate (length s.procs) None)) (sym l)
+    (subst (λ z. AreTables s spans nodes bases slots z (root_row ∷ []) (replicate (length s.procs) None)) (sym c)
+    (subst (λ z. AreTables s spans nodes bases z [] (root_row ∷ []) (replicate (length s.procs) None)) (sym e)
     (subst (λ z. AreTables s spans nodes z (replicate (length (sites_of main s.sites)) (slot_of None)) [] (root_row ∷ []) (replicate (length s.procs) None)) (sym f)
-    (subst (λ z. AreTables s spans z (0 ∷ []) (replicate (length (sites_of main s.sites)) (slot_of None)) [] (root_row ∷ []) (replicate (length s.procs) None)) (sym n) all)))))
+    (subst (λ z. AreTables s spans z (base ∷ []) (replicate (length (sites_of main s.sites)) (slot_of None)) [] (root_row ∷ []) (replicate (length s.procs) None)) (sym n) all)))))
 
 -- what a site may lead to is a procedure
 pub callee-there : (r : Rows) (site q : ℕ) → All (λ x. IfSome (callee_of x.kind) (λ p. p < length r.statics.procs)) r.statics.sites → MayLead r site q → q < length r.statics.procs
@@ -406,15 +563,16 @@ callee-there r site q there may =
     callee-of (length r.statics.procs) q (callee_of x.0.kind) (all-at (λ (y : Site). IfSome (callee_of y.kind) (λ p. p < length r.statics.procs)) r.statics.sites site x.0 there x.1) x.2
 
 -- another context, or none, is made active
-pub active-tables : (s : Static) (spans : List Span) (nodes firsts : List ℕ) (slots : List Slot) (callees : List (CalleeKey × ℕ)) (links : List LinkRow) (active : List (Option ℕ)) (q : ℕ) (to : Option ℕ) → AreTables s spans nodes firsts slots callees links active →
-    q < length s.procs → IfSome to (λ v. slice_get nodes v ≡ Some q) → AreTables s spans nodes firsts slots callees links (set active q to)
-active-tables s spans nodes firsts slots callees links active q to t below of =
+pub active-tables : (s : Static) (spans : List Span) (nodes bases : List ℕ) (slots : List Slot) (callees : List (CalleeKey × ℕ)) (links : List LinkRow) (active : List (Option ℕ)) (q : ℕ) (to : Option ℕ) → AreTables s spans nodes bases slots callees links active →
+    q < length s.procs → IfSome to (λ v. slice_get nodes v ≡ Some q) → AreTables s spans nodes bases slots callees links (set active q to)
+active-tables s spans nodes bases slots callees links active q to t below of =
     record {
       sound = t.sound;
       spans_right = t.spans_right;
       nodes_there = t.nodes_there;
-      firsts_are = t.firsts_are;
+      bases_are = t.bases_are;
       slots_are = t.slots_are;
+      used_are = t.used_are;
       callees_are = t.callees_are;
       ends = t.ends;
       pointers = length-set active q to ∙ t.pointers;
@@ -428,12 +586,13 @@ active-tables s spans nodes firsts slots callees links active q to t below of =
       ];
       fewer = t.fewer;
       few = t.few;
+      few_slots = t.few_slots;
     }
 
 -- a count of a link changes
-pub count-tables : (s : Static) (spans : List Span) (nodes firsts : List ℕ) (slots : List Slot) (callees : List (CalleeKey × ℕ)) (links : List LinkRow) (active : List (Option ℕ)) (j : ℕ) (old new : LinkRow) → AreTables s spans nodes firsts slots callees links active →
-    slice_get links j ≡ Some old → new.caller ≡ old.caller → new.site ≡ old.site → new.callee ≡ old.callee → AreTables s spans nodes firsts slots callees (set links j new) active
-count-tables s spans nodes firsts slots callees links active j old new t at caller site callee =
+pub count-tables : (s : Static) (spans : List Span) (nodes bases : List ℕ) (slots : List Slot) (callees : List (CalleeKey × ℕ)) (links : List LinkRow) (active : List (Option ℕ)) (j : ℕ) (old new : LinkRow) → AreTables s spans nodes bases slots callees links active →
+    slice_get links j ≡ Some old → new.caller ≡ old.caller → new.site ≡ old.site → new.callee ≡ old.callee → AreTables s spans nodes bases slots callees (set links j new) active
+count-tables s spans nodes bases slots callees links active j old new t at caller site callee =
     let len = length-set links j new in
     let from : (v n : ℕ) → is_from v n new ≡ is_from v n old = λ v n. ap (λ o. same_option (Some v) o && same_option (Some n) new.site) caller ∙ ap (λ o. same_option (Some v) old.caller && same_option (Some n) o) site in
     let call : (v n q : ℕ) → is_call nodes v n q new ≡ is_call nodes v n q old = λ v n q. ap (λ b. b && same_option (Some q) (slice_get nodes new.callee)) (from v n) ∙ ap (λ k. is_from v n old && same_option (Some q) (slice_get nodes k)) callee in
@@ -441,8 +600,12 @@ count-tables s spans nodes firsts slots callees links active j old new t at call
       sound = t.sound;
       spans_right = t.spans_right;
       nodes_there = t.nodes_there;
-      firsts_are = t.firsts_are;
+      bases_are = t.bases_are;
       slots_are = record { each = t.slots_are.each; right = λ v n c x there kind mine. t.slots_are.right v n c x there kind mine ∙ ap (λ o. Some (slot_of o)) (sym (number-set (is_from v n) 0 links j old new at (from v n))) };
+      used_are = λ v n x there kind mine.
+          let slot = some-and (λ slot. IfSome (slot_link slot) (IsFound nodes links v n)) (slice_get slots (place_at s.sites nodes v x.owner n)) (t.used_are v n x there kind mine) in
+          and-some (λ slot. IfSome (slot_link slot) (IsFound nodes (set links j new) v n)) (slice_get slots (place_at s.sites nodes v x.owner n)) slot.0 slot.1
+          (if-some (IsFound nodes links v n) (IsFound nodes (set links j new) v n) (slot_link slot.0) (λ k is. found-counted nodes links j old new v n k at callee (call v n) is) slot.2);
       callees_are = λ v n q x there kind. t.callees_are v n q x there kind ∙ sym (number-set (is_call nodes v n q) 0 links j old new at (call v n q));
       ends = λ k l is. elim (cases_eq k j) [
         | inl same ↦
@@ -457,6 +620,7 @@ count-tables s spans nodes firsts slots callees links active j old new t at call
       active_there = t.active_there;
       fewer = omega (arith, len, t.fewer);
       few = omega (arith, len, t.few);
+      few_slots = t.few_slots;
     }
 
 -- ---- what is read
@@ -473,7 +637,30 @@ number-bounded p links (Some k) is = (let at = number-some p 0 links k is in let
 pub owned : (r : Rows) (node site : ℕ) → Owns r node site → (x : Site) × (slice_get r.statics.sites site ≡ Some x) × (slice_get r.nodes node ≡ Some x.owner)
 owned r node site own = some-and (λ (x : Site). slice_get r.nodes node ≡ Some x.owner) (slice_get r.statics.sites site) own
 
-module _ (r : Rows) (spans : List Span) (firsts : List ℕ) (slots : List Slot) (callees : List (CalleeKey × ℕ)) (t : AreTables r.statics spans r.nodes firsts slots callees r.links r.active) (old : Rows) (same : r ≡ old) (node site : ℕ) (own : Owns old node site) where
+-- the link that is read, and the context to which it leads
+pub end-read : (r : Rows) (spans : List Span) (bases : List ℕ) (slots : List Slot) (callees : List (CalleeKey × ℕ)) → AreTables r.statics spans r.nodes bases slots callees r.links r.active → (old : Rows) → r ≡ old → (link k : ℕ) (row : LinkRow) → link < length old.links → k ≡ link → row ≡ get_or r.links k row →
+    (row.callee < length r.nodes) × (slice_get old.links link ≡ Some row)
+end-read r spans bases slots callees t old same link k row below at read =
+    let within : link < length r.links = omega (arith, below, ap (λ (z : Rows). length z.links) same) in
+    let there = get-there r.links link within in
+    let own : row ≡ there.0 = read ∙ ap (λ j. get_or r.links j row) at ∙ get_or_from_slice_get r.links link there.0 row there.1 in
+    (omega (arith, ap (λ (l : LinkRow). l.callee) own, (t.ends link there.0 there.1).1), ap (λ (z : Rows). slice_get z.links link) (sym same) ∙ there.1 ∙ ap Some (sym own))
+
+-- whether it is a context of a procedure
+pub end-told : (nodes : List ℕ) (k end p q : ℕ) (same : Bool) → end < length nodes → k ≡ end → p ≡ get_or nodes k p → same ≡ (p == q) → IsTrue same ↔ slice_get nodes end ≡ Some q
+end-told nodes k end p q same below at read told =
+    let there = get-there nodes end below in
+    let own : p ≡ there.0 = read ∙ ap (λ j. get_or nodes j p) at ∙ get_or_from_slice_get nodes end there.0 p there.1 in (
+      λ led. there.1 ∙ ap Some (sym own ∙ eqb-true p q (sym told ∙ led)),
+      λ is. told ∙ eq-eqb p q (own ∙ (let e : Some there.0 ≡ Some q = sym there.1 ∙ is in cc)),
+    )
+
+-- what a number is the same as
+end-is : (o : Option ℕ) (q : ℕ) → same_option (Some q) o ≡ true → o ≡ Some q
+end-is None q is = absurd (cc)
+end-is (Some p) q is = ap Some (sym (eqb-true q p is))
+
+module _ (r : Rows) (spans : List Span) (bases : List ℕ) (slots : List Slot) (callees : List (CalleeKey × ℕ)) (t : AreTables r.statics spans r.nodes bases slots callees r.links r.active) (old : Rows) (same : r ≡ old) (node site : ℕ) (own : Owns old node site) where
   abbrev pub here : Owns r node site
   here = subst (λ (z : Rows). Owns z node site) (sym same) own
 
@@ -486,23 +673,22 @@ module _ (r : Rows) (spans : List Span) (firsts : List ℕ) (slots : List Slot) 
       let mine : place ≡ place_at r.statics.sites r.nodes node x.0.owner site = is ∙ ap (λ (z : Rows). place_in z node site) (sym same) ∙ place-is x.0 x.2 in
       omega (arith, mine, place-within r.statics.sites r.nodes node site x.0 t.sound.owners_rise x.1 x.2, t.slots_are.each)
 
-  -- what is read of the context's procedure, its span and where its slots begin
-  pub place-read : (n v w q p : ℕ) (span : Span) → n ≡ site → v ≡ node → p ≡ get_or r.nodes v p → q ≡ p → span ≡ get_or spans q span → w ≡ node →
-      (span.first ≤ n) × (w < length firsts) × ((first : ℕ) → first ≡ get_or firsts w first → first + (n - span.first) ≡ place_in old node site)
-  place-read n v w q p span at_site at_node proc at_proc read at_first =
+  -- the context is there
+  pub base-there : (w : ℕ) → w ≡ node → w < length bases
+  base-there w at_node = (let x = owned r node site here in let below = get-within r.nodes node x.0.owner x.2 in omega (arith, at_node, below, t.bases_are.each))
+
+  -- what is read of it leads to the place
+  pub place-read : (n w base : ℕ) → n ≡ site → w ≡ node → base ≡ get_or bases w base → (base + n) % 4294967296 ≡ place_in old node site
+  place-read n w base at_site at_node read =
       let x = owned r node site here in
-      let below = get-within r.nodes node x.0.owner x.2 in
-      let mine : p ≡ x.0.owner = proc ∙ ap (λ k. get_or r.nodes k p) at_node ∙ get_or_from_slice_get r.nodes node x.0.owner p x.2 in
-      let span_is = span-read r.statics.sites (length r.statics.procs) x.0.owner q spans span t.spans_right (t.nodes_there node x.0.owner x.2) (at_proc ∙ mine) read in
-      let start : span.first ≡ first_site x.0.owner r.statics.sites = ap (λ (z : Span). z.first) span_is in
-      let inside = place-inside r.statics.sites r.nodes node site x.0 t.sound.owners_rise x.1 x.2 in (
-        omega (arith, start, at_site, inside.0),
-        omega (arith, at_first, below, t.firsts_are.each),
-        λ first is.
-            let due : first ≡ slots_before r.statics.sites r.nodes node = is ∙ ap (λ k. get_or firsts k first) at_first ∙ get_or_from_slice_get firsts node (slots_before r.statics.sites r.nodes node) first (t.firsts_are.right node below) in
-            let value : first + (n - span.first) ≡ place_at r.statics.sites r.nodes node x.0.owner site = omega (arith, due, start, at_site) in
-            value ∙ sym (place-is x.0 x.2) ∙ ap (λ (z : Rows). place_in z node site) same,
-      )
+      let first = base_of r.statics.sites r.nodes node x.0.owner in
+      let inside = place-inside r.statics.sites r.nodes node site x.0 t.sound.owners_rise x.1 x.2 in
+      let within = place-within r.statics.sites r.nodes node site x.0 t.sound.owners_rise x.1 x.2 in
+      let small = get-within r.statics.sites site x.0 x.1 in
+      let due : base ≡ first = read ∙ ap (λ k. get_or bases k base) at_node ∙ get_or_from_slice_get bases node first base (t.bases_are.right node x.0.owner x.2) in
+      let value : (first + site) % 4294967296 ≡ place_at r.statics.sites r.nodes node x.0.owner site =
+      wrapped (slots_before r.statics.sites r.nodes node) (first_site x.0.owner r.statics.sites) site inside.0 (omega (arith, small, t.sound.few_sites)) (omega (arith, within, t.slots_are.each, t.few_slots)) in
+      ap (λ z. (z + n) % 4294967296) due ∙ ap (λ z. (first + z) % 4294967296) at_site ∙ value ∙ sym (place-is x.0 x.2) ∙ ap (λ (z : Rows). place_in z node site) same
 
   -- the link of a plain site
   pub link-read : (place : ℕ) (found : Slot) → IsPlainSite old site → place ≡ place_in old node site → found ≡ get_or slots place found → slot_link found ≡ link_in old node site
@@ -516,6 +702,68 @@ module _ (r : Rows) (spans : List Span) (firsts : List ℕ) (slots : List Slot) 
       let found_is : found ≡ slot_of (number_of (is_from node site) r.links) = read ∙ get_or_from_slice_get slots place (slot_of (number_of (is_from node site) r.links)) found due in
       ap slot_link found_is ∙ slot-told (number_of (is_from node site) r.links) (length r.links) (omega (arith, t.few)) (number-bounded (is_from node site) r.links (number_of (is_from node site) r.links) refl) ∙ ap (λ (z : Rows). link_in z node site) same
 
+  -- the link in the slot of a higher-order site
+  pub used-read : (place : ℕ) (found : Slot) → IsHigherOrderSite old site → place ≡ place_in old node site → found ≡ get_or slots place found → IfSome (slot_link found) (IsFound r.nodes r.links node site)
+  used-read place found many is read =
+      let x = owned r node site here in
+      let kind = some-and (λ (z : Site). callee_of z.kind ≡ None) (slice_get r.statics.sites site) (subst (λ (z : Rows). IsHigherOrderSite z site) (sym same) many) in
+      let one : kind.0 ≡ x.0 = cc (kind.1, x.1) in
+      let mine : place ≡ place_at r.statics.sites r.nodes node x.0.owner site = is ∙ ap (λ (z : Rows). place_in z node site) (sym same) ∙ place-is x.0 x.2 in
+      let slot = some-and (λ slot. IfSome (slot_link slot) (IsFound r.nodes r.links node site)) (slice_get slots (place_at r.statics.sites r.nodes node x.0.owner site)) (t.used_are node site x.0 x.1 (ap (λ (z : Site). callee_of z.kind) (sym one) ∙ kind.2) x.2) in
+      let found_is : found ≡ slot.0 = read ∙ get_or_from_slice_get slots place slot.0 found (ap (slice_get slots) mine ∙ slot.1) in
+      subst (λ z. IfSome (slot_link z) (IsFound r.nodes r.links node site)) (sym found_is) slot.2
+
+  -- it is there, and it is the callee's where it leads to a context of it
+  pub used-link : (place : ℕ) (found : Slot) (k : ℕ) → IsHigherOrderSite old site → place ≡ place_in old node site → found ≡ get_or slots place found → slot_link found ≡ Some k → k < length old.links
+  used-link place found k many is read told =
+      let used : IsFound r.nodes r.links node site k = subst (λ o. IfSome o (IsFound r.nodes r.links node site)) told (used-read place found many is read) in
+      let one = some-and (λ (l : LinkRow). IsSomeAnd (slice_get r.nodes l.callee) (λ q. number_of (is_call r.nodes node site q) r.links ≡ Some k)) (slice_get r.links k) used in
+      omega (arith, get-within r.links k one.0 one.1, ap (λ (z : Rows). length z.links) same)
+
+  pub used-callee : (place : ℕ) (found : Slot) (k : ℕ) → IsHigherOrderSite old site → place ≡ place_in old node site → found ≡ get_or slots place found → slot_link found ≡ Some k → (q : ℕ) (leads : Bool) →
+      IfSome (slice_get old.links k) (λ row. IsTrue leads ↔ slice_get old.nodes row.callee ≡ Some q) → IsTrue leads → Some k ≡ callee_in old node site q
+  used-callee place found k many is read told q leads right led =
+      let used : IsFound r.nodes r.links node site k = subst (λ o. IfSome o (IsFound r.nodes r.links node site)) told (used-read place found many is read) in
+      let one = some-and (λ (l : LinkRow). IsSomeAnd (slice_get r.nodes l.callee) (λ p. number_of (is_call r.nodes node site p) r.links ≡ Some k)) (slice_get r.links k) used in
+      let two = some-and (λ p. number_of (is_call r.nodes node site p) r.links ≡ Some k) (slice_get r.nodes one.0.callee) one.2 in
+      let there : slice_get old.links k ≡ Some one.0 = ap (λ (z : Rows). slice_get z.links k) (sym same) ∙ one.1 in
+      let here : IsTrue leads ↔ slice_get old.nodes one.0.callee ≡ Some q = subst (λ o. IfSome o (λ (row : LinkRow). IsTrue leads ↔ slice_get old.nodes row.callee ≡ Some q)) there right in
+      let end : slice_get r.nodes one.0.callee ≡ Some q = ap (λ (z : Rows). slice_get z.nodes one.0.callee) same ∙ here.0 led in
+      let equal : two.0 ≡ q = (let e : Some two.0 ≡ Some q = sym two.1 ∙ end in cc) in
+      sym two.2 ∙ ap (λ p. number_of (is_call r.nodes node site p) r.links) equal ∙ ap (λ (z : Rows). callee_in z node site q) same
+
+  -- a link that was found is put into the slot of its higher-order site
+  pub use-tables : (q place k : ℕ) (slots2 : List Slot) → IsHigherOrderSite old site → place ≡ place_in old node site → callee_in old node site q ≡ Some k → slots2 ≡ set slots place (slot_of (Some k)) → AreTables r.statics spans r.nodes bases slots2 callees r.links r.active
+  use-tables q place k slots2 many is found now =
+      let x = owned r node site here in
+      let kind = some-and (λ (z : Site). callee_of z.kind ≡ None) (slice_get r.statics.sites site) (subst (λ (z : Rows). IsHigherOrderSite z site) (sym same) many) in
+      let one : kind.0 ≡ x.0 = cc (kind.1, x.1) in
+      let higher : callee_of x.0.kind ≡ None = ap (λ (z : Site). callee_of z.kind) (sym one) ∙ kind.2 in
+      let spot = place_at r.statics.sites r.nodes node x.0.owner site in
+      let mine : place ≡ spot = is ∙ ap (λ (z : Rows). place_in z node site) (sym same) ∙ place-is x.0 x.2 in
+      let within = place-within r.statics.sites r.nodes node site x.0 t.sound.owners_rise x.1 x.2 in
+      let at : number_of (is_call r.nodes node site q) r.links ≡ Some k = ap (λ (z : Rows). callee_in z node site q) same ∙ found in
+      let link = number-below (is_call r.nodes node site q) r.links k at in
+      let end : slice_get r.nodes link.0.callee ≡ Some q = end-is (slice_get r.nodes link.0.callee) q (and_parts (is_from node site link.0) (same_option (Some q) (slice_get r.nodes link.0.callee)) link.2).1 in
+      let told : IsFound r.nodes r.links node site k =
+      and-some (λ (l : LinkRow). IsSomeAnd (slice_get r.nodes l.callee) (λ p. number_of (is_call r.nodes node site p) r.links ≡ Some k)) (slice_get r.links k) link.0 link.1 (and-some (λ p. number_of (is_call r.nodes node site p) r.links ≡ Some k) (slice_get r.nodes link.0.callee) q end at) in
+      let all : AreTables r.statics spans r.nodes bases (set slots spot (slot_of (Some k))) callees r.links r.active = record {
+        sound = t.sound;
+        spans_right = t.spans_right;
+        nodes_there = t.nodes_there;
+        bases_are = t.bases_are;
+        slots_are = slots-other r.statics.sites r.nodes slots r.links node site x.0 (slot_of (Some k)) t.sound.owners_rise t.slots_are x.1 x.2 higher;
+        used_are = used-set r.statics.sites r.nodes r.nodes slots r.links node site k x.0 t.sound.owners_rise t.used_are x.1 x.2 (omega (arith, get-within r.links k link.0 link.1, t.few)) (omega (arith, within, t.slots_are.each)) (λ e. told);
+        callees_are = t.callees_are;
+        ends = t.ends;
+        pointers = t.pointers;
+        active_there = t.active_there;
+        fewer = t.fewer;
+        few = t.few;
+        few_slots = omega (arith, t.few_slots, length-set slots spot (slot_of (Some k)));
+      } in
+      subst (λ zs. AreTables r.statics spans r.nodes bases zs callees r.links r.active) (sym (now ∙ ap (λ p. set slots p (slot_of (Some k))) mine)) all
+
   -- the link of a callee
   pub callee-read : (q : ℕ) → IsHigherOrderSite old site → lookup (is_key node site q) callees ≡ callee_in old node site q
   callee-read q many =
@@ -524,7 +772,7 @@ module _ (r : Rows) (spans : List Span) (firsts : List ℕ) (slots : List Slot) 
 
   -- what is known where a link is added
   pub adding : (slots2 : List Slot) (callees2 : List (CalleeKey × ℕ)) (q place k : ℕ) (x : Site) → IsFresh old node site q → slice_get old.statics.sites site ≡ Some x → place ≡ place_in old node site → k ≡ length r.links →
-      MatchOption (callee_of x.kind) (slots2 ≡ slots) (λ c. slots2 ≡ set slots place (slot_of (Some k))) → IsEntered (callee_of x.kind) node site q k callees callees2 → Adding r.statics.sites r.nodes slots slots2 callees callees2 r.links node site q
+      slots2 ≡ set slots place (slot_of (Some k)) → IsEntered (callee_of x.kind) node site q k callees callees2 → Adding r.statics.sites r.nodes slots slots2 callees callees2 r.links node site q
   adding slots2 callees2 q place k x fresh there is number slots_now callees_now =
       let at : slice_get r.statics.sites site ≡ Some x = ap (λ (z : Rows). slice_get z.statics.sites site) same ∙ there in
       let y = owned r node site here in
@@ -532,7 +780,7 @@ module _ (r : Rows) (spans : List Span) (firsts : List ℕ) (slots : List Slot) 
       let owner : slice_get r.nodes node ≡ Some x.owner = y.2 ∙ ap (λ (z : Site). Some z.owner) one in
       let mine : place ≡ place_at r.statics.sites r.nodes node x.owner site = is ∙ ap (λ (z : Rows). place_in z node site) (sym same) ∙ place-is x owner in
       let F : Option Site → Type 0 = λ o. IsSomeAnd o (λ z. MatchOption (callee_of z.kind) (callee_in r node site q ≡ None) (λ c. link_in r node site ≡ None)) in
-      let S : ℕ → ℕ → Type 0 = λ a b. MatchOption (callee_of x.kind) (slots2 ≡ slots) (λ c. slots2 ≡ set slots a (slot_of (Some b))) in
+      let S : ℕ → ℕ → Type 0 = λ a b. slots2 ≡ set slots a (slot_of (Some b)) in
       record {
         row = x;
         there = at;

@@ -1,8 +1,9 @@
 -- Where the slots of a context begin, and that each slot is that of one site in one context.
-use Rattle.std.proofs.Common.{ℕ, zero, suc, ◌+◌, ◌-◌, ◌≡◌, ◌≢◌, ◌<◌, ◌≤◌, inl, inr, List, [], ◌∷◌, ◌++◌, length, Option, Some, None, slice_get, refl, sym, ap, ◌∙◌, subst, arith}
+use Rattle.std.proofs.Common.{ℕ, zero, suc, ◌+◌, ◌-◌, ◌*◌, ◌%◌, ◌≡◌, ◌≢◌, ◌<◌, ◌≤◌, inl, inr, List, [], ◌∷◌, ◌++◌, length, Some, slice_get, refl, ap, ◌∙◌, arith}
 use Rattle.std.proofs.lemmas.Bool.{cases_order}
+use Rattle.std.proofs.lemmas.Nat.{mod-mul-add}
 use Rattle.md_static.specs.declared.entry.Site.{Site}
-use Rattle.md_static.specs.Sites.{OwnersRiseFrom, first_site, sites_of, place_of}
+use Rattle.md_static.specs.Sites.{OwnersRiseFrom, first_site, sites_of}
 use Rattle.md_static.proofs.SiteLists.{site-place}
 use Rattle.md_trace.proofs.Lists.{get-within}
 use Rattle.md_dynamic.specs.Slots.{slots_before}
@@ -67,3 +68,29 @@ places-apart sites nodes v s w r x y rise there owner there2 owner2 apart = λ s
         | inr more ↦ omega (arith, same, two.1, before-rises sites nodes (w + 1) v (omega (arith, more)))
       ]
     ]
+
+-- ---- by 32 bits
+
+mod-below : (n w : ℕ) → n < w → n % w ≡ n
+mod-below n w below = (let e : n ≡ 0 * w + n = omega arith in ap (λ z. z % w) e ∙ mod-mul-add 0 w n below)
+
+mod-once : (n b w : ℕ) → b < w → n ≡ w + b → n % w ≡ b
+mod-once n b w below is = (let e : n ≡ 1 * w + b = omega (arith, is) in ap (λ z. z % w) e ∙ mod-mul-add 1 w b below)
+
+-- what is first taken off, and then added with more, by 32 bits
+pub wrapped : (start first site : ℕ) → first ≤ site → site < 4294967296 → start + (site - first) < 4294967296 → ((start + (4294967296 - first)) % 4294967296 + site) % 4294967296 ≡ start + (site - first)
+wrapped start first site after small below =
+    elim (cases_order start first) [
+      | inl same ↦ up (omega (arith, same))
+      | inr rest ↦ elim rest [
+        | inl less ↦
+            let one : (start + (4294967296 - first)) % 4294967296 ≡ start + (4294967296 - first) = mod-below (start + (4294967296 - first)) 4294967296 (omega (arith, less, after, small)) in
+            ap (λ z. (z + site) % 4294967296) one ∙ mod-once (start + (4294967296 - first) + site) (start + (site - first)) 4294967296 below (omega (arith, less, after, small))
+        | inr more ↦ up (omega (arith, more))
+      ]
+    ]
+  where
+    up : first ≤ start → ((start + (4294967296 - first)) % 4294967296 + site) % 4294967296 ≡ start + (site - first)
+    up le =
+        let one : (start + (4294967296 - first)) % 4294967296 ≡ start - first = mod-once (start + (4294967296 - first)) (start - first) 4294967296 (omega (arith, le, below)) (omega (arith, le, after, small)) in
+        ap (λ z. (z + site) % 4294967296) one ∙ (let e : start - first + site ≡ start + (site - first) = omega (arith, le, after) in ap (λ z. z % 4294967296) e) ∙ mod-below (start + (site - first)) 4294967296 below

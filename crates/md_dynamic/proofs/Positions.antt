@@ -1,5 +1,5 @@
 -- The first link that passes a test, as links are added and counted.
-use Rattle.std.proofs.Common.{ℕ, zero, suc, ◌+◌, ◌≡◌, ◌<◌, Bool, true, false, cond, inl, inr, List, [], ◌∷◌, ◌++◌, length, Option, Some, None, IfSome, slice_get, set, refl, sym, ap, ◌∙◌, subst, arith, if◌then◌else◌}
+use Rattle.std.proofs.Common.{ℕ, zero, suc, ◌+◌, ◌≡◌, Bool, true, false, inl, inr, List, [], ◌∷◌, ◌++◌, length, Some, None, slice_get, set, refl, sym, ap, ◌∙◌, arith}
 use Rattle.std.proofs.lemmas.Bool.{cases_Bool}
 use Rattle.md_dynamic.specs.declared.link.LinkRow.{LinkRow}
 use Rattle.md_dynamic.specs.Links.{number_from, number_of}
@@ -51,6 +51,15 @@ number-other p n (x ∷ ls) l bad =
     elim (cases_Bool (p x)) [
       | inl good ↦ rw good refl
       | inr fails ↦ rw fails rest
+    ]
+
+-- the first stays the first
+pub number-first : (p : LinkRow → Bool) (n : ℕ) (ls : List LinkRow) (l : LinkRow) (k : ℕ) → number_from p n ls ≡ Some k → number_from p n (ls ++ l ∷ []) ≡ Some k
+number-first p n [] l k is = absurd (cc)
+number-first p n (x ∷ ls) l k is =
+    elim (cases_Bool (p x)) [
+      | inl good ↦ (let e : Some n ≡ Some k = rw good at is in rw good e)
+      | inr bad ↦ (let rest = number-first p (suc n) ls l k (rw bad at is) in rw bad rest)
     ]
 
 -- one that passes is the first where there was none

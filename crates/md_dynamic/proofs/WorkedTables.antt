@@ -4,8 +4,6 @@ use Rattle.std.specs.Map.{lookup}
 use Rattle.md_static.specs.declared.entry.Site.{Site}
 use Rattle.md_static.specs.declared.entry.SiteKind.{SiteKind}
 use Rattle.md_static.specs.declared.entry.SiteKind.TheVariants.{Plain, HigherOrder}
-use Rattle.md_static.specs.Tables.{Static}
-use Rattle.md_dynamic.specs.declared.link.LinkRow.{LinkRow}
 use Rattle.md_dynamic.specs.declared.slot.CalleeKey.{CalleeKey}
 use Rattle.md_dynamic.specs.Links.{link_row, root_row}
 use Rattle.md_dynamic.specs.Rows.{Rows, link_in, callee_in, place_in}

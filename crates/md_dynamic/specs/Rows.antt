@@ -1,9 +1,9 @@
 -- What the tables hold, as lists by number: contexts with their procedures, links, and active contexts.
-use Rattle.std.specs.Prelude.{ℕ, ◌≡◌, ◌+◌, ◌<◌, ◌≤◌, ◌^◌, ◌&&◌, Bool, List, [], ◌∷◌, ◌++◌, length, replicate, Option, Some, None, IfSome, IsSomeAnd, MatchOption, slice_get}
+use Rattle.std.specs.Prelude.{ℕ, ◌≡◌, ◌+◌, ◌-◌, ◌%◌, ◌<◌, ◌≤◌, ◌^◌, ◌&&◌, Bool, List, [], ◌∷◌, ◌++◌, length, replicate, Option, Some, None, IfSome, IsSomeAnd, MatchOption, slice_get}
 use Rattle.std.specs.Map.{lookup}
 use Rattle.md_static.specs.declared.entry.Site.{Site}
 use Rattle.md_static.specs.Tables.{Static, callee_of}
-use Rattle.md_static.specs.Sites.{sites_of, place_of}
+use Rattle.md_static.specs.Sites.{first_site, sites_of, place_of}
 use Rattle.md_static.specs.Sound.{IsSound}
 use Rattle.md_trace.specs.Context.{same_option}
 use Rattle.md_dynamic.specs.declared.link.LinkRow.{LinkRow}
@@ -11,7 +11,7 @@ use Rattle.md_dynamic.specs.declared.slot.CalleeKey.{CalleeKey}
 use Rattle.md_dynamic.specs.declared.slot.Slot.{Slot}
 use Rattle.md_dynamic.specs.declared.span.Span.{Span}
 use Rattle.md_dynamic.specs.Links.{link_row, root_row, number_of}
-use Rattle.md_dynamic.specs.Slots.{slot_of, slots_before, is_key}
+use Rattle.md_dynamic.specs.Slots.{slot_of, slot_link, slots_before, is_key}
 use Rattle.md_dynamic.specs.Spans.{AreSpans}
 
 -- the program's tables; each context's procedure; the links; and each procedure's active context
@@ -100,16 +100,31 @@ place_by sites nodes v (Some p) s = place_at sites nodes v p s
 abbrev pub place_in : Rows → ℕ → ℕ → ℕ
 place_in r node site = place_by r.statics.sites r.nodes node (slice_get r.nodes node) site
 
--- the slots of each context begin behind those of the contexts before it
-pub record AreFirsts (sites : List Site) (nodes firsts : List ℕ) : Type 0 where
-  pub each : length firsts ≡ length nodes
-  pub right : (v : ℕ) → v < length nodes → slice_get firsts v ≡ Some (slots_before sites nodes v)
+-- By what a context of p finds its slots: the place of the first of them, less the number of the first site of p, by 32 bits. So
+-- the slot of a site stands where this and the number of the site lead, by 32 bits.
+abbrev pub base_of : List Site → List ℕ → ℕ → ℕ → ℕ
+base_of sites nodes v p = (slots_before sites nodes v + (2 ^ 32 - first_site p sites)) % 2 ^ 32
+
+-- each context has that number
+pub record AreBases (sites : List Site) (nodes bases : List ℕ) : Type 0 where
+  pub each : length bases ≡ length nodes
+  pub right : (v p : ℕ) → slice_get nodes v ≡ Some p → slice_get bases v ≡ Some (base_of sites nodes v p)
 
 -- each context has its slots, and that of a plain site has the link of the site there, or none exactly where there is none
 pub record AreSlots (sites : List Site) (nodes : List ℕ) (slots : List Slot) (links : List LinkRow) : Type 0 where
   pub each : length slots ≡ slots_before sites nodes (length nodes)
   pub right : (v s c : ℕ) (x : Site) → slice_get sites s ≡ Some x → callee_of x.kind ≡ Some c → slice_get nodes v ≡ Some x.owner
       → slice_get slots (place_at sites nodes v x.owner s) ≡ Some (slot_of (number_of (is_from v s) links))
+
+-- the link is found by the procedure of the context to which it leads, as a callee of the site in context v
+abbrev pub IsFound : List ℕ → List LinkRow → ℕ → ℕ → ℕ → Type 0
+IsFound nodes links v s k = IsSomeAnd (slice_get links k) (λ l. IsSomeAnd (slice_get nodes l.callee) (λ q. number_of (is_call nodes v s q) links ≡ Some k))
+
+-- the slot of a higher-order site has such a link of the site, or none
+abbrev pub AreUsed : List Site → List ℕ → List Slot → List LinkRow → Type 0
+AreUsed sites nodes slots links =
+    (v s : ℕ) (x : Site) → slice_get sites s ≡ Some x → callee_of x.kind ≡ None → slice_get nodes v ≡ Some x.owner
+    → IsSomeAnd (slice_get slots (place_at sites nodes v x.owner s)) (λ slot. IfSome (slot_link slot) (IsFound nodes links v s))
 
 -- the map of callees has the links of higher-order sites, each under its context, site and procedure
 abbrev pub AreCallees : List Site → List ℕ → List (CalleeKey × ℕ) → List LinkRow → Type 0
@@ -121,15 +136,17 @@ abbrev pub HasItsEnds : List ℕ → LinkRow → Type 0
 HasItsEnds nodes l = IfSome l.caller (λ v. v < length nodes) × (l.callee < length nodes)
 
 -- what always holds of the tables
-pub record AreTables (s : Static) (spans : List Span) (nodes firsts : List ℕ) (slots : List Slot) (callees : List (CalleeKey × ℕ)) (links : List LinkRow) (active : List (Option ℕ)) : Type 0 where
+pub record AreTables (s : Static) (spans : List Span) (nodes bases : List ℕ) (slots : List Slot) (callees : List (CalleeKey × ℕ)) (links : List LinkRow) (active : List (Option ℕ)) : Type 0 where
   pub sound : IsSound s
   pub spans_right : AreSpans s.sites (length s.procs) spans
   pub nodes_there : (v p : ℕ) → slice_get nodes v ≡ Some p → p < length s.procs
-  pub firsts_are : AreFirsts s.sites nodes firsts
+  pub bases_are : AreBases s.sites nodes bases
   pub slots_are : AreSlots s.sites nodes slots links
+  pub used_are : AreUsed s.sites nodes slots links
   pub callees_are : AreCallees s.sites nodes callees links
   pub ends : (k : ℕ) (l : LinkRow) → slice_get links k ≡ Some l → HasItsEnds nodes l
   pub pointers : length active ≡ length s.procs
   pub active_there : (q v : ℕ) → slice_get active q ≡ Some (Some v) → slice_get nodes v ≡ Some q
   pub fewer : length nodes ≤ length links
   pub few : length links < 2 ^ 32
+  pub few_slots : length slots < 2 ^ 32

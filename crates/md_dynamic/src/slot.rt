@@ -10,8 +10,8 @@ use md_static::SiteKind;
 use std::alloc::Global;
 use std::sync::ledger::Ledger;
 
-/// What a context keeps for a call site of its procedure: the link of a plain site, or none before the first call. It takes
-/// four bytes, since no link has the last number.
+/// What a context keeps for a call site of its procedure: the link of a plain site, or that of the callee that a higher-order
+/// site has used last, or none before the first call. It takes four bytes, since no link has the last number.
 #[derive(Clone, Copy)]
 pub(crate) struct Slot {
     number: u32,
@@ -54,7 +54,7 @@ pub(crate) struct CalleeKey {
     pub(crate) callee: ProcId,
 }
 
-/// Puts a link into its slot where its site is plain, and among the callees where it is higher-order.
+/// Puts a link into its slot, and among the callees where its site is higher-order.
 pub(crate) fn enter(
     slots: &mut Vec<Slot>,
     callees: &mut IndexMap<CalleeKey, CsdId>,
@@ -64,7 +64,7 @@ pub(crate) fn enter(
     link: CsdId,
 ) -> Result<(), NoMemory>
     requires { place < length slots.old.items }
-    ensures slots { OnOk result (MatchOption (callee_of kind) (slots.new.items ≡ slots.old.items) (λ c. slots.new.items ≡ slice_set slots.old.items place (slot_of (Some link)))) }
+    ensures slots { OnOk result (slots.new.items ≡ slice_set slots.old.items place (slot_of (Some link))) }
     ensures callees { OnOk result (MatchOption (callee_of kind)
         ((v s q : ℕ) → lookup (is_key v s q) callees.new.entries ≡ cond (is_key key.node key.site key.callee (record { node = v; site = s; callee = q })) (Some link) (lookup (is_key v s q) callees.old.entries))
         (λ c. callees.new.entries ≡ callees.old.entries)) }
@@ -73,8 +73,25 @@ pub(crate) fn enter(
     ensures len { vec_len slots.new ≡ vec_len slots.old }
     ensures room { vec_capacity slots.new ≡ vec_capacity slots.old }
 {
+    enter_callee(callees, kind, key, link)?;
+    slots[place] = Slot::of(link);
+    Ok(())
+}
+
+/// Puts a link among the callees where its site is higher-order.
+fn enter_callee(
+    callees: &mut IndexMap<CalleeKey, CsdId>,
+    kind: SiteKind,
+    key: CalleeKey,
+    link: CsdId,
+) -> Result<(), NoMemory>
+    ensures callees { OnOk result (MatchOption (callee_of kind)
+        ((v s q : ℕ) → lookup (is_key v s q) callees.new.entries ≡ cond (is_key key.node key.site key.callee (record { node = v; site = s; callee = q })) (Some link) (lookup (is_key v s q) callees.old.entries))
+        (λ c. callees.new.entries ≡ callees.old.entries)) }
+    ensures err_callees { OnErr result (callees.new.entries ≡ callees.old.entries) }
+{
     match kind {
-        SiteKind::Plain(_) => slots[place] = Slot::of(link),
+        SiteKind::Plain(_) => {}
         SiteKind::HigherOrder => {
             callees.insert(key, link)?;
         }

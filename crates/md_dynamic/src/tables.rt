@@ -1,5 +1,5 @@
 // Contexts and links by number, and one active context per procedure.
-ghost use Rattle.std.specs.Prelude.{ℕ, ◌≡◌, ◌<◌, ◌≤◌, ◌+◌, length, take, drop, slice_get, replicate, vec_capacity, IfOk, OnOk, Some};
+ghost use Rattle.std.specs.Prelude.{ℕ, ◌≡◌, ◌<◌, ◌≤◌, ◌+◌, ◌^◌, length, take, drop, slice_get, replicate, vec_capacity, IfOk, OnOk, Some};
 ghost use Rattle.md_static.specs.Sites.{sites_of};
 ghost use Rattle.md_dynamic.specs.Links.{link_row, root_row};
 
@@ -17,7 +17,8 @@ use std::sync::ledger::Ledger;
 /// The contexts and links of a run. Context 0 is that of the main procedure, and link 0, the root link, leads to it.
 ///
 /// The slots of all contexts stand in one vector, and each context keeps where its own begin; the links of all higher-order
-/// sites stand in one map. So a context with its link and one slot takes 64 bytes, beside the room that vectors grow by.
+/// sites stand in one map, and the slot of such a site has the one that was used last, which is looked at first. So a context
+/// with its link and one slot takes 60 bytes, beside the room that vectors grow by. There is no room for more than 4,294,967,295 slots.
 ///
 /// Each call takes a number of table steps: a step is one read, one write or one adding of a row, a slot or an active
 /// pointer, or one look-up or one adding in the map.
@@ -26,8 +27,8 @@ pub struct Tables {
     statics: Statics,
     spans: Vec<Span>,
     nodes: Vec<ProcId>,
-    /// Where the slots of each context begin.
-    firsts: Vec<usize>,
+    /// For each context where its slots begin, less the number of its procedure's first site, by 32 bits.
+    bases: Vec<u32>,
     slots: Vec<Slot>,
     callees: IndexMap<CalleeKey, CsdId>,
     links: Vec<LinkRow>,
@@ -41,15 +42,16 @@ impl Model for Tables {
 
     ghost view = { λ t. record { statics = t.statics; nodes = t.nodes.items; links = t.links.items; active = t.active.items } };
 
-    ghost invariant = { λ t. AreTables t.statics t.spans.items t.nodes.items t.firsts.items t.slots.items t.callees.entries t.links.items t.active.items };
+    ghost invariant = { λ t. AreTables t.statics t.spans.items t.nodes.items t.bases.items t.slots.items t.callees.entries t.links.items t.active.items };
 }
 
 impl Tables {
-    ghost use Rattle.std.specs.Prelude.{◌≡◌, ◌<◌, ◌≤◌, ◌+◌, length, slice_get, slice_set, IfSome, IfOk, OnOk, OnErr, Some};
+    ghost use Rattle.std.specs.Prelude.{◌≡◌, ◌<◌, ◌≤◌, ◌+◌, ◌↔◌, length, slice_get, slice_set, IfSome, IfOk, IsTrue, OnOk, OnErr, Some};
     ghost use Rattle.std.specs.Option.{option_map};
     ghost use Rattle.md_trace.specs.Count.{with_more};
     ghost use Rattle.md_static.specs.Sites.{sites_of};
     ghost use Rattle.md_static.specs.Sound.{IsSound};
+    ghost use Rattle.md_dynamic.specs.Spans.{span_of};
     ghost use Rattle.md_dynamic.specs.Rows.{Rows, Owns, IsPlainSite, IsHigherOrderSite, MayLead, IsFresh, Adds, AddsLink, AddsContext, add_cost, first_rows, place_in, link_in, callee_in};
 
     /// The tables of a run that has not begun: context 0 of the main procedure, link 0 to it with counts of 0, empty
@@ -61,17 +63,17 @@ impl Tables {
     {
         let procs = statics.procs().len();
         let spans = spans_of(alloc, procs, statics.sites())?;
-        let own = spans[main.number() as usize].count;
-        let slots = empty_slots(alloc, own)?;
+        let own = spans[main.number() as usize];
+        let slots = empty_slots(alloc, own.count)?;
         let nodes = vec![in alloc; main]?;
-        let firsts = vec![in alloc; 0usize]?;
+        let bases = vec![in alloc; 0u32.wrapping_sub(own.first)]?;
         let links = vec![in alloc; root_link()]?;
         let active = no_pointers(alloc, procs)?;
         Ok(Tables {
             statics,
             spans,
             nodes,
-            firsts,
+            bases,
             slots,
             callees: IndexMap::new(alloc),
             links,
@@ -156,7 +158,32 @@ impl Tables {
         ensures cost { steps.new ≡ steps.old + 1 }
     {
         steps.tick();
-        find(&self.callees, CalleeKey { node, site, callee })
+        self.look_up(self.place(node, site), CalleeKey { node, site, callee })
+    }
+
+    /// The same, after which the site's slot has the link that was found, so that the next look-up of this callee finds it
+    /// there. One table step, since the slot is a part of the look-up.
+    pub fn find_again<L: Ledger>(
+        &mut self,
+        node: PdId,
+        site: SiteId,
+        callee: ProcId,
+        steps: &mut Steps<L>,
+    ) -> Option<CsdId>
+        requires owned { Owns self.old node site }
+        requires higher_order { IsHigherOrderSite self.old site }
+        ensures value { result ≡ callee_in self.old node site callee }
+        ensures same { self.new ≡ self.old }
+        ensures statics { self.new.statics ≡ self.old.statics }
+        ensures cost { steps.new ≡ steps.old + 1 }
+    {
+        steps.tick();
+        let place = self.place(node, site);
+        let found = self.look_up(place, CalleeKey { node, site, callee });
+        if let Some(link) = found {
+            self.slots[place] = Slot::of(link);
+        }
+        found
     }
 
     /// Adds to a measure of a link, up to 4,294,967,295. Two table steps.
@@ -258,31 +285,54 @@ impl Tables {
     {
         let place = self.place(node, site);
         let kind = self.site(site).kind;
-        let own = self.own_count(callee);
+        let own = self.span(callee);
         let link = CsdId::new(self.links.len() as u32);
-        let first = self.slots.len();
         let key = CalleeKey { node, site, callee };
         let (links, nodes) = (&mut self.links, &mut self.nodes);
-        take_room(links, nodes, &mut self.firsts, &mut self.slots, own)?;
+        take_room(links, nodes, &mut self.bases, &mut self.slots, own.count)?;
+        let base = (self.slots.len() as u32).wrapping_sub(own.first);
         let end = PdId::new(self.nodes.len() as u32);
         steps.tick();
         steps.tick();
         enter(&mut self.slots, &mut self.callees, kind, place, key, link)?;
         steps.tick();
         self.nodes.push_reserved(callee);
-        self.firsts.push_reserved(first);
-        push_empty(&mut self.slots, own, steps);
+        self.bases.push_reserved(base);
+        push_empty(&mut self.slots, own.count, steps);
         steps.tick();
         self.links.push_reserved(row(node, site, end, calls));
         Ok(link)
     }
 
-    /// How many call sites a procedure has.
-    fn own_count(&self, proc: ProcId) -> u32
-        requires { proc < length self.now.statics.procs }
-        ensures { result ≡ length (sites_of proc self.now.statics.sites) }
+    /// The link of a callee of a higher-order site: the one in the site's slot where it leads to a context of the callee,
+    /// or the one that the map has.
+    fn look_up(&self, place: usize, key: CalleeKey) -> Option<CsdId>
+        requires owned { Owns self.now key.node key.site }
+        requires higher_order { IsHigherOrderSite self.now key.site }
+        requires place { place ≡ place_in self.now key.node key.site }
+        ensures { result ≡ callee_in self.now key.node key.site key.callee }
     {
-        self.spans[proc.number() as usize].count
+        match self.slots[place].link() {
+            Some(link) if self.leads_to(link, key.callee) => Some(link),
+            _ => find(&self.callees, key),
+        }
+    }
+
+    /// Whether a link leads to a context of this procedure.
+    fn leads_to(&self, link: CsdId, callee: ProcId) -> bool
+        requires { link < length self.now.links }
+        ensures { IfSome (slice_get self.now.links link) (λ row. IsTrue result ↔ slice_get self.now.nodes row.callee ≡ Some callee) }
+    {
+        let end = self.links[link.number() as usize].callee;
+        self.nodes[end.number() as usize] == callee
+    }
+
+    /// Where the call sites of a procedure stand.
+    fn span(&self, proc: ProcId) -> Span
+        requires { proc < length self.now.statics.procs }
+        ensures { result ≡ span_of self.now.statics.sites proc }
+    {
+        self.spans[proc.number() as usize]
     }
 
     /// The place of a site's slot in a context among all slots.
@@ -290,32 +340,35 @@ impl Tables {
         requires { Owns self.now node site }
         ensures { result ≡ place_in self.now node site }
     {
-        let proc = self.nodes[node.number() as usize];
-        let own_place = site.number() - self.spans[proc.number() as usize].first;
-        self.firsts[node.number() as usize] + own_place as usize
+        let base = self.bases[node.number() as usize];
+        base.wrapping_add(site.number()) as usize
     }
 }
 
-/// Takes room for a link and for a context that has so many slots.
+/// Takes room for a link and for a context that has so many slots. There is none for more slots than numbers of 32 bits.
 fn take_room(
     links: &mut Vec<LinkRow>,
     nodes: &mut Vec<ProcId>,
-    firsts: &mut Vec<usize>,
+    bases: &mut Vec<u32>,
     slots: &mut Vec<Slot>,
     own: u32,
 ) -> Result<(), NoMemory>
     ensures links { links.new.items ≡ links.old.items }
     ensures nodes { nodes.new.items ≡ nodes.old.items }
-    ensures firsts { firsts.new.items ≡ firsts.old.items }
+    ensures bases { bases.new.items ≡ bases.old.items }
     ensures slots { slots.new.items ≡ slots.old.items }
     ensures link_room { OnOk result (length links.new.items < vec_capacity links.new) }
     ensures node_room { OnOk result (length nodes.new.items < vec_capacity nodes.new) }
-    ensures first_room { OnOk result (length firsts.new.items < vec_capacity firsts.new) }
+    ensures first_room { OnOk result (length bases.new.items < vec_capacity bases.new) }
     ensures slot_room { OnOk result (length slots.new.items + own ≤ vec_capacity slots.new) }
+    ensures few_slots { OnOk result (length slots.new.items + own < 2 ^ 32) }
 {
+    if slots.len() + own as usize > u32::MAX as usize {
+        return Err(NoMemory);
+    }
     links.reserve(1)?;
     nodes.reserve(1)?;
-    firsts.reserve(1)?;
+    bases.reserve(1)?;
     slots.reserve(own as usize)?;
     Ok(())
 }
@@ -363,7 +416,7 @@ impl Tables {
             statics,
             spans: _,
             nodes,
-            firsts: _,
+            bases: _,
             slots: _,
             callees: _,
             links,

@@ -1,20 +1,18 @@
 -- A call whose link is not there yet: rules 2 and 3.
-use Rattle.std.proofs.Common.{ℕ, ◌+◌, ◌≡◌, ◌≢◌, ◌<◌, ◌≤◌, inl, inr, false, List, [], ◌∷◌, ◌++◌, length, map, find, Option, Some, None, IsSomeAnd, MatchOption, slice_get, set, refl, sym, ap, ◌∙◌, subst, arith}
+use Rattle.std.proofs.Common.{ℕ, ◌≡◌, ◌<◌, ◌≤◌, false, List, [], ◌∷◌, ◌++◌, length, map, find, Option, Some, None, IsSomeAnd, MatchOption, slice_get, set, refl, sym, ap, ◌∙◌, subst, arith}
 use Rattle.std.specs.Option.{option_map}
-use Rattle.std.proofs.lemmas.Bool.{cases_Bool, false≢true}
 use Rattle.std.proofs.lemmas.List.{length-map}
 use Rattle.std.proofs.lemmas.Option.{slice_get-map}
 use Rattle.md_static.specs.declared.entry.Site.{Site}
 use Rattle.md_static.specs.Tables.{call_site, callee_of}
-use Rattle.md_static.specs.Sites.{sites_of, place_of}
 use Rattle.md_trace.specs.declared.event.Event.{Event}
 use Rattle.md_trace.specs.Activation.{activations, procedure_of}
 use Rattle.md_trace.specs.PortHistory.{SiteTable, CallSite, MayCallAt, MayCall, current, MayFollow, IsPortHistory}
-use Rattle.md_trace.specs.Context.{Link, Placed, contexts, has_procedure, placed_of, current_chain}
-use Rattle.md_trace.specs.Links.{Leading, is_among, links}
+use Rattle.md_trace.specs.Context.{Placed, contexts, has_procedure, placed_of, current_chain}
+use Rattle.md_trace.specs.Links.{is_among, links}
 use Rattle.md_trace.proofs.Finds.{chain-there}
-use Rattle.md_trace.proofs.LinkFacts.{AreRight, leading, among-there, there-among, links-few, sited-link}
-use Rattle.md_trace.proofs.Lists.{get-push-new, get-push-either, get-within, get-there}
+use Rattle.md_trace.proofs.LinkFacts.{leading, links-few}
+use Rattle.md_trace.proofs.Lists.{get-push-new, get-within, get-there}
 use Rattle.md_trace.proofs.Placing.{procedure_of-placed, length-placed}
 use Rattle.md_dynamic.specs.Links.{link_row}
 use Rattle.md_dynamic.specs.Rows.{Rows, AddsLink, AddsContext}

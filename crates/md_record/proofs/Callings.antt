@@ -1,18 +1,16 @@
 -- What a call asks of the tables, and what it leaves.
-use Rattle.std.proofs.Common.{ℕ, ◌-◌, ◌≡◌, ◌≢◌, ◌<◌, ◌≤◌, inl, inr, false, All, List, [], ◌∷◌, ◌++◌, length, Option, Some, None, IfSome, IsSomeAnd, MatchOption, slice_get, set, refl, sym, ap, ◌∙◌, subst, arith}
-use Rattle.std.specs.Option.{option_map, option_and_then}
+use Rattle.std.proofs.Common.{ℕ, ◌-◌, ◌≡◌, ◌<◌, ◌≤◌, inl, inr, false, List, [], ◌∷◌, ◌++◌, length, Option, Some, None, IfSome, IsSomeAnd, MatchOption, slice_get, set, refl, sym, ap, ◌∙◌, subst, arith}
+use Rattle.std.specs.Option.{option_map}
 use Rattle.md_base.specs.declared.measure.Measure.TheVariants.{Calls}
 use Rattle.md_static.specs.declared.entry.Site.{Site}
-use Rattle.md_static.specs.declared.entry.SiteKind.{SiteKind}
-use Rattle.md_static.specs.declared.entry.SiteKind.TheVariants.{Plain as OneCallee, HigherOrder}
-use Rattle.md_static.specs.Tables.{Static, call_site, callee_of}
+use Rattle.md_static.specs.Tables.{Static, callee_of}
 use Rattle.md_trace.specs.declared.event.Event.{Event}
 use Rattle.md_trace.specs.PortHistory.{SiteTable, MayCall, current, MayFollow}
-use Rattle.md_trace.specs.Context.{Link, Placed, contexts, placed_of, current_chain}
-use Rattle.md_trace.specs.Links.{Leading, is_among, links}
+use Rattle.md_trace.specs.Context.{Link, placed_of, current_chain}
+use Rattle.md_trace.specs.Links.{is_among, links}
 use Rattle.md_trace.specs.Count.{with_more}
-use Rattle.md_trace.proofs.Histories.{all-at, callee-below}
-use Rattle.md_trace.proofs.LinkFacts.{leading, sited-link, contexts-more}
+use Rattle.md_trace.proofs.Histories.{callee-below}
+use Rattle.md_trace.proofs.LinkFacts.{leading}
 use Rattle.md_trace.proofs.Lists.{get-within, get-set-same, get-push-new}
 use Rattle.md_dynamic.specs.declared.link.LinkRow.{LinkRow}
 use Rattle.md_dynamic.specs.Links.{link_row}
@@ -23,10 +21,8 @@ use Rattle.md_dynamic.specs.OfHistory.{row_of}
 use Rattle.md_record.specs.Parts.{nearest}
 use Rattle.md_record.proofs.Added.{site-of, shows-link, shows-context}
 use Rattle.md_record.proofs.LinkRows.{end-procedure, found-by, fresh-by}
-use Rattle.std.proofs.lemmas.Option.{slice_get-map}
 use Rattle.md_record.proofs.Calls.{the_call, begun, Shows, SiteOf, caller-of, shows-found}
 use Rattle.md_record.proofs.Events.{Points, runs-at}
-use Rattle.md_record.proofs.Returns.{right-of}
 use Rattle.md_record.proofs.Uses.{PointerUse, nearest-of, count-frame}
 
 -- who calls at a site is an activation

@@ -3,9 +3,7 @@ use Rattle.std.proofs.Common.{ℕ, zero, suc, ◌≡◌, ◌<◌, Bool, All, IfS
 use Rattle.std.specs.Option.{option_map}
 use Rattle.std.proofs.lemmas.List.{length-map, length-replicate}
 use Rattle.std.proofs.lemmas.Option.{slice_get-map, get_or_from_slice_get}
-use Rattle.md_static.specs.declared.entry.Site.{Site}
 use Rattle.md_static.specs.Tables.{Static, call_site, site_table}
-use Rattle.md_static.specs.Sites.{sites_of}
 use Rattle.md_static.specs.Sound.{IsSound}
 use Rattle.md_trace.specs.declared.event.Event.{Event}
 use Rattle.md_trace.specs.PortHistory.{SiteTable, CallSite}

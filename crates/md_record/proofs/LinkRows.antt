@@ -1,5 +1,5 @@
 -- What the rows tell of the links of a history: which link a call has, and that it has none yet.
-use Rattle.std.proofs.Common.{ℕ, ◌≡◌, ◌<◌, ◌&&◌, inl, inr, Bool, true, false, List, ◌∷◌, [], length, MatchOption, Option, Some, None, slice_get, refl, sym, ap, ◌∙◌, subst, arith}
+use Rattle.std.proofs.Common.{ℕ, ◌≡◌, ◌<◌, inl, inr, true, false, List, ◌∷◌, [], length, MatchOption, Option, Some, None, slice_get, refl, sym, ap, ◌∙◌, subst, arith}
 use Rattle.std.specs.Option.{option_map}
 use Rattle.std.proofs.lemmas.Bool.{cases_Bool, false≢true, and_parts, and_from, eqb-true, eq-eqb}
 use Rattle.std.proofs.lemmas.Option.{slice_get-map}
@@ -12,7 +12,6 @@ use Rattle.md_trace.specs.Links.{Leading, is_among, links}
 use Rattle.md_trace.proofs.LinkFacts.{leading, among-there, sited-link, contexts-more}
 use Rattle.md_trace.proofs.Lists.{get-within, get-there}
 use Rattle.md_dynamic.specs.declared.link.LinkRow.{LinkRow}
-use Rattle.md_dynamic.specs.Links.{number_of}
 use Rattle.md_dynamic.specs.OfHistory.{row_of}
 use Rattle.md_dynamic.specs.Rows.{is_from, is_call, link_in, callee_in}
 use Rattle.md_dynamic.proofs.Positions.{number-below, number-none}

@@ -1,5 +1,5 @@
 -- What a recorder stands for, computed: main has called count, and an exception has left count.
-use Rattle.std.proofs.Common.{ℕ, zero, suc, ◌≡◌, ◌<◌, List, [], ◌∷◌, Option, Some, None, slice_get, refl, ap, subst, rules, arith}
+use Rattle.std.proofs.Common.{ℕ, zero, suc, ◌≡◌, ◌<◌, List, [], ◌∷◌, Option, Some, None, slice_get, refl, ap, rules, arith}
 use Rattle.md_base.specs.declared.measure.Counts.{Counts}
 use Rattle.md_static.specs.declared.entry.Proc.{Proc}
 use Rattle.md_static.specs.declared.entry.Site.{Site}

@@ -1,10 +1,10 @@
-use Rattle.std.proofs.Common.{slice_get, sym, ◌∙◌, arith}
+use Rattle.std.proofs.Common.{sym, ◌∙◌, arith}
 use Rattle.std.proofs.lemmas.Grind.{common_steps}
-use Rattle.md_closure.proofs.Fresh.{fresh-from}
+use Rattle.md_closure.proofs.Fresh.{fresh-after}
 use Rattle.md_closure.proofs.callees.find_or_add.Goals as goal
 
 pub add-requires-clause-fresh : goal.add-requires-clause-fresh
-add-requires-clause-fresh g c = fresh-from c.args.tables.now c.args.node c.args.site c.args.callee (slice_get c.args.tables.now.statics.sites c.args.site) c.requires.higher_order (sym c.find.ensures.value ∙ c.in_default.is)
+add-requires-clause-fresh g c = fresh-after c.find_again.new.self c.args.tables.now c.args.node c.args.site c.args.callee c.find_again.ensures.same c.requires.higher_order (sym c.find_again.ensures.value ∙ c.in_default.is)
 
 pub returns-in-Some-clause-cost_refused : goal.returns-in-Some-clause-cost_refused
 returns-in-Some-clause-cost_refused g c = grind (arith, common_steps)

@@ -1,4 +1,4 @@
-use Rattle.std.proofs.Common.{◌≡◌, ◌≤◌, ◌+◌, ◌-◌, ◌++◌, None, replicate, vec_len, vec_capacity, length}
+use Rattle.std.proofs.Common.{◌≡◌, ◌+◌, ◌++◌, None, replicate, vec_capacity}
 use Rattle.md_dynamic.specs.Slots.{slot_of}
 use Rattle.md_dynamic.proofs.slot.push_empty.Given as goal
 

@@ -1,30 +1,11 @@
-use Rattle.std.proofs.Common.{sym, subst, MatchOption, ℕ, Some, cond, ◌≡◌, arith}
-use Rattle.std.proofs.lemmas.Grind.{common_steps}
+use Rattle.std.proofs.Common.{sym, subst, MatchOption, ℕ, Some, cond, ◌≡◌}
 use Rattle.std.specs.Map.{lookup}
 use Rattle.md_static.specs.Tables.{callee_of}
 use Rattle.md_dynamic.specs.Slots.{is_key}
-use Rattle.md_dynamic.proofs.slot.enter.Goals as goal
+use Rattle.md_dynamic.proofs.slot.enter_callee.Goals as goal
 
 pub returns-in_ok-insert-in-HigherOrder-clause-callees : goal.returns-in_ok-insert-in-HigherOrder-clause-callees
 returns-in_ok-insert-in-HigherOrder-clause-callees c =
     let told : (v s q : ℕ) → lookup (is_key v s q) c.insert.new.self.entries ≡ cond (is_key c.args.key.node c.args.key.site c.args.key.callee (record { node = v; site = s; callee = q })) (Some c.args.link) (lookup (is_key v s q) c.args.callees.now.entries) =
     λ v s q. c.in_ok-insert-in-HigherOrder.ensures.updates.0 (record { node = v; site = s; callee = q }) in
     subst (λ k. MatchOption (callee_of k) ((v s q : ℕ) → lookup (is_key v s q) c.insert.new.self.entries ≡ cond (is_key c.args.key.node c.args.key.site c.args.key.callee (record { node = v; site = s; callee = q })) (Some c.args.link) (lookup (is_key v s q) c.args.callees.now.entries)) (λ d. c.insert.new.self.entries ≡ c.args.callees.now.entries)) (sym c.in-HigherOrder.is) told
-
-pub returns-in-Plain-clause-slots : goal.returns-in-Plain-clause-slots
-returns-in-Plain-clause-slots c = grind (arith, common_steps)
-
-pub returns-in-Plain-clause-callees : goal.returns-in-Plain-clause-callees
-returns-in-Plain-clause-callees c = grind (arith, common_steps)
-
-pub returns-in-Plain-clause-err : goal.returns-in-Plain-clause-err
-returns-in-Plain-clause-err c = grind (arith, common_steps)
-
-pub returns-in-Plain-clause-err_callees : goal.returns-in-Plain-clause-err_callees
-returns-in-Plain-clause-err_callees c = grind (arith, common_steps)
-
-pub returns-in-Plain-clause-len : goal.returns-in-Plain-clause-len
-returns-in-Plain-clause-len c = grind (arith, common_steps)
-
-pub returns-in-Plain-clause-room : goal.returns-in-Plain-clause-room
-returns-in-Plain-clause-room c = grind (arith, common_steps)
