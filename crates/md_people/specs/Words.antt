@@ -1,5 +1,5 @@
 -- Names and words in tables. A number that isn't there stands for 0 or for no name.
-use Rattle.std.specs.Prelude.{ℕ, Bool, List, [], Option, Some, None, ◌++◌, length, codes, slice_get, slice_index, unwrap_or, if◌then◌else◌}
+use Rattle.std.specs.Prelude.{ℕ, ◌≡◌, Bool, List, [], Option, Some, None, ◌++◌, length, codes, slice_get, slice_index, unwrap_or, if◌then◌else◌}
 use Rattle.std.specs.Fmt.{decimal}
 use Rattle.std.specs.List.{find, range_with_len}
 use Rattle.std.specs.Str.{bytes_eq}
@@ -34,6 +34,11 @@ full_name_of s (Some p) = module_name s p.«module» ++ (codes "." ++ (p.name ++
 
 abbrev pub full_name : Static → ℕ → List ℕ
 full_name s q = full_name_of s (slice_get s.procs q)
+
+-- the full name of each procedure
+pub record AreFullNames (s : Static) (names : List (List ℕ)) : Type 0 where
+  pub each : length names ≡ length s.procs
+  pub are : (q : ℕ) (name : List ℕ) → slice_get names q ≡ Some name → name ≡ full_name s q
 
 -- the first procedure of this full name
 abbrev pub proc_named : Static → (name : List ℕ) → Option ℕ

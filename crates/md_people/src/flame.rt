@@ -7,7 +7,8 @@ ghost use Rattle.md_people.specs.Depths.{AreDepths, AreLast, path_up};
 ghost use Rattle.md_people.specs.Flame.{between, flame_of, flame_text, joined, name_at, shortened, station_names};
 
 use crate::depths::{Depths, depths_of, top_of};
-use crate::name::{add, add_full_name};
+use crate::full_names::FullNames;
+use crate::name::add;
 use crate::station::{entered_from, stations_of};
 use itoa::Buffer;
 use md_base::{Measure, NoMemory, PdId};
@@ -26,9 +27,10 @@ pub fn flame_text(alloc: Global, loaded: &Loaded, by: Measure) -> Result<Vec<u8>
     ensures { IfOk result (λ text. (v : View) → IsFileView loaded.now.profile v → text.items ≡ flame_text v by) }
 {
     let depths = depths_of(alloc, loaded)?;
+    let names = FullNames::of(alloc, loaded.profile().statics())?;
     let mut text = Vec::new(alloc);
     for node in 0..loaded.profile().nodes().len() as u32 {
-        add_flame(&mut text, loaded, by, &depths, PdId::new(node))?;
+        add_flame(&mut text, loaded, by, &depths, &names, PdId::new(node))?;
     }
     Ok(text)
 }
@@ -39,8 +41,10 @@ fn add_flame(
     loaded: &Loaded,
     by: Measure,
     depths: &Depths,
+    names: &FullNames<'_>,
     node: PdId,
 ) -> Result<(), NoMemory>
+    requires names { names.now.statics.now ≡ loaded.now.profile.statics }
     requires depths { AreDepths loaded.now (clique_count loaded.now.cliques) depths.now.places.items depths.now.tops.items }
     requires there { node < length loaded.now.profile.nodes }
     ensures { (v : View) → IsFileView loaded.now.profile v → OnOk result (out.new.items ≡ out.old.items ++ flame_of v by node) }
@@ -49,7 +53,7 @@ fn add_flame(
     if own == 0 {
         return Ok(());
     }
-    add_stations(out, loaded, depths, node)?;
+    add_stations(out, loaded, depths, names, node)?;
     add_own(out, own)?;
     Ok(())
 }
@@ -59,8 +63,10 @@ fn add_stations(
     out: &mut Vec<u8>,
     loaded: &Loaded,
     depths: &Depths,
+    names: &FullNames<'_>,
     node: PdId,
 ) -> Result<(), NoMemory>
+    requires names { names.now.statics.now ≡ loaded.now.profile.statics }
     requires depths { AreDepths loaded.now (clique_count loaded.now.cliques) depths.now.places.items depths.now.tops.items }
     requires there { node < length loaded.now.profile.nodes }
     ensures { (v : View) → IsFileView loaded.now.profile v → OnOk result (out.new.items ≡ out.old.items ++ joined (shortened (station_names v node))) }
@@ -69,36 +75,49 @@ fn add_stations(
     let _profile = loaded.profile();
     let clique = loaded.clique_of(node);
     if depths.places[clique as usize] < MANY {
-        add_all(out, loaded, node)?;
+        add_all(out, loaded, names, node)?;
         return Ok(());
     }
     let known = loaded.clique_count();
     let top = top_of(loaded, known, &depths.places, &depths.tops, node);
-    add_ends(out, loaded, top, node)?;
+    add_ends(out, loaded, names, top, node)?;
     Ok(())
 }
 
 /// Adds the names of all stations of a context.
-fn add_all(out: &mut Vec<u8>, loaded: &Loaded, node: PdId) -> Result<(), NoMemory>
+fn add_all(
+    out: &mut Vec<u8>,
+    loaded: &Loaded,
+    names: &FullNames<'_>,
+    node: PdId,
+) -> Result<(), NoMemory>
+    requires names { names.now.statics.now ≡ loaded.now.profile.statics }
     requires there { node < length loaded.now.profile.nodes }
     ensures { (v : View) → IsFileView loaded.now.profile v → OnOk result (out.new.items ≡ out.old.items ++ joined (station_names v node)) }
 {
     let stations = stations_of(*out.allocator(), loaded, node)?;
-    add_names(out, loaded, &stations)?;
+    add_names(out, loaded, names, &stations)?;
     Ok(())
 }
 
 /// Adds the names of the stations of the top and of the last stations of a context.
-fn add_ends(out: &mut Vec<u8>, loaded: &Loaded, top: PdId, node: PdId) -> Result<(), NoMemory>
+fn add_ends(
+    out: &mut Vec<u8>,
+    loaded: &Loaded,
+    names: &FullNames<'_>,
+    top: PdId,
+    node: PdId,
+) -> Result<(), NoMemory>
+    requires names { names.now.statics.now ≡ loaded.now.profile.statics }
     requires top { top < length loaded.now.profile.nodes }
     requires there { node < length loaded.now.profile.nodes }
     requires long { 100 < length (path_up loaded.now node) }
     ensures { (v : View) → IsFileView loaded.now.profile v → OnOk result ((last : List ℕ) × AreLast loaded.now node last × (out.new.items ≡ out.old.items ++ (joined (station_names v top) ++ (codes ";..;" ++ joined (map (name_at v) last))))) }
 {
     let last = last_stations(*out.allocator(), loaded, node)?;
-    add_all(out, loaded, top)?;
+    add_all(out, loaded, names, top)?;
     add(out, b";..;")?;
-    add_names(out, loaded, &last)?;
+    add_names(out, loaded, names, &last)?;
     Ok(())
 }
 
@@ -122,7 +141,13 @@ fn last_stations(alloc: Global, loaded: &Loaded, node: PdId) -> Result<Vec<u32>,
 }
 
 /// Adds the names of the procedures of these contexts, with `;` between them.
-fn add_names(out: &mut Vec<u8>, loaded: &Loaded, nodes: &[u32]) -> Result<(), NoMemory>
+fn add_names(
+    out: &mut Vec<u8>,
+    loaded: &Loaded,
+    names: &FullNames<'_>,
+    nodes: &[u32],
+) -> Result<(), NoMemory>
+    requires names { names.now.statics.now ≡ loaded.now.profile.statics }
     requires there { All (λ c. c < length loaded.now.profile.nodes) nodes.now }
     ensures { (v : View) → IsFileView loaded.now.profile v → OnOk result (out.new.items ≡ out.old.items ++ joined (map (name_at v) nodes.now)) }
 {
@@ -130,7 +155,7 @@ fn add_names(out: &mut Vec<u8>, loaded: &Loaded, nodes: &[u32]) -> Result<(), No
     for place in 0..nodes.len() {
         add_between(out, place)?;
         let proc = profile.nodes()[nodes[place] as usize];
-        add_full_name(out, profile.statics(), proc.number())?;
+        add(out, names.get(proc.number()))?;
     }
     Ok(())
 }

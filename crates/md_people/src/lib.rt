@@ -8,6 +8,7 @@ mod costs;
 mod depths;
 mod find;
 mod flame;
+mod full_names;
 mod gathered;
 mod hot;
 mod laws;

@@ -17,9 +17,9 @@ loop-place-preserved c = λ v is.
     let there : d < length f.nodes = c.requires.there i 0 c.loop-place-test.true in
     let own : c.index-nodes-nodes.result ≡ get_or f.nodes d c.index-nodes-nodes.result = rw (c.nodes.ensures, c.profile-profile.ensures.profile) at c.index-nodes-nodes.is in
     let proc : c.number.result ≡ proc_at v d = c.number.ensures ∙ own ∙ get_or_default f.nodes d c.index-nodes-nodes.result 0 there ∙ sym (ap (λ (w : View). get_or w.nodes d 0) is.is) in
-    let tables : c.statics.result.now ≡ v.statics = c.statics.ensures ∙ (rw c.profile-profile.ensures.profile (sym (statics_are f v is))) in
-    let name : full_name c.statics.result.now c.number.result ≡ name_at v d = ap (λ (q : ℕ). full_name c.statics.result.now q) proc ∙ ap (λ (t : Static). full_name t (proc_at v d)) tables in
-    c.in_ok-add_full_name.ensures ∙ ap (λ (w : List ℕ). w ++ full_name c.statics.result.now c.number.result) c.in_ok-add_between.ensures
+    let tables : c.args.names.now.statics.now ≡ v.statics = c.requires.names ∙ sym (statics_are f v is) in
+    let name : c.get.result.now ≡ name_at v d = c.get.ensures ∙ (ap (λ (q : ℕ). full_name c.args.names.now.statics.now q) proc ∙ ap (λ (t : Static). full_name t (proc_at v d)) tables) in
+    c.in_ok-add.ensures ∙ ap (λ (w : List ℕ). w ++ c.get.result.now) c.in_ok-add_between.ensures
     ∙ ap (λ (w : List ℕ). (c.loop-place.out.items ++ between i) ++ w) name
     ∙ names_more (name_at v) nodes i 0 c.args.out.now.items c.loop-place.out.items c.loop-place-test.true (c.loop-place.invariant v is)
 

@@ -16,7 +16,7 @@ returns c = λ v is.
     let f = c.args.loaded.now.profile in
     let last = c.loop-node.auto.node-end in
     let past = c.loop-node-test.false in
-    let size : length c.nodes.result.now ≡ length f.nodes = rw (c.nodes.ensures, c.profile.ensures.profile) refl in
+    let size : length c.nodes.result.now ≡ length f.nodes = rw (c.nodes.ensures, c.profile-2.ensures.profile) refl in
     let end : c.loop-node.node ≡ length f.nodes = omega arith in
     c.loop-node.invariant v is
     ∙ ap (λ (n : ℕ). flat_map (flame_of v c.args.by) (range_with_len 0 n)) (end ∙ sym (ap (λ (w : View). length w.nodes) is.is))
