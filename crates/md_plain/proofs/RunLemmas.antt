@@ -1,11 +1,11 @@
 -- The run of a program is what is told of main's body.
-use Rattle.std.proofs.Common.{◌≡◌, refl, ap, ◌∙◌, sym, ℕ, ◌-◌, Bool, true, false, List, [], ◌∷◌, ◌++◌, Option, Some, None, cond, nat_le, append_assoc, append-nil}
+use Rattle.std.proofs.Common.{◌≡◌, refl, ap, ◌∙◌, sym, ℕ, ◌-◌, Bool, true, false, List, [], ◌∷◌, ◌++◌, Some, None, cond, nat_le, append_assoc, append-nil}
 use Rattle.std.proofs.Common.{arith}
 use Rattle.std.proofs.lemmas.Option.{cond_some}
 use Rattle.md_hlds.specs.Hlds.{Hlds, Procedure, procedure_called}
 use Rattle.md_hlds.specs.Value.{Env}
-use Rattle.md_hlds.specs.Trace.{Turn, Call, Exit, Fail, Answer, Items, first, trace, call_weight}
-use Rattle.md_hlds.specs.Run.{cut, cut_turn, run, run_main, main_name, main_frame, main_items}
+use Rattle.md_hlds.specs.Trace.{Call, Exit, Fail, Answer, Items, first, trace, call_weight}
+use Rattle.md_hlds.specs.Run.{cut, cut_turn, run, run_main, main_name, main_frame}
 use Rattle.md_plain.specs.Told.{Run, End, Answered, Missed, Thrown, Over, Told, start, turned, turn, called, closing, closed, in_job, traces}
 use Rattle.md_plain.specs.declared.told.Item.{Item}
 use Rattle.md_plain.specs.Runs.{item_of, items_told}

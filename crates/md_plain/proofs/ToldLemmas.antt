@@ -6,7 +6,7 @@ use Rattle.std.proofs.Common.{arith}
 use Rattle.md_hlds.specs.Value.{Env}
 use Rattle.md_hlds.specs.Trace.{Item, Turn, Call, Exit, Redo, Fail, Excp, Alloc, Out, Throw, Answer, Stuck, Deep, Items, joined, first}
 use Rattle.md_hlds.specs.Run.{cut, cut_turn}
-use Rattle.md_plain.specs.Told.{Run, End, Answered, Missed, Thrown, Over, Told, ended, put, called, turned, turn, leaves, tells, follows, goes_on, then_misses}
+use Rattle.md_plain.specs.Told.{Run, End, Answered, Missed, Thrown, Over, Told, ended, put, called, turned, turn, leaves, tells, goes_on, then_misses}
 
 -- ---- turns
 

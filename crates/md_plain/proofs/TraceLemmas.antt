@@ -4,10 +4,10 @@ use Rattle.md_hlds.specs.declared.types.Det.TheVariants.{Multi, Semidet}
 use Rattle.md_hlds.specs.HldsGoal.{HldsGoal, At, GoalExpr, IfGoal, NotGoal, SomeGoal, ConjGoal, DisjGoal, HldsGoals, goal_size, Numbered, numbered_goal, numbered_from}
 use Rattle.md_hlds.specs.Hlds.{Hlds, Procedure}
 use Rattle.md_hlds.specs.Value.{Value, Env, value_at}
-use Rattle.md_hlds.specs.Simple.{Outcome, Go, No, Stop}
+use Rattle.md_hlds.specs.Simple.{Go, No, Stop}
 use Rattle.md_hlds.specs.Simple.{Throws as Raised}
 use Rattle.md_hlds.specs.Switch.{Key, switch_shape, arm_for}
-use Rattle.md_hlds.specs.Trace.{Turn, Call, Exit, Redo, Fail, Excp, Throw, Answer, Stuck, Deep, Items, Frame, joined, first, excps, doing, knowing, alone, cut_off, allocated, written, after_simple, arms, one_arm, switched, disjunction, back, body_frame, run_body, call_weight, entered, pairs_of, without, call_if, invoked, unfold_goal, returns, trace}
+use Rattle.md_hlds.specs.Trace.{Turn, Call, Exit, Redo, Fail, Excp, Throw, Stuck, Deep, Items, Frame, joined, first, excps, doing, knowing, alone, cut_off, allocated, written, arms, one_arm, switched, disjunction, back, body_frame, run_body, call_weight, entered, pairs_of, without, call_if, invoked, unfold_goal, returns, trace}
 use Rattle.std.proofs.Common.{arith}
 use Rattle.std.proofs.lemmas.Option.{same_Some}
 use Rattle.md_plain.specs.Calls.{Meant}

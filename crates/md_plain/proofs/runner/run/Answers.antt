@@ -1,4 +1,4 @@
-use Rattle.std.proofs.Common.{◌≡◌, ap, ◌∙◌, sym}
+use Rattle.std.proofs.Common.{ap, ◌∙◌, sym}
 use Rattle.md_hlds.specs.Hlds.{hlds_of, procedures_of, find_procedure}
 use Rattle.md_hlds.specs.Run.{main_name}
 use Rattle.md_plain.specs.Names.{option_procedure}

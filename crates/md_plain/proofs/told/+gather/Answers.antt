@@ -1,4 +1,4 @@
-use Rattle.std.proofs.Common.{◌≡◌, ap, ◌∙◌, sym, [], ◌∷◌, ◌++◌, append_assoc}
+use Rattle.std.proofs.Common.{ap, ◌∙◌, sym, [], ◌∷◌, ◌++◌, append_assoc}
 use Rattle.md_hlds.specs.Trace.{Items}
 use Rattle.md_plain.specs.declared.told.Made.{Made}
 use Rattle.md_plain.specs.Runs.{item_of, items_told, made_of}

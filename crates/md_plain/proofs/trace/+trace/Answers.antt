@@ -1,5 +1,5 @@
-use Rattle.std.proofs.Common.{◌≡◌, refl, ap, ◌∙◌, sym, subst, arith, ℕ, suc, ◌+◌, ◌-◌, IfOk, List, [], ◌∷◌, length, drop}
-use Rattle.md_hlds.specs.HldsGoal.{GoalExpr, NotGoal, SomeGoal, IfGoal, goal_of, goals_of, gathered, expr_of, numbered_from}
+use Rattle.std.proofs.Common.{◌≡◌, ap, ◌∙◌, sym, subst, arith, ◌+◌, ◌-◌, IfOk, [], ◌∷◌, length, drop}
+use Rattle.md_hlds.specs.HldsGoal.{GoalExpr, goal_of, goals_of, gathered, expr_of, numbered_from}
 use Rattle.md_hlds.specs.Hlds.{hlds_of}
 use Rattle.md_hlds.specs.Trace.{excps, arms, Answer}
 use Rattle.md_plain.specs.Values.{env_of}
@@ -9,7 +9,7 @@ use Rattle.md_plain.specs.Goals.{numbered_of, numbereds_of}
 use Rattle.md_plain.specs.Told.{Told, Job, deeper, traces, unfolds}
 use Rattle.md_plain.specs.Runs.{frame_of, frames_of, job_of, place_of, run_of, end_of, told_of, option_front, option_job, option_run}
 use Rattle.md_plain.proofs.GoalLemmas.{conj_of, disj_of, numbereds_of-more}
-use Rattle.md_plain.proofs.TraceLemmas.{answered, missing, threw, over, hits, unfolds_at, too_deep, answers_alone, exits_to, disj_at, if_found, if_missed, on, if_at, not_at, some_at, all_at, comes_back, first_at, found_then, missed_then, goes_from, tried_next, all_from, comes_from, fails_from, leaves_from, over_from, is_innermost}
+use Rattle.md_plain.proofs.TraceLemmas.{answered, missing, threw, over, hits, unfolds_at, answers_alone, exits_to, disj_at, if_found, if_missed, on, if_at, not_at, some_at, found_then, missed_then, goes_from, tried_next, all_from, comes_from, fails_from, leaves_from, over_from, is_innermost}
 use Rattle.md_plain.proofs.trace.+trace.Goals as goal
 
 pub trace-returns-else-depth-eq0 : goal.trace-returns-else-depth-eq0
