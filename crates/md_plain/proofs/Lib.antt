@@ -1,5 +1,5 @@
 mod ValueLemmas
 mod GoalLemmas
+mod ToldLemmas
+mod TraceLemmas
 mod RunLemmas
-mod BeginLemmas
-mod AdvanceLemmas

@@ -3,7 +3,6 @@ pub mod Names
 pub mod Goals
 pub mod Keys
 pub mod Outcomes
-pub mod States
-pub mod Steps
-pub mod Unfolded
-pub mod Leads
+pub mod Told
+pub mod Runs
+pub mod Calls

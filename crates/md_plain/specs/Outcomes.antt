@@ -1,5 +1,5 @@
 -- What a simple goal does, as the definition tells it.
-use Rattle.std.specs.Prelude.{ℕ, List, Option, Some, None}
+use Rattle.std.specs.Prelude.{ℕ, suc, List, Option, Some, None}
 use denote.Ref.{Bor}
 use Rattle.md_hlds.specs.HldsGoal.{GoalExpr, SimpleGoal}
 use Rattle.md_hlds.specs.Hlds.{Hlds}
@@ -24,3 +24,9 @@ outcome_of Stopping = Stop
 abbrev pub simply : Hlds → Env → GoalExpr → Meant
 simply s e (SimpleGoal g) = simple s e g
 simply s e t = Stop
+
+abbrev pub outcome_weight : Meant → ℕ
+outcome_weight (Go e extra words out) = suc extra
+outcome_weight (No extra) = suc extra
+outcome_weight (Throws bytes) = 1
+outcome_weight Stop = 1

@@ -5,7 +5,7 @@ ghost use Rattle.md_hlds.specs.Trace.{back, back_value, passed, given, without, 
 ghost use Rattle.md_plain.specs.Values.{value_of, parts_of, option_value, option_parts, env_of};
 
 use crate::arena::{cons, keep};
-use crate::value::{Parts, Value};
+use crate::value::{Env, Parts, Value};
 use bumpalo::Bump;
 use md_base::{Name, NoMemory};
 
@@ -45,7 +45,7 @@ pub fn bound<'a>(
     env: &[Option<Value<'a>>],
     place: u32,
     value: Value<'a>,
-) -> Result<&'a [Option<Value<'a>>], NoMemory>
+) -> Result<Env<'a>, NoMemory>
     ensures { IfOk result (λ new. env_of new.now ≡ bound (env_of env.now) place (value_of value.entry)) }
 {
     let place = place as usize;
@@ -59,7 +59,7 @@ pub fn bound<'a>(
 }
 
 /// An environment for these variables, none of which has a value.
-pub fn blank<'a>(bump: &'a Bump, names: &[Name]) -> Result<&'a [Option<Value<'a>>], NoMemory>
+pub fn blank<'a>(bump: &'a Bump, names: &[Name]) -> Result<Env<'a>, NoMemory>
     ensures { IfOk result (λ new. env_of new.now ≡ blank (length names.now)) }
 {
     match names {
@@ -73,8 +73,8 @@ pub fn back<'a>(
     bump: &'a Bump,
     pairs: &[(u32, u32)],
     callee: &[Option<Value<'a>>],
-    caller: &'a [Option<Value<'a>>],
-) -> Result<&'a [Option<Value<'a>>], NoMemory>
+    caller: Env<'a>,
+) -> Result<Env<'a>, NoMemory>
     ensures { IfOk result (λ new. env_of new.now ≡ back pairs.now (env_of callee.now) (env_of caller.now)) }
 {
     match pairs {
@@ -93,8 +93,8 @@ pub fn passed<'a>(
     bump: &'a Bump,
     pairs: &[(u32, u32)],
     caller: &[Option<Value<'a>>],
-    callee: &'a [Option<Value<'a>>],
-) -> Result<&'a [Option<Value<'a>>], NoMemory>
+    callee: Env<'a>,
+) -> Result<Env<'a>, NoMemory>
     ensures { IfOk result (λ new. env_of new.now ≡ passed pairs.now (env_of caller.now) (env_of callee.now)) }
 {
     match pairs {
@@ -112,8 +112,8 @@ pub fn given<'a>(
     bump: &'a Bump,
     held: &Parts<'a>,
     head: &[u32],
-    callee: &'a [Option<Value<'a>>],
-) -> Result<&'a [Option<Value<'a>>], NoMemory>
+    callee: Env<'a>,
+) -> Result<Env<'a>, NoMemory>
     ensures { IfOk result (λ new. env_of new.now ≡ given (parts_of held.now) head.now (env_of callee.now)) }
 {
     match held {
@@ -170,8 +170,8 @@ fn back_value<'a>(
     place: u32,
     had: Option<Value<'a>>,
     value: Option<Value<'a>>,
-    env: &'a [Option<Value<'a>>],
-) -> Result<&'a [Option<Value<'a>>], NoMemory>
+    env: Env<'a>,
+) -> Result<Env<'a>, NoMemory>
     ensures { IfOk result (λ new. env_of new.now ≡ back_value place (option_value had.entry) (option_value value.entry) (env_of env.now)) }
 {
     match had {

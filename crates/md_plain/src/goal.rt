@@ -1,6 +1,6 @@
 // How great goals are, and their numbers.
-ghost use Rattle.std.specs.Prelude.{◌≡◌, ◌+◌, ◌++◌, length, IfOk};
-ghost use Rattle.md_hlds.specs.HldsGoal.{goal_of, goals_of, gathered, expr_of, goal_size, parts_size, goals_size, site_count, expr_lines, goals_lines, numbered_from};
+ghost use Rattle.std.specs.Prelude.{◌≡◌, ◌+◌, ◌∷◌, ◌++◌, length, IfOk};
+ghost use Rattle.md_hlds.specs.HldsGoal.{goal_of, goals_of, gathered, goal_size, site_count, goals_lines, numbered_goal, numbered_from};
 ghost use Rattle.md_hlds.specs.Hlds.{hlds_of, procedures_of, procedure_of, goals_before, body_number};
 ghost use Rattle.md_hlds.specs.Trace.{call_weight};
 ghost use Rattle.md_plain.specs.Goals.{numbereds_of};
@@ -9,41 +9,13 @@ use crate::arena::cons;
 use crate::value::{next, plus};
 use bumpalo::Bump;
 use md_base::NoMemory;
-use md_hlds::{Goal, GoalKind, Pred, Program};
+use md_hlds::{Goal, GoalKind, Pred, Program, goal_size};
 
 /// A goal with its number.
 #[derive(Clone, Copy)]
 pub struct Numbered<'a> {
     pub number: u64,
     pub goal: &'a Goal,
-}
-
-/// How many goals a goal is: itself and its parts, with theirs.
-#[cycle(size)]
-pub fn goal_size(goal: &Goal) -> Result<u64, NoMemory>
-    ensures { IfOk result (λ size. size ≡ goal_size (goal_of goal.now)) }
-{
-    match &goal.kind {
-        GoalKind::True => Ok(1),
-        GoalKind::Fail => Ok(1),
-        GoalKind::Unify(..) => Ok(1),
-        GoalKind::Arith(..) => Ok(1),
-        GoalKind::Compare(..) => Ok(1),
-        GoalKind::WriteInt(..) => Ok(1),
-        GoalKind::WriteStr(..) => Ok(1),
-        GoalKind::Nl(..) => Ok(1),
-        GoalKind::Call(..) => Ok(1),
-        GoalKind::HoCall(..) => Ok(1),
-        GoalKind::Error(_) => Ok(1),
-        GoalKind::Conj(parts) => next(goals_size(parts.as_slice())?),
-        GoalKind::Disj(parts) => next(goals_size(parts.as_slice())?),
-        GoalKind::If(condition, then, otherwise) => {
-            let both = plus(goal_size(then)?, goal_size(otherwise)?)?;
-            next(plus(goal_size(condition)?, both)?)
-        }
-        GoalKind::Not(inner) => next(goal_size(inner)?),
-        GoalKind::Some(_, inner) => next(goal_size(inner)?),
-    }
 }
 
 /// What a call of this procedure weighs.
@@ -60,6 +32,25 @@ pub fn body_number(program: &Program, procedure: u64) -> Result<u64, NoMemory>
     goals_before(program.preds.as_slice(), procedure)
 }
 
+/// The number of the goal after this one.
+pub fn after(number: u64, goal: &Goal) -> Result<u64, NoMemory>
+    ensures { IfOk result (λ next. next ≡ number + goal_size (goal_of goal.now)) }
+{
+    plus(number, goal_size(goal)? as u64)
+}
+
+/// A goal with its number, before these goals.
+pub fn before<'a>(
+    bump: &'a Bump,
+    number: u64,
+    goal: &'a Goal,
+    goals: &[Numbered<'a>],
+) -> Result<&'a [Numbered<'a>], NoMemory>
+    ensures { IfOk result (λ all. numbereds_of all.now ≡ numbered_goal number (goal_of goal.now) ∷ numbereds_of goals.now) }
+{
+    cons(bump, Numbered { number, goal }, goals)
+}
+
 /// These goals with their numbers, the first of which is given, and then what follows them.
 pub fn numbered_from<'a>(
     bump: &'a Bump,
@@ -72,7 +63,7 @@ pub fn numbered_from<'a>(
     match goals {
         [] => Ok(then),
         [goal, rest @ ..] => {
-            let after = plus(number, goal_size(goal)?)?;
+            let after = plus(number, goal_size(goal)? as u64)?;
             cons(
                 bump,
                 Numbered { number, goal },
@@ -82,34 +73,13 @@ pub fn numbered_from<'a>(
     }
 }
 
-#[cycle(size)]
-fn goals_size(goals: &[Goal]) -> Result<u64, NoMemory>
-    ensures { IfOk result (λ size. size ≡ goals_size (gathered (goals_of goals.now))) }
-{
-    let mut total = 0;
-    for goal in goals {
-        total = plus(total, goal_size(goal)?)?;
-    }
-    Ok(total)
-}
-
 /// How many call sites a goal has.
 #[cycle(sites)]
 fn site_count(goal: &Goal) -> Result<u64, NoMemory>
     ensures { IfOk result (λ count. count ≡ site_count (goal_of goal.now)) }
 {
     match &goal.kind {
-        GoalKind::True => Ok(0),
-        GoalKind::Fail => Ok(0),
-        GoalKind::Unify(..) => Ok(0),
-        GoalKind::Arith(..) => Ok(0),
-        GoalKind::Compare(..) => Ok(0),
-        GoalKind::WriteInt(..) => Ok(0),
-        GoalKind::WriteStr(..) => Ok(0),
-        GoalKind::Nl(..) => Ok(0),
-        GoalKind::Call(..) => Ok(1),
-        GoalKind::HoCall(..) => Ok(1),
-        GoalKind::Error(_) => Ok(0),
+        GoalKind::Call(..) | GoalKind::HoCall(..) => Ok(1),
         GoalKind::Conj(parts) => sites_among(parts.as_slice()),
         GoalKind::Disj(parts) => sites_among(parts.as_slice()),
         GoalKind::If(condition, then, otherwise) => {
@@ -118,6 +88,15 @@ fn site_count(goal: &Goal) -> Result<u64, NoMemory>
         }
         GoalKind::Not(inner) => site_count(inner),
         GoalKind::Some(_, inner) => site_count(inner),
+        GoalKind::True
+        | GoalKind::Fail
+        | GoalKind::Unify(..)
+        | GoalKind::Arith(..)
+        | GoalKind::Compare(..)
+        | GoalKind::WriteInt(..)
+        | GoalKind::WriteStr(..)
+        | GoalKind::Nl(..)
+        | GoalKind::Error(_) => Ok(0),
     }
 }
 
@@ -141,7 +120,10 @@ fn goals_before(preds: &[Pred], procedure: u64) -> Result<u64, NoMemory>
             if procedure == 0 {
                 return Ok(0);
             }
-            plus(goal_size(&first.body)?, goals_before(rest, procedure - 1)?)
+            plus(
+                goal_size(&first.body)? as u64,
+                goals_before(rest, procedure - 1)?,
+            )
         }
     }
 }

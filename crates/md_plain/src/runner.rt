@@ -1,34 +1,30 @@
 // The run of a program within a budget of steps.
-ghost use Rattle.std.specs.Prelude.{ℕ, ◌≡◌, ◌++◌, length, Some, IfOk};
-ghost use Rattle.md_hlds.specs.Hlds.{Hlds, hlds_of, procedures_of, procedure_of, is_called, find_procedure, procedure_called};
-ghost use Rattle.md_hlds.specs.Trace.{Items};
+ghost use Rattle.std.specs.Prelude.{◌≡◌, Some, IfOk};
+ghost use Rattle.md_hlds.specs.Hlds.{hlds_of, procedures_of, procedure_of, is_called, find_procedure, procedure_called};
 ghost use Rattle.md_hlds.specs.Run.{run, main_name, main_env, main_frame};
-ghost use Rattle.law_steps.specs.Steps.{Turns, Sticks, unfolds};
-ghost use Rattle.md_hlds.specs.HldsGoal.{goal_of};
-ghost use Rattle.md_plain.specs.Goals.{numbereds_of};
-ghost use Rattle.law_steps.specs.Standing.{StandsIn, AfterIn, AfterTurnIn};
 ghost use Rattle.md_plain.specs.Values.{env_of};
 ghost use Rattle.md_plain.specs.Names.{option_procedure};
-ghost use Rattle.md_plain.specs.States.{frame_of, frames_of, waits_of, state_of, items_told};
-ghost use Rattle.md_plain.specs.Steps.{step_of};
-ghost use Rattle.md_plain.specs.Unfolded.{unfolded_of};
-ghost use Rattle.md_plain.specs.Leads.{Leads};
+ghost use Rattle.md_plain.specs.Told.{start, closed};
+ghost use Rattle.md_plain.specs.Runs.{frame_of, items_told, made_of, run_of, told_of};
 
-use crate::arena::cons;
+use crate::arena::{cons, keep};
 use crate::env::{blank, bound};
 use crate::goal::{Numbered, body_number, call_weight};
-use crate::state::{Doing, Frame, Item, State};
-use crate::step::{Step, one, retried, returned, unwound};
-use crate::unfold::{Front, Unfolded, unfold};
-use crate::value::{Value, next as more};
+use crate::job::{Frame, Job};
+use crate::told::{End, Item, Made, Run, Told, call, gather, put, turn};
+use crate::trace::{Maker, trace};
+use crate::value::{Env, Value, next};
 use bumpalo::Bump;
 use bumpalo::collections::into_bump_slice;
 use md_base::NoMemory;
 use md_hlds::{Pred, Program};
 
+/// The greatest budget: a call of the program nests for each goal that a run is at, and the stack has to hold them.
+const MOST: u32 = 20_000;
+
 /// The run of a program within a budget of steps, item by item: it is the definition's, whatever the program. All that
-/// the run makes stays in the arena. `NoMemory` comes where the arena can't grow, where a counter of 64 bits would pass
-/// its end, and where the run takes 2^64 steps between its turns.
+/// the run makes stays in the arena. `NoMemory` comes where the arena can't grow, where a counter would pass its end, and
+/// where the budget is more than 20,000.
 pub fn run<'a>(
     bump: &'a Bump,
     program: &'a Program,
@@ -36,10 +32,13 @@ pub fn run<'a>(
 ) -> Result<&'a [Item<'a>], NoMemory>
     ensures { IfOk result (λ items. items_told items.now ≡ run (hlds_of program.now) budget) }
 {
+    if budget > MOST {
+        return Err(NoMemory);
+    }
     let found = find_main(program.preds.as_slice(), 0)?;
     match found {
         None => Ok(&[]),
-        Some((number, main)) => run_main(bump, program, budget, number, main),
+        Some((number, main)) => run_main(bump, program, budget as u64, number, main),
     }
 }
 
@@ -47,7 +46,7 @@ pub fn run<'a>(
 fn run_main<'a>(
     bump: &'a Bump,
     program: &'a Program,
-    budget: u32,
+    budget: u64,
     number: u64,
     main: &'a Pred,
 ) -> Result<&'a [Item<'a>], NoMemory>
@@ -55,19 +54,59 @@ fn run_main<'a>(
     ensures { IfOk result (λ items. items_told items.now ≡ run (hlds_of program.now) budget) }
 {
     let weight = call_weight(main)?;
-    if weight > budget as u64 {
-        return Ok(&[]);
+    let nothing = start(bump, budget)?;
+    let made = turn(bump, nothing, 0, None, weight)?;
+    match made {
+        None => Ok(&[]),
+        Some(turned) => {
+            let begun = call(bump, turned, None, None, number)?;
+            let frame = main_frame(bump, program, number, main)?;
+            let job = Job {
+                frame,
+                callers: &[],
+            };
+            let told = trace(&Maker { bump, program }, budget, &job, begun)?;
+            let all = closed(bump, &told)?;
+            listed(bump, all)
+        }
     }
-    let frame = main_frame(bump, program, number, main)?;
-    let call = one(bump, Item::Call(0, None, None, number))?;
-    let made = cons(bump, Item::Turn(0, None, weight), call)?;
-    let state = State {
-        now: Doing::Goes(frame, &[]),
-        waits: &[],
-        next: 1,
-    };
-    let items = run_on(bump, program, budget as u64 - weight, made, state)?;
-    Ok(items)
+}
+
+/// Nothing has been told, and this is the budget.
+fn start<'a>(bump: &'a Bump, budget: u64) -> Result<Run<'a>, NoMemory>
+    ensures { IfOk result (λ r. run_of r ≡ start budget) }
+{
+    let items = keep(bump, Made::Nothing)?;
+    Ok(Run {
+        items,
+        left: budget,
+        next: 0,
+    })
+}
+
+/// Items in order.
+fn listed<'a>(bump: &'a Bump, made: &Made<'a>) -> Result<&'a [Item<'a>], NoMemory>
+    ensures { IfOk result (λ items. items_told items.now ≡ made_of made.now) }
+{
+    let mut items = Vec::new(bump);
+    gather(&mut items, made)?;
+    Ok(into_bump_slice(items))
+}
+
+/// What has been told in the end: main's exit with its answer, or its fail.
+fn closed<'a>(bump: &'a Bump, told: &Told<'a>) -> Result<&'a Made<'a>, NoMemory>
+    ensures { IfOk result (λ made. made_of made.now ≡ closed (told_of told.now)) }
+{
+    let run = told.run;
+    match told.end {
+        End::Answered(env) => {
+            let exited = put(bump, run, Item::Exit(0))?;
+            Ok(put(bump, exited, Item::Answer(env))?.items)
+        }
+        End::Missed => Ok(put(bump, run, Item::Fail(0))?.items),
+        End::Thrown => Ok(run.items),
+        End::Over => Ok(run.items),
+    }
 }
 
 /// The first procedure that is called `main`, with its number, counted on from `number`.
@@ -80,7 +119,7 @@ fn find_main<'a>(preds: &'a [Pred], number: u64) -> Result<Option<(u64, &'a Pred
             if is_main(pred) {
                 return Ok(Some((number, pred)));
             }
-            find_main(rest, more(number)?)
+            find_main(rest, next(number)?)
         }
     }
 }
@@ -118,162 +157,11 @@ fn main_frame<'a>(
 }
 
 /// Main's first head variable has the io state.
-fn main_env<'a>(
-    bump: &'a Bump,
-    env: &'a [Option<Value<'a>>],
-    head: &[u32],
-) -> Result<&'a [Option<Value<'a>>], NoMemory>
+fn main_env<'a>(bump: &'a Bump, env: Env<'a>, head: &[u32]) -> Result<Env<'a>, NoMemory>
     ensures { IfOk result (λ new. env_of new.now ≡ main_env (env_of env.now) head.now) }
 {
     match head {
         [] => Ok(env),
         [first, ..] => bound(bump, env, *first, Value::Number(0)),
     }
-}
-
-/// From a state, with so much left of the budget and these items made, to the end of the run.
-fn run_on<'a>(
-    bump: &'a Bump,
-    program: &'a Program,
-    left: u64,
-    made: &'a [Item<'a>],
-    state: State<'a>,
-) -> Result<&'a [Item<'a>], NoMemory>
-    ensures { IfOk result (λ items. (b : ℕ) → StandsIn (hlds_of program.now) b left (items_told made.now) (state_of state.entry) → run (hlds_of program.now) b ≡ items_told items.now) }
-{
-    let mut items = Vec::new(bump);
-    items.extend_from_slice(made)?;
-    let mut left = left;
-    let mut state = state;
-    for _ in 0..u64::MAX {
-        match advance(bump, program, left, state)? {
-            Move::On(more, rest, after) => {
-                items.extend_from_slice(more)?;
-                left = rest;
-                state = after;
-            }
-            Move::Ends(more) => {
-                items.extend_from_slice(more)?;
-                return Ok(into_bump_slice(items));
-            }
-        }
-    }
-    Err(NoMemory)
-}
-
-/// The items of one step, what is left of the budget and the state after it; or the last items of the run.
-#[derive(Clone, Copy)]
-enum Move<'a> {
-    On(&'a [Item<'a>], u64, State<'a>),
-    Ends(&'a [Item<'a>]),
-}
-
-/// One step of the machine.
-fn advance<'a>(
-    bump: &'a Bump,
-    program: &'a Program,
-    left: u64,
-    state: State<'a>,
-) -> Result<Move<'a>, NoMemory>
-    ensures { IfOk result (λ m. (b : ℕ) (done : Items) → StandsIn (hlds_of program.now) b left done (state_of state.entry) → Leads (hlds_of program.now) b done m) }
-{
-    let waits = state.waits;
-    let next = state.next;
-    match &state.now {
-        Doing::Fails => Ok(stepped(left, retried(bump, waits, next)?)),
-        Doing::Throws(callers) => Ok(stepped(left, unwound(bump, callers, waits, next)?)),
-        Doing::Goes(frame, callers) => match frame.goals {
-            [] => Ok(stepped(left, returned(bump, frame, callers, waits, next)?)),
-            [first, goals @ ..] => {
-                let front = Front {
-                    frame: *frame,
-                    goals,
-                    callers,
-                    waits,
-                    next,
-                };
-                at_goal(bump, program, left, &front, first)
-            }
-        },
-    }
-}
-
-/// The turn of a frame at its first goal.
-fn at_goal<'a>(
-    bump: &'a Bump,
-    program: &'a Program,
-    left: u64,
-    front: &Front<'a>,
-    first: &Numbered<'a>,
-) -> Result<Move<'a>, NoMemory>
-    ensures { IfOk result (λ m. (b : ℕ) (done : Items)
-        → AfterTurnIn (hlds_of program.now) b left done front.now.frame.act first.now.number (unfolds (hlds_of program.now) (frame_of front.now.frame) first.now.number (numbereds_of front.now.goals.now) (frames_of front.now.callers.now) (waits_of front.now.waits.now) front.now.next (goal_of first.now.goal.now))
-        → Leads (hlds_of program.now) b done m) }
-{
-    let turn = unfold(bump, program, front, *first)?;
-    turned(bump, left, front.frame.act, first.number, turn)
-}
-
-/// A step that takes nothing of the budget.
-fn stepped<'a>(left: u64, step: Step<'a>) -> Move<'a>
-    ensures { (s : Hlds) (b : ℕ) (done : Items) → AfterIn s b left done (step_of step.entry) → Leads s b done result }
-{
-    match step {
-        Step::On(items, after) => Move::On(items, left, after),
-        Step::Ends(items) => Move::Ends(items),
-    }
-}
-
-/// A turn of this activation at the goal of this number, which isn't made where it is heavier than what is left.
-fn turned<'a>(
-    bump: &'a Bump,
-    left: u64,
-    act: u64,
-    number: u64,
-    turn: Unfolded<'a>,
-) -> Result<Move<'a>, NoMemory>
-    ensures { IfOk result (λ m. (s : Hlds) (b : ℕ) (done : Items) → AfterTurnIn s b left done act number (unfolded_of turn.entry) → Leads s b done m) }
-{
-    match turn {
-        Unfolded::Turns(weight, items, after) => {
-            turned_to(bump, left, act, number, weight, items, after)
-        }
-        Unfolded::Sticks(weight) => stuck(bump, left, act, number, weight),
-    }
-}
-
-/// A turn to this state after these items.
-fn turned_to<'a>(
-    bump: &'a Bump,
-    left: u64,
-    act: u64,
-    number: u64,
-    weight: u64,
-    items: &'a [Item<'a>],
-    after: State<'a>,
-) -> Result<Move<'a>, NoMemory>
-    ensures { IfOk result (λ m. (s : Hlds) (b : ℕ) (done : Items) → AfterTurnIn s b left done act number (Turns weight (items_told items.now) (state_of after.entry)) → Leads s b done m) }
-{
-    if weight > left {
-        return Ok(Move::Ends(&[]));
-    }
-    let items = cons(bump, Item::Turn(act, Some(number), weight), items)?;
-    Ok(Move::On(items, left - weight, after))
-}
-
-/// A turn at a goal for which there is no rule.
-fn stuck<'a>(
-    bump: &'a Bump,
-    left: u64,
-    act: u64,
-    number: u64,
-    weight: u64,
-) -> Result<Move<'a>, NoMemory>
-    ensures { IfOk result (λ m. (s : Hlds) (b : ℕ) (done : Items) → AfterTurnIn s b left done act number (Sticks weight) → Leads s b done m) }
-{
-    if weight > left {
-        return Ok(Move::Ends(&[]));
-    }
-    let stuck = one(bump, Item::Stuck)?;
-    Ok(Move::Ends(cons(bump, Item::Turn(act, Some(number), weight), stuck)?))
 }

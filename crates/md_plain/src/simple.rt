@@ -8,12 +8,12 @@ ghost use Rattle.md_hlds.specs.Value.{value_at, values_at, bound};
 ghost use Rattle.md_hlds.specs.Simple.{goes, answer, unify, unify_values, unify_constant, build, take_apart, take_part, same_functor, unify_functor, close, unify_predicate, unify_name, result_of, holds, compute, compare, write, write_int, write_text, raise, simple};
 ghost use Rattle.md_plain.specs.Values.{value_of, values_of, parts_of, option_value, option_parts, env_of};
 ghost use Rattle.md_plain.specs.Names.{option_procedure};
-ghost use Rattle.md_plain.specs.Outcomes.{outcome_of, simply};
+ghost use Rattle.md_plain.specs.Outcomes.{outcome_of, outcome_weight, simply};
 
 use crate::arena::keep;
 use crate::env::{bound, value_at, values_at};
 use crate::names::{is_functor, procedure_called};
-use crate::value::{Parts, Value, compare as compare_values, count, plus};
+use crate::value::{Env, Parts, Value, compare as compare_values, count, plus};
 use bumpalo::Bump;
 use md_base::NoMemory;
 use md_hlds::{Cmp, GoalKind, Op, Pred, PredName, Program, Term};
@@ -22,7 +22,7 @@ use md_hlds::{Cmp, GoalKind, Op, Pred, PredName, Program, Term};
 #[derive(Clone, Copy)]
 pub enum Outcome<'a> {
     /// It succeeds: the environment after it, its weight less 1, the words that it allocates, what it writes.
-    Go(&'a [Option<Value<'a>>], u64, u64, Option<&'a [u8]>),
+    Go(Env<'a>, u64, u64, Option<&'a [u8]>),
     /// It has no solution; its weight less 1.
     No(u64),
     /// It throws these bytes.
@@ -35,7 +35,7 @@ pub enum Outcome<'a> {
 pub fn simple<'a>(
     bump: &'a Bump,
     program: &Program,
-    env: &'a [Option<Value<'a>>],
+    env: Env<'a>,
     kind: &'a GoalKind,
 ) -> Result<Outcome<'a>, NoMemory>
     ensures { IfOk result (λ o. outcome_of o ≡ simply (hlds_of program.now) (env_of env.now) (expr_of kind.now)) }
@@ -54,20 +54,30 @@ pub fn simple<'a>(
         GoalKind::WriteStr(x, before, after) => write_text(bump, env, *x, *before, *after),
         GoalKind::Nl(before, after) => write(bump, env, *before, *after, b"\n"),
         GoalKind::Error(x) => Ok(raise(value_at(env, *x))),
-        GoalKind::Call(..) => Ok(Outcome::Stop),
-        GoalKind::HoCall(..) => Ok(Outcome::Stop),
-        GoalKind::Conj(_) => Ok(Outcome::Stop),
-        GoalKind::Disj(_) => Ok(Outcome::Stop),
-        GoalKind::If(..) => Ok(Outcome::Stop),
-        GoalKind::Not(_) => Ok(Outcome::Stop),
-        GoalKind::Some(..) => Ok(Outcome::Stop),
+        GoalKind::Call(..)
+        | GoalKind::HoCall(..)
+        | GoalKind::Conj(_)
+        | GoalKind::Disj(_)
+        | GoalKind::If(..)
+        | GoalKind::Not(_)
+        | GoalKind::Some(..) => Ok(Outcome::Stop),
+    }
+}
+
+/// The weight of a simple goal that does this.
+pub fn weight_of(outcome: &Outcome) -> Result<u64, NoMemory>
+    ensures { IfOk result (λ weight. weight ≡ outcome_weight (outcome_of outcome.now)) }
+{
+    match outcome {
+        Outcome::Go(_, extra, _, _) | Outcome::No(extra) => plus(*extra, 1),
+        Outcome::Throws(_) | Outcome::Stop => Ok(1),
     }
 }
 
 /// It succeeds with this value for that variable.
 fn binds<'a>(
     bump: &'a Bump,
-    env: &'a [Option<Value<'a>>],
+    env: Env<'a>,
     place: u32,
     value: Value<'a>,
 ) -> Result<Outcome<'a>, NoMemory>
@@ -77,7 +87,7 @@ fn binds<'a>(
 }
 
 /// The end of a comparison after some extra pairs.
-fn answer<'a>(env: &'a [Option<Value<'a>>], extra: u64, equal: bool) -> Outcome<'a>
+fn answer<'a>(env: Env<'a>, extra: u64, equal: bool) -> Outcome<'a>
     ensures { outcome_of result ≡ answer (env_of env.now) extra equal }
 {
     if equal {
@@ -88,12 +98,7 @@ fn answer<'a>(env: &'a [Option<Value<'a>>], extra: u64, equal: bool) -> Outcome<
 }
 
 /// X = Y.
-fn unify_values<'a>(
-    bump: &'a Bump,
-    env: &'a [Option<Value<'a>>],
-    x: u32,
-    y: u32,
-) -> Result<Outcome<'a>, NoMemory>
+fn unify_values<'a>(bump: &'a Bump, env: Env<'a>, x: u32, y: u32) -> Result<Outcome<'a>, NoMemory>
     ensures { IfOk result (λ o. outcome_of o ≡ unify_values (env_of env.now) x y (value_at (env_of env.now) x) (value_at (env_of env.now) y)) }
 {
     match value_at(env, x) {
@@ -114,7 +119,7 @@ fn unify_values<'a>(
 /// X = an integer or a literal.
 fn unify_constant<'a>(
     bump: &'a Bump,
-    env: &'a [Option<Value<'a>>],
+    env: Env<'a>,
     x: u32,
     constant: Value<'a>,
 ) -> Result<Outcome<'a>, NoMemory>
@@ -132,7 +137,7 @@ fn unify_constant<'a>(
 /// X = f(Y1, .., Yn), where X has no value.
 fn build<'a>(
     bump: &'a Bump,
-    env: &'a [Option<Value<'a>>],
+    env: Env<'a>,
     x: u32,
     name: &'a [u8],
     variables: &[u32],
@@ -152,7 +157,7 @@ fn take_apart<'a>(
     bump: &'a Bump,
     variables: &[u32],
     parts: &Parts<'a>,
-    env: &'a [Option<Value<'a>>],
+    env: Env<'a>,
     extra: u64,
 ) -> Result<Outcome<'a>, NoMemory>
     ensures { IfOk result (λ o. outcome_of o ≡ take_apart variables.now (parts_of parts.now) (env_of env.now) extra) }
@@ -182,7 +187,7 @@ fn take_apart<'a>(
 /// X = f(Y1, .., Yn) for a functor f.
 fn unify_functor<'a>(
     bump: &'a Bump,
-    env: &'a [Option<Value<'a>>],
+    env: Env<'a>,
     x: u32,
     name: &'a [u8],
     variables: &[u32],
@@ -197,16 +202,14 @@ fn unify_functor<'a>(
             }
             Ok(Outcome::No(0))
         }
-        Some(Value::Number(_)) => Ok(Outcome::Stop),
-        Some(Value::Literal(_)) => Ok(Outcome::Stop),
-        Some(Value::Closure(..)) => Ok(Outcome::Stop),
+        Some(Value::Number(_) | Value::Literal(_) | Value::Closure(..)) => Ok(Outcome::Stop),
     }
 }
 
 /// X = q(Y1, .., Yk), where X has no value, for the predicate of this number.
 fn close<'a>(
     bump: &'a Bump,
-    env: &'a [Option<Value<'a>>],
+    env: Env<'a>,
     x: u32,
     procedure: u64,
     variables: &[u32],
@@ -224,7 +227,7 @@ fn close<'a>(
 /// X = q(Y1, .., Yk) for a predicate q.
 fn unify_predicate<'a>(
     bump: &'a Bump,
-    env: &'a [Option<Value<'a>>],
+    env: Env<'a>,
     x: u32,
     variables: &[u32],
     called: Option<(u64, &Pred)>,
@@ -244,7 +247,7 @@ fn unify_predicate<'a>(
 fn unify_name<'a>(
     bump: &'a Bump,
     program: &Program,
-    env: &'a [Option<Value<'a>>],
+    env: Env<'a>,
     x: u32,
     name: &'a PredName,
     variables: &[u32],
@@ -261,7 +264,7 @@ fn unify_name<'a>(
 fn unify<'a>(
     bump: &'a Bump,
     program: &Program,
-    env: &'a [Option<Value<'a>>],
+    env: Env<'a>,
     x: u32,
     term: &'a Term,
 ) -> Result<Outcome<'a>, NoMemory>
@@ -302,7 +305,7 @@ fn holds(cmp: Cmp, a: i64, b: i64) -> bool
 /// Z = A op B.
 fn compute<'a>(
     bump: &'a Bump,
-    env: &'a [Option<Value<'a>>],
+    env: Env<'a>,
     z: u32,
     op: Op,
     a: Option<Value<'a>>,
@@ -316,45 +319,30 @@ fn compute<'a>(
                 None => binds(bump, env, z, Value::Number(result_of(op, m, n))),
                 Some(_) => Ok(Outcome::Stop),
             },
-            Some(Value::Literal(_)) => Ok(Outcome::Stop),
-            Some(Value::Built(..)) => Ok(Outcome::Stop),
-            Some(Value::Closure(..)) => Ok(Outcome::Stop),
-            None => Ok(Outcome::Stop),
+            Some(Value::Literal(_) | Value::Built(..) | Value::Closure(..)) | None => Ok(
+                Outcome::Stop,
+            ),
         },
-        Some(Value::Literal(_)) => Ok(Outcome::Stop),
-        Some(Value::Built(..)) => Ok(Outcome::Stop),
-        Some(Value::Closure(..)) => Ok(Outcome::Stop),
-        None => Ok(Outcome::Stop),
+        Some(Value::Literal(_) | Value::Built(..) | Value::Closure(..)) | None => Ok(Outcome::Stop),
     }
 }
 
-fn compare<'a>(
-    env: &'a [Option<Value<'a>>],
-    cmp: Cmp,
-    a: Option<Value<'a>>,
-    b: Option<Value<'a>>,
-) -> Outcome<'a>
+fn compare<'a>(env: Env<'a>, cmp: Cmp, a: Option<Value<'a>>, b: Option<Value<'a>>) -> Outcome<'a>
     ensures { outcome_of result ≡ compare (env_of env.now) cmp (option_value a.entry) (option_value b.entry) }
 {
     match a {
         Some(Value::Number(m)) => match b {
             Some(Value::Number(n)) => answer(env, 0, holds(cmp, m, n)),
-            Some(Value::Literal(_)) => Outcome::Stop,
-            Some(Value::Built(..)) => Outcome::Stop,
-            Some(Value::Closure(..)) => Outcome::Stop,
-            None => Outcome::Stop,
+            Some(Value::Literal(_) | Value::Built(..) | Value::Closure(..)) | None => Outcome::Stop,
         },
-        Some(Value::Literal(_)) => Outcome::Stop,
-        Some(Value::Built(..)) => Outcome::Stop,
-        Some(Value::Closure(..)) => Outcome::Stop,
-        None => Outcome::Stop,
+        Some(Value::Literal(_) | Value::Built(..) | Value::Closure(..)) | None => Outcome::Stop,
     }
 }
 
 /// These bytes are written, and the second io variable gets the state.
 fn write<'a>(
     bump: &'a Bump,
-    env: &'a [Option<Value<'a>>],
+    env: Env<'a>,
     before: u32,
     after: u32,
     bytes: &'a [u8],
@@ -375,7 +363,7 @@ fn write<'a>(
 
 fn write_int<'a>(
     bump: &'a Bump,
-    env: &'a [Option<Value<'a>>],
+    env: Env<'a>,
     x: u32,
     before: u32,
     after: u32,
@@ -384,10 +372,7 @@ fn write_int<'a>(
 {
     match value_at(env, x) {
         Some(Value::Number(n)) => write(bump, env, before, after, digits(bump, n)?),
-        Some(Value::Literal(_)) => Ok(Outcome::Stop),
-        Some(Value::Built(..)) => Ok(Outcome::Stop),
-        Some(Value::Closure(..)) => Ok(Outcome::Stop),
-        None => Ok(Outcome::Stop),
+        Some(Value::Literal(_) | Value::Built(..) | Value::Closure(..)) | None => Ok(Outcome::Stop),
     }
 }
 
@@ -402,7 +387,7 @@ fn digits<'a>(bump: &'a Bump, n: i64) -> Result<&'a [u8], NoMemory>
 
 fn write_text<'a>(
     bump: &'a Bump,
-    env: &'a [Option<Value<'a>>],
+    env: Env<'a>,
     x: u32,
     before: u32,
     after: u32,
@@ -411,10 +396,7 @@ fn write_text<'a>(
 {
     match value_at(env, x) {
         Some(Value::Literal(bytes)) => write(bump, env, before, after, bytes),
-        Some(Value::Number(_)) => Ok(Outcome::Stop),
-        Some(Value::Built(..)) => Ok(Outcome::Stop),
-        Some(Value::Closure(..)) => Ok(Outcome::Stop),
-        None => Ok(Outcome::Stop),
+        Some(Value::Number(_) | Value::Built(..) | Value::Closure(..)) | None => Ok(Outcome::Stop),
     }
 }
 
@@ -424,9 +406,6 @@ fn raise<'a>(value: Option<Value<'a>>) -> Outcome<'a>
 {
     match value {
         Some(Value::Literal(bytes)) => Outcome::Throws(bytes),
-        Some(Value::Number(_)) => Outcome::Stop,
-        Some(Value::Built(..)) => Outcome::Stop,
-        Some(Value::Closure(..)) => Outcome::Stop,
-        None => Outcome::Stop,
+        Some(Value::Number(_) | Value::Built(..) | Value::Closure(..)) | None => Outcome::Stop,
     }
 }

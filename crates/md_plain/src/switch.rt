@@ -1,14 +1,15 @@
 // The shape of a switch, and the arm of a value.
 ghost use Rattle.std.specs.Prelude.{ℕ, ◌≡◌, ◌∷◌, true, length, Option, Some, None, IfOk};
-ghost use Rattle.md_hlds.specs.HldsGoal.{HldsGoal, At, ConjGoal, goal_of, goals_of, gathered, expr_of};
+ghost use Rattle.md_hlds.specs.HldsGoal.{HldsGoal, At, ConjGoal, goal_of, goals_of, gathered, expr_of, numbered_from};
 ghost use Rattle.md_hlds.specs.Hlds.{hlds_of};
 ghost use Rattle.md_hlds.specs.Switch.{same_key, term_key, variable_key, goal_key, arm_key, prepend_key, keys_of, has_key, all_different, if_different, switch_on, switch_shape, has_the_key, arm_for};
-ghost use Rattle.md_plain.specs.Values.{value_of};
+ghost use Rattle.md_plain.specs.Values.{value_of, env_of};
 ghost use Rattle.md_plain.specs.Goals.{numbereds_of, option_numbered};
-ghost use Rattle.md_plain.specs.Keys.{key_of, keys_told, option_key, variable_key_told, option_keys, shape_told};
+ghost use Rattle.md_plain.specs.Keys.{key_of, keys_told, option_key, variable_key_told, option_keys, shape_told, chosen};
 
 use crate::arena::cons;
-use crate::goal::Numbered;
+use crate::env::value_at;
+use crate::goal::{Numbered, numbered_from};
 use crate::names::is_functor;
 use crate::value::{Value, count};
 use bumpalo::Bump;
@@ -23,8 +24,32 @@ pub enum Key<'a> {
     Functor(&'a [u8], u64),
 }
 
+/// The arms of a disjunction that are tried, with their numbers, the first of which is given: of a switch on a variable that
+/// has a value one at most, else all.
+pub fn arms_of<'a>(
+    bump: &'a Bump,
+    program: &Program,
+    env: &[Option<Value<'a>>],
+    number: u64,
+    arms: &'a [Goal],
+) -> Result<&'a [Numbered<'a>], NoMemory>
+    ensures { IfOk result (λ all. numbereds_of all.now ≡ chosen (env_of env.now) (numbered_from number (gathered (goals_of arms.now))) (switch_shape (hlds_of program.now) (gathered (goals_of arms.now)))) }
+{
+    let all = numbered_from(bump, number, arms, &[])?;
+    let Some((variable, keys)) = switch_shape(bump, program, arms)? else {
+        return Ok(all);
+    };
+    let Some(value) = value_at(env, variable) else {
+        return Ok(all);
+    };
+    match arm_for(&value, keys, all)? {
+        None => Ok(&[]),
+        Some(arm) => cons(bump, arm, &[]),
+    }
+}
+
 /// The variable and the keys of a disjunction that has the shape of a switch.
-pub fn switch_shape<'a>(
+fn switch_shape<'a>(
     bump: &'a Bump,
     program: &Program,
     arms: &'a [Goal],
@@ -38,7 +63,7 @@ pub fn switch_shape<'a>(
 }
 
 /// The arm whose key the value has.
-pub fn arm_for<'a>(
+fn arm_for<'a>(
     value: &Value,
     keys: &[Key],
     arms: &[Numbered<'a>],
@@ -122,20 +147,7 @@ fn arm_key<'a>(program: &Program, arm: &'a Goal) -> Option<(u32, Key<'a>)>
     match &arm.kind {
         GoalKind::Conj(parts) => first_key(program, parts.as_slice()),
         GoalKind::Unify(variable, term) => variable_key(*variable, term_key(program, term)),
-        GoalKind::True => None,
-        GoalKind::Fail => None,
-        GoalKind::Arith(..) => None,
-        GoalKind::Compare(..) => None,
-        GoalKind::WriteInt(..) => None,
-        GoalKind::WriteStr(..) => None,
-        GoalKind::Nl(..) => None,
-        GoalKind::Call(..) => None,
-        GoalKind::HoCall(..) => None,
-        GoalKind::Error(_) => None,
-        GoalKind::Disj(_) => None,
-        GoalKind::If(..) => None,
-        GoalKind::Not(_) => None,
-        GoalKind::Some(..) => None,
+        _ => None,
     }
 }
 
@@ -153,21 +165,7 @@ fn goal_key<'a>(program: &Program, goal: &'a Goal) -> Option<(u32, Key<'a>)>
 {
     match &goal.kind {
         GoalKind::Unify(variable, term) => variable_key(*variable, term_key(program, term)),
-        GoalKind::True => None,
-        GoalKind::Fail => None,
-        GoalKind::Arith(..) => None,
-        GoalKind::Compare(..) => None,
-        GoalKind::WriteInt(..) => None,
-        GoalKind::WriteStr(..) => None,
-        GoalKind::Nl(..) => None,
-        GoalKind::Call(..) => None,
-        GoalKind::HoCall(..) => None,
-        GoalKind::Error(_) => None,
-        GoalKind::Conj(_) => None,
-        GoalKind::Disj(_) => None,
-        GoalKind::If(..) => None,
-        GoalKind::Not(_) => None,
-        GoalKind::Some(..) => None,
+        _ => None,
     }
 }
 
@@ -221,18 +219,15 @@ fn same_key(one: &Key, other: &Key) -> bool
     match one {
         Key::Int(m) => match other {
             Key::Int(n) => *m == *n,
-            Key::Text(_) => false,
-            Key::Functor(..) => false,
+            Key::Text(_) | Key::Functor(..) => false,
         },
         Key::Text(a) => match other {
             Key::Text(b) => *a == *b,
-            Key::Int(_) => false,
-            Key::Functor(..) => false,
+            Key::Int(_) | Key::Functor(..) => false,
         },
         Key::Functor(f, m) => match other {
             Key::Functor(g, n) => *f == *g && *m == *n,
-            Key::Int(_) => false,
-            Key::Text(_) => false,
+            Key::Int(_) | Key::Text(_) => false,
         },
     }
 }
@@ -244,23 +239,19 @@ fn has_the_key(value: &Value, key: &Key) -> Result<bool, NoMemory>
     match value {
         Value::Number(m) => match key {
             Key::Int(n) => Ok(*m == *n),
-            Key::Text(_) => Ok(false),
-            Key::Functor(..) => Ok(false),
+            Key::Text(_) | Key::Functor(..) => Ok(false),
         },
         Value::Literal(a) => match key {
             Key::Text(b) => Ok(*a == *b),
-            Key::Int(_) => Ok(false),
-            Key::Functor(..) => Ok(false),
+            Key::Int(_) | Key::Functor(..) => Ok(false),
         },
         Value::Built(f, parts) => match key {
             Key::Functor(g, arity) => Ok(*f == *g && count(parts)? == *arity),
-            Key::Int(_) => Ok(false),
-            Key::Text(_) => Ok(false),
+            Key::Int(_) | Key::Text(_) => Ok(false),
         },
         Value::Closure(..) => match key {
             Key::Int(_) => Ok(false),
-            Key::Text(_) => Ok(false),
-            Key::Functor(..) => Ok(false),
+            Key::Text(_) | Key::Functor(..) => Ok(false),
         },
     }
 }

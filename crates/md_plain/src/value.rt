@@ -23,6 +23,9 @@ pub enum Parts<'a> {
     Also(Value<'a>, &'a Parts<'a>),
 }
 
+/// The values of a clause's variables, by their places.
+pub type Env<'a> = &'a [Option<Value<'a>>];
+
 /// How many pairs of nodes a comparison has looked at, and whether none differs.
 #[derive(Clone, Copy)]
 pub struct Compared {

@@ -22,26 +22,8 @@ sites_among-loop-goal-preserved t c =
     rw add-one
     (omega (arith, c.loop-goal.invariant, c.in_ok-total.ensures, c.in_ok-site_count.ensures, lines-more c.args.goals.now c.loop-goal.goal-index c.goal-item.result (omega arith) c.goal-item.is))
 
-pub site_count-returns-in-Arith : goal.site_count-returns-in-Arith
-site_count-returns-in-Arith t c = grind (arith, common_steps)
-
 pub site_count-returns-in-Call : goal.site_count-returns-in-Call
 site_count-returns-in-Call t c = grind (arith, common_steps)
-
-pub site_count-returns-in-Compare : goal.site_count-returns-in-Compare
-site_count-returns-in-Compare t c = grind (arith, common_steps)
-
-pub site_count-returns-in-Error : goal.site_count-returns-in-Error
-site_count-returns-in-Error t c = grind (arith, common_steps)
-
-pub site_count-returns-in-Fail : goal.site_count-returns-in-Fail
-site_count-returns-in-Fail t c = grind (arith, common_steps)
-
-pub site_count-returns-in-HoCall : goal.site_count-returns-in-HoCall
-site_count-returns-in-HoCall t c = grind (arith, common_steps)
-
-pub site_count-returns-in-Nl : goal.site_count-returns-in-Nl
-site_count-returns-in-Nl t c = grind (arith, common_steps)
 
 pub site_count-returns-in-Not : goal.site_count-returns-in-Not
 site_count-returns-in-Not t c = grind (arith, common_steps)
@@ -51,15 +33,6 @@ site_count-returns-in-Some t c = grind (arith, common_steps)
 
 pub site_count-returns-in-True : goal.site_count-returns-in-True
 site_count-returns-in-True t c = grind (arith, common_steps)
-
-pub site_count-returns-in-Unify : goal.site_count-returns-in-Unify
-site_count-returns-in-Unify t c = grind (arith, common_steps)
-
-pub site_count-returns-in-WriteInt : goal.site_count-returns-in-WriteInt
-site_count-returns-in-WriteInt t c = grind (arith, common_steps)
-
-pub site_count-returns-in-WriteStr : goal.site_count-returns-in-WriteStr
-site_count-returns-in-WriteStr t c = grind (arith, common_steps)
 
 pub site_count-returns-in_ok-site_count-in-If-3 : goal.site_count-returns-in_ok-site_count-in-If-3
 site_count-returns-in_ok-site_count-in-If-3 t c = grind (arith, common_steps)

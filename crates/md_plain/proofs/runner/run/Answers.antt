@@ -1,8 +1,8 @@
-use Rattle.std.proofs.Common.{◌∙◌, ap, sym}
+use Rattle.std.proofs.Common.{ap, ◌∙◌, sym}
 use Rattle.md_hlds.specs.Hlds.{hlds_of, procedures_of, find_procedure}
 use Rattle.md_hlds.specs.Run.{main_name}
 use Rattle.md_plain.specs.Names.{option_procedure}
-use Rattle.md_plain.proofs.BeginLemmas.{no_main}
+use Rattle.md_plain.proofs.RunLemmas.{no_main}
 use Rattle.md_plain.proofs.runner.run.Goals as goal
 
 pub returns-in-None : goal.returns-in-None

@@ -11,32 +11,14 @@ returns-in-Call c = grind (arith, common_steps)
 pub returns-in-Compare : goal.returns-in-Compare
 returns-in-Compare c = grind (arith, common_steps)
 
-pub returns-in-Conj : goal.returns-in-Conj
-returns-in-Conj c = grind (arith, common_steps)
-
-pub returns-in-Disj : goal.returns-in-Disj
-returns-in-Disj c = grind (arith, common_steps)
-
 pub returns-in-Error : goal.returns-in-Error
 returns-in-Error c = grind (arith, common_steps)
 
 pub returns-in-Fail : goal.returns-in-Fail
 returns-in-Fail c = grind (arith, common_steps)
 
-pub returns-in-HoCall : goal.returns-in-HoCall
-returns-in-HoCall c = grind (arith, common_steps)
-
-pub returns-in-If : goal.returns-in-If
-returns-in-If c = grind (arith, common_steps)
-
 pub returns-in-Nl : goal.returns-in-Nl
 returns-in-Nl c = grind (arith, common_steps)
-
-pub returns-in-Not : goal.returns-in-Not
-returns-in-Not c = grind (arith, common_steps)
-
-pub returns-in-Some : goal.returns-in-Some
-returns-in-Some c = grind (arith, common_steps)
 
 pub returns-in-True : goal.returns-in-True
 returns-in-True c = grind (arith, common_steps)
