@@ -1,5 +1,5 @@
 //! A plain, slow program that computes the run of a program by its definition, for other machines to be compared with.
-//! It makes the steps of the abstract machine one after the other; all that it makes stays in an arena.
+//! It tells a trace by the definition's own equations, one after the other; all that it makes stays in an arena.
 //! Its tests stand in `test_machine`, where programs are read from texts.
 #![tactic(auto)]
 
