@@ -1,12 +1,26 @@
 -- What is told of a store and a sink over several calls, and when a count rose over several.
-use Rattle.std.proofs.Common.{◌≡◌, ℕ, zero, suc, ◌+◌, ◌<◌, ◌≤◌, Bool, true, false, List, [], ◌∷◌, ◌++◌, length, take, drop, Option, Some, None, refl, sym, ◌∙◌, ap, arith, if◌then◌else◌, inl, inr, append_assoc, IsSomeAnd, unwrap_or, length-append, length-drop}
-use Rattle.std.proofs.lemmas.List.{append-nil, take_all, drop_all, length-take, length-take-le}
+use Rattle.std.proofs.Common.{◌≡◌, ℕ, zero, suc, ◌+◌, ◌<◌, ◌≤◌, Bool, true, false, List, [], ◌∷◌, ◌++◌, length, take, drop, Option, Some, None, refl, sym, ◌∙◌, ap, arith, if◌then◌else◌, inl, inr, append_assoc, IsSomeAnd, unwrap_or, length-append, length-drop, subst, Result, Ok, IsErrOf}
+use Rattle.std.proofs.lemmas.List.{append-nil, take_all, length-take, length-take-le}
 use Rattle.std.specs.Str.{bytes_eq}
 use Rattle.std.proofs.lemmas.Bool.{cases_eq, cases_lt}
+use Rattle.std.proofs.Math.Nat.{min-eq_left, min-eq_right}
 use Rattle.std.proofs.lemmas.Slice.Eq.{bytes_eq-Decides}
-use Rattle.md_base.specs.Outside.{Rose, added, Gives}
-use Rattle.md_base.specs.Streams.{Stream}
+use Rattle.md_base.specs.Outside.{Rose, HasCause, one_more, last_count, added, Gives}
 use Rattle.md_base.specs.Files.{Files, with_file, bytes_in, holding, extended, GivesFrom, FileIs, FileIsLonger}
+
+one_more_rises : (before : ℕ) → Rose before (one_more before)
+one_more_rises before = elim (cases_lt before last_count) [
+  | inl below ↦ inl (omega (arith, min-eq_left {n = before + 1} {m = last_count} (omega arith)))
+  | inr last ↦ inr (min-eq_right {n = last_count} {m = before + 1} (omega arith))
+]
+
+-- where a call answers its fault the count rose
+pub rose_at : {T F : Type 0} (fault : F) (before now : ℕ) (result : Result T F) → HasCause fault before now result → IsErrOf result fault → Rose before now
+rose_at fault before now result cause is = subst (λ (n : ℕ). Rose before n) (sym (cause.raised is)) (one_more_rises before)
+
+-- where a call is done the count is as it was
+pub still_where_done : {T F : Type 0} (fault : F) (before now : ℕ) (value : T) → HasCause fault before now (Ok value) → now ≡ before
+still_where_done fault before now value cause = cause.kept (λ is. cc is)
 
 -- a count that was at most this before rose too
 pub rose_since : (before middle now : ℕ) → before ≤ middle → Rose middle now → Rose before now

@@ -1,7 +1,9 @@
 -- The definitions of the outside, computed on small examples.
-use Rattle.std.proofs.Common.{◌≡◌, ℕ, List, [], ◌∷◌, Option, Some, None, true, false, refl, inl, inr, arith, option_map, if◌then◌else◌}
+use Rattle.std.proofs.Common.{◌≡◌, ℕ, List, [], ◌∷◌, Option, Some, None, true, false, refl, inl, inr, arith, option_map, if◌then◌else◌, Result, Ok, Err}
 use Rattle.std.specs.Str.{bytes_eq}
-use Rattle.md_base.specs.Outside.{Rose, Gives, added, one_more, last_count}
+use Rattle.md_base.specs.Outside.{Rose, HasCause, Gives, added, one_more, last_count}
+use Rattle.md_base.specs.declared.failed.Failed.{Failed}
+use Rattle.md_base.specs.declared.failed.Failed.TheVariants.{Device, NoMemory}
 use Rattle.md_base.specs.Files.{Files, with_file, holding, extended}
 use Rattle.md_base.specs.Streams.{fresh, after_read}
 use Rattle.md_base.specs.Nets.{with_served, connection_of}
@@ -49,11 +51,31 @@ read_end = refl
 read_nothing : after_read 0 0 (Some (fresh (1 ∷ []))) ≡ Some (fresh (1 ∷ []))
 read_nothing = refl
 
+abbrev refused : Failed → Result ℕ Failed
+refused fault = Err fault
+
+abbrev done_by_two : Result ℕ Failed
+done_by_two = Ok 2
+
 rises : Rose 3 4
 rises = inl (omega arith)
 
 stands_at_its_end : Rose last_count (one_more last_count)
 stands_at_its_end = inr refl
+
+-- A fault is counted once, and by no other count; and a call that doesn't answer it counts nothing, so that it is not
+-- told as want of memory [the count may rise at any call].
+fault_counted : HasCause Device 3 4 (refused Device)
+fault_counted = record { later = omega arith; raised = λ is. refl; kept = λ is. absurd (is refl) }
+
+counted_twice : HasCause Device 3 5 (refused Device) → ⊥
+counted_twice cause = omega (arith, cause.raised refl)
+
+good_call_counted : HasCause Device 3 4 done_by_two → ⊥
+good_call_counted cause = omega (arith, cause.kept (λ is. cc is))
+
+fault_told_as_memory : HasCause Device 3 4 (refused NoMemory) → ⊥
+fault_told_as_memory cause = omega (arith, cause.kept (λ is. cc is))
 
 served : with_served (connection_of (Some (fresh [])) (Some (5 ∷ [])) 0 1) (Some (record { coming = (8 ∷ []) ∷ []; served = [] }))
     ≡ Some (record { coming = (8 ∷ []) ∷ []; served = record { stream = fresh []; written = 5 ∷ []; read_faults = 0; write_faults = 1 } ∷ [] })

@@ -1,7 +1,5 @@
 -- Faults of the outside, and what a stream and a sink hold.
 use Rattle.std.specs.Prelude.{ℕ, ◌≡◌, ◌⊎◌, ◌+◌, ◌<◌, ◌≤◌, min, List, ◌++◌, length, take, Option, Result, IsErrOf, option_map}
-use Rattle.md_base.specs.declared.failed.Failed.{Failed}
-use Rattle.md_base.specs.declared.failed.Failed.TheVariants.{Device}
 
 -- the last value of a counter of 64 bits
 abbrev pub last_count : ℕ
@@ -15,10 +13,12 @@ one_more count = min (count + 1) last_count
 abbrev pub Rose : ℕ → ℕ → Type 0
 Rose before now = (before < now) ⊎ (now ≡ last_count)
 
--- a count of faults never falls, and a call answers `Device` only where it rose
-pub record HasCause {T : Type 0} (before now : ℕ) (result : Result T Failed) : Type 0 where
+-- What a call does to a count of faults, which never falls: where it answers this fault the count is one more, and
+-- else it is as it was. So no fault of a device is told as anything else.
+pub record HasCause {T F : Type 0} (fault : F) (before now : ℕ) (result : Result T F) : Type 0 where
   pub later : before ≤ now
-  pub failed : IsErrOf result Device → Rose before now
+  pub raised : IsErrOf result fault → now ≡ one_more before
+  pub kept : (IsErrOf result fault → ⊥) → now ≡ before
 
 -- n bytes of this piece are taken, at least one of a piece that isn't empty
 pub record Takes (n : ℕ) (piece : List ℕ) : Type 0 where

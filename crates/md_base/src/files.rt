@@ -1,6 +1,6 @@
 // Whole files and whole texts over the outside: read to the end, written whole.
 ghost use Rattle.std.specs.Prelude.{◌≡◌, ◌≤◌, [], length, take, IfOk, OnOk, OnErr, IsErrOf, vec_len};
-ghost use Rattle.md_base.specs.Outside.{Rose, Takes, added, PartAdded};
+ghost use Rattle.md_base.specs.Outside.{HasCause, Takes, added, PartAdded};
 ghost use Rattle.md_base.specs.Files.{GivesFrom, FileIs, FileIsLonger, HoldsPart, holding, extended};
 ghost use Rattle.md_base.specs.declared.files.ReadFault.TheVariants.{NoMemory as read_out_of_memory};
 ghost use Rattle.md_base.specs.declared.files.WriteFault.TheVariants.{NoMemory as write_out_of_memory};
@@ -78,11 +78,10 @@ pub fn read_all<S: Store>(
     ensures bytes { IfOk result (λ bytes. FileIs (S.held store.old) name.now bytes.items) }
     ensures within { IfOk result (λ bytes. vec_len bytes ≤ max) }
 
-    ensures read { IsErrOf result ReadFault.Read → Rose (S.read_faults store.old) (S.read_faults store.new) }
+    ensures cause { HasCause ReadFault.Read (S.read_faults store.old) (S.read_faults store.new) result }
     ensures too_large { IsErrOf result ReadFault.TooLarge → FileIsLonger (S.held store.old) name.now max }
 
     ensures kept { S.held store.new ≡ S.held store.old }
-    ensures later { S.read_faults store.old ≤ S.read_faults store.new }
     ensures writes { S.write_faults store.new ≡ S.write_faults store.old }
 {
     let mut buf = buffer(alloc, PIECE)?;
@@ -107,10 +106,9 @@ fn read_through<S: Store>(
     requires { 1 ≤ length buf.old }
     ensures bytes { IfOk result (λ bytes. FileIs (S.held store.old) name.now bytes.items) }
     ensures within { IfOk result (λ bytes. vec_len bytes ≤ max) }
-    ensures read { IsErrOf result ReadFault.Read → Rose (S.read_faults store.old) (S.read_faults store.new) }
+    ensures cause { HasCause ReadFault.Read (S.read_faults store.old) (S.read_faults store.new) result }
     ensures too_large { IsErrOf result ReadFault.TooLarge → FileIsLonger (S.held store.old) name.now max }
     ensures kept { S.held store.new ≡ S.held store.old }
-    ensures later { S.read_faults store.old ≤ S.read_faults store.new }
     ensures writes { S.write_faults store.new ≡ S.write_faults store.old }
 {
     let mut bytes = Vec::new(alloc);
@@ -134,9 +132,8 @@ fn read_some<S: Store>(
     ensures within { IfOk result (λ n. n ≤ length buf.old) }
     ensures bytes { IfOk result (λ n. GivesFrom (S.held store.old) name.now at n buf.new) }
     ensures kept { S.held store.new ≡ S.held store.old }
-    ensures read { IsErrOf result ReadFault.Read → Rose (S.read_faults store.old) (S.read_faults store.new) }
+    ensures cause { HasCause ReadFault.Read (S.read_faults store.old) (S.read_faults store.new) result }
     ensures whole { IsErrOf result ReadFault.TooLarge → ⊥ }
-    ensures later { S.read_faults store.old ≤ S.read_faults store.new }
     ensures writes { S.write_faults store.new ≡ S.write_faults store.old }
 {
     match store.read_at(name, at, buf) {
@@ -151,8 +148,7 @@ pub fn write_whole<K: Sink>(sink: &mut K, bytes: &[u8]) -> Result<(), WriteFault
     ensures whole { OnOk result (K.held sink.new ≡ added bytes.now (K.held sink.old)) }
     ensures part { OnErr result (PartAdded bytes.now (K.held sink.old) (K.held sink.new)) }
 
-    ensures write { IsErrOf result WriteFault.Write → Rose (K.write_faults sink.old) (K.write_faults sink.new) }
-    ensures later { K.write_faults sink.old ≤ K.write_faults sink.new }
+    ensures cause { HasCause WriteFault.Write (K.write_faults sink.old) (K.write_faults sink.new) result }
 
     // What is read from the same link stays as it is.
     ensures beside { K.source_beside sink.new ≡ K.source_beside sink.old }
@@ -169,8 +165,7 @@ fn write_part<K: Sink>(sink: &mut K, piece: &[u8]) -> Result<usize, WriteFault>
     ensures takes { IfOk result (λ n. Takes n piece.now) }
     ensures added { IfOk result (λ n. K.held sink.new ≡ added (take n piece.now) (K.held sink.old)) }
     ensures kept { OnErr result (K.held sink.new ≡ K.held sink.old) }
-    ensures write { IsErrOf result WriteFault.Write → Rose (K.write_faults sink.old) (K.write_faults sink.new) }
-    ensures later { K.write_faults sink.old ≤ K.write_faults sink.new }
+    ensures cause { HasCause WriteFault.Write (K.write_faults sink.old) (K.write_faults sink.new) result }
     ensures beside { K.source_beside sink.new ≡ K.source_beside sink.old }
 {
     match sink.write(piece) {
@@ -186,8 +181,7 @@ pub fn write_file<S: Store>(store: &mut S, name: &str, bytes: &[u8]) -> Result<(
     ensures whole { OnOk result (S.held store.new ≡ holding name.now bytes.now (S.held store.old)) }
     ensures part { OnErr result (HoldsPart name.now bytes.now (S.held store.old) (S.held store.new)) }
 
-    ensures write { IsErrOf result WriteFault.Write → Rose (S.write_faults store.old) (S.write_faults store.new) }
-    ensures later { S.write_faults store.old ≤ S.write_faults store.new }
+    ensures cause { HasCause WriteFault.Write (S.write_faults store.old) (S.write_faults store.new) result }
     ensures reads { S.read_faults store.new ≡ S.read_faults store.old }
 {
     create_file(store, name)?;
@@ -203,8 +197,7 @@ pub fn write_file<S: Store>(store: &mut S, name: &str, bytes: &[u8]) -> Result<(
 fn create_file<S: Store>(store: &mut S, name: &str) -> Result<(), WriteFault>
     ensures emptied { OnOk result (S.held store.new ≡ holding name.now [] (S.held store.old)) }
     ensures kept { OnErr result (S.held store.new ≡ S.held store.old) }
-    ensures write { IsErrOf result WriteFault.Write → Rose (S.write_faults store.old) (S.write_faults store.new) }
-    ensures later { S.write_faults store.old ≤ S.write_faults store.new }
+    ensures cause { HasCause WriteFault.Write (S.write_faults store.old) (S.write_faults store.new) result }
     ensures reads { S.read_faults store.new ≡ S.read_faults store.old }
 {
     match store.create(name) {
@@ -220,8 +213,7 @@ fn append_part<S: Store>(store: &mut S, name: &str, piece: &[u8]) -> Result<usiz
     ensures takes { IfOk result (λ n. Takes n piece.now) }
     ensures added { IfOk result (λ n. S.held store.new ≡ extended name.now (take n piece.now) (S.held store.old)) }
     ensures kept { OnErr result (S.held store.new ≡ S.held store.old) }
-    ensures write { IsErrOf result WriteFault.Write → Rose (S.write_faults store.old) (S.write_faults store.new) }
-    ensures later { S.write_faults store.old ≤ S.write_faults store.new }
+    ensures cause { HasCause WriteFault.Write (S.write_faults store.old) (S.write_faults store.new) result }
     ensures reads { S.read_faults store.new ≡ S.read_faults store.old }
 {
     match store.append(name, piece) {

@@ -1,5 +1,5 @@
 // The outside as traits: what a call gives, takes and leaves, and when it may fail.
-ghost use Rattle.std.specs.Prelude.{◌≡◌, ◌≤◌, ℕ, List, [], Option, length, take, IfOk, OnOk, OnErr, IfSome, IfNone};
+ghost use Rattle.std.specs.Prelude.{◌≡◌, ◌≤◌, ℕ, List, [], Option, Some, length, take, IfOk, OnOk, OnErr, IfSome, IfNone, IsSome};
 ghost use Rattle.md_base.specs.Outside.{HasCause, Takes, added};
 ghost use Rattle.md_base.specs.Files.{Files, GivesFrom, holding, extended};
 ghost use Rattle.md_base.specs.Streams.{Stream, SinkSide, SourceSide, GivesNext, after_read, sink_side, source_side};
@@ -28,14 +28,14 @@ pub trait Store {
         ensures within { IfOk result (λ n. n ≤ length buf.old) }
         ensures bytes { IfOk result (λ n. GivesFrom (held self.old) name.now at n buf.new) }
         ensures kept { held self.new ≡ held self.old }
-        ensures cause { HasCause (read_faults self.old) (read_faults self.new) result }
+        ensures cause { HasCause Failed.Device (read_faults self.old) (read_faults self.new) result }
         ensures writes { write_faults self.new ≡ write_faults self.old };
 
     /// Makes the named file empty.
     fn create(&mut self, name: &str) -> Result<(), Failed>
         ensures emptied { OnOk result (held self.new ≡ holding name.now [] (held self.old)) }
         ensures kept { OnErr result (held self.new ≡ held self.old) }
-        ensures cause { HasCause (write_faults self.old) (write_faults self.new) result }
+        ensures cause { HasCause Failed.Device (write_faults self.old) (write_faults self.new) result }
         ensures reads { read_faults self.new ≡ read_faults self.old };
 
     /// Adds a front of the piece at the end of the named file, and answers its length: at least 1 of a piece that
@@ -44,7 +44,7 @@ pub trait Store {
         ensures takes { IfOk result (λ n. Takes n piece.now) }
         ensures added { IfOk result (λ n. held self.new ≡ extended name.now (take n piece.now) (held self.old)) }
         ensures kept { OnErr result (held self.new ≡ held self.old) }
-        ensures cause { HasCause (write_faults self.old) (write_faults self.new) result }
+        ensures cause { HasCause Failed.Device (write_faults self.old) (write_faults self.new) result }
         ensures reads { read_faults self.new ≡ read_faults self.old };
 }
 
@@ -65,7 +65,7 @@ pub trait Source {
         ensures bytes { IfOk result (λ n. GivesNext (stream self.old) n buf.new) }
         ensures taken { IfOk result (λ n. stream self.new ≡ after_read n (length buf.old) (stream self.old)) }
         ensures kept { OnErr result (stream self.new ≡ stream self.old) }
-        ensures cause { HasCause (read_faults self.old) (read_faults self.new) result }
+        ensures cause { HasCause Failed.Device (read_faults self.old) (read_faults self.new) result }
         ensures beside { sink_beside self.new ≡ sink_beside self.old };
 }
 
@@ -85,7 +85,7 @@ pub trait Sink {
         ensures takes { IfOk result (λ n. Takes n piece.now) }
         ensures added { IfOk result (λ n. held self.new ≡ added (take n piece.now) (held self.old)) }
         ensures kept { OnErr result (held self.new ≡ held self.old) }
-        ensures cause { HasCause (write_faults self.old) (write_faults self.new) result }
+        ensures cause { HasCause Failed.Device (write_faults self.old) (write_faults self.new) result }
         ensures beside { source_beside self.new ≡ source_beside self.old };
 }
 
@@ -109,19 +109,19 @@ pub trait Net {
     /// The count of faults of `bind` and `next`.
     ghost faults: { Self → ℕ };
 
-    /// It listens at a port.
-    ghost IsBound: { Self → Type 0 };
+    /// The port at which it listens, where it listens.
+    ghost listens_at: { Self → Option ℕ };
 
-    /// Listens at a port of 127.0.0.1.
+    /// Listens at a port of 127.0.0.1. A net that can't listen there is left as it was.
     fn bind(&mut self, port: u16) -> Result<(), Failed>
-        ensures bound { OnOk result (IsBound self.new) }
-        ensures stays { IsBound self.old → IsBound self.new }
+        ensures bound { OnOk result (listens_at self.new ≡ Some port) }
+        ensures stays { OnErr result (listens_at self.new ≡ listens_at self.old) }
         ensures kept { connections self.new ≡ connections self.old }
-        ensures cause { HasCause (faults self.old) (faults self.new) result };
+        ensures cause { HasCause Failed.Device (faults self.old) (faults self.new) result };
 
     /// The next connection, or `None` where there will be none.
     fn next(&mut self) -> Result<Option<Self::Conn>, Failed>
-        requires { IsBound self.old }
+        requires { IsSome (listens_at self.old) }
         ensures first { IfOk result (λ found. IfSome found (λ link.
             TakesFirst (connections self.old) (connections self.new) (Self.Conn.stream link) (Self.Conn.held link))) }
         ensures no_faults { IfOk result (λ found. IfSome found (λ link.
@@ -129,8 +129,8 @@ pub trait Net {
         ensures none { IfOk result (λ found. IfNone found (NoneComing (connections self.old))) }
         ensures none_taken { IfOk result (λ found. IfNone found (connections self.new ≡ connections self.old)) }
         ensures kept { OnErr result (connections self.new ≡ connections self.old) }
-        ensures stays { IsBound self.new }
-        ensures cause { HasCause (faults self.old) (faults self.new) result };
+        ensures stays { listens_at self.new ≡ listens_at self.old }
+        ensures cause { HasCause Failed.Device (faults self.old) (faults self.new) result };
 
     /// Takes a served connection back and closes it. Where memory is refused it is closed all the same, and isn't
     /// among those that were served.
@@ -138,6 +138,6 @@ pub trait Net {
         ensures served { OnOk result (connections self.new ≡ with_served (connection_of (Self.Conn.stream link)
             (Self.Conn.held link) (Self.Conn.read_faults link) (Self.Conn.write_faults link)) (connections self.old)) }
         ensures kept { OnErr result (connections self.new ≡ connections self.old) }
-        ensures stays { IsBound self.old → IsBound self.new }
+        ensures stays { listens_at self.new ≡ listens_at self.old }
         ensures count { faults self.new ≡ faults self.old };
 }

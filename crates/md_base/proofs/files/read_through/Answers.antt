@@ -21,7 +21,7 @@ loop-store-preserved g c =
     record {
       so_far = subst (λ (now : List ℕ). HasFront told name now) (sym items) more;
       kept = read.kept ∙ before.kept;
-      later = omega (arith, before.later, read.later);
+      faults = read.cause.kept (λ is. cc is) ∙ before.faults;
       writes = read.writes ∙ before.writes;
     }
 
@@ -33,12 +33,6 @@ returns-clause-bytes g c = grind (arith, common_steps)
 
 pub returns-clause-kept : goal.returns-clause-kept
 returns-clause-kept g c = grind (arith, common_steps)
-
-pub returns-clause-later : goal.returns-clause-later
-returns-clause-later g c = grind (arith, common_steps)
-
-pub returns-clause-read : goal.returns-clause-read
-returns-clause-read g c = grind (arith, common_steps)
 
 pub returns-clause-too_large : goal.returns-clause-too_large
 returns-clause-too_large g c = grind (arith, common_steps)
@@ -54,12 +48,6 @@ returns-then-count-eq0-clause-bytes g c = grind (arith, common_steps)
 
 pub returns-then-count-eq0-clause-kept : goal.returns-then-count-eq0-clause-kept
 returns-then-count-eq0-clause-kept g c = grind (arith, common_steps)
-
-pub returns-then-count-eq0-clause-later : goal.returns-then-count-eq0-clause-later
-returns-then-count-eq0-clause-later g c = grind (arith, common_steps)
-
-pub returns-then-count-eq0-clause-read : goal.returns-then-count-eq0-clause-read
-returns-then-count-eq0-clause-read g c = grind (arith, common_steps)
 
 pub returns-then-count-eq0-clause-too_large : goal.returns-then-count-eq0-clause-too_large
 returns-then-count-eq0-clause-too_large g c = grind (arith, common_steps)

@@ -6,7 +6,7 @@ abbrev pub invariant-loop-done : goal.invariant-loop-done
 invariant-loop-done g l = record {
   within : l.done ≤ length l.bytes;
   so_far : g.S.Store.held l.store ≡ holding l.name (take l.done l.bytes) (g.S.Store.held l.fn.store);
-  later : g.S.Store.write_faults l.fn.store ≤ g.S.Store.write_faults l.store;
+  faults : g.S.Store.write_faults l.store ≡ g.S.Store.write_faults l.fn.store;
   reads : g.S.Store.read_faults l.store ≡ g.S.Store.read_faults l.fn.store;
 }
 

@@ -1,4 +1,4 @@
-use Rattle.std.proofs.Common.{◌-◌, length, ◌∙◌, arith}
+use Rattle.std.proofs.Common.{◌-◌, length, ◌∙◌}
 use Rattle.md_base.proofs.Told.{piece_within, added_on}
 use Rattle.md_base.proofs.files.write_whole.Goals as goal
 
@@ -11,6 +11,6 @@ loop-done-preserved g c =
     record {
       within = within.1;
       so_far = added_on bytes c.loop-done.done c.in_ok-done.field-0 (length bytes - c.loop-done.done) _ _ _ within.0 before.so_far part.added;
-      later = omega (arith, before.later, part.later);
+      faults = part.cause.kept (λ is. cc is) ∙ before.faults;
       beside = part.beside ∙ before.beside;
     }

@@ -6,7 +6,7 @@ abbrev pub invariant-loop-done : goal.invariant-loop-done
 invariant-loop-done g l = record {
   within : l.done ≤ length l.bytes;
   so_far : g.K.Sink.held l.sink ≡ added (take l.done l.bytes) (g.K.Sink.held l.fn.sink);
-  later : g.K.Sink.write_faults l.fn.sink ≤ g.K.Sink.write_faults l.sink;
+  faults : g.K.Sink.write_faults l.sink ≡ g.K.Sink.write_faults l.fn.sink;
   beside : g.K.Sink.source_beside l.sink ≡ g.K.Sink.source_beside l.fn.sink;
 }
 
