@@ -1,0 +1,4 @@
+pub mod Depth
+pub mod Counting
+
+pub mod Moving

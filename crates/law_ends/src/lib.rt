@@ -1,0 +1,2 @@
+//! A law of runs over flat code: each comes to its end.
+#![tactic(auto)]
