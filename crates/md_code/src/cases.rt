@@ -10,7 +10,7 @@ ghost use Rattle.md_code.specs.Details as spec;
 
 use crate::detail::{NO_CALL, plain_detail};
 use crate::number::{head_at, plus, second_at};
-use crate::switch::{key_functor, least_functor};
+use crate::switch::{first_functor, key_functor, least_functor};
 use crate::tables::Tables;
 use md_base::NoMemory;
 use md_flat::{Case, Detail};
@@ -53,12 +53,16 @@ fn keyed_detail(
         → spec.detail_told detail ≡ spec.keyed_detail (hlds_of tables.now.source.checked.now) number (gathered (goals_of arms.now)) (keys_told keys.now)) }
 {
     let alloc = tables.alloc;
+    let first = first_functor(tables, keys);
+    let otherwise = second_at(number)?;
     let targets = targets_of(tables, number, arms, keys)?;
     let cases = cases_of(tables, number, arms, keys)?;
     Ok(Detail {
         constant: Value::Int(0),
         inputs: Vec::new(alloc),
         outputs: Vec::new(alloc),
+        first,
+        otherwise,
         targets,
         cases,
         call: NO_CALL,

@@ -94,6 +94,8 @@ fn moves_detail(
         constant,
         inputs,
         outputs,
+        first: 0,
+        otherwise: 0,
         targets: Vec::new(alloc),
         cases: Vec::new(alloc),
         call,

@@ -37,11 +37,24 @@ fn switch_by_keys(tables: &Tables, number: u32, var: u32, keys: &[Key]) -> Opera
     let (of, detail) = (var, number);
     match keys {
         [] => Operation::Pass,
-        [Key::Functor(name, arity), rest @ ..] => {
-            let first = least_functor(tables, tables.functor(*name, *arity), rest);
-            Operation::Switch { of, first, detail }
-        }
+        [Key::Functor(_, _), ..] => Operation::Switch {
+            of,
+            first: first_functor(tables, keys),
+            detail,
+        },
         [Key::Int(_) | Key::Text(_), ..] => Operation::Select { of, detail },
+    }
+}
+
+/// The first functor of a switch with these keys, or 0 where they are no functors.
+pub fn first_functor(tables: &Tables, keys: &[Key]) -> u32
+    ensures { result ≡ spec.first_functor (hlds_of tables.now.source.checked.now) (keys_told keys.now) }
+{
+    match keys {
+        [Key::Functor(name, arity), rest @ ..] => {
+            least_functor(tables, tables.functor(*name, *arity), rest)
+        }
+        [Key::Int(_) | Key::Text(_), ..] | [] => 0,
     }
 }
 
