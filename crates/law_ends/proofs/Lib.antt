@@ -6,3 +6,5 @@ pub mod Charges
 pub mod Simple
 pub mod Walking
 pub mod Programs
+pub mod Quietly
+pub mod Stepping

@@ -1,1 +1,6 @@
 pub mod Ends
+pub mod TempSteps
+pub mod TempStep
+pub mod TempPorts
+pub mod TempStates
+pub mod TempInstructions
