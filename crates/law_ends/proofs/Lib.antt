@@ -8,3 +8,5 @@ pub mod Walking
 pub mod Programs
 pub mod Quietly
 pub mod Stepping
+pub mod Folds
+pub mod Shorts

@@ -4,3 +4,5 @@ pub mod TempStep
 pub mod TempPorts
 pub mod TempStates
 pub mod TempInstructions
+pub mod TempWays
+pub mod TempFolded
