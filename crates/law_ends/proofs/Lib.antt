@@ -10,3 +10,5 @@ pub mod Quietly
 pub mod Stepping
 pub mod Folds
 pub mod Shorts
+pub mod Growing
+pub mod Nearer
