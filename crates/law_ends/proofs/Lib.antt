@@ -12,3 +12,4 @@ pub mod Folds
 pub mod Shorts
 pub mod Growing
 pub mod Nearer
+mod Worked
