@@ -1,5 +1,6 @@
 pub mod Following
 pub mod Keeping
+pub mod Nearing
 pub mod Making
 pub mod Quiet
 pub mod Porting

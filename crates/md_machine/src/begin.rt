@@ -1,5 +1,6 @@
 // What a machine has as a run begins.
-ghost use Rattle.std.specs.Prelude.{◌≡◌, ◌<◌, ◌^◌, length, replicate, IfOk};
+ghost use Rattle.std.specs.Prelude.{ℕ, ◌≡◌, ◌<◌, ◌^◌, length, replicate, slice_get, Some, IfOk};
+ghost use Rattle.md_flat.specs.declared.state.Frame.{Frame};
 ghost use Rattle.law_flat.specs.Begins.{functor_cells};
 ghost use Rattle.md_machine.specs.Stacks.{AreFirst};
 
@@ -20,6 +21,7 @@ const PLACES: usize = 1024;
 /// 2^32 details or more, which no code of a program has.
 pub fn begin<M: Copy + Drop>(alloc: Global, code: &Code, mark: M) -> Result<Stacks<M>, NoMemory>
     ensures first { IfOk result (λ stacks. AreFirst code.now mark stacks) }
+    ensures callers { IfOk result (λ stacks. (k : ℕ) (f : Frame M) → slice_get stacks.frames.items k ≡ Some f → f.caller ≡ 0) }
     ensures frames { IfOk result (λ stacks. length stacks.frames.items < 2 ^ 32) }
     ensures choices { IfOk result (λ stacks. length stacks.choices.items < 2 ^ 32) }
 {
