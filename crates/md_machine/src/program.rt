@@ -23,8 +23,7 @@ use std::alloc::Global;
 ///
 /// # Errors
 ///
-/// `NoMemory` where memory was refused or the sink wants it, where cells, frames or choices want a number of more than 32 bits, and where
-/// a run makes 2^64 - 1 steps.
+/// `NoMemory` where memory was refused or the sink wants it, and where cells, frames or choices want a number of more than 32 bits.
 pub fn execute<S: PortSink>(
     alloc: Global,
     code: &Instrumented<'_>,
