@@ -65,6 +65,13 @@ impl MemNet {
     {
         self.served.as_slice()
     }
+
+    /// The port at which it listens, where it listens.
+    pub fn port(&self) -> Option<u16>
+        ensures { result ≡ self.now.port }
+    {
+        self.port
+    }
 }
 
 impl Net for MemNet {
@@ -187,6 +194,13 @@ impl SureNet {
         ensures { result.now ≡ self.now.served }
     {
         self.served.as_slice()
+    }
+
+    /// The port at which it listens, where it listens.
+    pub fn port(&self) -> Option<u16>
+        ensures { result ≡ self.now.port }
+    {
+        self.port
     }
 }
 
