@@ -16,7 +16,7 @@ use Rattle.md_tool.specs.Reported.{ReportEnds, IsPageOfRun, HasNoPageOfRun}
 use Rattle.md_tool.specs.Summed.{SumEnds}
 use Rattle.md_tool.specs.Turns.{IsCoverageOfRun, HasNoProcedure}
 use Rattle.md_tool.specs.Told.{Tells, NothingChanged, EndIsTold, CommandEnds, TopEnds}
-use Rattle.md_tool.specs.Served.{NetSide}
+use Rattle.md_tool.specs.Served.{NetSide, ServeEnds}
 use Rattle.md_tool.proofs.StreamLemmas.{rose_before, rose_after, none_added, all_added}
 
 nothing_changed : (held : Option Files) (out err : Option (List ℕ)) → NothingChanged held held out out err err
@@ -119,6 +119,12 @@ cover_told held held' net net' file procedure steps out out' err between err' re
 pub gen_told : (held : Option Files) (net net' : NetSide) (n : ℕ) (summary : Bool) (out out' err err' : Option (List ℕ)) (reads writes outs errs nets : Type 0) (status : ℕ) (r : Result (Unit {0}) Fault)
     → GenEnds n summary out out' outs r → EndIsTold r (codes "gen") err err' errs status → TopEnds (Some (Gen n summary)) held held net net' out out' err err' reads writes outs errs nets status
 gen_told held net net' n summary out out' err err' reads writes outs errs nets status r ends told = record { end = r; at = codes "gen"; between = err; command = (ends, refl, refl); told = told }
+
+-- ---- a stored profile that is served
+
+pub serve_told : (held held' : Option Files) (net net' : NetSide) (name : List ℕ) (port requests : ℕ) (out out' err err' : Option (List ℕ)) (reads writes outs errs nets : Type 0) (status : ℕ) (r : Result (Unit {0}) Fault)
+    → ServeEnds held name port requests net net' out out' reads outs nets r → held' ≡ held → EndIsTold r name err err' errs status → TopEnds (Some (Serve name port requests)) held held' net net' out out' err err' reads writes outs errs nets status
+serve_told held held' net net' name port requests out out' err err' reads writes outs errs nets status r ends kept told = record { end = r; at = name; between = err; command = (ends, kept, refl); told = told }
 
 -- ---- profiles that are added up
 

@@ -4,6 +4,7 @@ ghost use Rattle.md_base.specs.Outside.{Rose};
 ghost use Rattle.md_commands.specs.Form.{words_of, HasBounds, form};
 ghost use Rattle.md_commands.specs.Told.{told, texts};
 ghost use Rattle.md_tool.specs.Compared.{CompareEnds};
+ghost use Rattle.md_tool.specs.Served.{net_side};
 ghost use Rattle.md_tool.specs.Summed.{SumEnds};
 ghost use Rattle.md_tool.specs.Told.{Tells, EndIsTold, TopEnds};
 ghost use Rattle.md_tool.specs.Meaning.{Means, keeps_store, keeps_net};

@@ -7,7 +7,7 @@ use Rattle.md_commands.specs.declared.command.Command.{Command}
 use Rattle.md_commands.specs.Told.{meant, told, texts}
 use Rattle.md_tool.specs.Told.{TopEnds}
 use Rattle.md_tool.proofs.SumLemmas.{as_many_texts}
-use Rattle.md_tool.proofs.TopLemmas.{report_told, cover_told, gen_told, sum_told, compare_told}
+use Rattle.md_tool.proofs.TopLemmas.{report_told, cover_told, gen_told, serve_told, sum_told, compare_told}
 use Rattle.md_tool.proofs.command.do_command.Goals as goal
 
 pub returns-in-Report-clause-ends : goal.returns-in-Report-clause-ends
@@ -149,7 +149,23 @@ pub returns-in-Page-clause-net : goal.returns-in-Page-clause-net
 returns-in-Page-clause-net g c = grind (arith, common_steps)
 
 pub returns-in-Serve-clause-ends : goal.returns-in-Serve-clause-ends
-returns-in-Serve-clause-ends g c = grind (arith, common_steps)
+returns-in-Serve-clause-ends g c =
+    subst
+    (λ (x : Command). TopEnds (Some (told x)) (g.S.Store.held c.args.store.now) (g.S.Store.held c.serve_file-end.new.store) (net_side (g.N.Net.connections c.args.net.now) (g.N.Net.listens_at c.args.net.now)) (net_side (g.N.Net.connections c.serve_file-end.new.net) (g.N.Net.listens_at c.serve_file-end.new.net))
+    (g.O.Sink.held c.args.out.now) (g.O.Sink.held c.serve_file-end.new.out) (g.E.Sink.held c.args.err.now) (g.E.Sink.held c.tell_end-in-Serve.new.err)
+    (Rose (g.S.Store.read_faults c.args.store.now) (g.S.Store.read_faults c.serve_file-end.new.store))
+    (Rose (g.S.Store.write_faults c.args.store.now) (g.S.Store.write_faults c.serve_file-end.new.store))
+    (Rose (g.O.Sink.write_faults c.args.out.now) (g.O.Sink.write_faults c.serve_file-end.new.out))
+    (Rose (g.E.Sink.write_faults c.args.err.now) (g.E.Sink.write_faults c.tell_end-in-Serve.new.err))
+    (Rose (g.N.Net.faults c.args.net.now) (g.N.Net.faults c.serve_file-end.new.net)) c.tell_end-in-Serve.result)
+    (sym c.in-Serve.is)
+    (serve_told (g.S.Store.held c.args.store.now) (g.S.Store.held c.serve_file-end.new.store) (net_side (g.N.Net.connections c.args.net.now) (g.N.Net.listens_at c.args.net.now)) (net_side (g.N.Net.connections c.serve_file-end.new.net) (g.N.Net.listens_at c.serve_file-end.new.net)) c.in-Serve.name.now c.in-Serve.port c.in-Serve.requests
+    (g.O.Sink.held c.args.out.now) (g.O.Sink.held c.serve_file-end.new.out) (g.E.Sink.held c.args.err.now) (g.E.Sink.held c.tell_end-in-Serve.new.err)
+    (Rose (g.S.Store.read_faults c.args.store.now) (g.S.Store.read_faults c.serve_file-end.new.store))
+    (Rose (g.S.Store.write_faults c.args.store.now) (g.S.Store.write_faults c.serve_file-end.new.store))
+    (Rose (g.O.Sink.write_faults c.args.out.now) (g.O.Sink.write_faults c.serve_file-end.new.out))
+    (Rose (g.E.Sink.write_faults c.args.err.now) (g.E.Sink.write_faults c.tell_end-in-Serve.new.err))
+    (Rose (g.N.Net.faults c.args.net.now) (g.N.Net.faults c.serve_file-end.new.net)) c.tell_end-in-Serve.result c.serve_file-end.result c.serve_file-end.ensures.ends c.serve_file-end.ensures.kept c.tell_end-in-Serve.ensures.told)
 
 pub returns-in-Serve-clause-net : goal.returns-in-Serve-clause-net
 returns-in-Serve-clause-net g c = grind (arith, common_steps)
