@@ -2,7 +2,6 @@
 use Rattle.std.proofs.Common.{◌≡◌, ℕ, ◌<◌, ◌≤◌, ◌^◌, List, length, Option, None, Some, Result, refl, sym, ap, subst, ◌∙◌}
 use Rattle.md_base.specs.Files.{Files, with_file}
 use Rattle.md_base.proofs.Told.{with_file-named}
-use Rattle.md_base.specs.Nets.{Connections}
 use Rattle.md_hlds.specs.Hlds.{Hlds}
 use Rattle.md_hlds.specs.Run.{is_finished, run}
 use Rattle.md_trace.specs.PortHistory.{IsPortHistory}
@@ -27,7 +26,7 @@ use Rattle.md_tool.specs.Accepted.{Accepted}
 use Rattle.md_tool.specs.Due.{longest}
 use Rattle.md_tool.specs.Kept.{IsKept, IsRunFile}
 use Rattle.md_tool.specs.Reported.{IsPageOfRun, HasNoPageOfRun}
-use Rattle.md_tool.specs.Served.{HasServed}
+use Rattle.md_tool.specs.Served.{NetSide, HasServed}
 use Rattle.md_tool.specs.Stored.{longest_profile}
 use Rattle.law_files.specs.Spelled.{AreWhole}
 use Rattle.law_files.specs.Through.{HasLeftFile, HasNoPageOfFile, HoldsRunFile, IsPageOfFile, IsServedByRun, PageShowsTheRun, SayTheRun}
@@ -139,10 +138,11 @@ module _ (text : List ℕ) (accepted : Accepted text) (steps : ℕ) (short : len
           once holds.bytes holds.is_run (record { clique = clique; first = a; second = b; twice = rw same at twice.twice }));
     }
 
-    pub serving_tells : (requests : ℕ) (net net' : Option Connections) (r : Result Tally ServeFault) → HasServed (Some files) name requests net net' r → IsServedByRun steps program requests net net' r
-    serving_tells requests net net' r served = record {
+    pub serving_tells : (port requests : ℕ) (net net' : NetSide) (r : Result Tally ServeFault) → HasServed (Some files) name port requests net net' r → IsServedByRun steps program port requests net net' r
+    serving_tells port requests net net' r served = record {
       view = served.view;
       is_view = view_there longest_profile served.profile served.view served.spelled served.is_view;
+      bound = served.bound;
       served = served.served;
     }
 

@@ -1,7 +1,6 @@
 -- A run on its way through a file: what the file says that `run` leaves, and what is read off it by `page` and `serve`.
 use Rattle.std.specs.Prelude.{ℕ, ◌≡◌, ◌↔◌, List, Option, None, Some, Result, Ok, Err}
 use Rattle.md_base.specs.Files.{Files}
-use Rattle.md_base.specs.Nets.{Connections}
 use Rattle.md_hlds.specs.Hlds.{Hlds}
 use Rattle.md_dynamic.specs.Profile.{ProfileRows}
 use Rattle.md_deepfile.specs.Spells.{Spells}
@@ -18,7 +17,7 @@ use Rattle.md_profiled.specs.OfRun.{IsViewOfRun}
 use Rattle.md_tool.specs.Due.{IsWritten}
 use Rattle.md_tool.specs.Kept.{IsRunFile}
 use Rattle.md_tool.specs.Reported.{IsPageOfRun, HasNoPageOfRun}
-use Rattle.md_tool.specs.Served.{ServesTold}
+use Rattle.md_tool.specs.Served.{NetSide, ServesTold}
 use Rattle.md_tool.specs.Stored.{StoredEnds}
 use Rattle.md_tool.specs.declared.fault.Fault.TheVariants.{Damaged, NoSuchPage, TwoEntries}
 use Rattle.law_files.specs.Spelled.{AreWhole}
@@ -71,11 +70,12 @@ pub record PageShowsTheRun (steps : ℕ) (program : Hlds) (held : Option Files) 
   pub whole : (at : ℕ) (kind : Kind) → StoredEnds held name query out out' reads outs (Err (Damaged at kind)) → ⊥
   pub once : (clique a b : ℕ) → StoredEnds held name query out out' reads outs (Err (TwoEntries clique a b)) → ⊥
 
--- `serve` answers by a view of the run
-pub record IsServedByRun (steps : ℕ) (program : Hlds) (requests : ℕ) (net net' : Option Connections) (r : Result Tally ServeFault) : Type 0 where
+-- `serve` answers by a view of the run, at this port
+pub record IsServedByRun (steps : ℕ) (program : Hlds) (port requests : ℕ) (net net' : NetSide) (r : Result Tally ServeFault) : Type 0 where
   pub view : View
   pub is_view : IsViewOfRun program steps view
-  pub served : ServesTold view requests net net' r
+  pub bound : net'.port ≡ Some port
+  pub served : ServesTold view requests net.connections net'.connections r
 
 -- the store has such a file under this name
 pub record HoldsRunFile (files : Files) (name : List ℕ) (steps : ℕ) (program : Hlds) : Type 0 where

@@ -1,7 +1,6 @@
 // A run on its way through a file. Each law is the contract of a function that does nothing.
 ghost use Rattle.std.specs.Prelude.{ℕ, ◌≤◌, ◌<◌, ◌^◌, List, Option, Some, Result, length};
 ghost use Rattle.md_base.specs.Files.{Files};
-ghost use Rattle.md_base.specs.Nets.{Connections};
 ghost use Rattle.md_base.specs.Outside.{Rose};
 ghost use Rattle.md_query.specs.Asked.{Asked};
 ghost use Rattle.md_http.specs.declared.serving.ServeFault.{ServeFault};
@@ -10,7 +9,7 @@ ghost use Rattle.md_tool.specs.Accepted.{Accepted};
 ghost use Rattle.md_tool.specs.Due.{longest};
 ghost use Rattle.md_tool.specs.Ends.{RunEnd};
 ghost use Rattle.md_tool.specs.Kept.{HasRun, IsRunFile};
-ghost use Rattle.md_tool.specs.Served.{HasServed};
+ghost use Rattle.md_tool.specs.Served.{NetSide, HasServed};
 ghost use Rattle.law_files.specs.Through.{HasLeftFile, HoldsRunFile, IsServedByRun, PageShowsTheRun, SayTheRun};
 
 /// Each file that `run` may leave of an accepted text, within a budget, spells exactly one profile, and nothing is wrong
@@ -36,8 +35,8 @@ pub fn pages_show_the_run()
         → HoldsRunFile files name steps accepted.program → PageShowsTheRun steps accepted.program (Some files) name query out out' (Rose reads reads') (Rose writes writes') }
 {}
 
-/// What `serve` answers then, it answers by the view of the run.
+/// What `serve` answers then, it answers by the view of the run, at the port that was asked for.
 pub fn serving_tells_the_run()
-    ensures { (text : List ℕ) (accepted : Accepted text) (steps : ℕ) (files : Files) (name : List ℕ) (requests : ℕ) (net net' : Option Connections) (r : Result Tally ServeFault) → length text ≤ longest → steps < 2 ^ 32
-        → HoldsRunFile files name steps accepted.program → HasServed (Some files) name requests net net' r → IsServedByRun steps accepted.program requests net net' r }
+    ensures { (text : List ℕ) (accepted : Accepted text) (steps : ℕ) (files : Files) (name : List ℕ) (port requests : ℕ) (net net' : NetSide) (r : Result Tally ServeFault) → length text ≤ longest → steps < 2 ^ 32
+        → HoldsRunFile files name steps accepted.program → HasServed (Some files) name port requests net net' r → IsServedByRun steps accepted.program port requests net net' r }
 {}

@@ -1,15 +1,32 @@
 -- Pieces that go to a file one after the other.
-use Rattle.std.proofs.Common.{◌≡◌, ℕ, ◌+◌, ◌<◌, ◌≤◌, List, [], ◌∷◌, ◌++◌, length, get_or, take, drop, Option, Result, Ok, Err, OnOk, OnErr, is_err, Bool, false, refl, sym, ap, subst, ◌∙◌, append_assoc, arith, inl, inr}
+use Rattle.std.proofs.Common.{◌≡◌, ℕ, ◌+◌, ◌<◌, ◌≤◌, List, [], ◌∷◌, ◌++◌, length, get_or, take, drop, Option, Result, Ok, Err, OnOk, OnErr, is_err, IsErrOf, Bool, false, refl, sym, ap, subst, ◌∙◌, append_assoc, arith, inl, inr}
 use Rattle.std.specs.List.{flat_map}
 use Rattle.std.proofs.lemmas.Bool.{false≢true}
 use Rattle.std.proofs.lemmas.List.{append-nil, take_all, take-append-drop, take-take, take_more, take_at, flat_map_more, length-append}
 use Rattle.md_base.specs.Files.{Files, HoldsPart, holding, extended}
+use Rattle.md_base.specs.Outside.{HasCause}
 use Rattle.md_base.proofs.Told.{extended-holding, take_add}
 use Rattle.md_static.specs.declared.entry.Proc.{Proc}
 use Rattle.md_static.specs.declared.entry.Site.{Site}
 use Rattle.md_dynamic.specs.Profile.{ProfileRows}
 use Rattle.md_deepfile.specs.Bytes.{u32, name_bytes, proc_bytes, site_bytes, each, magic, flag_byte, file_bytes}
 use Rattle.md_deepfile.specs.Pieces.{Written, HasFrontOf, WritesOn, StopsIn, table_bytes, row_bytes}
+
+-- what a call does to a count that earlier calls left as it was
+pub cause_since : {T F : Type 0} {fault : F} {before middle now : ℕ} {result : Result T F} → middle ≡ before → HasCause fault middle now result → HasCause fault before now result
+cause_since {T} {F} {fault} {before} {middle} {now} {result} same cause = subst (λ (count : ℕ). HasCause fault count now result) same cause
+
+-- and what one does that answers the error of a call of another kind
+pub refused_since : {T U F : Type 0} {fault error : F} {before middle now : ℕ} → middle ≡ before → HasCause {T = T} fault middle now (Err error) → HasCause {T = U} fault before now (Err error)
+refused_since {T} {U} {F} {fault} {error} {before} {middle} {now} same cause =
+    let there : (error ≡ fault → IsErrOf {T = T} (Err error) fault) = λ is. ap (λ (e : F). Err e) is in
+    let here : (error ≡ fault → IsErrOf {T = U} (Err error) fault) = λ is. ap (λ (e : F). Err e) is in
+    let whole : HasCause {T = U} fault middle now (Err error) = record {
+      later = cause.later;
+      raised = λ is. cause.raised (there (cc is));
+      kept = λ other. cause.kept (λ is. other (here (cc is)));
+    } in
+    cause_since same whole
 
 -- one more piece of some bytes, behind what the file had
 pub appended_on : (name bytes out : List ℕ) (done n m : ℕ) (told middle now : Option Files) → n ≤ m → middle ≡ holding name (out ++ take done bytes) told

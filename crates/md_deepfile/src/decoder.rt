@@ -1,5 +1,5 @@
 // Bytes as a profile, in pieces of any size.
-ghost use Rattle.std.specs.Prelude.{◌≡◌, ◌++◌, [], List, ℕ, None, Some, Err, IfOk, IfErr, IfSome, OnOk};
+ghost use Rattle.std.specs.Prelude.{◌≡◌, ◌++◌, [], List, ℕ, None, Some, Err, IfOk, IfErr, IfSome, OnOk, IsErrOf};
 ghost use Rattle.md_dynamic.specs.Profile.{ProfileRows};
 ghost use Rattle.md_dynamic.specs.Valid.{IsValid};
 ghost use Rattle.md_deepfile.specs.Fields.{profile_file};
@@ -69,12 +69,14 @@ impl Decoder {
         }
     }
 
-    /// The profile that all bytes spell, or the first rule that they break.
+    /// The profile that all bytes spell, or the first rule that they break. Takes no memory: `NoMemory` comes only where
+    /// it stopped for that.
     pub fn finish(self) -> Result<Profile, DecodeFault>
         ensures found { IfOk result (λ f. (bytes : List ℕ) → HasTaken self bytes → Spells bytes f) }
         ensures only { (bytes : List ℕ) (f : ProfileRows) → HasTaken self bytes → Spells bytes f → Reads f result }
         ensures damage { IfErr result (λ fault. (bytes : List ℕ) → HasTaken self bytes → IsFaultOf bytes fault) }
         ensures stays { IfSome self.stopped (λ fault. result ≡ Err fault) }
+        ensures memory { IsErrOf result DecodeFault.NoMemory → self.stopped ≡ Some DecodeFault.NoMemory }
     {
         match self.ended() {
             Ok(()) => Ok(self.into_profile()),
@@ -87,6 +89,7 @@ impl Decoder {
         ensures whole { OnOk result ((bytes : List ℕ) → HasTaken self.now bytes → read profile_file 0 bytes ≡ Ok self.now.state.rows) }
         ensures damage { IfErr result (λ fault. (bytes : List ℕ) → HasTaken self.now bytes → IsFaultOf bytes fault) }
         ensures stays { IfSome self.now.stopped (λ fault. result ≡ Err fault) }
+        ensures memory { IsErrOf result DecodeFault.NoMemory → self.now.stopped ≡ Some DecodeFault.NoMemory }
     {
         match self.stopped {
             Some(fault) => Err(fault),

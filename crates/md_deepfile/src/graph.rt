@@ -1,5 +1,5 @@
 // The contexts and links that were read.
-ghost use Rattle.std.specs.Prelude.{◌≡◌, ◌++◌, ◌∷◌, [], ◌<◌, ◌-◌, not, true, false, length, slice_get, None, Some, IfOk, OnOk, IsTrue};
+ghost use Rattle.std.specs.Prelude.{◌≡◌, ◌++◌, ◌∷◌, [], ◌<◌, ◌-◌, not, true, false, length, slice_get, None, Some, IfOk, OnOk, OnErr, IsTrue};
 ghost use Rattle.md_deepfile.specs.Rules.{has_any_key, orphan_from};
 
 use crate::seats::LinkKeys;
@@ -57,7 +57,8 @@ impl Graph {
 
     /// Adds a context of this procedure.
     pub fn add_context(&mut self, proc: ProcId) -> Result<(), NoMemory>
-        ensures { OnOk result (self.new ≡ record self.old { nodes = self.old.nodes ++ proc ∷ [] }) }
+        ensures added { OnOk result (self.new ≡ record self.old { nodes = self.old.nodes ++ proc ∷ [] }) }
+        ensures refused { OnErr result (self.new ≡ self.old) }
     {
         self.seat_context()?;
         self.nodes.reserve(1)?;
@@ -68,7 +69,7 @@ impl Graph {
 
     /// Gives seats to a context more, where it comes before all links.
     fn seat_context(&mut self) -> Result<(), NoMemory>
-        ensures { OnOk result (self.new ≡ self.old) }
+        ensures { self.new ≡ self.old }
     {
         if self.links.is_empty() {
             self.keys.add_context()?;
@@ -78,7 +79,8 @@ impl Graph {
 
     /// Adds the root link with these counts.
     pub fn add_root(&mut self, own: Counts) -> Result<(), NoMemory>
-        ensures { OnOk result (self.new ≡ record self.old { links = self.old.links ++ record { caller = None; site = None; callee = 0; own = own } ∷ [] }) }
+        ensures added { OnOk result (self.new ≡ record self.old { links = self.old.links ++ record { caller = None; site = None; callee = 0; own = own } ∷ [] }) }
+        ensures refused { OnErr result (self.new ≡ self.old) }
     {
         self.links.push(LinkRow {
             caller: None,
@@ -103,6 +105,7 @@ impl Graph {
         ensures links { IfOk result (λ added. added ≡ true
             → self.new ≡ record self.old { links = self.old.links ++ record { caller = Some caller; site = Some site; callee = callee; own = own } ∷ [] }) }
         ensures kept { IfOk result (λ added. added ≡ false → self.new ≡ self.old) }
+        ensures refused { OnErr result (self.new ≡ self.old) }
     {
         let proc = self.nodes[callee as usize].number();
         self.links.reserve(1)?;

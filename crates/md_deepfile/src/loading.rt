@@ -1,7 +1,7 @@
 // A profile read from a store, in pieces.
-ghost use Rattle.std.specs.Prelude.{◌≡◌, ◌≤◌, List, ℕ, [], length, IfOk, IfErr, OnOk, IsErrOf, vec_len};
+ghost use Rattle.std.specs.Prelude.{◌≡◌, ◌≤◌, List, ℕ, [], length, IfOk, IfErr, OnOk, vec_len};
 ghost use Rattle.md_base.specs.Files.{GivesFrom};
-ghost use Rattle.md_base.specs.Outside.{Rose};
+ghost use Rattle.md_base.specs.Outside.{HasCause};
 ghost use Rattle.md_dynamic.specs.Valid.{IsValid};
 ghost use Rattle.md_deepfile.specs.Decoding.{HasTaken};
 ghost use Rattle.md_deepfile.specs.Loads.{FileSpells, FileTaken, IsLoadFault, IsFinished, IsStoreFault};
@@ -72,9 +72,8 @@ pub fn load<S: Store>(
     ensures valid { IfOk result (λ f. IsValid f) }
     ensures fault { IfErr result (λ fault. IsLoadFault (S.held store.old) name.now max fault) }
 
-    ensures read { IsErrOf result LoadFault.Read → Rose (S.read_faults store.old) (S.read_faults store.new) }
+    ensures cause { HasCause LoadFault.Read (S.read_faults store.old) (S.read_faults store.new) result }
     ensures kept { S.held store.new ≡ S.held store.old }
-    ensures later { S.read_faults store.old ≤ S.read_faults store.new }
     ensures writes { S.write_faults store.new ≡ S.write_faults store.old }
 {
     let mut decoder = Decoder::new(alloc)?;
@@ -93,9 +92,8 @@ fn read_through<S: Store>(
     requires begun { HasTaken decoder.old [] }
     ensures whole { OnOk result (FileTaken (S.held store.old) name.now max decoder.new) }
     ensures fault { IfErr result (λ fault. IsLoadFault (S.held store.old) name.now max fault) }
-    ensures read { IsErrOf result LoadFault.Read → Rose (S.read_faults store.old) (S.read_faults store.new) }
+    ensures cause { HasCause LoadFault.Read (S.read_faults store.old) (S.read_faults store.new) result }
     ensures kept { S.held store.new ≡ S.held store.old }
-    ensures later { S.read_faults store.old ≤ S.read_faults store.new }
     ensures writes { S.write_faults store.new ≡ S.write_faults store.old }
 {
     let mut buf = buffer(alloc, PIECE)?;
@@ -133,9 +131,8 @@ fn read_on<S: Store>(
     requires begun { HasTaken decoder.old [] }
     ensures whole { OnOk result (FileTaken (S.held store.old) name.now max decoder.new) }
     ensures fault { IfErr result (λ fault. IsLoadFault (S.held store.old) name.now max fault) }
-    ensures read { IsErrOf result LoadFault.Read → Rose (S.read_faults store.old) (S.read_faults store.new) }
+    ensures cause { HasCause LoadFault.Read (S.read_faults store.old) (S.read_faults store.new) result }
     ensures kept { S.held store.new ≡ S.held store.old }
-    ensures later { S.read_faults store.old ≤ S.read_faults store.new }
     ensures writes { S.write_faults store.new ≡ S.write_faults store.old }
 {
     let mut at = 0;
@@ -165,9 +162,8 @@ fn read_some<S: Store>(
     ensures within { IfOk result (λ n. n ≤ length buf.old) }
     ensures bytes { IfOk result (λ n. GivesFrom (S.held store.old) name.now at n buf.new) }
     ensures fault { IfErr result (λ fault. IsStoreFault fault) }
-    ensures read { IsErrOf result LoadFault.Read → Rose (S.read_faults store.old) (S.read_faults store.new) }
+    ensures cause { HasCause LoadFault.Read (S.read_faults store.old) (S.read_faults store.new) result }
     ensures kept { S.held store.new ≡ S.held store.old }
-    ensures later { S.read_faults store.old ≤ S.read_faults store.new }
     ensures writes { S.write_faults store.new ≡ S.write_faults store.old }
 {
     match store.read_at(name, at, buf) {

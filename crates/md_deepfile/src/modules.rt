@@ -1,5 +1,5 @@
 // The modules that were read.
-ghost use Rattle.std.specs.Prelude.{◌≡◌, ◌++◌, ◌∷◌, [], ◌&&◌, not, IfOk, OnOk, if◌then◌else◌};
+ghost use Rattle.std.specs.Prelude.{◌≡◌, ◌++◌, ◌∷◌, [], ◌&&◌, not, IfOk, OnOk, OnErr, if◌then◌else◌};
 ghost use Rattle.std.specs.Str.{bytes_eq};
 ghost use Rattle.std.specs.List.{list_any};
 ghost use Rattle.md_static.specs.Names.{is_name};
@@ -51,6 +51,7 @@ impl Modules {
     pub fn add(&mut self, alloc: Global, bytes: &[u8]) -> Result<bool, NoMemory>
         ensures added { IfOk result (λ added. added ≡ (is_name bytes.now && not (list_any (bytes_eq bytes.now) self.old))) }
         ensures names { IfOk result (λ added. self.new ≡ (if added then self.old ++ bytes.now ∷ [] else self.old)) }
+        ensures refused { OnErr result (self.new ≡ self.old) }
     {
         match program_name(alloc, bytes)? {
             Some(name) => self.add_name(alloc, name),
@@ -62,6 +63,7 @@ impl Modules {
     fn add_name(&mut self, alloc: Global, name: Name) -> Result<bool, NoMemory>
         ensures added { IfOk result (λ added. added ≡ not (list_any (bytes_eq name) self.old)) }
         ensures names { IfOk result (λ added. self.new ≡ (if added then self.old ++ name ∷ [] else self.old)) }
+        ensures refused { OnErr result (self.new ≡ self.old) }
     {
         let key = Vec::from_slice(alloc, name.as_bytes())?;
         self.names.reserve(1)?;

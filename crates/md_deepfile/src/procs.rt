@@ -1,5 +1,5 @@
 // The procedures that were read.
-ghost use Rattle.std.specs.Prelude.{◌≡◌, ◌++◌, ◌∷◌, [], ◌&&◌, not, true, IfOk, OnOk};
+ghost use Rattle.std.specs.Prelude.{◌≡◌, ◌++◌, ◌∷◌, [], ◌&&◌, not, true, IfOk, OnOk, OnErr};
 ghost use Rattle.std.specs.List.{list_any};
 ghost use Rattle.md_static.specs.Names.{is_name};
 ghost use Rattle.md_deepfile.specs.Rules.{is_proc, proc_of};
@@ -70,7 +70,8 @@ impl Procs {
         arity: u8,
     ) -> Result<(), NoMemory>
         requires { (is_name bytes.now && not (list_any (is_proc home bytes.now) self.old)) ≡ true }
-        ensures { OnOk result (self.new ≡ self.old ++ proc_of home bytes.now arity ∷ []) }
+        ensures added { OnOk result (self.new ≡ self.old ++ proc_of home bytes.now arity ∷ []) }
+        ensures refused { OnErr result (self.new ≡ self.old) }
     {
         let name = Name::from_bytes(alloc, bytes)?.unwrap();
         let key = (home, Vec::from_slice(alloc, bytes)?);

@@ -1,7 +1,7 @@
 // A profile written to a store, in pieces.
-ghost use Rattle.std.specs.Prelude.{◌≡◌, ◌<◌, ◌≤◌, ◌^◌, ◌++◌, ℕ, List, [], length, take, Option, OnOk, OnErr, IfOk, IsErrOf};
+ghost use Rattle.std.specs.Prelude.{◌≡◌, ◌<◌, ◌≤◌, ◌^◌, ◌++◌, ℕ, List, [], length, take, Option, OnOk, OnErr, IfOk};
 ghost use Rattle.md_base.specs.Files.{Files, HoldsPart, holding, extended};
-ghost use Rattle.md_base.specs.Outside.{Rose, Takes};
+ghost use Rattle.md_base.specs.Outside.{HasCause, Takes};
 ghost use Rattle.md_dynamic.specs.Valid.{IsValid};
 ghost use Rattle.md_deepfile.specs.Bytes.{each, file_bytes};
 ghost use Rattle.md_deepfile.specs.Pieces.{WritesOn, StopsIn, table_bytes, row_bytes};
@@ -31,8 +31,7 @@ pub fn write_profile<S: Store>(
     ensures whole { OnOk result (S.held store.new ≡ holding name.now (file_bytes profile.now) (S.held store.old)) }
     ensures part { OnErr result (HoldsPart name.now (file_bytes profile.now) (S.held store.old) (S.held store.new)) }
 
-    ensures write { IsErrOf result WriteFault.Write → Rose (S.write_faults store.old) (S.write_faults store.new) }
-    ensures later { S.write_faults store.old ≤ S.write_faults store.new }
+    ensures cause { HasCause WriteFault.Write (S.write_faults store.old) (S.write_faults store.new) result }
     ensures reads { S.read_faults store.new ≡ S.read_faults store.old }
 {
     let mut buffer = Vec::with_capacity(alloc, PIECE)?;
@@ -46,8 +45,7 @@ pub fn write_profile<S: Store>(
 fn create_file<S: Store>(store: &mut S, name: &str) -> Result<(), WriteFault>
     ensures emptied { OnOk result (S.held store.new ≡ holding name.now [] (S.held store.old)) }
     ensures kept { OnErr result (S.held store.new ≡ S.held store.old) }
-    ensures write { IsErrOf result WriteFault.Write → Rose (S.write_faults store.old) (S.write_faults store.new) }
-    ensures later { S.write_faults store.old ≤ S.write_faults store.new }
+    ensures cause { HasCause WriteFault.Write (S.write_faults store.old) (S.write_faults store.new) result }
     ensures reads { S.read_faults store.new ≡ S.read_faults store.old }
 {
     match store.create(name) {
@@ -67,8 +65,7 @@ fn write_all<S: Store>(
     requires { IsValid profile.now }
     ensures on { OnOk result (WritesOn name.now (file_bytes profile.now) (S.held store.old) buffer.old.items (S.held store.new) []) }
     ensures stops { OnErr result (StopsIn name.now (file_bytes profile.now) (S.held store.old) buffer.old.items (S.held store.new)) }
-    ensures write { IsErrOf result WriteFault.Write → Rose (S.write_faults store.old) (S.write_faults store.new) }
-    ensures later { S.write_faults store.old ≤ S.write_faults store.new }
+    ensures cause { HasCause WriteFault.Write (S.write_faults store.old) (S.write_faults store.new) result }
     ensures reads { S.read_faults store.new ≡ S.read_faults store.old }
 {
     if let Err(fault) = write_tables(store, name, buffer, profile) {
@@ -90,8 +87,7 @@ fn write_tables<S: Store>(
     requires { IsValid profile.now }
     ensures on { OnOk result (WritesOn name.now (table_bytes profile.now) (S.held store.old) buffer.old.items (S.held store.new) buffer.new.items) }
     ensures stops { OnErr result (StopsIn name.now (table_bytes profile.now) (S.held store.old) buffer.old.items (S.held store.new)) }
-    ensures write { IsErrOf result WriteFault.Write → Rose (S.write_faults store.old) (S.write_faults store.new) }
-    ensures later { S.write_faults store.old ≤ S.write_faults store.new }
+    ensures cause { HasCause WriteFault.Write (S.write_faults store.old) (S.write_faults store.new) result }
     ensures reads { S.read_faults store.new ≡ S.read_faults store.old }
 {
     if let Err(_) = put_front(buffer, profile.finished()) {
@@ -116,8 +112,7 @@ fn write_rows<S: Store>(
     requires { IsValid profile.now }
     ensures on { OnOk result (WritesOn name.now (row_bytes profile.now) (S.held store.old) buffer.old.items (S.held store.new) buffer.new.items) }
     ensures stops { OnErr result (StopsIn name.now (row_bytes profile.now) (S.held store.old) buffer.old.items (S.held store.new)) }
-    ensures write { IsErrOf result WriteFault.Write → Rose (S.write_faults store.old) (S.write_faults store.new) }
-    ensures later { S.write_faults store.old ≤ S.write_faults store.new }
+    ensures cause { HasCause WriteFault.Write (S.write_faults store.old) (S.write_faults store.new) result }
     ensures reads { S.read_faults store.new ≡ S.read_faults store.old }
 {
     if let Err(fault) = write_each(store, name, buffer, profile.nodes()) {
@@ -131,8 +126,7 @@ fn append_all<S: Store>(store: &mut S, name: &str, bytes: &[u8]) -> Result<(), W
     ensures whole { OnOk result ((before : Option Files) (out : List ℕ) → S.held store.old ≡ holding name.now out before → S.held store.new ≡ holding name.now (out ++ bytes.now) before) }
     ensures part { OnErr result ((before : Option Files) (out : List ℕ) → S.held store.old ≡ holding name.now out before
         → (count : ℕ) × (S.held store.new ≡ holding name.now (out ++ take count bytes.now) before)) }
-    ensures write { IsErrOf result WriteFault.Write → Rose (S.write_faults store.old) (S.write_faults store.new) }
-    ensures later { S.write_faults store.old ≤ S.write_faults store.new }
+    ensures cause { HasCause WriteFault.Write (S.write_faults store.old) (S.write_faults store.new) result }
     ensures reads { S.read_faults store.new ≡ S.read_faults store.old }
 {
     let mut done = 0;
@@ -149,8 +143,7 @@ fn append_part<S: Store>(store: &mut S, name: &str, piece: &[u8]) -> Result<usiz
     ensures takes { IfOk result (λ n. Takes n piece.now) }
     ensures added { IfOk result (λ n. S.held store.new ≡ extended name.now (take n piece.now) (S.held store.old)) }
     ensures kept { OnErr result (S.held store.new ≡ S.held store.old) }
-    ensures write { IsErrOf result WriteFault.Write → Rose (S.write_faults store.old) (S.write_faults store.new) }
-    ensures later { S.write_faults store.old ≤ S.write_faults store.new }
+    ensures cause { HasCause WriteFault.Write (S.write_faults store.old) (S.write_faults store.new) result }
     ensures reads { S.read_faults store.new ≡ S.read_faults store.old }
 {
     match store.append(name, piece) {
@@ -165,8 +158,7 @@ fn empty<S: Store>(store: &mut S, name: &str, buffer: &mut Vec<u8>) -> Result<()
     ensures on { OnOk result (WritesOn name.now [] (S.held store.old) buffer.old.items (S.held store.new) buffer.new.items) }
     ensures emptied { OnOk result (buffer.new.items ≡ []) }
     ensures stops { OnErr result (StopsIn name.now [] (S.held store.old) buffer.old.items (S.held store.new)) }
-    ensures write { IsErrOf result WriteFault.Write → Rose (S.write_faults store.old) (S.write_faults store.new) }
-    ensures later { S.write_faults store.old ≤ S.write_faults store.new }
+    ensures cause { HasCause WriteFault.Write (S.write_faults store.old) (S.write_faults store.new) result }
     ensures reads { S.read_faults store.new ≡ S.read_faults store.old }
 {
     match append_all(store, name, buffer) {
@@ -182,8 +174,7 @@ fn empty<S: Store>(store: &mut S, name: &str, buffer: &mut Vec<u8>) -> Result<()
 fn make_room<S: Store>(store: &mut S, name: &str, buffer: &mut Vec<u8>) -> Result<(), WriteFault>
     ensures on { OnOk result (WritesOn name.now [] (S.held store.old) buffer.old.items (S.held store.new) buffer.new.items) }
     ensures stops { OnErr result (StopsIn name.now [] (S.held store.old) buffer.old.items (S.held store.new)) }
-    ensures write { IsErrOf result WriteFault.Write → Rose (S.write_faults store.old) (S.write_faults store.new) }
-    ensures later { S.write_faults store.old ≤ S.write_faults store.new }
+    ensures cause { HasCause WriteFault.Write (S.write_faults store.old) (S.write_faults store.new) result }
     ensures reads { S.read_faults store.new ≡ S.read_faults store.old }
 {
     if buffer.len() <= PIECE - THING {
@@ -201,8 +192,7 @@ fn write_thing<S: Store, T: Spelled>(
 ) -> Result<(), WriteFault>
     ensures on { OnOk result (WritesOn name.now (T.bytes thing.now) (S.held store.old) buffer.old.items (S.held store.new) buffer.new.items) }
     ensures stops { OnErr result (StopsIn name.now (T.bytes thing.now) (S.held store.old) buffer.old.items (S.held store.new)) }
-    ensures write { IsErrOf result WriteFault.Write → Rose (S.write_faults store.old) (S.write_faults store.new) }
-    ensures later { S.write_faults store.old ≤ S.write_faults store.new }
+    ensures cause { HasCause WriteFault.Write (S.write_faults store.old) (S.write_faults store.new) result }
     ensures reads { S.read_faults store.new ≡ S.read_faults store.old }
 {
     match thing.put(buffer) {
@@ -221,8 +211,7 @@ fn write_each<S: Store, T: Spelled>(
     requires { length things.now < 2 ^ 32 }
     ensures on { OnOk result (WritesOn name.now (each T.bytes things.now) (S.held store.old) buffer.old.items (S.held store.new) buffer.new.items) }
     ensures stops { OnErr result (StopsIn name.now (each T.bytes things.now) (S.held store.old) buffer.old.items (S.held store.new)) }
-    ensures write { IsErrOf result WriteFault.Write → Rose (S.write_faults store.old) (S.write_faults store.new) }
-    ensures later { S.write_faults store.old ≤ S.write_faults store.new }
+    ensures cause { HasCause WriteFault.Write (S.write_faults store.old) (S.write_faults store.new) result }
     ensures reads { S.read_faults store.new ≡ S.read_faults store.old }
 {
     if put_count(buffer, things.len()).is_err() {

@@ -23,8 +23,8 @@ told_served : (v : View) (input : List ℕ) (now : Ends) (how : Served) → IsSe
 told_served v input now Answered served = record { stream = _; written = _; streams = served.due.heard.read.is; holds = served.written }
 told_served v input now ReadFault served = record { stream = _; written = _; streams = served.waits.read.is; holds = served.unwritten }
 told_served v input now WriteFault served = record { stream = _; written = _; streams = served.part.due.heard.read.is; holds = served.part.written.is_added }
-told_served v input now NoMemory (early none) = record { stream = _; written = _; streams = (read_at_most (fresh input) now.stream none.some).read.is; holds = none.unwritten }
-told_served v input now NoMemory (late part) = record { stream = _; written = _; streams = part.due.heard.read.is; holds = part.written.is_added }
+told_served v input now NoMemory (early none quiet) = record { stream = _; written = _; streams = (read_at_most (fresh input) now.stream none.some).read.is; holds = none.unwritten }
+told_served v input now NoMemory (late part quiet) = record { stream = _; written = _; streams = part.due.heard.read.is; holds = part.written.is_added }
 
 -- the connection that the net then tells
 told_connection : (now : Ends) → IsTold now → (connection : Connection) × (connection_of now.stream now.held now.read_faults now.write_faults ≡ Some connection) × (now ≡ ends_of connection)

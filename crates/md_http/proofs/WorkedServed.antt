@@ -1,5 +1,5 @@
 -- How far a connection may be read, and why serving it may end, on small connections worked out by hand.
-use Rattle.std.proofs.Common.{◌≡◌, ℕ, ◌<◌, Bool, true, false, List, [], ◌∷◌, length, Option, None, Some, refl, sym, ap, subst, arith, inl, inr}
+use Rattle.std.proofs.Common.{◌≡◌, ℕ, ◌<◌, Bool, true, false, List, [], ◌∷◌, length, Option, None, Some, refl, sym, ap, subst, arith}
 use Rattle.std.specs.Prelude.{zero, suc, ◌++◌, codes, IsAscii}
 use Rattle.std.proofs.lemmas.List.{append-nil}
 use Rattle.std.proofs.lemmas.List.Elements.{All-nil, All-cons}
@@ -102,15 +102,27 @@ heard_nothing input was =
 
 -- refuses a body that reads nothing and answers 400
 answered_unread : (input : List ℕ) (held later : Option (List ℕ)) → HasCauseOf (ends (Some (fresh input)) held 0 0) (ends (Some (fresh input)) later 0 0) Answered → ⊥
-answered_unread input held later cause = heard_nothing input cause
+answered_unread input held later cause = heard_nothing input cause.0
 
 -- refuses a rule by which a fault of reading is told though none was counted
 uncounted_read_fault : (before now : Option Stream) (held : Option (List ℕ)) → HasCauseOf (ends before held 2 0) (ends now held 2 0) ReadFault → ⊥
-uncounted_read_fault before now held cause = elim cause.rose [ inl more ↦ omega (arith, more) | inr last ↦ omega (arith, last) ]
+uncounted_read_fault before now held cause = let one_more = cause.counts.0 in omega (arith, one_more)
 
 -- refuses a rule by which a fault of writing is counted among those of reading
 write_fault_counted_as_read : (before now : Option Stream) (held later : Option (List ℕ)) → HasCauseOf (ends before held 0 0) (ends now later 1 0) WriteFault → ⊥
-write_fault_counted_as_read before now held later cause = elim cause.rose [ inl more ↦ omega (arith, more) | inr last ↦ omega (arith, last) ]
+write_fault_counted_as_read before now held later cause = let one_more = cause.counts.1 in omega (arith, one_more)
+
+-- refuses a rule by which one fault is counted among both
+counted_in_both : (before now : Option Stream) (held : Option (List ℕ)) → HasCauseOf (ends before held 0 0) (ends now held 1 1) ReadFault → ⊥
+counted_in_both before now held cause = let same = cause.counts.1 in omega (arith, same)
+
+-- refuses a rule by which a fault of reading is told as want of memory
+fault_told_as_memory : (before now : Option Stream) (held : Option (List ℕ)) → HasCauseOf (ends before held 0 0) (ends now held 1 0) NoMemory → ⊥
+fault_told_as_memory before now held cause = let same = cause.1.0 in omega (arith, same)
+
+-- refuses a rule by which a connection may be answered though a write failed
+answered_with_a_fault : (before now : Option Stream) (held later : Option (List ℕ)) → HasCauseOf (ends before held 0 0) (ends now later 0 1) Answered → ⊥
+answered_with_a_fault before now held later cause = let same = cause.1.1 in omega (arith, same)
 
 -- refuses a rule by which a connection that can't be read is told so
 answered_before_the_fault : (before now : Option Stream) → HasCauseOf (ends before (Some []) 0 0) (ends now (Some (72 ∷ [])) 1 0) ReadFault → ⊥
@@ -118,4 +130,4 @@ answered_before_the_fault before now cause = let e : 1 ≡ 0 = ap written_of cau
 
 -- refuses a rule by which memory may be refused once too much was read
 too_much_before_memory : (bytes : List ℕ) (held later : Option (List ℕ)) → most_bytes < length bytes → HasCauseOf (ends (Some (fresh bytes)) held 0 0) (ends (all_read bytes false) later 0 0) NoMemory → ⊥
-too_much_before_memory bytes held later more cause = more_than_8192 bytes false more cause
+too_much_before_memory bytes held later more cause = more_than_8192 bytes false more cause.0

@@ -1,6 +1,6 @@
 // How one connection is served.
-ghost use Rattle.std.specs.Prelude.{◌≡◌, ◌≤◌, IfOk, OnOk, OnErr, IsErrOf, vec_len};
-ghost use Rattle.md_base.specs.Outside.{Rose, added, PartAdded};
+ghost use Rattle.std.specs.Prelude.{◌≡◌, IfOk, OnOk, OnErr, IsErrOf, vec_len};
+ghost use Rattle.md_base.specs.Outside.{HasCause, one_more, added, PartAdded};
 ghost use Rattle.md_cost.specs.FileView.{IsFileView};
 ghost use Rattle.md_cost.specs.View.{View};
 ghost use Rattle.md_http.specs.Served.{IsServed, HasCauseOf, IsDue, ends};
@@ -26,8 +26,9 @@ pub enum Served {
     NoMemory,
 }
 
-/// Serves a connection: reads it until its bytes decide, and writes their response. `ReadFault` and `WriteFault` come only
-/// where the connection's count of faults of that kind rose. Whichever way it ends, at most 8,192 bytes were read.
+/// Serves a connection: reads it until its bytes decide, and writes their response. `ReadFault` and `WriteFault` come
+/// exactly where the connection's count of faults of that kind rose, and then the other one didn't. Whichever way it ends,
+/// at most 8,192 bytes were read.
 pub fn serve_link<C: Link>(alloc: Global, loaded: &Loaded, link: &mut C) -> Served
     ensures served { (v : View) → IsFileView loaded.now.profile v → IsServed v
         (ends (C.stream link.old) (C.held link.old) (C.read_faults link.old) (C.write_faults link.old))
@@ -36,8 +37,6 @@ pub fn serve_link<C: Link>(alloc: Global, loaded: &Loaded, link: &mut C) -> Serv
     ensures cause { HasCauseOf
         (ends (C.stream link.old) (C.held link.old) (C.read_faults link.old) (C.write_faults link.old))
         (ends (C.stream link.new) (C.held link.new) (C.read_faults link.new) (C.write_faults link.new)) result }
-    ensures reads { C.read_faults link.old ≤ C.read_faults link.new }
-    ensures writes { C.write_faults link.old ≤ C.write_faults link.new }
 {
     // What is served is the view of the profile, which has one.
     let _viewed = loaded.profile();
@@ -54,8 +53,7 @@ fn hear_link<C: Link>(alloc: Global, loaded: &Loaded, link: &mut C) -> Result<Ve
     ensures heard { OnOk result (WasHeard (C.stream link.old) (C.stream link.new)) }
     ensures waits { IsErrOf result Failed.Device → StillWaits (C.stream link.old) (C.stream link.new) }
     ensures some { OnErr result (ReadNoFurther (C.stream link.old) (C.stream link.new)) }
-    ensures fault { IsErrOf result Failed.Device → Rose (C.read_faults link.old) (C.read_faults link.new) }
-    ensures later { C.read_faults link.old ≤ C.read_faults link.new }
+    ensures cause { HasCause Failed.Device (C.read_faults link.old) (C.read_faults link.new) result }
     ensures beside { C.sink_beside link.new ≡ C.sink_beside link.old }
 {
     let mut bytes = bytes_room(alloc)?;
@@ -69,9 +67,9 @@ fn hear_link<C: Link>(alloc: Global, loaded: &Loaded, link: &mut C) -> Result<Ve
 fn answer_link<C: Link>(link: &mut C, response: &[u8]) -> Served
     ensures whole { result ≡ Served.Answered → C.held link.new ≡ added response.now (C.held link.old) }
     ensures part { (result ≡ Served.Answered → ⊥) → PartAdded response.now (C.held link.old) (C.held link.new) }
-    ensures fault { result ≡ Served.WriteFault → Rose (C.write_faults link.old) (C.write_faults link.new) }
+    ensures fault { result ≡ Served.WriteFault → C.write_faults link.new ≡ one_more (C.write_faults link.old) }
+    ensures well { (result ≡ Served.WriteFault → ⊥) → C.write_faults link.new ≡ C.write_faults link.old }
     ensures read { result ≡ Served.ReadFault → ⊥ }
-    ensures later { C.write_faults link.old ≤ C.write_faults link.new }
     ensures beside { C.source_beside link.new ≡ C.source_beside link.old }
 {
     match write_whole(link, response) {

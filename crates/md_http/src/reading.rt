@@ -1,6 +1,6 @@
 // How a connection is read.
-ghost use Rattle.std.specs.Prelude.{◌≡◌, ◌<◌, ◌≤◌, ◌+◌, ◌==◌, length, take, drop, false, IsTrue, IsFalse, IfOk, OnErr, IsErrOf};
-ghost use Rattle.md_base.specs.Outside.{HasCause, Rose};
+ghost use Rattle.std.specs.Prelude.{◌≡◌, ◌<◌, ◌≤◌, ◌+◌, ◌==◌, length, take, drop, false, IsTrue, IsFalse, IfOk, OnErr};
+ghost use Rattle.md_base.specs.Outside.{HasCause};
 ghost use Rattle.md_http.specs.Heard.{IsDecided, most_bytes};
 ghost use Rattle.md_http.specs.Reading.{HasRead, HasHeard, IsWaiting, StillWaits};
 
@@ -19,8 +19,7 @@ pub(crate) fn listen<C: Link>(
     ensures within { IfOk result (λ count. count ≤ most_bytes) }
     ensures heard { IfOk result (λ count. HasHeard (C.stream link.old) (C.stream link.new) (take count bytes.new)) }
     ensures waits { OnErr result (StillWaits (C.stream link.old) (C.stream link.new)) }
-    ensures fault { IsErrOf result Failed.Device → Rose (C.read_faults link.old) (C.read_faults link.new) }
-    ensures later { C.read_faults link.old ≤ C.read_faults link.new }
+    ensures cause { HasCause Failed.Device (C.read_faults link.old) (C.read_faults link.new) result }
     ensures beside { C.sink_beside link.new ≡ C.sink_beside link.old }
 {
     let mut count = 0;
@@ -55,7 +54,7 @@ fn read_behind<C: Link>(link: &mut C, bytes: &mut [u8], count: usize) -> Result<
     ensures front { take count bytes.new ≡ take count bytes.old }
     ensures read { IfOk result (λ more. HasRead (C.stream link.old) (C.stream link.new) (take more (drop count bytes.new)) (more == 0)) }
     ensures kept { OnErr result (C.stream link.new ≡ C.stream link.old) }
-    ensures cause { HasCause (C.read_faults link.old) (C.read_faults link.new) result }
+    ensures cause { HasCause Failed.Device (C.read_faults link.old) (C.read_faults link.new) result }
     ensures beside { C.sink_beside link.new ≡ C.sink_beside link.old }
 {
     link.read(&mut bytes[count..])

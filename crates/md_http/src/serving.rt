@@ -1,7 +1,7 @@
 // How connections are served one after the other.
-ghost use Rattle.std.specs.Prelude.{◌≡◌, ◌<◌, ◌≤◌, ◌+◌, ℕ, List, [], Some, IsErrOf, IfOk, OnOk, OnErr, IfSome};
+ghost use Rattle.std.specs.Prelude.{◌≡◌, ◌<◌, ◌≤◌, ◌+◌, ℕ, List, [], Some, IsErrOf, IsSome, IfOk, OnOk, OnErr, IfSome};
 ghost use Rattle.md_base.specs.Nets.{Connections, connection_of, with_served};
-ghost use Rattle.md_base.specs.Outside.{Rose};
+ghost use Rattle.md_base.specs.Outside.{HasCause};
 ghost use Rattle.md_base.specs.Streams.{fresh};
 ghost use Rattle.md_cost.specs.FileView.{IsFileView};
 ghost use Rattle.md_cost.specs.View.{View};
@@ -52,19 +52,19 @@ impl From<NoMemory> for ServeFault {
 }
 
 /// Serves as many connections as are asked for, or all that come where these are fewer, one after the other, and gives
-/// each back. A connection that can't be read or written stops nothing.
+/// each back. A connection that can't be read or written stops nothing. `Net` comes exactly where the net's count of
+/// faults rose, and the port at which it listens stays.
 pub fn serve_connections<N: Net>(
     alloc: Global,
     loaded: &Loaded,
     net: &mut N,
     requests: u32,
 ) -> Result<Tally, ServeFault>
-    requires { N.IsBound net.old }
+    requires { IsSome (N.listens_at net.old) }
     ensures served { (v : View) (before : Connections) → IsFileView loaded.now.profile v → N.connections net.old ≡ Some before → Serves v requests before (N.connections net.new) result }
     ensures counts { IfOk result (λ tally. IsTally requests tally) }
-    ensures fault { IsErrOf result ServeFault.Net → Rose (N.faults net.old) (N.faults net.new) }
-    ensures later { N.faults net.old ≤ N.faults net.new }
-    ensures stays { N.IsBound net.new }
+    ensures cause { HasCause ServeFault.Net (N.faults net.old) (N.faults net.new) result }
+    ensures stays { N.listens_at net.new ≡ N.listens_at net.old }
 {
     let mut tally = Tally {
         connections: 0,
@@ -105,12 +105,11 @@ fn serve_next<N: Net>(
     loaded: &Loaded,
     net: &mut N,
 ) -> Result<Option<Served>, ServeFault>
-    requires { N.IsBound net.old }
+    requires { IsSome (N.listens_at net.old) }
     ensures step { (v : View) (before : Connections) → IsFileView loaded.now.profile v → N.connections net.old ≡ Some before → IsStep v before (N.connections net.new) result }
     ensures memory { IfOk result (λ found. IfSome found (λ served. served ≡ Served.NoMemory → ⊥)) }
-    ensures fault { IsErrOf result ServeFault.Net → Rose (N.faults net.old) (N.faults net.new) }
-    ensures later { N.faults net.old ≤ N.faults net.new }
-    ensures stays { N.IsBound net.new }
+    ensures cause { HasCause ServeFault.Net (N.faults net.old) (N.faults net.new) result }
+    ensures stays { N.listens_at net.new ≡ N.listens_at net.old }
 {
     match net.next() {
         Ok(Some(link)) => match serve_one(alloc, loaded, net, link) {
@@ -130,7 +129,6 @@ fn serve_one<N: Net>(
     net: &mut N,
     link: N::Conn,
 ) -> Result<Served, ServeFault>
-    requires bound { N.IsBound net.old }
     requires reads { N.Conn.read_faults link ≡ 0 }
     requires writes { N.Conn.write_faults link ≡ 0 }
     ensures end { (v : View) (before : Connections) (input : List ℕ) → IsFileView loaded.now.profile v → N.connections net.old ≡ Some before
@@ -138,7 +136,7 @@ fn serve_one<N: Net>(
     ensures memory { IfOk result (λ served. served ≡ Served.NoMemory → ⊥) }
     ensures fault { IsErrOf result ServeFault.Net → ⊥ }
     ensures count { N.faults net.new ≡ N.faults net.old }
-    ensures stays { N.IsBound net.new }
+    ensures stays { N.listens_at net.new ≡ N.listens_at net.old }
 {
     let mut link = link;
     let served = serve_link(alloc, loaded, &mut link);
@@ -151,11 +149,10 @@ fn serve_one<N: Net>(
 
 /// Gives a connection back as it stands.
 fn give_back<N: Net>(net: &mut N, link: N::Conn) -> Result<(), ServeFault>
-    requires { N.IsBound net.old }
     ensures served { OnOk result (N.connections net.new ≡ with_served (connection_of (N.Conn.stream link) (N.Conn.held link) (N.Conn.read_faults link) (N.Conn.write_faults link)) (N.connections net.old)) }
     ensures kept { OnErr result (N.connections net.new ≡ N.connections net.old) }
     ensures memory { IsErrOf result ServeFault.Net → ⊥ }
-    ensures stays { N.IsBound net.new }
+    ensures stays { N.listens_at net.new ≡ N.listens_at net.old }
     ensures count { N.faults net.new ≡ N.faults net.old }
 {
     net.done(link)?;

@@ -17,5 +17,5 @@ mod title;
 mod whole;
 
 pub use laws::rows_are_anchors;
-pub use line::add_proc_line;
+pub use line::proc_line;
 pub use whole::{html, text};

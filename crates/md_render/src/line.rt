@@ -1,5 +1,5 @@
 // The lines of a page, one for each row.
-ghost use Rattle.std.specs.Prelude.{◌≡◌, ◌++◌, codes, decimal, OnOk};
+ghost use Rattle.std.specs.Prelude.{◌≡◌, ◌++◌, codes, decimal, IfOk, OnOk};
 ghost use Rattle.md_render.specs.Kept.{names_in};
 ghost use Rattle.md_render.specs.Lines.{finished_words, entered_words, leaving_words, inside_words, context_of_words, named_words, called_words, site_words, module_size_words, row_words, line_end, row_lines, proc_line};
 ghost use Rattle.md_render.specs.Names.{caller_at};
@@ -14,7 +14,7 @@ use md_base::{CsdId, PdId, ProcId, SiteId};
 use md_cost::{Loaded, Sums};
 use md_query::Row;
 use md_static::{SiteKind, Statics};
-use std::alloc::AllocError;
+use std::alloc::{AllocError, Global};
 
 /// Adds a line for each row, and the lines of each table.
 pub(crate) fn add_lines(
@@ -32,20 +32,21 @@ pub(crate) fn add_lines(
     Ok(())
 }
 
-/// Adds the line of a procedure of these tables with these costs, as text.
-pub fn add_proc_line(
-    out: &mut Vec<u8>,
+/// The line of a procedure of these tables with these costs, as text.
+pub fn proc_line(
+    alloc: Global,
     statics: &Statics,
     id: ProcId,
     own: Sums,
     total: Sums,
-) -> Result<(), AllocError>
-    ensures { OnOk result (out.new.items ≡ out.old.items ++ proc_line statics.now id own total) }
+) -> Result<Vec<u8>, AllocError>
+    ensures { IfOk result (λ line. line.items ≡ proc_line statics.now id own total) }
 {
-    add_named(out, Form::Text, statics, id.number())?;
-    add_both(out, own, total)?;
-    out.push(b'\n')?;
-    Ok(())
+    let mut line = Vec::new(alloc);
+    add_named(&mut line, Form::Text, statics, id.number())?;
+    add_both(&mut line, own, total)?;
+    line.push(b'\n')?;
+    Ok(line)
 }
 
 /// Adds the words of a row; a table stands there as text.

@@ -64,7 +64,7 @@ impl<R: Files<File = File>> StdStore<R> {
     /// Ends the writing: the file that was written last takes its name where it is kept, and else goes, so that what
     /// had the name stays as it was.
     pub fn settle(&mut self, kept: bool) -> Result<(), Failed>
-        ensures cause { HasCause self.old.write_faults self.new.write_faults result }
+        ensures cause { HasCause Failed.Device self.old.write_faults self.new.write_faults result }
         ensures reads { self.new.read_faults ≡ self.old.read_faults }
     {
         let settled = end(&self.files, &mut self.writing, kept);

@@ -1,5 +1,6 @@
 // The net at 127.0.0.1.
-ghost use Rattle.std.specs.Prelude.{◌≡◌, None, IfOk, IsSome};
+ghost use Rattle.std.specs.Prelude.{◌≡◌, None, Some, IfOk, IfSome, OnOk, OnErr, IsSome, option_map};
+ghost use Rattle.md_base.specs.Outside.{HasCause};
 
 use crate::held::{Held, Listening};
 use crate::link::TcpLink;
@@ -10,6 +11,13 @@ use std::net::{Ipv4Addr, OpenListener, SocketAddr};
 use std::os::fd::AsRawFd;
 use std::rt::Clock;
 
+/// A listener, and the port at which it listens.
+#[derive(Drop)]
+struct Bound<L> {
+    listener: L,
+    port: u16,
+}
+
 /// The net at 127.0.0.1. It tells nothing of the connections, and never says that there will be none.
 ///
 /// It takes in connections as they come, and gives the first one whose head is there, or whose time is up, so that no
@@ -18,7 +26,7 @@ use std::rt::Clock;
 pub struct TcpNet<R: std::net::Net + Clock> {
     alloc: Global,
     net: R,
-    listener: Option<R::Listener>,
+    bound: Option<Bound<R::Listener>>,
     held: Held<R::Stream>,
     faults: u64,
 }
@@ -26,12 +34,13 @@ pub struct TcpNet<R: std::net::Net + Clock> {
 impl<R: std::net::Net + Clock> TcpNet<R> {
     /// A net that listens at no port yet, with a count of 0.
     pub fn new(alloc: Global, net: R) -> TcpNet<R>
-        ensures { result.faults ≡ 0 }
+        ensures count { result.faults ≡ 0 }
+        ensures unbound { result.bound ≡ None }
     {
         TcpNet {
             alloc,
             net,
-            listener: None,
+            bound: None,
             held: Held::new(alloc),
             faults: 0,
         }
@@ -40,7 +49,8 @@ impl<R: std::net::Net + Clock> TcpNet<R> {
     /// Closes the connections that are left, and waits until the peers that were answered have their answers, a second
     /// at most.
     pub fn finish(&mut self)
-        ensures { self.new.faults ≡ self.old.faults }
+        ensures count { self.new.faults ≡ self.old.faults }
+        ensures stays { self.new.bound ≡ self.old.bound }
     {
         finish(&self.net, self.alloc, &mut self.held);
     }
@@ -53,20 +63,28 @@ impl<R: std::net::Net + Clock> Net for TcpNet<R> {
 
     ghost faults = { λ n. n.faults };
 
-    ghost IsBound = { λ n. IsSome n.listener };
+    ghost listens_at = { λ n. option_map (λ bound. bound.port) n.bound };
 
     fn bind(&mut self, port: u16) -> Result<(), Failed> {
         match counted(&mut self.faults, listen(&self.net, port)) {
             Ok(listener) => {
-                self.listener = Some(listener);
+                self.bound = Some(Bound { listener, port });
                 Ok(())
             }
             Err(fault) => Err(fault),
         }
     }
 
-    fn next(&mut self) -> Result<Option<TcpLink<R::Stream>>, Failed> {
-        let found = next_ready(self.alloc, &self.net, &self.listener, &mut self.held);
+    fn next(&mut self) -> Result<Option<TcpLink<R::Stream>>, Failed>
+        requires { IsSome (option_map (λ bound. bound.port) self.old.bound) }
+        ensures no_faults { IfOk result (λ found. IfSome found (λ link. (link.read_faults ≡ 0) × (link.write_faults ≡ 0))) }
+        ensures stays { option_map (λ bound. bound.port) self.new.bound ≡ option_map (λ bound. bound.port) self.old.bound }
+        ensures cause { HasCause Failed.Device self.old.faults self.new.faults result }
+
+        // It never says that there will be none.
+        ensures found { IfOk result IsSome }
+    {
+        let found = next_ready(self.alloc, &self.net, &self.bound, &mut self.held);
         match counted(&mut self.faults, found) {
             Ok(link) => Ok(Some(link)),
             Err(fault) => Err(fault),
@@ -95,24 +113,24 @@ fn listen<R: std::net::Net>(net: &R, port: u16) -> Result<R::Listener, Failed> {
 fn next_ready<R: std::net::Net + Clock>(
     alloc: Global,
     net: &R,
-    listener: &Option<R::Listener>,
+    bound: &Option<Bound<R::Listener>>,
     held: &mut Held<R::Stream>,
 ) -> Result<TcpLink<R::Stream>, Failed>
     ensures { IfOk result (λ link. (link.read_faults ≡ 0) × (link.write_faults ≡ 0)) }
 {
-    let Some(listener) = listener else {
+    let Some(bound) = bound else {
         return Err(Failed::Device);
     };
     let mut refusals = 0;
     for _ in 0..u64::MAX {
         let now = net.monotonic().map_err(failed)?;
-        let listening = held.take_in(alloc, listener, &mut refusals, now)?;
+        let listening = held.take_in(alloc, &bound.listener, &mut refusals, now)?;
         held.hear(now)?;
         if let Some(link) = held.first_ready() {
             return Ok(link);
         }
         match listening {
-            Listening::Open => held.wait(alloc, Some(listener.as_raw_fd()), false, now)?,
+            Listening::Open => held.wait(alloc, Some(bound.listener.as_raw_fd()), false, now)?,
             Listening::Full => held.wait(alloc, None, false, now)?,
             Listening::Paused => held.wait(alloc, None, true, now)?,
         }

@@ -1,6 +1,6 @@
 // Calls of the system that are tried again, and faults that are counted.
-ghost use Rattle.std.specs.Prelude.{◌≡◌, ◌≤◌, ◌↔◌, length, IfOk, IsOk, OnErr, IsErrOf};
-ghost use Rattle.md_base.specs.Outside.{Takes, HasCause, one_more};
+ghost use Rattle.std.specs.Prelude.{◌≡◌, ◌≤◌, ◌↔◌, length, IfOk, IsOk, OnErr};
+ghost use Rattle.md_base.specs.Outside.{Takes, HasCause};
 
 use libc::net::{POLLIN, POLLOUT, poll};
 use libc::types::pollfd;
@@ -132,9 +132,7 @@ pub(crate) fn outcome(step: io::Result<()>) -> Result<(), Failed>
 /// Counts a call at which a device failed, and no other.
 pub(crate) fn counted<T>(faults: &mut u64, told: Result<T, Failed>) -> Result<T, Failed>
     ensures told { result ≡ told }
-    ensures cause { HasCause faults.old faults.new result }
-    ensures counted { IsErrOf told Failed.Device → faults.new ≡ one_more faults.old }
-    ensures overcome { (IsErrOf told Failed.Device → ⊥) → faults.new ≡ faults.old }
+    ensures cause { HasCause Failed.Device faults.old faults.new result }
 {
     match told {
         Err(Failed::Device) => {

@@ -3,7 +3,6 @@ use Rattle.std.proofs.Common.{◌≡◌, sym, subst, inl, inr, ◌⊎◌, ℕ, L
 use Rattle.std.specs.Prelude.{Result, Ok, Err}
 use Rattle.md_base.specs.Outside.{PartAdded}
 use Rattle.md_base.specs.Files.{Files}
-use Rattle.md_base.specs.Nets.{Connections}
 use Rattle.md_hlds.specs.Hlds.{Hlds}
 use Rattle.md_commands.specs.Form.{Form, Check, Run, Report, Page, Serve, Gen, Migrate, Feedback, Dump, Undump, Cover, Sum, Compare}
 use Rattle.md_tool.specs.declared.fault.Fault.{Fault}
@@ -14,7 +13,7 @@ use Rattle.md_tool.specs.Candidates.{IsFeedbackOfRun}
 use Rattle.md_tool.specs.Compared.{SomeCompareEnds}
 use Rattle.md_tool.specs.Kept.{HasRun, HasKeptInPart, IsRunFile, RunEnds}
 use Rattle.md_tool.specs.Reported.{HasReported, HasPageInPart, ReportEnds, IsPageOfRun, HasNoPageOfRun}
-use Rattle.md_tool.specs.Served.{ServeEnds}
+use Rattle.md_tool.specs.Served.{NetSide, ServeEnds}
 use Rattle.md_tool.specs.Stored.{StoredEnds, MigrateEnds}
 use Rattle.md_tool.specs.Summed.{SomeSumEnds}
 use Rattle.md_tool.specs.Texts.{DumpEnds, UndumpEnds}
@@ -253,7 +252,7 @@ usage_fault before now status Write same why (inl is) = absurd why
 
 -- ---- a whole call
 
-end_means : (form : Option Form) (at : List ℕ) (held held' : Option Files) (net net' : Option Connections) (out out' err between err' : Option (List ℕ)) (reads writes outs errs nets : Type 0) (status : ℕ) (end : Result (Unit {0}) Fault)
+end_means : (form : Option Form) (at : List ℕ) (held held' : Option Files) (net net' : NetSide) (out out' err between err' : Option (List ℕ)) (reads writes outs errs nets : Type 0) (status : ℕ) (end : Result (Unit {0}) Fault)
     → CommandEnds form at held held' net net' out out' err between reads writes outs errs nets end → EndIsTold end (named form at) between err' errs status → Means form held held' net net' out out' err err' reads writes outs errs nets status
 end_means None at held held' net net' out out' err between err' reads writes outs errs nets status (Ok done) command told = absurd (usage_end (Ok done) command.0)
 end_means None at held held' net net' out out' err between err' reads writes outs errs nets status (Err fault) command told = usage_fault out out' status fault command.1.out_is (usage_end (Err fault) command.0) told.told
@@ -264,7 +263,7 @@ end_means (Some (Check file print)) at held held' net net' out out' err between 
 end_means (Some (Report file query steps)) at held held' net net' out out' err between err' reads writes outs errs nets status (Ok done) command told = report_done (IsPageOfRun query steps) (HasNoPageOfRun query steps) held file steps out out' err between err' reads outs errs status command.0 told
 end_means (Some (Report file query steps)) at held held' net net' out out' err between err' reads writes outs errs nets status (Err fault) command told = report_fault (IsPageOfRun query steps) (HasNoPageOfRun query steps) held file steps out out' err between err' reads outs errs fault status command.0 told.part told.told
 end_means (Some (Page name query)) at held held' net net' out out' err between err' reads writes outs errs nets status end command told = ended (StoredEnds held name query out out' reads outs) end name between err' errs status command.0 told
-end_means (Some (Serve name port requests)) at held held' net net' out out' err between err' reads writes outs errs nets status end command told = ended (ServeEnds held name requests net net' out out' reads outs nets) end name between err' errs status command.0 told
+end_means (Some (Serve name port requests)) at held held' net net' out out' err between err' reads writes outs errs nets status end command told = ended (ServeEnds held name port requests net net' out out' reads outs nets) end name between err' errs status command.0 told
 end_means (Some (Gen n summary)) at held held' net net' out out' err between err' reads writes outs errs nets status end command told = ended (GenEnds n summary out out' outs) end (file_of (Gen n summary) at) between err' errs status command.0 told
 end_means (Some (Migrate name new)) at held held' net net' out out' err between err' reads writes outs errs nets status end command told = ended (MigrateEnds held held' name new out out' reads writes outs) end name between err' errs status command.0 told
 end_means (Some (Feedback file new steps least)) at held held' net net' out out' err between err' reads writes outs errs nets status (Ok done) command told = subst (MeansRun (IsFeedbackOfRun least steps) held held' file steps new out out' reads writes outs) (sym told.0) command.0
@@ -280,13 +279,13 @@ end_means (Some (Sum names)) at held held' net net' out out' err between err' re
 end_means (Some (Compare old new by least)) at held held' net net' out out' err between err' reads writes outs errs nets status end command told =
     ended (SomeCompareEnds held old new by least out out' reads outs) end at between err' errs status (at, command.0) told
 
-pub top_means : (form : Option Form) (held held' : Option Files) (net net' : Option Connections) (out out' err err' : Option (List ℕ)) (reads writes outs errs nets : Type 0) (status : ℕ)
+pub top_means : (form : Option Form) (held held' : Option Files) (net net' : NetSide) (out out' err err' : Option (List ℕ)) (reads writes outs errs nets : Type 0) (status : ℕ)
     → TopEnds form held held' net net' out out' err err' reads writes outs errs nets status → Means form held held' net net' out out' err err' reads writes outs errs nets status
 top_means form held held' net net' out out' err err' reads writes outs errs nets status h = end_means form h.at held held' net net' out out' err h.between err' reads writes outs errs nets status h.end h.command h.told
 
 -- ---- what is kept
 
-keeps : (form : Option Form) (at : List ℕ) (held held' : Option Files) (net net' : Option Connections) (out out' err err' : Option (List ℕ)) (reads writes outs errs nets : Type 0) (r : Result (Unit {0}) Fault)
+keeps : (form : Option Form) (at : List ℕ) (held held' : Option Files) (net net' : NetSide) (out out' err err' : Option (List ℕ)) (reads writes outs errs nets : Type 0) (r : Result (Unit {0}) Fault)
     → CommandEnds form at held held' net net' out out' err err' reads writes outs errs nets r → keeps_store form ≡ true → held' ≡ held
 keeps None at held held' net net' out out' err err' reads writes outs errs nets r h so = h.1.held_is
 keeps (Some (Check file print)) at held held' net net' out out' err err' reads writes outs errs nets r h so = h.1
@@ -303,6 +302,6 @@ keeps (Some (Cover file procedure steps)) at held held' net net' out out' err er
 keeps (Some (Sum names)) at held held' net net' out out' err err' reads writes outs errs nets r h so = h.1
 keeps (Some (Compare old new by least)) at held held' net net' out out' err err' reads writes outs errs nets r h so = h.1
 
-pub store_kept : (form : Option Form) (held held' : Option Files) (net net' : Option Connections) (out out' err err' : Option (List ℕ)) (reads writes outs errs nets : Type 0) (status : ℕ)
+pub store_kept : (form : Option Form) (held held' : Option Files) (net net' : NetSide) (out out' err err' : Option (List ℕ)) (reads writes outs errs nets : Type 0) (status : ℕ)
     → TopEnds form held held' net net' out out' err err' reads writes outs errs nets status → keeps_store form ≡ true → held' ≡ held
 store_kept form held held' net net' out out' err err' reads writes outs errs nets status h so = keeps form h.at held held' net net' out out' err h.between reads writes outs errs nets h.end h.command so

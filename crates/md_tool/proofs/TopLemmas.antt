@@ -3,7 +3,6 @@ use Rattle.std.proofs.Common.{◌≡◌, ◌∙◌, refl, sym, ap, subst, inl, i
 use Rattle.std.specs.Prelude.{Result, Ok, Err, codes}
 use Rattle.md_base.specs.Outside.{Rose, added, PartAdded}
 use Rattle.md_base.specs.Files.{Files}
-use Rattle.md_base.specs.Nets.{Connections}
 use Rattle.md_base.specs.declared.measure.Measure.{Measure}
 use Rattle.md_hlds.specs.Hlds.{Hlds}
 use Rattle.md_query.specs.Asked.{Asked}
@@ -17,20 +16,21 @@ use Rattle.md_tool.specs.Reported.{ReportEnds, IsPageOfRun, HasNoPageOfRun}
 use Rattle.md_tool.specs.Summed.{SumEnds}
 use Rattle.md_tool.specs.Turns.{IsCoverageOfRun, HasNoProcedure}
 use Rattle.md_tool.specs.Told.{Tells, NothingChanged, EndIsTold, CommandEnds, TopEnds}
+use Rattle.md_tool.specs.Served.{NetSide, ServeEnds}
 use Rattle.md_tool.proofs.StreamLemmas.{rose_before, rose_after, none_added, all_added}
 
 nothing_changed : (held : Option Files) (out err : Option (List ℕ)) → NothingChanged held held out out err err
 nothing_changed held out err = record { held_is = refl; out_is = refl; err_is = refl }
 
 -- no command was asked for, and that was told
-pub usage_told : (form : Option Form) (held : Option Files) (net : Option Connections) (out err err' : Option (List ℕ)) (reads writes outs errs nets : Type 0) (status : ℕ)
+pub usage_told : (form : Option Form) (held : Option Files) (net : NetSide) (out err err' : Option (List ℕ)) (reads writes outs errs nets : Type 0) (status : ℕ)
     → form ≡ None → Tells Usage [] err err' errs status → TopEnds form held held net net out out err err' reads writes outs errs nets status
 usage_told form held net out err err' reads writes outs errs nets status none told =
     subst (λ (a : Option Form). TopEnds a held held net net out out err err' reads writes outs errs nets status) (sym none)
     (record { end = Err Usage; at = []; between = err; command = (inl refl, nothing_changed held out err); told = told })
 
 -- memory was refused before it was known what is asked for
-unknown : (form : Option Form) (held : Option Files) (net : Option Connections) (out err : Option (List ℕ)) (reads writes outs errs nets : Type 0) → CommandEnds form [] held held net net out out err err reads writes outs errs nets (Err NoMemory)
+unknown : (form : Option Form) (held : Option Files) (net : NetSide) (out err : Option (List ℕ)) (reads writes outs errs nets : Type 0) → CommandEnds form [] held held net net out out err err reads writes outs errs nets (Err NoMemory)
 unknown None held net out err reads writes outs errs nets = (inr refl, nothing_changed held out err)
 unknown (Some (Check file print)) held net out err reads writes outs errs nets = (inl refl, refl, refl)
 unknown (Some (Run file steps name)) held net out err reads writes outs errs nets = (inl (record { held_is = refl; out_is = refl }), refl)
@@ -47,7 +47,7 @@ unknown (Some (Cover file procedure steps)) held net out err reads writes outs e
 unknown (Some (Sum names)) held net out err reads writes outs errs nets = (inl refl, refl, refl)
 unknown (Some (Compare old new by least)) held net out err reads writes outs errs nets = (inl refl, refl, refl)
 
-pub memory_told : (form : Option Form) (held : Option Files) (net : Option Connections) (out err err' : Option (List ℕ)) (reads writes outs errs nets : Type 0) (status : ℕ)
+pub memory_told : (form : Option Form) (held : Option Files) (net : NetSide) (out err err' : Option (List ℕ)) (reads writes outs errs nets : Type 0) (status : ℕ)
     → Tells NoMemory [] err err' errs status → TopEnds form held held net net out out err err' reads writes outs errs nets status
 memory_told form held net out err err' reads writes outs errs nets status told = record {
   end = Err NoMemory;
@@ -92,7 +92,7 @@ told_rises (Ok done) file before now some all status rises h = h
 told_rises (Err fault) file before now some all status rises h =
     record { told = h.told; part = h.part; whole = whole_rises (fault_line fault file) before now some all status rises h.whole }
 
-pub report_told : (held held' : Option Files) (net net' : Option Connections) (file : List ℕ) (query : Asked) (steps : ℕ) (out out' err between err' : Option (List ℕ)) (reads writes outs nets : Type 0) (a b c : ℕ) (status : ℕ)
+pub report_told : (held held' : Option Files) (net net' : NetSide) (file : List ℕ) (query : Asked) (steps : ℕ) (out out' err between err' : Option (List ℕ)) (reads writes outs nets : Type 0) (a b c : ℕ) (status : ℕ)
     (r : Result (Unit {0}) Fault) → a ≤ b → b ≤ c → ReportEnds (IsPageOfRun query steps) (HasNoPageOfRun query steps) held file steps out out' err between reads outs (Rose a b) r → held' ≡ held
     → EndIsTold r file between err' (Rose b c) status → TopEnds (Some (Report file query steps)) held held' net net' out out' err err' reads writes outs (Rose a c) nets status
 report_told held held' net net' file query steps out out' err between err' reads writes outs nets a b c status r first later ends kept told = record {
@@ -103,7 +103,7 @@ report_told held held' net net' file query steps out out' err between err' reads
   told = told_rises r file between err' (Rose b c) (Rose a c) status (rose_after a b c first) told;
 }
 
-pub cover_told : (held held' : Option Files) (net net' : Option Connections) (file : List ℕ) (procedure : Meant) (steps : ℕ) (out out' err between err' : Option (List ℕ)) (reads writes outs nets : Type 0) (a b c : ℕ) (status : ℕ)
+pub cover_told : (held held' : Option Files) (net net' : NetSide) (file : List ℕ) (procedure : Meant) (steps : ℕ) (out out' err between err' : Option (List ℕ)) (reads writes outs nets : Type 0) (a b c : ℕ) (status : ℕ)
     (r : Result (Unit {0}) Fault) → a ≤ b → b ≤ c → ReportEnds (IsCoverageOfRun procedure steps) (HasNoProcedure procedure) held file steps out out' err between reads outs (Rose a b) r → held' ≡ held
     → EndIsTold r file between err' (Rose b c) status → TopEnds (Some (Cover file procedure steps)) held held' net net' out out' err err' reads writes outs (Rose a c) nets status
 cover_told held held' net net' file procedure steps out out' err between err' reads writes outs nets a b c status r first later ends kept told = record {
@@ -116,19 +116,25 @@ cover_told held held' net net' file procedure steps out out' err between err' re
 
 -- ---- a generated program
 
-pub gen_told : (held : Option Files) (net net' : Option Connections) (n : ℕ) (summary : Bool) (out out' err err' : Option (List ℕ)) (reads writes outs errs nets : Type 0) (status : ℕ) (r : Result (Unit {0}) Fault)
+pub gen_told : (held : Option Files) (net net' : NetSide) (n : ℕ) (summary : Bool) (out out' err err' : Option (List ℕ)) (reads writes outs errs nets : Type 0) (status : ℕ) (r : Result (Unit {0}) Fault)
     → GenEnds n summary out out' outs r → EndIsTold r (codes "gen") err err' errs status → TopEnds (Some (Gen n summary)) held held net net' out out' err err' reads writes outs errs nets status
 gen_told held net net' n summary out out' err err' reads writes outs errs nets status r ends told = record { end = r; at = codes "gen"; between = err; command = (ends, refl, refl); told = told }
 
+-- ---- a stored profile that is served
+
+pub serve_told : (held held' : Option Files) (net net' : NetSide) (name : List ℕ) (port requests : ℕ) (out out' err err' : Option (List ℕ)) (reads writes outs errs nets : Type 0) (status : ℕ) (r : Result (Unit {0}) Fault)
+    → ServeEnds held name port requests net net' out out' reads outs nets r → held' ≡ held → EndIsTold r name err err' errs status → TopEnds (Some (Serve name port requests)) held held' net net' out out' err err' reads writes outs errs nets status
+serve_told held held' net net' name port requests out out' err err' reads writes outs errs nets status r ends kept told = record { end = r; at = name; between = err; command = (ends, kept, refl); told = told }
+
 -- ---- profiles that are added up
 
-pub sum_told : (held held' : Option Files) (net net' : Option Connections) (names : List (List ℕ)) (at : List ℕ) (out out' err err' : Option (List ℕ)) (reads writes outs errs nets : Type 0) (status : ℕ) (r : Result (Unit {0}) Fault)
+pub sum_told : (held held' : Option Files) (net net' : NetSide) (names : List (List ℕ)) (at : List ℕ) (out out' err err' : Option (List ℕ)) (reads writes outs errs nets : Type 0) (status : ℕ) (r : Result (Unit {0}) Fault)
     → SumEnds held names at out out' reads outs r → held' ≡ held → EndIsTold r at err err' errs status → TopEnds (Some (Sum names)) held held' net net' out out' err err' reads writes outs errs nets status
 sum_told held held' net net' names at out out' err err' reads writes outs errs nets status r ends kept told = record { end = r; at = at; between = err; command = (ends, kept, refl); told = told }
 
 -- ---- profiles that are compared
 
-pub compare_told : (held held' : Option Files) (net net' : Option Connections) (old new : List ℕ) (by : Measure) (least : ℕ) (at : List ℕ) (out out' err err' : Option (List ℕ)) (reads writes outs errs nets : Type 0) (status : ℕ) (r : Result (Unit {0}) Fault)
+pub compare_told : (held held' : Option Files) (net net' : NetSide) (old new : List ℕ) (by : Measure) (least : ℕ) (at : List ℕ) (out out' err err' : Option (List ℕ)) (reads writes outs errs nets : Type 0) (status : ℕ) (r : Result (Unit {0}) Fault)
     → CompareEnds held old new by least at out out' reads outs r → held' ≡ held → EndIsTold r at err err' errs status → TopEnds (Some (Compare old new by least)) held held' net net' out out' err err' reads writes outs errs nets status
 compare_told held held' net net' old new by least at out out' err err' reads writes outs errs nets status r ends kept told = record { end = r; at = at; between = err; command = (ends, kept, refl); told = told }
 

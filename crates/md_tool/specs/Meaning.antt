@@ -2,7 +2,6 @@
 use Rattle.std.specs.Prelude.{ℕ, ◌≡◌, ◌⊎◌, Bool, true, false, ◌||◌, ◌==◌, List, Option, None, Some, Result, Ok, Err, codes}
 use Rattle.md_base.specs.Outside.{PartAdded}
 use Rattle.md_base.specs.Files.{Files, FileIsLonger}
-use Rattle.md_base.specs.Nets.{Connections}
 use Rattle.md_hlds.specs.Hlds.{Hlds}
 use Rattle.md_commands.specs.Form.{Form, Check, Run, Report, Page, Serve, Gen, Migrate, Feedback, Dump, Undump, Cover, Sum, Compare}
 use Rattle.md_tool.specs.declared.fault.Fault.{Fault}
@@ -17,7 +16,7 @@ use Rattle.md_tool.specs.Candidates.{IsFeedbackOfRun}
 use Rattle.md_tool.specs.Compared.{SomeCompareEnds}
 use Rattle.md_tool.specs.Kept.{AreUntouched, HasRun, HasRunInPart, HasKeptInPart, IsRunFile}
 use Rattle.md_tool.specs.Reported.{HasReported, HasNoPage, IsPageOfRun, HasNoPageOfRun}
-use Rattle.md_tool.specs.Served.{ServeEnds}
+use Rattle.md_tool.specs.Served.{NetSide, ServeEnds}
 use Rattle.md_tool.specs.Stored.{StoredEnds, MigrateEnds}
 use Rattle.md_tool.specs.Summed.{SomeSumEnds}
 use Rattle.md_tool.specs.Texts.{DumpEnds, UndumpEnds}
@@ -105,13 +104,13 @@ MeansEnd Ends status = ((status ≡ 0) × Ends (Ok tt)) ⊎ ((fault : Fault) × 
 
 -- What a status says of what the words ask for. The five facts are that the store's count of faults in a read rose, that in
 -- a write, and those of `out`, of `err` and of the net.
-abbrev pub Means : Option Form → (held held' : Option Files) → (net net' : Option Connections) → (out out' err err' : Option (List ℕ)) → (reads writes outs errs nets : Type 0) → ℕ → Type 0
+abbrev pub Means : Option Form → (held held' : Option Files) → (net net' : NetSide) → (out out' err err' : Option (List ℕ)) → (reads writes outs errs nets : Type 0) → ℕ → Type 0
 Means None held held' net net' out out' err err' reads writes outs errs nets status = MeansUsage out out' status
 Means (Some (Check file print)) held held' net net' out out' err err' reads writes outs errs nets status = MeansCheck held file print out out' reads outs status
 Means (Some (Run file steps name)) held held' net net' out out' err err' reads writes outs errs nets status = MeansRun (IsRunFile steps) held held' file steps name out out' reads writes outs status
 Means (Some (Report file query steps)) held held' net net' out out' err err' reads writes outs errs nets status = MeansReport (IsPageOfRun query steps) (HasNoPageOfRun query steps) held file steps out out' err err' reads outs errs status
 Means (Some (Page name query)) held held' net net' out out' err err' reads writes outs errs nets status = MeansEnd (StoredEnds held name query out out' reads outs) status
-Means (Some (Serve name port requests)) held held' net net' out out' err err' reads writes outs errs nets status = MeansEnd (ServeEnds held name requests net net' out out' reads outs nets) status
+Means (Some (Serve name port requests)) held held' net net' out out' err err' reads writes outs errs nets status = MeansEnd (ServeEnds held name port requests net net' out out' reads outs nets) status
 Means (Some (Gen n summary)) held held' net net' out out' err err' reads writes outs errs nets status = MeansEnd (GenEnds n summary out out' outs) status
 Means (Some (Migrate name new)) held held' net net' out out' err err' reads writes outs errs nets status = MeansEnd (MigrateEnds held held' name new out out' reads writes outs) status
 Means (Some (Feedback file new steps least)) held held' net net' out out' err err' reads writes outs errs nets status = MeansRun (IsFeedbackOfRun least steps) held held' file steps new out out' reads writes outs status

@@ -2,7 +2,6 @@
 use Rattle.std.specs.Prelude.{ℕ, ◌≡◌, ◌⊎◌, List, [], Option, None, Some, Result, Ok, Err, codes}
 use Rattle.md_base.specs.Outside.{added, PartAdded}
 use Rattle.md_base.specs.Files.{Files}
-use Rattle.md_base.specs.Nets.{Connections}
 use Rattle.md_commands.specs.Form.{Form, Check, Run, Report, Page, Serve, Gen, Migrate, Feedback, Dump, Undump, Cover, Sum, Compare}
 use Rattle.md_tool.specs.declared.fault.Fault.{Fault}
 use Rattle.md_tool.specs.declared.fault.Fault.TheVariants.{Usage, NoMemory}
@@ -13,7 +12,7 @@ use Rattle.md_tool.specs.Generated.{GenEnds}
 use Rattle.md_tool.specs.Candidates.{IsFeedbackOfRun}
 use Rattle.md_tool.specs.Kept.{IsRunFile, RunEnds}
 use Rattle.md_tool.specs.Reported.{ReportEnds, IsPageOfRun, HasNoPageOfRun}
-use Rattle.md_tool.specs.Served.{ServeEnds}
+use Rattle.md_tool.specs.Served.{NetSide, ServeEnds}
 use Rattle.md_tool.specs.Stored.{StoredEnds, MigrateEnds}
 use Rattle.md_tool.specs.Summed.{SumEnds}
 use Rattle.md_tool.specs.Texts.{DumpEnds, UndumpEnds}
@@ -35,13 +34,13 @@ pub record NothingChanged (held held' : Option Files) (out out' err err' : Optio
 -- What the words ask for: nothing, or a command. The five facts say that the store's count of faults in a read rose, that
 -- in a write, and those of `out`, of `err` and of the net. What a command doesn't write it leaves as it was. Of several
 -- profiles that are added up or compared `at` names the one that is at fault, where there is one.
-abbrev pub CommandEnds : Option Form → (at : List ℕ) → (held held' : Option Files) → (net net' : Option Connections) → (out out' err err' : Option (List ℕ)) → (reads writes outs errs nets : Type 0) → Result (Unit {0}) Fault → Type 0
+abbrev pub CommandEnds : Option Form → (at : List ℕ) → (held held' : Option Files) → (net net' : NetSide) → (out out' err err' : Option (List ℕ)) → (reads writes outs errs nets : Type 0) → Result (Unit {0}) Fault → Type 0
 CommandEnds None at held held' net net' out out' err err' reads writes outs errs nets r = ((r ≡ Err Usage) ⊎ (r ≡ Err NoMemory)) × NothingChanged held held' out out' err err'
 CommandEnds (Some (Check file print)) at held held' net net' out out' err err' reads writes outs errs nets r = CheckEnds held file print out out' reads outs r × (held' ≡ held) × (err' ≡ err)
 CommandEnds (Some (Run file steps name)) at held held' net net' out out' err err' reads writes outs errs nets r = RunEnds (IsRunFile steps) held held' file steps name out out' reads writes outs r × (err' ≡ err)
 CommandEnds (Some (Report file query steps)) at held held' net net' out out' err err' reads writes outs errs nets r = ReportEnds (IsPageOfRun query steps) (HasNoPageOfRun query steps) held file steps out out' err err' reads outs errs r × (held' ≡ held)
 CommandEnds (Some (Page name query)) at held held' net net' out out' err err' reads writes outs errs nets r = StoredEnds held name query out out' reads outs r × (held' ≡ held) × (err' ≡ err)
-CommandEnds (Some (Serve name port requests)) at held held' net net' out out' err err' reads writes outs errs nets r = ServeEnds held name requests net net' out out' reads outs nets r × (held' ≡ held) × (err' ≡ err)
+CommandEnds (Some (Serve name port requests)) at held held' net net' out out' err err' reads writes outs errs nets r = ServeEnds held name port requests net net' out out' reads outs nets r × (held' ≡ held) × (err' ≡ err)
 CommandEnds (Some (Gen n summary)) at held held' net net' out out' err err' reads writes outs errs nets r = GenEnds n summary out out' outs r × (held' ≡ held) × (err' ≡ err)
 CommandEnds (Some (Migrate name new)) at held held' net net' out out' err err' reads writes outs errs nets r = MigrateEnds held held' name new out out' reads writes outs r × (err' ≡ err)
 CommandEnds (Some (Feedback file new steps least)) at held held' net net' out out' err err' reads writes outs errs nets r = RunEnds (IsFeedbackOfRun least steps) held held' file steps new out out' reads writes outs r × (err' ≡ err)
@@ -79,7 +78,7 @@ EndIsTold (Err fault) file before now faults_rose status = Tells fault file befo
 
 -- A whole call: what the command came to, what `err` held then, and what was told of it. The five facts say that the
 -- store's count of faults in a read rose in the call, that in a write, and those of `out`, of `err` and of the net.
-pub record TopEnds (form : Option Form) (held held' : Option Files) (net net' : Option Connections) (out out' err err' : Option (List ℕ)) (reads writes outs errs nets : Type 0) (status : ℕ) : Type 0 where
+pub record TopEnds (form : Option Form) (held held' : Option Files) (net net' : NetSide) (out out' err err' : Option (List ℕ)) (reads writes outs errs nets : Type 0) (status : ℕ) : Type 0 where
   pub end : Result (Unit {0}) Fault
   pub at : List ℕ
   pub between : Option (List ℕ)

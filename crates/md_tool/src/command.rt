@@ -4,6 +4,7 @@ ghost use Rattle.md_base.specs.Outside.{Rose};
 ghost use Rattle.md_commands.specs.Form.{words_of, HasBounds, form};
 ghost use Rattle.md_commands.specs.Told.{told, texts};
 ghost use Rattle.md_tool.specs.Compared.{CompareEnds};
+ghost use Rattle.md_tool.specs.Served.{net_side};
 ghost use Rattle.md_tool.specs.Summed.{SumEnds};
 ghost use Rattle.md_tool.specs.Told.{Tells, EndIsTold, TopEnds};
 ghost use Rattle.md_tool.specs.Meaning.{Means, keeps_store, keeps_net};
@@ -55,10 +56,10 @@ pub fn top<S: Store, O: Sink, E: Sink, N: Net>(
     err: &mut E,
     net: &mut N,
 ) -> Status
-    ensures status { Means (form (words_of words.now)) (S.held store.old) (S.held store.new) (N.connections net.old) (N.connections net.new) (O.held out.old) (O.held out.new) (E.held err.old) (E.held err.new)
+    ensures status { Means (form (words_of words.now)) (S.held store.old) (S.held store.new) (net_side (N.connections net.old) (N.listens_at net.old)) (net_side (N.connections net.new) (N.listens_at net.new)) (O.held out.old) (O.held out.new) (E.held err.old) (E.held err.new)
         (Rose (S.read_faults store.old) (S.read_faults store.new)) (Rose (S.write_faults store.old) (S.write_faults store.new))
         (Rose (O.write_faults out.old) (O.write_faults out.new)) (Rose (E.write_faults err.old) (E.write_faults err.new)) (Rose (N.faults net.old) (N.faults net.new)) result.0 }
-    ensures ends { TopEnds (form (words_of words.now)) (S.held store.old) (S.held store.new) (N.connections net.old) (N.connections net.new) (O.held out.old) (O.held out.new) (E.held err.old) (E.held err.new)
+    ensures ends { TopEnds (form (words_of words.now)) (S.held store.old) (S.held store.new) (net_side (N.connections net.old) (N.listens_at net.old)) (net_side (N.connections net.new) (N.listens_at net.new)) (O.held out.old) (O.held out.new) (E.held err.old) (E.held err.new)
         (Rose (S.read_faults store.old) (S.read_faults store.new)) (Rose (S.write_faults store.old) (S.write_faults store.new))
         (Rose (O.write_faults out.old) (O.write_faults out.new)) (Rose (E.write_faults err.old) (E.write_faults err.new)) (Rose (N.faults net.old) (N.faults net.new)) result.0 }
     ensures store { keeps_store (form (words_of words.now)) ≡ true → S.held store.new ≡ S.held store.old }
@@ -76,7 +77,7 @@ fn run_command<S: Store, O: Sink, E: Sink, N: Net>(
     err: &mut E,
     net: &mut N,
 ) -> u8
-    ensures ends { TopEnds (form (words_of words.now)) (S.held store.old) (S.held store.new) (N.connections net.old) (N.connections net.new) (O.held out.old) (O.held out.new) (E.held err.old) (E.held err.new)
+    ensures ends { TopEnds (form (words_of words.now)) (S.held store.old) (S.held store.new) (net_side (N.connections net.old) (N.listens_at net.old)) (net_side (N.connections net.new) (N.listens_at net.new)) (O.held out.old) (O.held out.new) (E.held err.old) (E.held err.new)
         (Rose (S.read_faults store.old) (S.read_faults store.new)) (Rose (S.write_faults store.old) (S.write_faults store.new))
         (Rose (O.write_faults out.old) (O.write_faults out.new)) (Rose (E.write_faults err.old) (E.write_faults err.new)) (Rose (N.faults net.old) (N.faults net.new)) result }
     ensures net { keeps_net (form (words_of words.now)) ≡ true → net.new ≡ net.old }
@@ -98,7 +99,7 @@ fn do_command<S: Store, O: Sink, E: Sink, N: Net>(
     net: &mut N,
 ) -> u8
     requires { HasBounds (told command.now) }
-    ensures ends { TopEnds (Some (told command.now)) (S.held store.old) (S.held store.new) (N.connections net.old) (N.connections net.new) (O.held out.old) (O.held out.new) (E.held err.old) (E.held err.new)
+    ensures ends { TopEnds (Some (told command.now)) (S.held store.old) (S.held store.new) (net_side (N.connections net.old) (N.listens_at net.old)) (net_side (N.connections net.new) (N.listens_at net.new)) (O.held out.old) (O.held out.new) (E.held err.old) (E.held err.new)
         (Rose (S.read_faults store.old) (S.read_faults store.new)) (Rose (S.write_faults store.old) (S.write_faults store.new))
         (Rose (O.write_faults out.old) (O.write_faults out.new)) (Rose (E.write_faults err.old) (E.write_faults err.new)) (Rose (N.faults net.old) (N.faults net.new)) result }
     ensures net { keeps_net (Some (told command.now)) ≡ true → net.new ≡ net.old }

@@ -1,11 +1,11 @@
 // The command `serve`.
-ghost use Rattle.std.specs.Prelude.{ℕ, ◌≡◌, ◌≤◌, List, Option, IfOk, MatchResult, OnOk, string_bytes};
+ghost use Rattle.std.specs.Prelude.{ℕ, ◌≡◌, List, Option, Some, IfOk, IsSome, MatchResult, OnOk, OnErr, string_bytes};
 ghost use Rattle.md_base.specs.Files.{Files};
-ghost use Rattle.md_base.specs.Outside.{Rose};
+ghost use Rattle.md_base.specs.Outside.{HasCause, Rose};
 ghost use Rattle.md_cost.specs.FileView.{IsFileView};
 ghost use Rattle.md_cost.specs.View.{View};
 ghost use Rattle.md_tool.specs.Due.{WriteEnds};
-ghost use Rattle.md_tool.specs.Served.{ServeEnds, BindEnds, ConnectionsEnd, fault_of, tally_line};
+ghost use Rattle.md_tool.specs.Served.{ServeEnds, net_side, BindEnds, ConnectionsEnd, fault_of, tally_line};
 ghost use Rattle.md_tool.specs.Stored.{IsLoadedFrom};
 
 use crate::fault::Fault;
@@ -27,7 +27,7 @@ pub fn serve_file<S: Store, O: Sink, N: Net>(
     out: &mut O,
     net: &mut N,
 ) -> Result<(), Fault>
-    ensures ends { ServeEnds (S.held store.old) name.now requests (N.connections net.old) (N.connections net.new) (O.held out.old) (O.held out.new)
+    ensures ends { ServeEnds (S.held store.old) name.now port requests (net_side (N.connections net.old) (N.listens_at net.old)) (net_side (N.connections net.new) (N.listens_at net.new)) (O.held out.old) (O.held out.new)
         (Rose (S.read_faults store.old) (S.read_faults store.new)) (Rose (O.write_faults out.old) (O.write_faults out.new))
         (Rose (N.faults net.old) (N.faults net.new)) result }
     ensures kept { S.held store.new ≡ S.held store.old }
@@ -46,7 +46,7 @@ fn serve_loaded<O: Sink, N: Net>(
     net: &mut N,
 ) -> Result<(), Fault>
     ensures { (held : Option Files) (name : List ℕ) → IsLoadedFrom held name loaded.now
-        → ServeEnds held name requests (N.connections net.old) (N.connections net.new) (O.held out.old) (O.held out.new)
+        → ServeEnds held name port requests (net_side (N.connections net.old) (N.listens_at net.old)) (net_side (N.connections net.new) (N.listens_at net.new)) (O.held out.old) (O.held out.new)
         ⊥ (Rose (O.write_faults out.old) (O.write_faults out.new)) (Rose (N.faults net.old) (N.faults net.new)) result }
 {
     // What is served is the view of the profile, which has one.
@@ -58,10 +58,11 @@ fn serve_loaded<O: Sink, N: Net>(
 
 /// Listens at a port.
 fn bind<N: Net>(net: &mut N, port: u16) -> Result<(), Fault>
-    ensures bound { OnOk result (N.IsBound net.new) }
+    ensures bound { OnOk result (N.listens_at net.new ≡ Some port) }
+    ensures stays { OnErr result (N.listens_at net.new ≡ N.listens_at net.old) }
     ensures kept { N.connections net.new ≡ N.connections net.old }
     ensures ends { BindEnds (Rose (N.faults net.old) (N.faults net.new)) result }
-    ensures later { N.faults net.old ≤ N.faults net.new }
+    ensures cause { HasCause Fault.Network (N.faults net.old) (N.faults net.new) result }
 {
     match net.bind(port) {
         Ok(()) => Ok(()),
@@ -72,9 +73,10 @@ fn bind<N: Net>(net: &mut N, port: u16) -> Result<(), Fault>
 
 /// Serves connections.
 fn serve<N: Net>(alloc: Global, loaded: &Loaded, net: &mut N, requests: u32) -> Result<Tally, Fault>
-    requires { N.IsBound net.old }
-    ensures { (v : View) → IsFileView loaded.now.profile v
+    requires { IsSome (N.listens_at net.old) }
+    ensures ends { (v : View) → IsFileView loaded.now.profile v
         → ConnectionsEnd v requests (N.connections net.old) (N.connections net.new) (Rose (N.faults net.old) (N.faults net.new)) result }
+    ensures stays { N.listens_at net.new ≡ N.listens_at net.old }
 {
     match serve_connections(alloc, loaded, net, requests) {
         Ok(tally) => Ok(tally),

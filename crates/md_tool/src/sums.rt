@@ -13,7 +13,7 @@ use crate::stored::load_file;
 use crate::write::write;
 use md_base::{NoMemory, Sink, Store};
 use md_dump::{ProcSum, RunningSums};
-use md_render::add_proc_line;
+use md_render::proc_line;
 use md_static::Statics;
 use std::alloc::{AllocError, Global};
 
@@ -131,7 +131,7 @@ fn text_of_sums(
 {
     let title = sum_title(alloc, count)?;
     let mut text = Vec::from_slice(alloc, title.as_str().as_bytes())?;
-    add_rows(&mut text, statics, rows)?;
+    add_rows(alloc, &mut text, statics, rows)?;
     Ok(text)
 }
 
@@ -141,11 +141,17 @@ fn sum_title(alloc: Global, count: usize) -> Result<String, AllocError>
     format!(in alloc; "mdprof sum {count}\n")
 }
 
-fn add_rows(text: &mut Vec<u8>, statics: &Statics, rows: &[ProcSum]) -> Result<(), AllocError>
+fn add_rows(
+    alloc: Global,
+    text: &mut Vec<u8>,
+    statics: &Statics,
+    rows: &[ProcSum],
+) -> Result<(), AllocError>
     ensures { OnOk result (text.new.items ≡ text.old.items ++ sum_lines statics.now rows.now) }
 {
     for row in rows {
-        add_proc_line(text, statics, row.id, row.own, row.total)?;
+        let line = proc_line(alloc, statics, row.id, row.own, row.total)?;
+        text.extend_from_slice(&line)?;
     }
     Ok(())
 }

@@ -19,6 +19,8 @@ pub struct Connections {
     pub net_fails: u64,
     /// What has to be written to each connection that is served, in order.
     pub responses: Vec<Vec<u8>>,
+    /// The port at which the net has to listen in the end; 0 is none.
+    pub port: u64,
 }
 
 impl Connections {
@@ -28,6 +30,7 @@ impl Connections {
             requests: Vec::new(alloc),
             net_fails: 0,
             responses: Vec::new(alloc),
+            port: 0,
         }
     }
 
@@ -43,6 +46,10 @@ impl Connections {
             }
             "net-fails" => {
                 self.net_fails = number_of(value);
+                Ok(())
+            }
+            "listens" => {
+                self.port = number_of(value);
                 Ok(())
             }
             "response" => self.add_response(unescaped(alloc, value)?),

@@ -28,6 +28,14 @@ fn links_of(alloc: Global, requests: &[Request], most: usize) -> Result<Vec<MemL
     Ok(coming)
 }
 
+/// Whether a net that listens at this port, if at any, listens where it has to; 0 is none.
+pub fn is_there(port: Option<u16>, due: u64) -> bool {
+    match port {
+        Some(port) => port as u64 == due,
+        None => due == 0,
+    }
+}
+
 /// Whether these responses were written to the connections that were served, one to each.
 pub fn are_written(served: &[MemLink], responses: &[Vec<u8>]) -> bool {
     served.len() == responses.len()

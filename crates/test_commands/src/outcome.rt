@@ -1,6 +1,6 @@
 // What comes of a case.
 use crate::case::{Case, File};
-use crate::net::{are_written, net_of};
+use crate::net::{are_written, is_there, net_of};
 use md_tool::{Status, top};
 use std::alloc::{AllocError, Global};
 use test_memory::{MemSink, MemStore};
@@ -26,6 +26,8 @@ pub fn of(alloc: Global, case: &Case) -> Result<String, AllocError> {
         "other files"
     } else if !are_written(net.served(), &case.connections.responses) {
         "other responses"
+    } else if !is_there(net.port(), case.connections.port) {
+        "another port"
     } else {
         return format!(in alloc; "ok {name}");
     };

@@ -1,6 +1,6 @@
 -- The files of a store in memory, computed on a small example.
 use Rattle.std.proofs.Common.{◌≡◌, ℕ, List, [], ◌∷◌, Some, None, refl}
-use Rattle.test_memory.specs.Memory.{file_in, any_file_in, IsPlaceOf, name_at, bytes_at}
+use Rattle.test_memory.specs.Memory.{file_in, any_file_in, IsPlaceOf, name_at, bytes_at, given_of}
 
 -- a has 1 2 3, and b has 4; a second file named a counts for nothing
 abbrev files : List (List ℕ × List ℕ)
@@ -29,3 +29,16 @@ name_there = refl
 
 bytes_there : bytes_at files 1 ≡ 4 ∷ []
 bytes_there = refl
+
+-- a read gives the least of the buffer's size, the most of a call and what is left
+small_buffer : given_of 1 2 0 (1 ∷ 2 ∷ 3 ∷ []) ≡ 1
+small_buffer = refl
+
+small_call : given_of 9 2 0 (1 ∷ 2 ∷ 3 ∷ []) ≡ 2
+small_call = refl
+
+little_left : given_of 9 2 2 (1 ∷ 2 ∷ 3 ∷ []) ≡ 1
+little_left = refl
+
+behind_the_end : given_of 9 2 5 (1 ∷ 2 ∷ 3 ∷ []) ≡ 0
+behind_the_end = refl

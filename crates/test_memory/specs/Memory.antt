@@ -1,6 +1,6 @@
 -- What the objects in memory are: what they hold, the most bytes that one call takes or gives, which calls are to
 -- fail, how many calls there were, and how many faults.
-use Rattle.std.specs.Prelude.{ℕ, ◌≡◌, List, [], ◌∷◌, map, Some, None, if◌then◌else◌, String, string_bytes, Vec, Bool, Contains}
+use Rattle.std.specs.Prelude.{ℕ, ◌≡◌, List, [], ◌∷◌, map, Some, None, if◌then◌else◌, String, string_bytes, Vec, Contains, Option, min, length, drop}
 use Rattle.std.specs.List.{position_from, slice_index_or}
 use Rattle.std.specs.Str.{bytes_eq}
 use Rattle.std.specs.declared.alloc.Global.{Global}
@@ -65,6 +65,11 @@ name_at files place = (slice_index_or files place ([], [])).0
 abbrev pub bytes_at : List (List ℕ × List ℕ) → ℕ → List ℕ
 bytes_at files place = (slice_index_or files place ([], [])).1
 
+-- how many bytes a read gives of a file from a place on: what is left, but no more than the buffer has room for, and no
+-- more than a call gives
+abbrev pub given_of : ℕ → ℕ → ℕ → List ℕ → ℕ
+given_of size most at bytes = min (min size most) (length (drop at bytes))
+
 -- a connection: its stream, what was written to it, and the most bytes that one call gives or takes
 pub record WholeLink : Type 0 where
   pub stream : Stream
@@ -88,7 +93,7 @@ pub record IsFreshLink (link : WholeLink) : Type 0 where
 pub record WholeNet : Type 0 where
   pub coming : List WholeLink
   pub served : List WholeLink
-  pub bound : Bool
+  pub port : Option ℕ
 
 -- a served connection as the net tells it
 abbrev pub told_link : WholeLink → Connection
@@ -108,7 +113,7 @@ pub record IsFreshFailingLink (link : FailingLink) : Type 0 where
 pub record FailingNet : Type 0 where
   pub coming : List FailingLink
   pub served : List FailingLink
-  pub bound : Bool
+  pub port : Option ℕ
   pub fail : List ℕ
   pub calls : ℕ
   pub faults : ℕ

@@ -5,10 +5,12 @@
 mod failures;
 mod link;
 mod net;
+mod pieces;
 mod sink;
 mod store;
 
 pub use link::{MemLink, SureLink};
 pub use net::{MemNet, SureNet};
+pub use pieces::PieceStore;
 pub use sink::{MemSink, SureSink};
 pub use store::{MemStore, SureStore};

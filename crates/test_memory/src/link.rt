@@ -90,10 +90,12 @@ impl Source for MemLink {
         ensures bytes { IfOk result (λ n. GivesNext (Some self.old.stream) n buf.new) }
         ensures taken { IfOk result (λ n. Some self.new.stream ≡ after_read n (length buf.old) (Some self.old.stream)) }
         ensures kept { OnErr result (self.new.stream ≡ self.old.stream) }
-        ensures cause { HasCause self.old.read_faults self.new.read_faults result }
+        ensures cause { HasCause Failed.Device self.old.read_faults self.new.read_faults result }
         ensures beside { sink_side (Some self.new.written) self.new.write_faults ≡ sink_side (Some self.old.written) self.old.write_faults }
 
+        // It fails at a call that is to fail, and there alone; never by want of memory.
         ensures due { IsErrOf result Failed.Device ↔ Contains self.old.fail (one_more self.old.calls) }
+        ensures memory { IsErrOf result Failed.NoMemory → ⊥ }
         ensures count { IfOk result (λ n. n ≡ min (min (length buf.old) self.old.most) (length self.old.stream.left)) }
         ensures counted { self.new.calls ≡ one_more self.old.calls }
         ensures same { (self.new.most ≡ self.old.most) × (self.new.fail ≡ self.old.fail) }
@@ -120,7 +122,7 @@ impl Sink for MemLink {
         ensures takes { IfOk result (λ n. Takes n piece.now) }
         ensures added { IfOk result (λ n. Some self.new.written ≡ added (take n piece.now) (Some self.old.written)) }
         ensures kept { OnErr result (self.new.written ≡ self.old.written) }
-        ensures cause { HasCause self.old.write_faults self.new.write_faults result }
+        ensures cause { HasCause Failed.Device self.old.write_faults self.new.write_faults result }
         ensures beside { source_side (Some self.new.stream) self.new.read_faults ≡ source_side (Some self.old.stream) self.old.read_faults }
 
         ensures due { IsErrOf result Failed.Device ↔ Contains self.old.fail (one_more self.old.calls) }
@@ -209,10 +211,11 @@ impl Source for SureLink {
         ensures bytes { IfOk result (λ n. GivesNext (Some self.old.stream) n buf.new) }
         ensures taken { IfOk result (λ n. Some self.new.stream ≡ after_read n (length buf.old) (Some self.old.stream)) }
         ensures kept { OnErr result (Some self.new.stream ≡ Some self.old.stream) }
-        ensures cause { HasCause 0 0 result }
+        ensures cause { HasCause Failed.Device 0 0 result }
         ensures beside { sink_side (Some self.new.written) 0 ≡ sink_side (Some self.old.written) 0 }
 
-        ensures count { IfOk result (λ n. n ≡ min (min (length buf.old) self.old.most) (length self.old.stream.left)) }
+        // It never fails.
+        ensures count { result ≡ Ok (min (min (length buf.old) self.old.most) (length self.old.stream.left)) }
         ensures same { self.new.most ≡ self.old.most }
     {
         let count = give_rest(&self.input, self.place, self.most, buf);
@@ -253,7 +256,7 @@ impl Sink for SureLink {
         ensures takes { IfOk result (λ n. Takes n piece.now) }
         ensures added { IfOk result (λ n. Some self.new.written ≡ added (take n piece.now) (Some self.old.written)) }
         ensures kept { OnErr result (Some self.new.written ≡ Some self.old.written) }
-        ensures cause { HasCause 0 0 result }
+        ensures cause { HasCause Failed.Device 0 0 result }
         ensures beside { source_side (Some self.new.stream) 0 ≡ source_side (Some self.old.stream) 0 }
 
         ensures count { IfOk result (λ n. n ≡ min (length piece.now) self.old.most) }

@@ -1,8 +1,8 @@
 // Nets in memory.
-ghost use Rattle.std.specs.Prelude.{◌≡◌, [], ◌∷◌, Some, All, IsTrue, IsErr, IfOk, IfSome, IfNone, OnOk, OnErr, false};
+ghost use Rattle.std.specs.Prelude.{◌≡◌, [], ◌∷◌, Some, None, All, IsErr, IsOk, IsSome, IfOk, IfSome, IfNone, OnOk, OnErr};
 ghost use Rattle.std.specs.Vec.Iter.{into_iter_items};
 ghost use Rattle.md_base.specs.Outside.{HasCause, one_more};
-ghost use Rattle.md_base.specs.Nets.{TakesFirst, NoneComing};
+ghost use Rattle.md_base.specs.Nets.{TakesFirst, NoneComing, connection_of, with_served};
 ghost use Rattle.test_memory.specs.Memory.{IsFreshLink, connections_of, IsFreshFailingLink, failing_connections_of, FailsNextOf, IsAfterNetCall};
 
 use crate::failures::is_due;
@@ -16,7 +16,7 @@ use std::vec::IntoIter;
 pub struct MemNet {
     coming: IntoIter<MemLink>,
     served: Vec<MemLink>,
-    bound: bool,
+    port: Option<u16>,
     fail: Vec<u64>,
     calls: u64,
     faults: u64,
@@ -32,7 +32,7 @@ impl Model for MemNet {
     ghost view = { λ n. record {
       coming = into_iter_items n.coming;
       served = n.served.items;
-      bound = n.bound;
+      port = n.port;
       fail = n.fail.items;
       calls = n.calls;
       faults = n.faults;
@@ -46,13 +46,13 @@ impl MemNet {
     /// `next` whose numbers, counted from 1, are in `fail`.
     pub fn new(coming: Vec<MemLink>, fail: Vec<u64>) -> MemNet
         requires { All IsFreshFailingLink coming.items }
-        ensures { result ≡ record { coming = coming.items; served = []; bound = false; fail = fail.items; calls = 0; faults = 0 } }
+        ensures { result ≡ record { coming = coming.items; served = []; port = None; fail = fail.items; calls = 0; faults = 0 } }
     {
         let served = Vec::new(*coming.allocator());
         MemNet {
             coming: coming.into_iter(),
             served,
-            bound: false,
+            port: None,
             fail,
             calls: 0,
             faults: 0,
@@ -65,6 +65,13 @@ impl MemNet {
     {
         self.served.as_slice()
     }
+
+    /// The port at which it listens, where it listens.
+    pub fn port(&self) -> Option<u16>
+        ensures { result ≡ self.now.port }
+    {
+        self.port
+    }
 }
 
 impl Net for MemNet {
@@ -74,13 +81,13 @@ impl Net for MemNet {
 
     ghost faults = { λ n. n.faults };
 
-    ghost IsBound = { λ n. IsTrue n.bound };
+    ghost listens_at = { λ n. n.port };
 
-    fn bind(&mut self, _port: u16) -> Result<(), Failed>
-        ensures bound { OnOk result (IsTrue self.new.bound) }
-        ensures stays { IsTrue self.old.bound → IsTrue self.new.bound }
+    fn bind(&mut self, port: u16) -> Result<(), Failed>
+        ensures bound { OnOk result (self.new.port ≡ Some port) }
+        ensures stays { OnErr result (self.new.port ≡ self.old.port) }
         ensures kept { Some (failing_connections_of self.new) ≡ Some (failing_connections_of self.old) }
-        ensures cause { HasCause self.old.faults self.new.faults result }
+        ensures cause { HasCause Failed.Device self.old.faults self.new.faults result }
 
         // It fails where its number is in `fail`, and there alone.
         ensures due { FailsNextOf self.old → result ≡ Err Failed.Device }
@@ -91,20 +98,20 @@ impl Net for MemNet {
             self.faults = self.faults.saturating_add(1);
             return Err(Failed::Device);
         }
-        self.bound = true;
+        self.port = Some(port);
         Ok(())
     }
 
     fn next(&mut self) -> Result<Option<MemLink>, Failed>
-        requires { IsTrue self.old.bound }
+        requires { IsSome self.old.port }
         ensures first { IfOk result (λ found. IfSome found (λ link.
             TakesFirst (Some (failing_connections_of self.old)) (Some (failing_connections_of self.new)) (Some link.stream) (Some link.written))) }
         ensures no_faults { IfOk result (λ found. IfSome found (λ link. (link.read_faults ≡ 0) × (link.write_faults ≡ 0))) }
         ensures none { IfOk result (λ found. IfNone found (NoneComing (Some (failing_connections_of self.old)))) }
         ensures none_taken { IfOk result (λ found. IfNone found (Some (failing_connections_of self.new) ≡ Some (failing_connections_of self.old))) }
         ensures kept { OnErr result (Some (failing_connections_of self.new) ≡ Some (failing_connections_of self.old)) }
-        ensures stays { IsTrue self.new.bound }
-        ensures cause { HasCause self.old.faults self.new.faults result }
+        ensures stays { self.new.port ≡ self.old.port }
+        ensures cause { HasCause Failed.Device self.old.faults self.new.faults result }
 
         // It fails where its number is in `fail`, and there alone.
         ensures due { FailsNextOf self.old → result ≡ Err Failed.Device }
@@ -121,7 +128,16 @@ impl Net for MemNet {
         Ok(Some(link))
     }
 
-    fn done(&mut self, link: MemLink) -> Result<(), NoMemory> {
+    fn done(&mut self, link: MemLink) -> Result<(), NoMemory>
+        ensures served { OnOk result (Some (failing_connections_of self.new) ≡ with_served (connection_of (Some link.stream)
+            (Some link.written) link.read_faults link.write_faults) (Some (failing_connections_of self.old))) }
+        ensures kept { OnErr result (Some (failing_connections_of self.new) ≡ Some (failing_connections_of self.old)) }
+        ensures stays { self.new.port ≡ self.old.port }
+        ensures count { self.new.faults ≡ self.old.faults }
+
+        // It isn't among the calls that are counted.
+        ensures uncounted { (self.new.calls ≡ self.old.calls) × (self.new.fail ≡ self.old.fail) }
+    {
         self.served.push(link)?;
         Ok(())
     }
@@ -144,7 +160,7 @@ fn first_failing_of(coming: &mut IntoIter<MemLink>) -> Option<MemLink>
 pub struct SureNet {
     coming: IntoIter<SureLink>,
     served: Vec<SureLink>,
-    bound: bool,
+    port: Option<u16>,
 }
 
 impl Model for SureNet {
@@ -154,7 +170,7 @@ impl Model for SureNet {
 
     ghost Value = { WholeNet };
 
-    ghost view = { λ n. record { coming = into_iter_items n.coming; served = n.served.items; bound = n.bound } };
+    ghost view = { λ n. record { coming = into_iter_items n.coming; served = n.served.items; port = n.port } };
 
     ghost invariant = { λ n. All IsFreshLink (into_iter_items n.coming) };
 }
@@ -163,13 +179,13 @@ impl SureNet {
     /// A net to which these connections will come, each as it was made.
     pub fn new(coming: Vec<SureLink>) -> SureNet
         requires { All IsFreshLink coming.items }
-        ensures { result ≡ record { coming = coming.items; served = []; bound = false } }
+        ensures { result ≡ record { coming = coming.items; served = []; port = None } }
     {
         let served = Vec::new(*coming.allocator());
         SureNet {
             coming: coming.into_iter(),
             served,
-            bound: false,
+            port: None,
         }
     }
 
@@ -178,6 +194,13 @@ impl SureNet {
         ensures { result.now ≡ self.now.served }
     {
         self.served.as_slice()
+    }
+
+    /// The port at which it listens, where it listens.
+    pub fn port(&self) -> Option<u16>
+        ensures { result ≡ self.now.port }
+    {
+        self.port
     }
 }
 
@@ -188,14 +211,34 @@ impl Net for SureNet {
 
     ghost faults = { λ _. 0 };
 
-    ghost IsBound = { λ n. IsTrue n.bound };
+    ghost listens_at = { λ n. n.port };
 
-    fn bind(&mut self, _port: u16) -> Result<(), Failed> {
-        self.bound = true;
+    fn bind(&mut self, port: u16) -> Result<(), Failed>
+        ensures bound { OnOk result (self.new.port ≡ Some port) }
+        ensures stays { OnErr result (self.new.port ≡ self.old.port) }
+        ensures kept { Some (connections_of self.new) ≡ Some (connections_of self.old) }
+        ensures cause { HasCause Failed.Device 0 0 result }
+
+        // It never fails.
+        ensures well { IsOk result }
+    {
+        self.port = Some(port);
         Ok(())
     }
 
-    fn next(&mut self) -> Result<Option<SureLink>, Failed> {
+    fn next(&mut self) -> Result<Option<SureLink>, Failed>
+        requires { IsSome self.old.port }
+        ensures first { IfOk result (λ found. IfSome found (λ link.
+            TakesFirst (Some (connections_of self.old)) (Some (connections_of self.new)) (Some link.stream) (Some link.written))) }
+        ensures none { IfOk result (λ found. IfNone found (NoneComing (Some (connections_of self.old)))) }
+        ensures none_taken { IfOk result (λ found. IfNone found (Some (connections_of self.new) ≡ Some (connections_of self.old))) }
+        ensures kept { OnErr result (Some (connections_of self.new) ≡ Some (connections_of self.old)) }
+        ensures stays { self.new.port ≡ self.old.port }
+        ensures cause { HasCause Failed.Device 0 0 result }
+
+        // It never fails.
+        ensures well { IsOk result }
+    {
         let Some(link) = first_of(&mut self.coming) else {
             return Ok(None);
         };

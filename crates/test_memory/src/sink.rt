@@ -63,7 +63,7 @@ impl Sink for MemSink {
         ensures takes { IfOk result (λ n. Takes n piece.now) }
         ensures added { IfOk result (λ n. Some self.new.bytes ≡ added (take n piece.now) (Some self.old.bytes)) }
         ensures kept { OnErr result (Some self.new.bytes ≡ Some self.old.bytes) }
-        ensures cause { HasCause self.old.faults self.new.faults result }
+        ensures cause { HasCause Failed.Device self.old.faults self.new.faults result }
 
         ensures due { IsErrOf result Failed.Device ↔ Contains self.old.fail (one_more self.old.calls) }
         ensures count { IfOk result (λ n. n ≡ min (length piece.now) self.old.most) }
@@ -126,7 +126,7 @@ impl Sink for SureSink {
         ensures takes { IfOk result (λ n. Takes n piece.now) }
         ensures added { IfOk result (λ n. Some self.new.bytes ≡ added (take n piece.now) (Some self.old.bytes)) }
         ensures kept { OnErr result (Some self.new.bytes ≡ Some self.old.bytes) }
-        ensures cause { HasCause 0 0 result }
+        ensures cause { HasCause Failed.Device 0 0 result }
 
         ensures count { IfOk result (λ n. n ≡ min (length piece.now) self.old.most) }
         ensures same { self.new.most ≡ self.old.most }

@@ -1,8 +1,8 @@
 // Stores in memory.
 ghost use Rattle.std.specs.Prelude.{◌≡◌, ◌≤◌, ◌<◌, ◌⊎◌, ◌↔◌, ◌++◌, ◌∷◌, [], Some, None, length, take, drop, min, Contains, IfOk, IfSome, IfNone, OnOk, OnErr, IsErrOf, slice_set, string_bytes, vec_len};
 ghost use Rattle.md_base.specs.Outside.{HasCause, Takes, Gives, one_more};
-ghost use Rattle.md_base.specs.Files.{GivesFrom, with_file, bytes_in, extended};
-ghost use Rattle.test_memory.specs.Memory.{listed, file_in, any_file_in, IsPlaceOf, name_at, bytes_at, FailsNext, IsAfterCall};
+ghost use Rattle.md_base.specs.Files.{GivesFrom, with_file, bytes_in, holding, extended};
+ghost use Rattle.test_memory.specs.Memory.{listed, file_in, any_file_in, IsPlaceOf, name_at, bytes_at, given_of, FailsNext, IsAfterCall};
 
 use crate::failures::is_due;
 use md_base::{Failed, NoMemory, Store};
@@ -99,12 +99,13 @@ impl Store for MemStore {
         ensures within { IfOk result (λ n. n ≤ length buf.old) }
         ensures bytes { IfOk result (λ n. GivesFrom (Some (file_in self.old.files)) name.now at n buf.new) }
         ensures kept { self.new.files ≡ self.old.files }
-        ensures cause { HasCause self.old.read_faults self.new.read_faults result }
+        ensures cause { HasCause Failed.Device self.old.read_faults self.new.read_faults result }
         ensures writes { self.new.write_faults ≡ self.old.write_faults }
 
-        ensures due { FailsNext self.old → result ≡ Err Failed.Device }
-        ensures device { IsErrOf result Failed.Device → FailsNext self.old ⊎ (file_in self.old.files name.now ≡ None) }
-        ensures few { IfOk result (λ n. n ≤ self.old.most) }
+        // It fails at a call that is to fail and for a name that isn't there, and there alone; never by want of memory.
+        ensures device { IsErrOf result Failed.Device ↔ (FailsNext self.old ⊎ (file_in self.old.files name.now ≡ None)) }
+        ensures memory { IsErrOf result Failed.NoMemory → ⊥ }
+        ensures count { IfOk result (λ n. n ≡ given_of (length buf.old) self.old.most at (bytes_in (file_in self.old.files) name.now)) }
         ensures counted { IsAfterCall self.old self.new }
     {
         if is_due(&self.fail, &mut self.calls) {
@@ -119,7 +120,7 @@ impl Store for MemStore {
     fn create(&mut self, name: &str) -> Result<(), Failed>
         ensures emptied { OnOk result (file_in self.new.files ≡ with_file name.now [] (file_in self.old.files)) }
         ensures kept { OnErr result (self.new.files ≡ self.old.files) }
-        ensures cause { HasCause self.old.write_faults self.new.write_faults result }
+        ensures cause { HasCause Failed.Device self.old.write_faults self.new.write_faults result }
         ensures reads { self.new.read_faults ≡ self.old.read_faults }
 
         ensures due { IsErrOf result Failed.Device ↔ FailsNext self.old }
@@ -137,7 +138,7 @@ impl Store for MemStore {
         ensures added { IfOk result (λ n. file_in self.new.files ≡ with_file name.now
             (bytes_in (file_in self.old.files) name.now ++ take n piece.now) (file_in self.old.files)) }
         ensures kept { OnErr result (self.new.files ≡ self.old.files) }
-        ensures cause { HasCause self.old.write_faults self.new.write_faults result }
+        ensures cause { HasCause Failed.Device self.old.write_faults self.new.write_faults result }
         ensures reads { self.new.read_faults ≡ self.old.read_faults }
 
         ensures due { IsErrOf result Failed.Device ↔ FailsNext self.old }
@@ -200,9 +201,10 @@ impl Store for SureStore {
         ensures within { IfOk result (λ n. n ≤ length buf.old) }
         ensures bytes { IfOk result (λ n. GivesFrom (Some (any_file_in self.old.files)) name.now at n buf.new) }
         ensures kept { Some (any_file_in self.new.files) ≡ Some (any_file_in self.old.files) }
-        ensures cause { HasCause 0 0 result }
+        ensures cause { HasCause Failed.Device 0 0 result }
 
-        ensures few { IfOk result (λ n. n ≤ self.old.most) }
+        // It never fails, and gives nothing of a name that isn't there.
+        ensures count { result ≡ Ok (given_of (length buf.old) self.old.most at (bytes_in (file_in self.old.files) name.now)) }
         ensures same { self.new.most ≡ self.old.most }
     {
         match give_named(&self.files, name, at, self.most, buf) {
@@ -211,7 +213,13 @@ impl Store for SureStore {
         }
     }
 
-    fn create(&mut self, name: &str) -> Result<(), Failed> {
+    fn create(&mut self, name: &str) -> Result<(), Failed>
+        ensures emptied { OnOk result (Some (any_file_in self.new.files) ≡ holding name.now [] (Some (any_file_in self.old.files))) }
+        ensures kept { OnErr result (Some (any_file_in self.new.files) ≡ Some (any_file_in self.old.files)) }
+        ensures cause { HasCause Failed.Device 0 0 result }
+
+        ensures same { self.new.most ≡ self.old.most }
+    {
         create_in(&mut self.files, name)?;
         Ok(())
     }
@@ -220,7 +228,7 @@ impl Store for SureStore {
         ensures takes { IfOk result (λ n. Takes n piece.now) }
         ensures added { IfOk result (λ n. Some (any_file_in self.new.files) ≡ extended name.now (take n piece.now) (Some (any_file_in self.old.files))) }
         ensures kept { OnErr result (Some (any_file_in self.new.files) ≡ Some (any_file_in self.old.files)) }
-        ensures cause { HasCause 0 0 result }
+        ensures cause { HasCause Failed.Device 0 0 result }
 
         ensures count { IfOk result (λ n. n ≡ min (length piece.now) self.old.most) }
         ensures same { self.new.most ≡ self.old.most }
@@ -249,7 +257,7 @@ fn place_of(files: &[(String, Vec<u8>)], name: &str) -> Option<usize>
 fn give(bytes: &[u8], at: u64, most: usize, buf: &mut [u8]) -> usize
     requires { 1 ≤ most }
     ensures gives { Gives (drop at bytes.now) result buf.new }
-    ensures count { result ≡ min (min (length buf.old) most) (length (drop at bytes.now)) }
+    ensures count { result ≡ given_of (length buf.old) most at bytes.now }
 {
     if at >= bytes.len() as u64 {
         return 0;
@@ -274,7 +282,9 @@ fn give_named(
     ensures of_any { IfSome result (λ n. GivesFrom (Some (any_file_in (listed files.now))) name.now at n buf.new) }
     ensures absent { IfNone result (file_in (listed files.now) name.now ≡ None) }
     ensures nothing { IfNone result (GivesFrom (Some (any_file_in (listed files.now))) name.now at 0 buf.new) }
-    ensures few { IfSome result (λ n. n ≤ most) }
+    ensures there { IfSome result (λ _. file_in (listed files.now) name.now ≡ None → ⊥) }
+    ensures count { IfSome result (λ n. n ≡ given_of (length buf.old) most at (bytes_in (file_in (listed files.now)) name.now)) }
+    ensures no_bytes { IfNone result (given_of (length buf.old) most at (bytes_in (file_in (listed files.now)) name.now) ≡ 0) }
 {
     let place = place_of(files, name)?;
     let file = &files[place];

@@ -1,4 +1,6 @@
 // The error stream of the machine, and a connection.
+ghost use Rattle.std.specs.Prelude.{IsSome};
+
 use crate::input::show_bytes;
 use crate::nets::serve_next;
 use crate::peers::{at, free_port};
@@ -41,7 +43,7 @@ fn connect<N: Net>(
     net: &mut N,
     found: &mut String,
 ) -> io::Result<()>
-    requires { N.IsBound net.old }
+    requires { IsSome (N.listens_at net.old) }
 {
     let mut client = TcpStream::connect(rt, at(port))?;
     io::Write::write_all(&mut client, case.bytes("sends"))?;

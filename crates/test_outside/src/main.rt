@@ -63,11 +63,13 @@ fn show_in_memory(
     match view {
         "store" => stores::show_failing(alloc, case, found),
         "sure store" => stores::show_sure(alloc, case, found),
+        "pieces" => stores::show_pieces(alloc, case, found),
         "sink" => sinks::show_failing(alloc, case, found),
         "sure sink" => sinks::show_sure(alloc, case, found),
         "hampered sink" => sinks::show_hampered(case, found),
         "net" => nets::show_failing(alloc, case, found),
         "sure net" => nets::show_sure(alloc, case, found),
+        "ports" => nets::show_ports(alloc, case, found),
         "counts" => counts::show(case, found),
         "names" => names::show(alloc, case, found),
         "heap" => heaps::show(alloc, case, found),

@@ -1,5 +1,5 @@
 // Nets to which one connection comes: what comes of it, and what was written to it.
-ghost use Rattle.std.specs.Prelude.{◌≡◌};
+ghost use Rattle.std.specs.Prelude.{◌≡◌, IsSome};
 
 use crate::input::{failing, most, number, show_bytes};
 use crate::sinks::write;
@@ -8,7 +8,7 @@ use std::alloc::{AllocError, Global};
 use test_cases::{Case, Field};
 use test_memory::{MemLink, MemNet, SureLink, SureNet};
 
-/// A port, which nets in memory do not look at.
+/// The port at which a net listens.
 const PORT: u16 = 80;
 
 /// A connection that sends the bytes of the line `sends`, and of which the calls `fails NUMBER` fail. It comes to a net of
@@ -47,6 +47,29 @@ fn sure_net(alloc: Global, case: &Case) -> Result<SureNet, AllocError> {
     Ok(SureNet::new(coming))
 }
 
+/// A net of which the calls `net-fails NUMBER` fail, and which is to listen at the ports of the lines `port NUMBER`, one
+/// after the other: at which it listens then.
+pub fn show_ports(alloc: Global, case: &Case, found: &mut String) -> Result<(), AllocError> {
+    let mut net = MemNet::new(Vec::new(alloc), failing(alloc, case, "net-fails")?);
+    for field in case.fields() {
+        if field.key.as_str() == "port" {
+            let port = u16::try_from(number(field.text.as_str())).unwrap_or(0);
+            listen(&mut net, port, found)?;
+        }
+    }
+    Ok(())
+}
+
+fn listen(net: &mut MemNet, port: u16, found: &mut String) -> Result<(), AllocError> {
+    if let Err(failed) = net.bind(port) {
+        writeln!(found, "not listening: {failed}")?;
+    }
+    match net.port() {
+        Some(port) => writeln!(found, "listens at {port}"),
+        None => writeln!(found, "listens nowhere"),
+    }
+}
+
 fn show_served(alloc: Global, written: &[u8], found: &mut String) -> Result<(), AllocError> {
     write!(found, "served, with ")?;
     show_bytes(alloc, written, found)
@@ -75,8 +98,8 @@ pub fn serve_next<N: Net>(
     net: &mut N,
     found: &mut String,
 ) -> Result<(), AllocError>
-    requires { N.IsBound net.old }
-    ensures { N.IsBound net.new }
+    requires { IsSome (N.listens_at net.old) }
+    ensures { N.listens_at net.new ≡ N.listens_at net.old }
 {
     match net.next() {
         Ok(Some(link)) => serve_one(alloc, case, net, link, found),
@@ -92,8 +115,8 @@ fn serve_one<N: Net>(
     link: N::Conn,
     found: &mut String,
 ) -> Result<(), AllocError>
-    requires { N.IsBound net.old }
-    ensures { N.IsBound net.new }
+    requires { IsSome (N.listens_at net.old) }
+    ensures { N.listens_at net.new ≡ N.listens_at net.old }
 {
     let mut link = link;
     let used = use_link(alloc, case, &mut link, found);

@@ -1,4 +1,6 @@
 // Connections over TCP, from both ends.
+ghost use Rattle.std.specs.Prelude.{◌≡◌, IsSome};
+
 use crate::input::{halves, number, show_bytes};
 use md_base::{Link, Net, write_whole};
 use md_system::TcpNet;
@@ -52,7 +54,7 @@ fn meet<N: Net>(
     net: &mut N,
     found: &mut String,
 ) -> io::Result<()>
-    requires { N.IsBound net.old }
+    requires { IsSome (N.listens_at net.old) }
 {
     for field in case.fields() {
         match field.key.as_str() {
@@ -92,8 +94,8 @@ fn serve<N: Net>(
     net: &mut N,
     found: &mut String,
 ) -> Result<(), AllocError>
-    requires { N.IsBound net.old }
-    ensures { N.IsBound net.new }
+    requires { IsSome (N.listens_at net.old) }
+    ensures { N.listens_at net.new ≡ N.listens_at net.old }
 {
     match net.next() {
         Ok(Some(link)) => {

@@ -3,7 +3,7 @@ use crate::input::{failing, halves, most, number, show_bytes};
 use md_base::{Store, read_all, write_file};
 use std::alloc::{AllocError, Global};
 use test_cases::{Case, Field};
-use test_memory::{MemStore, SureStore};
+use test_memory::{MemStore, PieceStore, SureStore};
 
 /// A store in memory with the files of the lines `file NAME BYTES`, of which the calls `fails NUMBER` fail.
 pub fn show_failing(alloc: Global, case: &Case, found: &mut String) -> Result<(), AllocError> {
@@ -20,6 +20,16 @@ pub fn show_sure(alloc: Global, case: &Case, found: &mut String) -> Result<(), A
     let mut store = SureStore::new(files, most(case));
     act_all(alloc, case, &mut store, found)?;
     show_files(alloc, store.files(), found)
+}
+
+/// A store that keeps how long the pieces are that it is handed: what comes of the calls, and how long each piece was.
+pub fn show_pieces(alloc: Global, case: &Case, found: &mut String) -> Result<(), AllocError> {
+    let mut store = PieceStore::new(alloc);
+    act_all(alloc, case, &mut store, found)?;
+    for length in store.lengths() {
+        writeln!(found, "a piece of {length}")?;
+    }
+    Ok(())
 }
 
 fn files(alloc: Global, case: &Case) -> Result<Vec<(String, Vec<u8>)>, AllocError> {

@@ -11,12 +11,6 @@ returns-in_err-decoder-clause-found g c = grind (arith, common_steps)
 pub returns-in_err-decoder-clause-kept : goal.returns-in_err-decoder-clause-kept
 returns-in_err-decoder-clause-kept g c = grind (arith, common_steps)
 
-pub returns-in_err-decoder-clause-later : goal.returns-in_err-decoder-clause-later
-returns-in_err-decoder-clause-later g c = grind (arith, common_steps)
-
-pub returns-in_err-decoder-clause-read : goal.returns-in_err-decoder-clause-read
-returns-in_err-decoder-clause-read g c = grind (arith, common_steps)
-
 pub returns-in_err-decoder-clause-valid : goal.returns-in_err-decoder-clause-valid
 returns-in_err-decoder-clause-valid g c = grind (arith, common_steps)
 
@@ -32,12 +26,6 @@ returns-clause-found g c = grind (arith, common_steps)
 pub returns-clause-kept : goal.returns-clause-kept
 returns-clause-kept g c = grind (arith, common_steps)
 
-pub returns-clause-later : goal.returns-clause-later
-returns-clause-later g c = grind (arith, common_steps)
-
-pub returns-clause-read : goal.returns-clause-read
-returns-clause-read g c = grind (arith, common_steps)
-
 pub returns-clause-valid : goal.returns-clause-valid
 returns-clause-valid g c = grind (arith, common_steps)
 
@@ -52,12 +40,6 @@ returns-in_err-read_through-clause-found g c = grind (arith, common_steps)
 
 pub returns-in_err-read_through-clause-kept : goal.returns-in_err-read_through-clause-kept
 returns-in_err-read_through-clause-kept g c = grind (arith, common_steps)
-
-pub returns-in_err-read_through-clause-later : goal.returns-in_err-read_through-clause-later
-returns-in_err-read_through-clause-later g c = grind (arith, common_steps)
-
-pub returns-in_err-read_through-clause-read : goal.returns-in_err-read_through-clause-read
-returns-in_err-read_through-clause-read g c = grind (arith, common_steps)
 
 pub returns-in_err-read_through-clause-valid : goal.returns-in_err-read_through-clause-valid
 returns-in_err-read_through-clause-valid g c = grind (arith, common_steps)

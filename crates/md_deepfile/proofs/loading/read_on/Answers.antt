@@ -2,6 +2,7 @@ use Rattle.std.proofs.Common.{◌∙◌, Option, refl, subst, arith}
 use Rattle.std.proofs.lemmas.Grind.{common_steps}
 use Rattle.md_base.specs.Files.{Files, GivesFrom}
 use Rattle.md_deepfile.proofs.Loaded.{fed_more, fed_end, fed_longer, store_fault}
+use Rattle.md_deepfile.proofs.Writes.{refused_since}
 use Rattle.md_deepfile.proofs.loading.read_on.Goals as goal
 
 pub pieces-preserved : goal.pieces-preserved
@@ -15,15 +16,12 @@ pieces-preserved g c =
       within = omega arith;
       fed = fed_more told c.args.name.now c.pieces.at c.in-Ok.count buf _ c.pieces.decoder c.feed.new.self before.fed gives (omega (arith, read.within)) refl c.feed.ensures.taken;
       kept = read.kept ∙ before.kept;
-      later = omega (arith, before.later, read.later);
+      faults = read.cause.kept (λ is. cc is) ∙ before.faults;
       writes = read.writes ∙ before.writes;
     }
 
 pub returns-in-Err-clause-fault : goal.returns-in-Err-clause-fault
 returns-in-Err-clause-fault g c = store_fault (g.S.Store.held c.args.store.now) c.args.name.now c.args.max c.in-Err.fault c.in-Err.ensures.fault
-
-pub returns-in-Err-clause-later : goal.returns-in-Err-clause-later
-returns-in-Err-clause-later g c = omega (arith, c.pieces.invariant.later, c.in-Err.ensures.later)
 
 pub returns-in-Err-clause-kept : goal.returns-in-Err-clause-kept
 returns-in-Err-clause-kept g c = c.in-Err.ensures.kept ∙ c.pieces.invariant.kept
@@ -31,17 +29,11 @@ returns-in-Err-clause-kept g c = c.in-Err.ensures.kept ∙ c.pieces.invariant.ke
 pub returns-in-Err-clause-writes : goal.returns-in-Err-clause-writes
 returns-in-Err-clause-writes g c = c.in-Err.ensures.writes ∙ c.pieces.invariant.writes
 
-pub returns-then-count-eq0-clause-later : goal.returns-then-count-eq0-clause-later
-returns-then-count-eq0-clause-later g c = omega (arith, c.pieces.invariant.later, c.in-Ok.ensures.later)
-
 pub returns-then-count-eq0-clause-kept : goal.returns-then-count-eq0-clause-kept
 returns-then-count-eq0-clause-kept g c = c.in-Ok.ensures.kept ∙ c.pieces.invariant.kept
 
 pub returns-then-count-eq0-clause-writes : goal.returns-then-count-eq0-clause-writes
 returns-then-count-eq0-clause-writes g c = c.in-Ok.ensures.writes ∙ c.pieces.invariant.writes
-
-pub returns-then-count-max-clause-later : goal.returns-then-count-max-clause-later
-returns-then-count-max-clause-later g c = omega (arith, c.pieces.invariant.later, c.in-Ok.ensures.later)
 
 pub returns-then-count-max-clause-kept : goal.returns-then-count-max-clause-kept
 returns-then-count-max-clause-kept g c = c.in-Ok.ensures.kept ∙ c.pieces.invariant.kept
@@ -66,17 +58,11 @@ returns-then-count-max-clause-fault g c =
 pub returns-then-count-eq0-clause-fault : goal.returns-then-count-eq0-clause-fault
 returns-then-count-eq0-clause-fault g c = grind (arith, common_steps)
 
-pub returns-then-count-eq0-clause-read : goal.returns-then-count-eq0-clause-read
-returns-then-count-eq0-clause-read g c = grind (arith, common_steps)
-
-pub returns-in-Err-clause-read : goal.returns-in-Err-clause-read
-returns-in-Err-clause-read g c = grind (arith, common_steps)
-
 pub returns-in-Err-clause-whole : goal.returns-in-Err-clause-whole
 returns-in-Err-clause-whole g c = grind (arith, common_steps)
 
-pub returns-then-count-max-clause-read : goal.returns-then-count-max-clause-read
-returns-then-count-max-clause-read g c = grind (arith, common_steps)
-
 pub returns-then-count-max-clause-whole : goal.returns-then-count-max-clause-whole
 returns-then-count-max-clause-whole g c = grind (arith, common_steps)
+
+pub returns-in-Err-clause-cause : goal.returns-in-Err-clause-cause
+returns-in-Err-clause-cause g c = refused_since c.pieces.invariant.faults c.in-Err.ensures.cause

@@ -7,7 +7,7 @@ invariant-pieces g l = record {
   within : l.at ≤ l.max;
   fed : Fed (g.S.Store.held l.fn.store) l.name l.at l.decoder;
   kept : g.S.Store.held l.store ≡ g.S.Store.held l.fn.store;
-  later : g.S.Store.read_faults l.fn.store ≤ g.S.Store.read_faults l.store;
+  faults : g.S.Store.read_faults l.store ≡ g.S.Store.read_faults l.fn.store;
   writes : g.S.Store.write_faults l.store ≡ g.S.Store.write_faults l.fn.store;
 }
 

@@ -8,12 +8,6 @@ returns-clause-fault g c = grind (arith, common_steps)
 pub returns-clause-kept : goal.returns-clause-kept
 returns-clause-kept g c = grind (arith, common_steps)
 
-pub returns-clause-later : goal.returns-clause-later
-returns-clause-later g c = grind (arith, common_steps)
-
-pub returns-clause-read : goal.returns-clause-read
-returns-clause-read g c = grind (arith, common_steps)
-
 pub returns-clause-whole : goal.returns-clause-whole
 returns-clause-whole g c = grind (arith, common_steps)
 

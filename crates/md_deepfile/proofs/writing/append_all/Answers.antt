@@ -13,12 +13,9 @@ loop-done-preserved g c =
     record {
       within = within.1;
       so_far = λ told out is. appended_on c.args.name.now bytes out c.loop-done.done c.in_ok-done.field-0 (c.min-end.result - c.loop-done.done) told (g.S.Store.held c.loop-done.store) (g.S.Store.held c.append_part.new.store) within.0 (before.so_far told out is) part.added;
-      later = omega (arith, before.later, part.later);
+      faults = part.cause.kept (λ is. cc is) ∙ before.faults;
       reads = part.reads ∙ before.reads;
     }
-
-pub returns-clause-later : goal.returns-clause-later
-returns-clause-later g c = grind (arith, common_steps)
 
 pub returns-clause-part : goal.returns-clause-part
 returns-clause-part g c = grind (arith, common_steps)
@@ -28,6 +25,3 @@ returns-clause-reads g c = grind (arith, common_steps)
 
 pub returns-clause-whole : goal.returns-clause-whole
 returns-clause-whole g c = grind (arith, common_steps)
-
-pub returns-clause-write : goal.returns-clause-write
-returns-clause-write g c = grind (arith, common_steps)

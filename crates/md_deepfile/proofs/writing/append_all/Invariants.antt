@@ -6,7 +6,7 @@ abbrev pub invariant-loop-done : goal.invariant-loop-done
 invariant-loop-done g l = record {
   within : l.done ≤ length l.bytes;
   so_far : (before : Option Files) (out : List ℕ) → g.S.Store.held l.fn.store ≡ holding l.name out before → g.S.Store.held l.store ≡ holding l.name (out ++ take l.done l.bytes) before;
-  later : g.S.Store.write_faults l.fn.store ≤ g.S.Store.write_faults l.store;
+  faults : g.S.Store.write_faults l.store ≡ g.S.Store.write_faults l.fn.store;
   reads : g.S.Store.read_faults l.store ≡ g.S.Store.read_faults l.fn.store;
 }
 

@@ -3,8 +3,7 @@ use Rattle.std.proofs.lemmas.Grind.{common_steps}
 use Rattle.std.proofs.lemmas.List.{append-nil}
 use Rattle.md_deepfile.specs.Bytes.{file_bytes}
 use Rattle.md_deepfile.specs.Pieces.{WritesOn, table_bytes, row_bytes}
-use Rattle.md_base.proofs.Told.{rose_since}
-use Rattle.md_deepfile.proofs.Writes.{err_then, ok_both, on_same, stop_first, stop_later, then_on, file_parts}
+use Rattle.md_deepfile.proofs.Writes.{err_then, ok_both, on_same, stop_first, stop_later, then_on, file_parts, cause_since}
 use Rattle.md_deepfile.proofs.writing.write_all.Goals as goal
 
 pub returns-in-Err-clause-stops : goal.returns-in-Err-clause-stops
@@ -27,29 +26,11 @@ returns-clause-stops g c =
     c.in_default.ensures.on c.in_default-write_rows.ensures.on)
     stops (append-nil ((table_bytes f ++ row_bytes f) ++ []) ∙ append-nil (table_bytes f ++ row_bytes f) ∙ file_parts f))
 
-pub returns-in-Err-clause-write : goal.returns-in-Err-clause-write
-returns-in-Err-clause-write g c = c.in-Err.ensures.write
-
-pub returns-in-Err-clause-later : goal.returns-in-Err-clause-later
-returns-in-Err-clause-later g c = c.in-Err.ensures.later
-
 pub returns-in-Err-clause-reads : goal.returns-in-Err-clause-reads
 returns-in-Err-clause-reads g c = c.in-Err.ensures.reads
 
-pub returns-in-Err-write_rows-clause-write : goal.returns-in-Err-write_rows-clause-write
-returns-in-Err-write_rows-clause-write g c = λ told. rose_since _ _ _ c.in_default.ensures.later (c.in-Err-write_rows.ensures.write told)
-
-pub returns-in-Err-write_rows-clause-later : goal.returns-in-Err-write_rows-clause-later
-returns-in-Err-write_rows-clause-later g c = omega (arith, c.in_default.ensures.later, c.in-Err-write_rows.ensures.later)
-
 pub returns-in-Err-write_rows-clause-reads : goal.returns-in-Err-write_rows-clause-reads
 returns-in-Err-write_rows-clause-reads g c = c.in-Err-write_rows.ensures.reads ∙ c.in_default.ensures.reads
-
-pub returns-clause-write : goal.returns-clause-write
-returns-clause-write g c = λ told. rose_since _ _ _ (omega (arith, c.in_default.ensures.later, c.in_default-write_rows.ensures.later)) (c.empty.ensures.write told)
-
-pub returns-clause-later : goal.returns-clause-later
-returns-clause-later g c = omega (arith, c.in_default.ensures.later, c.in_default-write_rows.ensures.later, c.empty.ensures.later)
 
 pub returns-clause-reads : goal.returns-clause-reads
 returns-clause-reads g c = c.empty.ensures.reads ∙ c.in_default-write_rows.ensures.reads ∙ c.in_default.ensures.reads
@@ -75,3 +56,12 @@ returns-in-Err-clause-on g c = grind (arith, common_steps)
 
 pub returns-in-Err-write_rows-clause-on : goal.returns-in-Err-write_rows-clause-on
 returns-in-Err-write_rows-clause-on g c = grind (arith, common_steps)
+
+pub returns-in-Err-clause-cause : goal.returns-in-Err-clause-cause
+returns-in-Err-clause-cause g c = c.in-Err.ensures.cause
+
+pub returns-in-Err-write_rows-clause-cause : goal.returns-in-Err-write_rows-clause-cause
+returns-in-Err-write_rows-clause-cause g c = cause_since (c.in_default.ensures.cause.kept (λ is. cc is)) c.in-Err-write_rows.ensures.cause
+
+pub returns-clause-cause : goal.returns-clause-cause
+returns-clause-cause g c = cause_since (c.in_default-write_rows.ensures.cause.kept (λ is. cc is) ∙ c.in_default.ensures.cause.kept (λ is. cc is)) c.empty.ensures.cause

@@ -4,8 +4,7 @@ use Rattle.std.proofs.lemmas.List.{append-nil}
 use Rattle.md_dynamic.specs.declared.link.LinkRow.{LinkRow}
 use Rattle.md_deepfile.specs.Bytes.{u32, each, link_bytes}
 use Rattle.md_deepfile.specs.Pieces.{row_bytes}
-use Rattle.md_base.proofs.Told.{rose_since}
-use Rattle.md_deepfile.proofs.Writes.{ok_then, err_then, on_same, then_on, stop_first, stop_later}
+use Rattle.md_deepfile.proofs.Writes.{ok_then, err_then, on_same, then_on, stop_first, stop_later, cause_since}
 use Rattle.md_deepfile.proofs.writing.write_rows.Goals as goal
 
 pub returns-in-Err-clause-stops : goal.returns-in-Err-clause-stops
@@ -23,20 +22,8 @@ returns-clause-stops g c =
     (append-nil (each u32 c.nodes.result.now ++ each (link_bytes 7) c.links.result.now)
     ∙ ap (λ (ns : List ℕ). each u32 ns ++ each (link_bytes 7) c.links.result.now) c.nodes.ensures ∙ ap (λ (ls : List LinkRow). each u32 f.nodes ++ each (link_bytes 7) ls) c.links.ensures))
 
-pub returns-in-Err-clause-write : goal.returns-in-Err-clause-write
-returns-in-Err-clause-write g c = c.in-Err.ensures.write
-
-pub returns-in-Err-clause-later : goal.returns-in-Err-clause-later
-returns-in-Err-clause-later g c = c.in-Err.ensures.later
-
 pub returns-in-Err-clause-reads : goal.returns-in-Err-clause-reads
 returns-in-Err-clause-reads g c = c.in-Err.ensures.reads
-
-pub returns-clause-write : goal.returns-clause-write
-returns-clause-write g c = λ told. rose_since _ _ _ c.in_default.ensures.later (c.write_each-2.ensures.write told)
-
-pub returns-clause-later : goal.returns-clause-later
-returns-clause-later g c = omega (arith, c.in_default.ensures.later, c.write_each-2.ensures.later)
 
 pub returns-clause-reads : goal.returns-clause-reads
 returns-clause-reads g c = c.write_each-2.ensures.reads ∙ c.in_default.ensures.reads
@@ -56,3 +43,9 @@ returns-clause-on g c =
 
 pub returns-in-Err-clause-on : goal.returns-in-Err-clause-on
 returns-in-Err-clause-on g c = grind (arith, common_steps)
+
+pub returns-in-Err-clause-cause : goal.returns-in-Err-clause-cause
+returns-in-Err-clause-cause g c = c.in-Err.ensures.cause
+
+pub returns-clause-cause : goal.returns-clause-cause
+returns-clause-cause g c = cause_since (c.in_default.ensures.cause.kept (λ is. cc is)) c.write_each-2.ensures.cause

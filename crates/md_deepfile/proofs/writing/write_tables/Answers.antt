@@ -3,8 +3,7 @@ use Rattle.std.proofs.lemmas.Grind.{common_steps}
 use Rattle.md_static.specs.Tables.{Static}
 use Rattle.md_deepfile.specs.Bytes.{each, name_bytes, proc_bytes, site_bytes}
 use Rattle.md_deepfile.specs.Pieces.{table_bytes}
-use Rattle.md_base.proofs.Told.{rose_since}
-use Rattle.md_deepfile.proofs.Writes.{ok_then, err_then, on_same, stop_same, four_stop1, four_stop2, four_stop3, four_on, front_of, table_same, stops_at_once}
+use Rattle.md_deepfile.proofs.Writes.{ok_then, err_then, on_same, stop_same, four_stop1, four_stop2, four_stop3, four_on, front_of, table_same, stops_at_once, cause_since}
 use Rattle.md_deepfile.proofs.writing.write_tables.Goals as goal
 
 pub returns-in-Err-write_each-clause-stops : goal.returns-in-Err-write_each-clause-stops
@@ -42,29 +41,11 @@ returns-clause-stops g c =
 pub returns-in-Err-clause-stops : goal.returns-in-Err-clause-stops
 returns-in-Err-clause-stops g c = stops_at_once c.args.name.now (table_bytes c.args.profile.now) (g.S.Store.held c.args.store.now) c.args.buffer.now.items
 
-pub returns-in-Err-write_each-clause-write : goal.returns-in-Err-write_each-clause-write
-returns-in-Err-write_each-clause-write g c = c.in-Err-write_each.ensures.write
-
-pub returns-in-Err-write_each-clause-later : goal.returns-in-Err-write_each-clause-later
-returns-in-Err-write_each-clause-later g c = c.in-Err-write_each.ensures.later
-
 pub returns-in-Err-write_each-clause-reads : goal.returns-in-Err-write_each-clause-reads
 returns-in-Err-write_each-clause-reads g c = c.in-Err-write_each.ensures.reads
 
-pub returns-in-Err-write_each-2-clause-write : goal.returns-in-Err-write_each-2-clause-write
-returns-in-Err-write_each-2-clause-write g c = λ told. rose_since _ _ _ c.in_default-write_each.ensures.later (c.in-Err-write_each-2.ensures.write told)
-
-pub returns-in-Err-write_each-2-clause-later : goal.returns-in-Err-write_each-2-clause-later
-returns-in-Err-write_each-2-clause-later g c = omega (arith, c.in_default-write_each.ensures.later, c.in-Err-write_each-2.ensures.later)
-
 pub returns-in-Err-write_each-2-clause-reads : goal.returns-in-Err-write_each-2-clause-reads
 returns-in-Err-write_each-2-clause-reads g c = c.in-Err-write_each-2.ensures.reads ∙ c.in_default-write_each.ensures.reads
-
-pub returns-clause-write : goal.returns-clause-write
-returns-clause-write g c = λ told. rose_since _ _ _ (omega (arith, c.in_default-write_each.ensures.later, c.in_default-write_each-2.ensures.later)) (c.write_each-3.ensures.write told)
-
-pub returns-clause-later : goal.returns-clause-later
-returns-clause-later g c = omega (arith, c.in_default-write_each.ensures.later, c.in_default-write_each-2.ensures.later, c.write_each-3.ensures.later)
 
 pub returns-clause-reads : goal.returns-clause-reads
 returns-clause-reads g c = c.write_each-3.ensures.reads ∙ c.in_default-write_each-2.ensures.reads ∙ c.in_default-write_each.ensures.reads
@@ -75,14 +56,18 @@ returns-in-Err-write_each-2-clause-on g c = grind (arith, common_steps)
 pub returns-in-Err-write_each-clause-on : goal.returns-in-Err-write_each-clause-on
 returns-in-Err-write_each-clause-on g c = grind (arith, common_steps)
 
-pub returns-in-Err-clause-later : goal.returns-in-Err-clause-later
-returns-in-Err-clause-later g c = grind (arith, common_steps)
-
 pub returns-in-Err-clause-on : goal.returns-in-Err-clause-on
 returns-in-Err-clause-on g c = grind (arith, common_steps)
 
 pub returns-in-Err-clause-reads : goal.returns-in-Err-clause-reads
 returns-in-Err-clause-reads g c = grind (arith, common_steps)
 
-pub returns-in-Err-clause-write : goal.returns-in-Err-clause-write
-returns-in-Err-clause-write g c = grind (arith, common_steps)
+pub returns-in-Err-write_each-clause-cause : goal.returns-in-Err-write_each-clause-cause
+returns-in-Err-write_each-clause-cause g c = c.in-Err-write_each.ensures.cause
+
+pub returns-in-Err-write_each-2-clause-cause : goal.returns-in-Err-write_each-2-clause-cause
+returns-in-Err-write_each-2-clause-cause g c = cause_since (c.in_default-write_each.ensures.cause.kept (λ is. cc is)) c.in-Err-write_each-2.ensures.cause
+
+pub returns-clause-cause : goal.returns-clause-cause
+returns-clause-cause g c =
+    cause_since (c.in_default-write_each-2.ensures.cause.kept (λ is. cc is) ∙ c.in_default-write_each.ensures.cause.kept (λ is. cc is)) c.write_each-3.ensures.cause

@@ -14,11 +14,8 @@ returns-in-Ok-clause-stops g c =
 pub returns-in-Err-clause-stops : goal.returns-in-Err-clause-stops
 returns-in-Err-clause-stops g c = stops_at_once c.args.name.now (g.T.Spelled.bytes c.args.thing.now) (g.S.Store.held c.args.store.now) c.args.buffer.now.items
 
-pub returns-in-Ok-clause-write : goal.returns-in-Ok-clause-write
-returns-in-Ok-clause-write g c = c.make_room.ensures.write
-
-pub returns-in-Ok-clause-later : goal.returns-in-Ok-clause-later
-returns-in-Ok-clause-later g c = c.make_room.ensures.later
-
 pub returns-in-Ok-clause-reads : goal.returns-in-Ok-clause-reads
 returns-in-Ok-clause-reads g c = c.make_room.ensures.reads
+
+pub returns-in-Ok-clause-cause : goal.returns-in-Ok-clause-cause
+returns-in-Ok-clause-cause g c = c.make_room.ensures.cause

@@ -9,9 +9,6 @@ returns-in_err-room-clause-some g c = refused_early c.from_residual-in_err-room.
 pub returns-clause-due : goal.returns-clause-due
 returns-clause-due g c = grind (arith, common_steps)
 
-pub returns-clause-later : goal.returns-clause-later
-returns-clause-later g c = grind (arith, common_steps)
-
 pub returns-clause-beside : goal.returns-clause-beside
 returns-clause-beside g c = grind (arith, common_steps)
 
@@ -23,12 +20,6 @@ returns-in_err-response-clause-waits g c = grind (arith, common_steps)
 
 pub returns-in_err-response-clause-some : goal.returns-in_err-response-clause-some
 returns-in_err-response-clause-some g c = grind (arith, common_steps)
-
-pub returns-in_err-response-clause-fault : goal.returns-in_err-response-clause-fault
-returns-in_err-response-clause-fault g c = grind (arith, common_steps)
-
-pub returns-in_err-response-clause-later : goal.returns-in_err-response-clause-later
-returns-in_err-response-clause-later g c = grind (arith, common_steps)
 
 pub returns-in_err-response-clause-beside : goal.returns-in_err-response-clause-beside
 returns-in_err-response-clause-beside g c = grind (arith, common_steps)
@@ -42,12 +33,6 @@ returns-in_err-count-clause-waits g c = grind (arith, common_steps)
 pub returns-in_err-count-clause-some : goal.returns-in_err-count-clause-some
 returns-in_err-count-clause-some g c = grind (arith, common_steps)
 
-pub returns-in_err-count-clause-fault : goal.returns-in_err-count-clause-fault
-returns-in_err-count-clause-fault g c = grind (arith, common_steps)
-
-pub returns-in_err-count-clause-later : goal.returns-in_err-count-clause-later
-returns-in_err-count-clause-later g c = grind (arith, common_steps)
-
 pub returns-in_err-count-clause-beside : goal.returns-in_err-count-clause-beside
 returns-in_err-count-clause-beside g c = grind (arith, common_steps)
 
@@ -56,12 +41,6 @@ returns-in_err-room-clause-due g c = grind (arith, common_steps)
 
 pub returns-in_err-room-clause-waits : goal.returns-in_err-room-clause-waits
 returns-in_err-room-clause-waits g c = grind (arith, common_steps)
-
-pub returns-in_err-room-clause-fault : goal.returns-in_err-room-clause-fault
-returns-in_err-room-clause-fault g c = grind (arith, common_steps)
-
-pub returns-in_err-room-clause-later : goal.returns-in_err-room-clause-later
-returns-in_err-room-clause-later g c = grind (arith, common_steps)
 
 pub returns-in_err-room-clause-beside : goal.returns-in_err-room-clause-beside
 returns-in_err-room-clause-beside g c = grind (arith, common_steps)
@@ -75,17 +54,8 @@ returns-in_err-bytes-clause-waits g c = grind (arith, common_steps)
 pub returns-in_err-bytes-clause-some : goal.returns-in_err-bytes-clause-some
 returns-in_err-bytes-clause-some g c = grind (arith, common_steps)
 
-pub returns-in_err-bytes-clause-fault : goal.returns-in_err-bytes-clause-fault
-returns-in_err-bytes-clause-fault g c = grind (arith, common_steps)
-
-pub returns-in_err-bytes-clause-later : goal.returns-in_err-bytes-clause-later
-returns-in_err-bytes-clause-later g c = grind (arith, common_steps)
-
 pub returns-in_err-bytes-clause-beside : goal.returns-in_err-bytes-clause-beside
 returns-in_err-bytes-clause-beside g c = grind (arith, common_steps)
-
-pub returns-clause-fault : goal.returns-clause-fault
-returns-clause-fault g c = grind (arith, common_steps)
 
 pub returns-clause-some : goal.returns-clause-some
 returns-clause-some g c = grind (arith, common_steps)

@@ -1,7 +1,6 @@
-use Rattle.std.proofs.Common.{arith}
-use Rattle.std.proofs.lemmas.Grind.{common_steps}
-use Rattle.std.proofs.Common.{ℕ, List, Option, sym, subst}
+use Rattle.std.proofs.Common.{ℕ, List, Option, Err, ap, sym, subst, ◌∙◌}
 use Rattle.md_base.specs.Streams.{Stream}
+use Rattle.md_base.specs.declared.failed.Failed.{Failed}
 use Rattle.md_http.specs.Served.{IsDue, ends, early}
 use Rattle.md_http.specs.Reading.{WasHeard}
 use Rattle.md_http.proofs.Servings.{served_of, cause_of, written_since, same_held, same_stream}
@@ -21,7 +20,7 @@ returns-in-Ok-clause-served g c = λ v is.
     let now = ends (g.C.Source.stream new) (g.C.Sink.held new) (g.C.Source.read_faults new) (g.C.Sink.write_faults new) in
     served_of v before now c.deref.result.now c.answer_link.result
     (subst (λ (told : Option Stream). IsDue v (g.C.Source.stream old) told c.deref.result.now) (sym left.0) due)
-    (written_since c.deref.result.now before now _ _ c.answer_link.result kept.0 kept.1 written.whole written.part written.fault written.read)
+    (written_since c.deref.result.now before now _ _ c.answer_link.result kept.0 kept.1 (left.1 ∙ c.in-Ok.ensures.cause.kept (λ e. cc e)) written.whole written.part written.fault written.well written.read)
 
 pub returns-in-Ok-clause-cause : goal.returns-in-Ok-clause-cause
 returns-in-Ok-clause-cause g c =
@@ -35,32 +34,32 @@ returns-in-Ok-clause-cause g c =
     let now = ends (g.C.Source.stream new) (g.C.Sink.held new) (g.C.Source.read_faults new) (g.C.Sink.write_faults new) in
     cause_of before now c.deref.result.now c.answer_link.result
     (subst (λ (told : Option Stream). WasHeard (g.C.Source.stream old) told) (sym left.0) c.in-Ok.ensures.heard)
-    (written_since c.deref.result.now before now _ _ c.answer_link.result kept.0 kept.1 written.whole written.part written.fault written.read)
-
-pub returns-in-Err-Device-clause-reads : goal.returns-in-Err-Device-clause-reads
-returns-in-Err-Device-clause-reads g c = grind (arith, common_steps)
-
-pub returns-in-Err-Device-clause-served : goal.returns-in-Err-Device-clause-served
-returns-in-Err-Device-clause-served g c = grind (arith, common_steps)
-
-pub returns-in-Err-Device-clause-writes : goal.returns-in-Err-Device-clause-writes
-returns-in-Err-Device-clause-writes g c = grind (arith, common_steps)
-
-pub returns-in-Err-NoMemory-clause-reads : goal.returns-in-Err-NoMemory-clause-reads
-returns-in-Err-NoMemory-clause-reads g c = grind (arith, common_steps)
+    (written_since c.deref.result.now before now _ _ c.answer_link.result kept.0 kept.1 (left.1 ∙ c.in-Ok.ensures.cause.kept (λ e. cc e)) written.whole written.part written.fault written.well written.read)
 
 pub returns-in-Err-NoMemory-clause-served : goal.returns-in-Err-NoMemory-clause-served
 returns-in-Err-NoMemory-clause-served g c = λ v is.
     let old = c.args.link.now in
     let heard = c.hear_link.new.link in
     let kept = same_held _ _ _ _ _ _ c.hear_link.ensures.beside (g.met.C.Link.reads_leave_the_sink old) (g.met.C.Link.reads_leave_the_sink heard) in
-    early (record { some = c.in-Err-NoMemory.ensures.some; unwritten = kept.0 })
+    early (record { some = c.in-Err-NoMemory.ensures.some; unwritten = kept.0 }) (c.in-Err-NoMemory.ensures.cause.kept (λ e. cc e), kept.1)
 
-pub returns-in-Err-NoMemory-clause-writes : goal.returns-in-Err-NoMemory-clause-writes
-returns-in-Err-NoMemory-clause-writes g c = grind (arith, common_steps)
+pub returns-in-Err-NoMemory-clause-cause : goal.returns-in-Err-NoMemory-clause-cause
+returns-in-Err-NoMemory-clause-cause g c =
+    let old = c.args.link.now in
+    let heard = c.hear_link.new.link in
+    let kept = same_held _ _ _ _ _ _ c.hear_link.ensures.beside (g.met.C.Link.reads_leave_the_sink old) (g.met.C.Link.reads_leave_the_sink heard) in
+    (c.in-Err-NoMemory.ensures.some, (c.in-Err-NoMemory.ensures.cause.kept (λ e. cc e), kept.1))
 
-pub returns-in-Ok-clause-reads : goal.returns-in-Ok-clause-reads
-returns-in-Ok-clause-reads g c = grind (arith, common_steps)
+pub returns-in-Err-Device-clause-served : goal.returns-in-Err-Device-clause-served
+returns-in-Err-Device-clause-served g c = λ v is.
+    let old = c.args.link.now in
+    let heard = c.hear_link.new.link in
+    let kept = same_held _ _ _ _ _ _ c.hear_link.ensures.beside (g.met.C.Link.reads_leave_the_sink old) (g.met.C.Link.reads_leave_the_sink heard) in
+    record { waits = c.in-Err-Device.ensures.waits (ap (λ (f : Failed). Err f) c.in-Err-Device.field-0-is); unwritten = kept.0; counts = (c.in-Err-Device.ensures.cause.raised (ap (λ (f : Failed). Err f) c.in-Err-Device.field-0-is), kept.1) }
 
-pub returns-in-Ok-clause-writes : goal.returns-in-Ok-clause-writes
-returns-in-Ok-clause-writes g c = grind (arith, common_steps)
+pub returns-in-Err-Device-clause-cause : goal.returns-in-Err-Device-clause-cause
+returns-in-Err-Device-clause-cause g c =
+    let old = c.args.link.now in
+    let heard = c.hear_link.new.link in
+    let kept = same_held _ _ _ _ _ _ c.hear_link.ensures.beside (g.met.C.Link.reads_leave_the_sink old) (g.met.C.Link.reads_leave_the_sink heard) in
+    record { waits = c.in-Err-Device.ensures.waits (ap (λ (f : Failed). Err f) c.in-Err-Device.field-0-is); unwritten = kept.0; counts = (c.in-Err-Device.ensures.cause.raised (ap (λ (f : Failed). Err f) c.in-Err-Device.field-0-is), kept.1) }

@@ -10,21 +10,15 @@ loop-link-preserved g c =
     record {
       within = omega (arith, more.within, c.requires.size, c.loop-link.auto.bytes);
       read = reads_more _ _ _ c.loop-link.bytes _ c.loop-link.count _ before.read more.front more.read c.if-more-eq0.false;
-      later = omega (arith, before.later, more.cause.later);
+      faults = more.cause.kept (λ is. cc is) ∙ before.faults;
       beside = more.beside ∙ before.beside;
     }
 
 pub returns-then-more-eq0-clause-beside : goal.returns-then-more-eq0-clause-beside
 returns-then-more-eq0-clause-beside g c = grind (arith, common_steps)
 
-pub returns-then-more-eq0-clause-fault : goal.returns-then-more-eq0-clause-fault
-returns-then-more-eq0-clause-fault g c = grind (arith, common_steps)
-
 pub returns-then-more-eq0-clause-heard : goal.returns-then-more-eq0-clause-heard
 returns-then-more-eq0-clause-heard g c = grind (arith, common_steps)
-
-pub returns-then-more-eq0-clause-later : goal.returns-then-more-eq0-clause-later
-returns-then-more-eq0-clause-later g c = grind (arith, common_steps)
 
 pub returns-then-more-eq0-clause-waits : goal.returns-then-more-eq0-clause-waits
 returns-then-more-eq0-clause-waits g c = grind (arith, common_steps)
@@ -35,14 +29,8 @@ returns-then-more-eq0-clause-within g c = grind (arith, common_steps)
 pub returns-clause-beside : goal.returns-clause-beside
 returns-clause-beside g c = grind (arith, common_steps)
 
-pub returns-clause-fault : goal.returns-clause-fault
-returns-clause-fault g c = grind (arith, common_steps)
-
 pub returns-clause-heard : goal.returns-clause-heard
 returns-clause-heard g c = grind (arith, common_steps)
-
-pub returns-clause-later : goal.returns-clause-later
-returns-clause-later g c = grind (arith, common_steps)
 
 pub returns-clause-waits : goal.returns-clause-waits
 returns-clause-waits g c = grind (arith, common_steps)

@@ -8,7 +8,7 @@ abbrev pub invariant-loop-link : goal.invariant-loop-link
 invariant-loop-link g l = record {
   within : l.count ≤ most_bytes;
   read : HasRead (g.C.Source.stream l.fn.link) (g.C.Source.stream l.link) (take l.count l.bytes) false;
-  later : g.C.Source.read_faults l.fn.link ≤ g.C.Source.read_faults l.link;
+  faults : g.C.Source.read_faults l.link ≡ g.C.Source.read_faults l.fn.link;
   beside : g.C.Source.sink_beside l.link ≡ g.C.Source.sink_beside l.fn.link;
 }
 

@@ -1,15 +1,15 @@
-use Rattle.std.proofs.Common.{arith}
+use Rattle.std.proofs.Common.{refl, ◌∙◌, arith}
 use Rattle.std.proofs.lemmas.Grind.{common_steps}
 use Rattle.md_http.proofs.Tallies.{served_none, served_more, served_enough, served_whole, served_some}
 use Rattle.md_http.proofs.serving.serve_connections.Goals as goal
 
 pub loop-tally-init : goal.loop-tally-init
 loop-tally-init g c = record {
-  bound = c.requires;
+  port = refl;
   within = omega arith;
   fewer = omega arith;
   so_far = λ v before is told. served_none v before _ told;
-  later = omega arith;
+  faults = refl;
 }
 
 pub loop-tally-preserved : goal.loop-tally-preserved
@@ -18,13 +18,13 @@ loop-tally-preserved g c =
     let next = c.serve_next.ensures in
     let more = c.counted-tally.ensures in
     record {
-      bound = next.stays;
+      port = next.stays ∙ so.port;
       within = omega (arith, more.connections, c.loop-tally-test.true);
       fewer = more.within;
       so_far = λ v before is told.
           served_more v before _ _ _ c.loop-tally.tally _ (so.so_far v before is told) (λ b net. rw c.in-Ok-Some.field-0-is at (c.in-Ok-Some.ensures.step v b is net)) (rw c.in-Ok-Some.field-0-is at c.in-Ok-Some.ensures.memory)
           (record { connections = more.connections; answered = more.answered; others = more.others });
-      later = omega (arith, so.later, next.later);
+      faults = next.cause.kept (λ is. cc is) ∙ so.faults;
     }
 
 pub returns-in-Ok-None-clause-served : goal.returns-in-Ok-None-clause-served
@@ -41,29 +41,11 @@ returns-clause-served g c = λ v before is told.
     let so = c.loop-tally.invariant in
     served_enough v before _ c.loop-tally.tally c.args.requests (so.so_far v before is told) so.within c.loop-tally-test.false
 
-pub returns-in-Err-clause-fault : goal.returns-in-Err-clause-fault
-returns-in-Err-clause-fault g c = grind (arith, common_steps)
-
-pub returns-in-Err-clause-later : goal.returns-in-Err-clause-later
-returns-in-Err-clause-later g c = grind (arith, common_steps)
-
 pub returns-in-Err-clause-stays : goal.returns-in-Err-clause-stays
 returns-in-Err-clause-stays g c = grind (arith, common_steps)
 
-pub returns-clause-fault : goal.returns-clause-fault
-returns-clause-fault g c = grind (arith, common_steps)
-
-pub returns-clause-later : goal.returns-clause-later
-returns-clause-later g c = grind (arith, common_steps)
-
 pub returns-clause-stays : goal.returns-clause-stays
 returns-clause-stays g c = grind (arith, common_steps)
-
-pub returns-in-Ok-None-clause-fault : goal.returns-in-Ok-None-clause-fault
-returns-in-Ok-None-clause-fault g c = grind (arith, common_steps)
-
-pub returns-in-Ok-None-clause-later : goal.returns-in-Ok-None-clause-later
-returns-in-Ok-None-clause-later g c = grind (arith, common_steps)
 
 pub returns-in-Ok-None-clause-stays : goal.returns-in-Ok-None-clause-stays
 returns-in-Ok-None-clause-stays g c = grind (arith, common_steps)

@@ -13,12 +13,6 @@ returns-in-Err-clause-step g c = λ v before is told.
     let came = rw c.in-Ok-Some.field-0-is at c.in-Ok-Some.ensures.first in
     step_refused v before _ _ _ _ _ c.in-Err.fault told came (λ b input kept stream held. c.in-Err.ensures.end v b input is kept stream held)
 
-pub returns-in-Err-Device-clause-fault : goal.returns-in-Err-Device-clause-fault
-returns-in-Err-Device-clause-fault g c = grind (arith, common_steps)
-
-pub returns-in-Err-Device-clause-later : goal.returns-in-Err-Device-clause-later
-returns-in-Err-Device-clause-later g c = grind (arith, common_steps)
-
 pub returns-in-Err-Device-clause-memory : goal.returns-in-Err-Device-clause-memory
 returns-in-Err-Device-clause-memory g c = grind (arith, common_steps)
 
@@ -27,12 +21,6 @@ returns-in-Err-Device-clause-stays g c = grind (arith, common_steps)
 
 pub returns-in-Err-Device-clause-step : goal.returns-in-Err-Device-clause-step
 returns-in-Err-Device-clause-step g c = grind (arith, common_steps)
-
-pub returns-in-Err-NoMemory-clause-fault : goal.returns-in-Err-NoMemory-clause-fault
-returns-in-Err-NoMemory-clause-fault g c = grind (arith, common_steps)
-
-pub returns-in-Err-NoMemory-clause-later : goal.returns-in-Err-NoMemory-clause-later
-returns-in-Err-NoMemory-clause-later g c = grind (arith, common_steps)
 
 pub returns-in-Err-NoMemory-clause-memory : goal.returns-in-Err-NoMemory-clause-memory
 returns-in-Err-NoMemory-clause-memory g c = grind (arith, common_steps)
@@ -43,12 +31,6 @@ returns-in-Err-NoMemory-clause-stays g c = grind (arith, common_steps)
 pub returns-in-Err-NoMemory-clause-step : goal.returns-in-Err-NoMemory-clause-step
 returns-in-Err-NoMemory-clause-step g c = grind (arith, common_steps)
 
-pub returns-in-Ok-None-clause-fault : goal.returns-in-Ok-None-clause-fault
-returns-in-Ok-None-clause-fault g c = grind (arith, common_steps)
-
-pub returns-in-Ok-None-clause-later : goal.returns-in-Ok-None-clause-later
-returns-in-Ok-None-clause-later g c = grind (arith, common_steps)
-
 pub returns-in-Ok-None-clause-memory : goal.returns-in-Ok-None-clause-memory
 returns-in-Ok-None-clause-memory g c = grind (arith, common_steps)
 
@@ -58,32 +40,17 @@ returns-in-Ok-None-clause-stays g c = grind (arith, common_steps)
 pub returns-in-Ok-None-clause-step : goal.returns-in-Ok-None-clause-step
 returns-in-Ok-None-clause-step g c = grind (arith, common_steps)
 
-pub returns-in-Ok-clause-fault : goal.returns-in-Ok-clause-fault
-returns-in-Ok-clause-fault g c = grind (arith, common_steps)
-
-pub returns-in-Ok-clause-later : goal.returns-in-Ok-clause-later
-returns-in-Ok-clause-later g c = grind (arith, common_steps)
-
 pub returns-in-Ok-clause-memory : goal.returns-in-Ok-clause-memory
 returns-in-Ok-clause-memory g c = grind (arith, common_steps)
 
 pub returns-in-Ok-clause-stays : goal.returns-in-Ok-clause-stays
 returns-in-Ok-clause-stays g c = grind (arith, common_steps)
 
-pub returns-in-Err-clause-fault : goal.returns-in-Err-clause-fault
-returns-in-Err-clause-fault g c = grind (arith, common_steps)
-
-pub returns-in-Err-clause-later : goal.returns-in-Err-clause-later
-returns-in-Err-clause-later g c = grind (arith, common_steps)
-
 pub returns-in-Err-clause-memory : goal.returns-in-Err-clause-memory
 returns-in-Err-clause-memory g c = grind (arith, common_steps)
 
 pub returns-in-Err-clause-stays : goal.returns-in-Err-clause-stays
 returns-in-Err-clause-stays g c = grind (arith, common_steps)
-
-pub serve_one-requires-clause-bound : goal.serve_one-requires-clause-bound
-serve_one-requires-clause-bound g c = grind (arith, common_steps)
 
 pub serve_one-requires-clause-reads : goal.serve_one-requires-clause-reads
 serve_one-requires-clause-reads g c = grind (arith, common_steps)

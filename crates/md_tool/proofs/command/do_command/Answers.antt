@@ -1,18 +1,19 @@
 use Rattle.std.proofs.Common.{sym, subst, Some, arith}
 use Rattle.std.proofs.lemmas.Grind.{common_steps}
 use Rattle.md_base.specs.Outside.{Rose}
+use Rattle.md_tool.specs.Served.{net_side}
 use Rattle.md_query.specs.Told.{asked}
 use Rattle.md_commands.specs.declared.command.Command.{Command}
 use Rattle.md_commands.specs.Told.{meant, told, texts}
 use Rattle.md_tool.specs.Told.{TopEnds}
 use Rattle.md_tool.proofs.SumLemmas.{as_many_texts}
-use Rattle.md_tool.proofs.TopLemmas.{report_told, cover_told, gen_told, sum_told, compare_told}
+use Rattle.md_tool.proofs.TopLemmas.{report_told, cover_told, gen_told, serve_told, sum_told, compare_told}
 use Rattle.md_tool.proofs.command.do_command.Goals as goal
 
 pub returns-in-Report-clause-ends : goal.returns-in-Report-clause-ends
 returns-in-Report-clause-ends g c =
     subst
-    (λ (x : Command). TopEnds (Some (told x)) (g.S.Store.held c.args.store.now) (g.S.Store.held c.report_file-end.new.store) (g.N.Net.connections c.args.net.now) (g.N.Net.connections c.args.net.now) (g.O.Sink.held c.args.out.now) (g.O.Sink.held c.report_file-end.new.out)
+    (λ (x : Command). TopEnds (Some (told x)) (g.S.Store.held c.args.store.now) (g.S.Store.held c.report_file-end.new.store) (net_side (g.N.Net.connections c.args.net.now) (g.N.Net.listens_at c.args.net.now)) (net_side (g.N.Net.connections c.args.net.now) (g.N.Net.listens_at c.args.net.now)) (g.O.Sink.held c.args.out.now) (g.O.Sink.held c.report_file-end.new.out)
     (g.E.Sink.held c.args.err.now) (g.E.Sink.held c.tell_end-in-Report.new.err)
     (Rose (g.S.Store.read_faults c.args.store.now) (g.S.Store.read_faults c.report_file-end.new.store))
     (Rose (g.S.Store.write_faults c.args.store.now) (g.S.Store.write_faults c.report_file-end.new.store))
@@ -20,7 +21,7 @@ returns-in-Report-clause-ends g c =
     (Rose (g.E.Sink.write_faults c.args.err.now) (g.E.Sink.write_faults c.tell_end-in-Report.new.err))
     (Rose (g.N.Net.faults c.args.net.now) (g.N.Net.faults c.args.net.now)) c.tell_end-in-Report.result)
     (sym c.in-Report.is)
-    (report_told (g.S.Store.held c.args.store.now) (g.S.Store.held c.report_file-end.new.store) (g.N.Net.connections c.args.net.now) (g.N.Net.connections c.args.net.now) c.in-Report.file.now (asked c.in-Report.query) c.in-Report.steps
+    (report_told (g.S.Store.held c.args.store.now) (g.S.Store.held c.report_file-end.new.store) (net_side (g.N.Net.connections c.args.net.now) (g.N.Net.listens_at c.args.net.now)) (net_side (g.N.Net.connections c.args.net.now) (g.N.Net.listens_at c.args.net.now)) c.in-Report.file.now (asked c.in-Report.query) c.in-Report.steps
     (g.O.Sink.held c.args.out.now) (g.O.Sink.held c.report_file-end.new.out)
     (g.E.Sink.held c.args.err.now) (g.E.Sink.held c.report_file-end.new.err) (g.E.Sink.held c.tell_end-in-Report.new.err)
     (Rose (g.S.Store.read_faults c.args.store.now) (g.S.Store.read_faults c.report_file-end.new.store))
@@ -34,7 +35,7 @@ returns-in-Report-clause-ends g c =
 pub returns-in-Cover-clause-ends : goal.returns-in-Cover-clause-ends
 returns-in-Cover-clause-ends g c =
     subst
-    (λ (x : Command). TopEnds (Some (told x)) (g.S.Store.held c.args.store.now) (g.S.Store.held c.cover_file-end.new.store) (g.N.Net.connections c.args.net.now) (g.N.Net.connections c.args.net.now) (g.O.Sink.held c.args.out.now) (g.O.Sink.held c.cover_file-end.new.out)
+    (λ (x : Command). TopEnds (Some (told x)) (g.S.Store.held c.args.store.now) (g.S.Store.held c.cover_file-end.new.store) (net_side (g.N.Net.connections c.args.net.now) (g.N.Net.listens_at c.args.net.now)) (net_side (g.N.Net.connections c.args.net.now) (g.N.Net.listens_at c.args.net.now)) (g.O.Sink.held c.args.out.now) (g.O.Sink.held c.cover_file-end.new.out)
     (g.E.Sink.held c.args.err.now) (g.E.Sink.held c.tell_end-in-Cover.new.err)
     (Rose (g.S.Store.read_faults c.args.store.now) (g.S.Store.read_faults c.cover_file-end.new.store))
     (Rose (g.S.Store.write_faults c.args.store.now) (g.S.Store.write_faults c.cover_file-end.new.store))
@@ -42,7 +43,7 @@ returns-in-Cover-clause-ends g c =
     (Rose (g.E.Sink.write_faults c.args.err.now) (g.E.Sink.write_faults c.tell_end-in-Cover.new.err))
     (Rose (g.N.Net.faults c.args.net.now) (g.N.Net.faults c.args.net.now)) c.tell_end-in-Cover.result)
     (sym c.in-Cover.is)
-    (cover_told (g.S.Store.held c.args.store.now) (g.S.Store.held c.cover_file-end.new.store) (g.N.Net.connections c.args.net.now) (g.N.Net.connections c.args.net.now) c.in-Cover.file.now (meant c.in-Cover.proc) c.in-Cover.steps
+    (cover_told (g.S.Store.held c.args.store.now) (g.S.Store.held c.cover_file-end.new.store) (net_side (g.N.Net.connections c.args.net.now) (g.N.Net.listens_at c.args.net.now)) (net_side (g.N.Net.connections c.args.net.now) (g.N.Net.listens_at c.args.net.now)) c.in-Cover.file.now (meant c.in-Cover.proc) c.in-Cover.steps
     (g.O.Sink.held c.args.out.now) (g.O.Sink.held c.cover_file-end.new.out)
     (g.E.Sink.held c.args.err.now) (g.E.Sink.held c.cover_file-end.new.err) (g.E.Sink.held c.tell_end-in-Cover.new.err)
     (Rose (g.S.Store.read_faults c.args.store.now) (g.S.Store.read_faults c.cover_file-end.new.store))
@@ -56,7 +57,7 @@ returns-in-Cover-clause-ends g c =
 pub returns-in-Gen-clause-ends : goal.returns-in-Gen-clause-ends
 returns-in-Gen-clause-ends g c =
     subst
-    (λ (x : Command). TopEnds (Some (told x)) (g.S.Store.held c.args.store.now) (g.S.Store.held c.args.store.now) (g.N.Net.connections c.args.net.now) (g.N.Net.connections c.args.net.now) (g.O.Sink.held c.args.out.now) (g.O.Sink.held c.generate-end.new.out)
+    (λ (x : Command). TopEnds (Some (told x)) (g.S.Store.held c.args.store.now) (g.S.Store.held c.args.store.now) (net_side (g.N.Net.connections c.args.net.now) (g.N.Net.listens_at c.args.net.now)) (net_side (g.N.Net.connections c.args.net.now) (g.N.Net.listens_at c.args.net.now)) (g.O.Sink.held c.args.out.now) (g.O.Sink.held c.generate-end.new.out)
     (g.E.Sink.held c.args.err.now) (g.E.Sink.held c.tell_end-in-Gen.new.err)
     (Rose (g.S.Store.read_faults c.args.store.now) (g.S.Store.read_faults c.args.store.now))
     (Rose (g.S.Store.write_faults c.args.store.now) (g.S.Store.write_faults c.args.store.now))
@@ -64,7 +65,7 @@ returns-in-Gen-clause-ends g c =
     (Rose (g.E.Sink.write_faults c.args.err.now) (g.E.Sink.write_faults c.tell_end-in-Gen.new.err))
     (Rose (g.N.Net.faults c.args.net.now) (g.N.Net.faults c.args.net.now)) c.tell_end-in-Gen.result)
     (sym c.in-Gen.is)
-    (gen_told (g.S.Store.held c.args.store.now) (g.N.Net.connections c.args.net.now) (g.N.Net.connections c.args.net.now) c.in-Gen.n c.in-Gen.summary (g.O.Sink.held c.args.out.now) (g.O.Sink.held c.generate-end.new.out)
+    (gen_told (g.S.Store.held c.args.store.now) (net_side (g.N.Net.connections c.args.net.now) (g.N.Net.listens_at c.args.net.now)) (net_side (g.N.Net.connections c.args.net.now) (g.N.Net.listens_at c.args.net.now)) c.in-Gen.n c.in-Gen.summary (g.O.Sink.held c.args.out.now) (g.O.Sink.held c.generate-end.new.out)
     (g.E.Sink.held c.args.err.now) (g.E.Sink.held c.tell_end-in-Gen.new.err)
     (Rose (g.S.Store.read_faults c.args.store.now) (g.S.Store.read_faults c.args.store.now))
     (Rose (g.S.Store.write_faults c.args.store.now) (g.S.Store.write_faults c.args.store.now))
@@ -80,7 +81,7 @@ do_sum-requires-clause-few g c =
 pub returns-in-Sum-clause-ends : goal.returns-in-Sum-clause-ends
 returns-in-Sum-clause-ends g c =
     subst
-    (λ (x : Command). TopEnds (Some (told x)) (g.S.Store.held c.args.store.now) (g.S.Store.held c.do_sum.new.store) (g.N.Net.connections c.args.net.now) (g.N.Net.connections c.args.net.now)
+    (λ (x : Command). TopEnds (Some (told x)) (g.S.Store.held c.args.store.now) (g.S.Store.held c.do_sum.new.store) (net_side (g.N.Net.connections c.args.net.now) (g.N.Net.listens_at c.args.net.now)) (net_side (g.N.Net.connections c.args.net.now) (g.N.Net.listens_at c.args.net.now))
     (g.O.Sink.held c.args.out.now) (g.O.Sink.held c.do_sum.new.out) (g.E.Sink.held c.args.err.now) (g.E.Sink.held c.do_sum.new.err)
     (Rose (g.S.Store.read_faults c.args.store.now) (g.S.Store.read_faults c.do_sum.new.store))
     (Rose (g.S.Store.write_faults c.args.store.now) (g.S.Store.write_faults c.do_sum.new.store))
@@ -89,7 +90,7 @@ returns-in-Sum-clause-ends g c =
     (Rose (g.N.Net.faults c.args.net.now) (g.N.Net.faults c.args.net.now)) c.do_sum.result)
     (sym c.in-Sum.is)
     (let ends = rw c.deref.ensures.value at c.do_sum.ensures.ends in
-    sum_told (g.S.Store.held c.args.store.now) (g.S.Store.held c.do_sum.new.store) (g.N.Net.connections c.args.net.now) (g.N.Net.connections c.args.net.now) (texts c.in-Sum.names.items) ends.1
+    sum_told (g.S.Store.held c.args.store.now) (g.S.Store.held c.do_sum.new.store) (net_side (g.N.Net.connections c.args.net.now) (g.N.Net.listens_at c.args.net.now)) (net_side (g.N.Net.connections c.args.net.now) (g.N.Net.listens_at c.args.net.now)) (texts c.in-Sum.names.items) ends.1
     (g.O.Sink.held c.args.out.now) (g.O.Sink.held c.do_sum.new.out) (g.E.Sink.held c.args.err.now) (g.E.Sink.held c.do_sum.new.err)
     (Rose (g.S.Store.read_faults c.args.store.now) (g.S.Store.read_faults c.do_sum.new.store))
     (Rose (g.S.Store.write_faults c.args.store.now) (g.S.Store.write_faults c.do_sum.new.store))
@@ -100,7 +101,7 @@ returns-in-Sum-clause-ends g c =
 pub returns-in-Compare-clause-ends : goal.returns-in-Compare-clause-ends
 returns-in-Compare-clause-ends g c =
     subst
-    (λ (x : Command). TopEnds (Some (told x)) (g.S.Store.held c.args.store.now) (g.S.Store.held c.do_compare.new.store) (g.N.Net.connections c.args.net.now) (g.N.Net.connections c.args.net.now)
+    (λ (x : Command). TopEnds (Some (told x)) (g.S.Store.held c.args.store.now) (g.S.Store.held c.do_compare.new.store) (net_side (g.N.Net.connections c.args.net.now) (g.N.Net.listens_at c.args.net.now)) (net_side (g.N.Net.connections c.args.net.now) (g.N.Net.listens_at c.args.net.now))
     (g.O.Sink.held c.args.out.now) (g.O.Sink.held c.do_compare.new.out) (g.E.Sink.held c.args.err.now) (g.E.Sink.held c.do_compare.new.err)
     (Rose (g.S.Store.read_faults c.args.store.now) (g.S.Store.read_faults c.do_compare.new.store))
     (Rose (g.S.Store.write_faults c.args.store.now) (g.S.Store.write_faults c.do_compare.new.store))
@@ -109,7 +110,7 @@ returns-in-Compare-clause-ends g c =
     (Rose (g.N.Net.faults c.args.net.now) (g.N.Net.faults c.args.net.now)) c.do_compare.result)
     (sym c.in-Compare.is)
     (let ends = c.do_compare.ensures.ends in
-    compare_told (g.S.Store.held c.args.store.now) (g.S.Store.held c.do_compare.new.store) (g.N.Net.connections c.args.net.now) (g.N.Net.connections c.args.net.now) c.in-Compare.old.now c.in-Compare.new.now c.in-Compare.by c.in-Compare.least ends.1
+    compare_told (g.S.Store.held c.args.store.now) (g.S.Store.held c.do_compare.new.store) (net_side (g.N.Net.connections c.args.net.now) (g.N.Net.listens_at c.args.net.now)) (net_side (g.N.Net.connections c.args.net.now) (g.N.Net.listens_at c.args.net.now)) c.in-Compare.old.now c.in-Compare.new.now c.in-Compare.by c.in-Compare.least ends.1
     (g.O.Sink.held c.args.out.now) (g.O.Sink.held c.do_compare.new.out) (g.E.Sink.held c.args.err.now) (g.E.Sink.held c.do_compare.new.err)
     (Rose (g.S.Store.read_faults c.args.store.now) (g.S.Store.read_faults c.do_compare.new.store))
     (Rose (g.S.Store.write_faults c.args.store.now) (g.S.Store.write_faults c.do_compare.new.store))
@@ -148,7 +149,23 @@ pub returns-in-Page-clause-net : goal.returns-in-Page-clause-net
 returns-in-Page-clause-net g c = grind (arith, common_steps)
 
 pub returns-in-Serve-clause-ends : goal.returns-in-Serve-clause-ends
-returns-in-Serve-clause-ends g c = grind (arith, common_steps)
+returns-in-Serve-clause-ends g c =
+    subst
+    (λ (x : Command). TopEnds (Some (told x)) (g.S.Store.held c.args.store.now) (g.S.Store.held c.serve_file-end.new.store) (net_side (g.N.Net.connections c.args.net.now) (g.N.Net.listens_at c.args.net.now)) (net_side (g.N.Net.connections c.serve_file-end.new.net) (g.N.Net.listens_at c.serve_file-end.new.net))
+    (g.O.Sink.held c.args.out.now) (g.O.Sink.held c.serve_file-end.new.out) (g.E.Sink.held c.args.err.now) (g.E.Sink.held c.tell_end-in-Serve.new.err)
+    (Rose (g.S.Store.read_faults c.args.store.now) (g.S.Store.read_faults c.serve_file-end.new.store))
+    (Rose (g.S.Store.write_faults c.args.store.now) (g.S.Store.write_faults c.serve_file-end.new.store))
+    (Rose (g.O.Sink.write_faults c.args.out.now) (g.O.Sink.write_faults c.serve_file-end.new.out))
+    (Rose (g.E.Sink.write_faults c.args.err.now) (g.E.Sink.write_faults c.tell_end-in-Serve.new.err))
+    (Rose (g.N.Net.faults c.args.net.now) (g.N.Net.faults c.serve_file-end.new.net)) c.tell_end-in-Serve.result)
+    (sym c.in-Serve.is)
+    (serve_told (g.S.Store.held c.args.store.now) (g.S.Store.held c.serve_file-end.new.store) (net_side (g.N.Net.connections c.args.net.now) (g.N.Net.listens_at c.args.net.now)) (net_side (g.N.Net.connections c.serve_file-end.new.net) (g.N.Net.listens_at c.serve_file-end.new.net)) c.in-Serve.name.now c.in-Serve.port c.in-Serve.requests
+    (g.O.Sink.held c.args.out.now) (g.O.Sink.held c.serve_file-end.new.out) (g.E.Sink.held c.args.err.now) (g.E.Sink.held c.tell_end-in-Serve.new.err)
+    (Rose (g.S.Store.read_faults c.args.store.now) (g.S.Store.read_faults c.serve_file-end.new.store))
+    (Rose (g.S.Store.write_faults c.args.store.now) (g.S.Store.write_faults c.serve_file-end.new.store))
+    (Rose (g.O.Sink.write_faults c.args.out.now) (g.O.Sink.write_faults c.serve_file-end.new.out))
+    (Rose (g.E.Sink.write_faults c.args.err.now) (g.E.Sink.write_faults c.tell_end-in-Serve.new.err))
+    (Rose (g.N.Net.faults c.args.net.now) (g.N.Net.faults c.serve_file-end.new.net)) c.tell_end-in-Serve.result c.serve_file-end.result c.serve_file-end.ensures.ends c.serve_file-end.ensures.kept c.tell_end-in-Serve.ensures.told)
 
 pub returns-in-Serve-clause-net : goal.returns-in-Serve-clause-net
 returns-in-Serve-clause-net g c = grind (arith, common_steps)

@@ -1,6 +1,7 @@
 use Rattle.std.proofs.Common.{sym, ap, ◌∙◌, arith}
 use Rattle.std.proofs.lemmas.Grind.{common_steps}
 use Rattle.md_base.specs.Outside.{Rose}
+use Rattle.md_tool.specs.Served.{net_side}
 use Rattle.md_commands.specs.Form.{words_of, form}
 use Rattle.md_commands.specs.Told.{command_told}
 use Rattle.md_tool.proofs.TopLemmas.{usage_told, memory_told}
@@ -8,7 +9,7 @@ use Rattle.md_tool.proofs.command.run_command.Goals as goal
 
 pub returns-in-Err-clause-ends : goal.returns-in-Err-clause-ends
 returns-in-Err-clause-ends g c =
-    memory_told (form (words_of c.args.words.now)) (g.S.Store.held c.args.store.now) (g.N.Net.connections c.args.net.now) (g.O.Sink.held c.args.out.now) (g.E.Sink.held c.args.err.now) (g.E.Sink.held c.tell.new.err)
+    memory_told (form (words_of c.args.words.now)) (g.S.Store.held c.args.store.now) (net_side (g.N.Net.connections c.args.net.now) (g.N.Net.listens_at c.args.net.now)) (g.O.Sink.held c.args.out.now) (g.E.Sink.held c.args.err.now) (g.E.Sink.held c.tell.new.err)
     (Rose (g.S.Store.read_faults c.args.store.now) (g.S.Store.read_faults c.args.store.now))
     (Rose (g.S.Store.write_faults c.args.store.now) (g.S.Store.write_faults c.args.store.now))
     (Rose (g.O.Sink.write_faults c.args.out.now) (g.O.Sink.write_faults c.args.out.now))
@@ -17,7 +18,7 @@ returns-in-Err-clause-ends g c =
 
 pub returns-in-Ok-None-clause-ends : goal.returns-in-Ok-None-clause-ends
 returns-in-Ok-None-clause-ends g c =
-    usage_told (form (words_of c.args.words.now)) (g.S.Store.held c.args.store.now) (g.N.Net.connections c.args.net.now) (g.O.Sink.held c.args.out.now) (g.E.Sink.held c.args.err.now) (g.E.Sink.held c.tell-in-Ok-None.new.err)
+    usage_told (form (words_of c.args.words.now)) (g.S.Store.held c.args.store.now) (net_side (g.N.Net.connections c.args.net.now) (g.N.Net.listens_at c.args.net.now)) (g.O.Sink.held c.args.out.now) (g.E.Sink.held c.args.err.now) (g.E.Sink.held c.tell-in-Ok-None.new.err)
     (Rose (g.S.Store.read_faults c.args.store.now) (g.S.Store.read_faults c.args.store.now))
     (Rose (g.S.Store.write_faults c.args.store.now) (g.S.Store.write_faults c.args.store.now))
     (Rose (g.O.Sink.write_faults c.args.out.now) (g.O.Sink.write_faults c.args.out.now))

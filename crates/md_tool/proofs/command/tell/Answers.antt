@@ -3,6 +3,7 @@ use Rattle.std.proofs.lemmas.Grind.{common_steps}
 use Rattle.std.specs.Prelude.{Err}
 use Rattle.md_base.specs.declared.files.WriteFault.{WriteFault}
 use Rattle.md_base.specs.Outside.{Rose}
+use Rattle.md_base.proofs.Told.{rose_at}
 use Rattle.md_tool.proofs.TopLemmas.{untold, told_whole, told_until, told_short}
 use Rattle.md_tool.proofs.command.tell.Goals as goal
 
@@ -20,7 +21,7 @@ pub returns-in-Err-Write-clause-told : goal.returns-in-Err-Write-clause-told
 returns-in-Err-Write-clause-told g c =
     told_until c.args.fault.now c.args.file.now c.deref.result.now (g.E.Sink.held c.args.err.now) (g.E.Sink.held c.write_whole.new.sink)
     (Rose (g.E.Sink.write_faults c.args.err.now) (g.E.Sink.write_faults c.write_whole.new.sink)) c.status-in-Err-Write.result
-    (c.deref.ensures.value ∙ c.in-Ok.ensures) c.status-in-Err-Write.ensures c.in-Err-Write.ensures.part (c.in-Err-Write.ensures.write (ap (λ (fault : WriteFault). Err fault) c.in-Err-Write.field-0-is))
+    (c.deref.ensures.value ∙ c.in-Ok.ensures) c.status-in-Err-Write.ensures c.in-Err-Write.ensures.part (rose_at _ _ _ _ c.in-Err-Write.ensures.cause (ap (λ (fault : WriteFault). Err fault) c.in-Err-Write.field-0-is))
 
 pub returns-clause-told : goal.returns-clause-told
 returns-clause-told g c =

@@ -11,9 +11,6 @@ returns-in_default-clause-first c = grind (arith, common_steps)
 pub returns-in_default-clause-kept : goal.returns-in_default-clause-kept
 returns-in_default-clause-kept c = grind (arith, common_steps)
 
-pub returns-in_default-clause-no_faults : goal.returns-in_default-clause-no_faults
-returns-in_default-clause-no_faults c = grind (arith, common_steps)
-
 pub returns-in_default-clause-none : goal.returns-in_default-clause-none
 returns-in_default-clause-none c = grind (arith, common_steps)
 
@@ -31,9 +28,6 @@ returns-clause-first c = grind (arith, common_steps)
 
 pub returns-clause-kept : goal.returns-clause-kept
 returns-clause-kept c = grind (arith, common_steps)
-
-pub returns-clause-no_faults : goal.returns-clause-no_faults
-returns-clause-no_faults c = grind (arith, common_steps)
 
 pub returns-clause-none : goal.returns-clause-none
 returns-clause-none c = grind (arith, common_steps)

@@ -11,12 +11,6 @@ returns-then-is_due-clause-cause c = grind (arith, common_steps)
 pub returns-then-is_due-clause-counted : goal.returns-then-is_due-clause-counted
 returns-then-is_due-clause-counted c = grind (arith, common_steps)
 
-pub returns-then-is_due-clause-due : goal.returns-then-is_due-clause-due
-returns-then-is_due-clause-due c = grind (arith, common_steps)
-
-pub returns-then-is_due-clause-few : goal.returns-then-is_due-clause-few
-returns-then-is_due-clause-few c = grind (arith, common_steps)
-
 pub returns-then-is_due-clause-kept : goal.returns-then-is_due-clause-kept
 returns-then-is_due-clause-kept c = grind (arith, common_steps)
 
@@ -35,15 +29,6 @@ returns-in-None-clause-cause c = grind (arith, common_steps)
 pub returns-in-None-clause-counted : goal.returns-in-None-clause-counted
 returns-in-None-clause-counted c = grind (arith, common_steps)
 
-pub returns-in-None-clause-device : goal.returns-in-None-clause-device
-returns-in-None-clause-device c = grind (arith, common_steps)
-
-pub returns-in-None-clause-due : goal.returns-in-None-clause-due
-returns-in-None-clause-due c = grind (arith, common_steps)
-
-pub returns-in-None-clause-few : goal.returns-in-None-clause-few
-returns-in-None-clause-few c = grind (arith, common_steps)
-
 pub returns-in-None-clause-kept : goal.returns-in-None-clause-kept
 returns-in-None-clause-kept c = grind (arith, common_steps)
 
@@ -61,15 +46,6 @@ returns-in-Some-clause-cause c = grind (arith, common_steps)
 
 pub returns-in-Some-clause-counted : goal.returns-in-Some-clause-counted
 returns-in-Some-clause-counted c = grind (arith, common_steps)
-
-pub returns-in-Some-clause-device : goal.returns-in-Some-clause-device
-returns-in-Some-clause-device c = grind (arith, common_steps)
-
-pub returns-in-Some-clause-due : goal.returns-in-Some-clause-due
-returns-in-Some-clause-due c = grind (arith, common_steps)
-
-pub returns-in-Some-clause-few : goal.returns-in-Some-clause-few
-returns-in-Some-clause-few c = grind (arith, common_steps)
 
 pub returns-in-Some-clause-kept : goal.returns-in-Some-clause-kept
 returns-in-Some-clause-kept c = grind (arith, common_steps)
