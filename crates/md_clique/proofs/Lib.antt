@@ -22,3 +22,4 @@ pub mod Coming
 pub mod EnteredOnce
 pub mod StationPaths
 pub mod OneNumbering
+pub mod Singles

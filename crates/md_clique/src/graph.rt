@@ -1,5 +1,6 @@
 // The cliques of a graph that is given by its links.
-ghost use Rattle.std.specs.Prelude.{◌<◌, All, IfOk};
+ghost use Rattle.std.specs.Prelude.{◌<◌, ◌≤◌, ◌≡◌, ℕ, List, All, IfOk, IsTrue};
+ghost use Rattle.std.specs.List.{range_with_len};
 ghost use Rattle.md_trace.specs.Cliques.{AreCliques};
 
 use crate::clique::Cliques;
@@ -11,15 +12,46 @@ use std::alloc::Global;
 
 /// The cliques of the graph of these nodes and links, each link a pair of the node where it starts and the one where
 /// it ends: two nodes are in one clique where each reaches the other over zero or more links. Cliques are numbered
-/// from 0 in the order of their least nodes. It takes time and memory that grow with nodes and links together, by
-/// path-based search (Gabow 2000) with a stack of its own.
+/// from 0 in the order of their least nodes. It takes time and memory that grow with nodes and links together: where no
+/// link leads to a lower node, each node is a clique by itself; other graphs are searched by paths (Gabow 2000), with a
+/// stack of its own.
 pub fn cliques(alloc: Global, nodes: u32, links: &[(u32, u32)]) -> Result<Cliques, NoMemory>
     requires { All (λ link. (link.0 < nodes) × (link.1 < nodes)) links.now }
     ensures { IfOk result (λ cliques. AreCliques nodes links.now cliques) }
 {
+    if lead_up(links) {
+        return single_cliques(alloc, nodes);
+    }
     let Classes { states, count } = find_classes(alloc, nodes, links)?;
     let Numbering { numbers, count } = number_classes(alloc, &states, count)?;
     drop(states);
     let Layout { order, starts } = lay_out(alloc, &numbers, count)?;
     Ok(Cliques::from_parts(numbers, count, order, starts))
+}
+
+/// The cliques of a graph of so many nodes where no link leads to a lower node: each node is one by itself.
+pub fn single_cliques(alloc: Global, nodes: u32) -> Result<Cliques, NoMemory>
+    ensures { (links : List (ℕ × ℕ)) → All (λ link. link.0 ≤ link.1) links → IfOk result (λ cliques. AreCliques nodes links cliques) }
+{
+    let numbers = numbers_below(alloc, nodes)?;
+    let Layout { order, starts } = lay_out(alloc, &numbers, nodes)?;
+    Ok(Cliques::from_parts(numbers, nodes, order, starts))
+}
+
+/// The numbers below `count`.
+fn numbers_below(alloc: Global, count: u32) -> Result<Vec<u32>, NoMemory>
+    ensures { IfOk result (λ numbers. numbers.items ≡ range_with_len 0 count) }
+{
+    let mut numbers = Vec::with_capacity(alloc, count as usize)?;
+    for number in 0..count {
+        numbers.push(number)?;
+    }
+    Ok(numbers)
+}
+
+/// Whether no link leads to a lower node.
+fn lead_up(links: &[(u32, u32)]) -> bool
+    ensures { IsTrue result → All (λ link. link.0 ≤ link.1) links.now }
+{
+    links.iter().all(|link| link.0 <= link.1)
 }
