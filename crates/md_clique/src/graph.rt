@@ -25,7 +25,7 @@ pub fn cliques(alloc: Global, nodes: u32, links: &[(u32, u32)]) -> Result<Clique
     let Classes { states, count } = find_classes(alloc, nodes, links)?;
     let Numbering { numbers, count } = number_classes(alloc, &states, count)?;
     drop(states);
-    let Layout { order, starts } = lay_out(alloc, &numbers, count)?;
+    let Layout { order, starts } = lay_out(alloc, &numbers, count as usize)?;
     Ok(Cliques::from_parts(numbers, count, order, starts))
 }
 
@@ -34,7 +34,7 @@ pub fn single_cliques(alloc: Global, nodes: u32) -> Result<Cliques, NoMemory>
     ensures { (links : List (ℕ × ℕ)) → All (λ link. link.0 ≤ link.1) links → IfOk result (λ cliques. AreCliques nodes links cliques) }
 {
     let numbers = numbers_below(alloc, nodes)?;
-    let Layout { order, starts } = lay_out(alloc, &numbers, nodes)?;
+    let Layout { order, starts } = lay_out(alloc, &numbers, nodes as usize)?;
     Ok(Cliques::from_parts(numbers, nodes, order, starts))
 }
 
