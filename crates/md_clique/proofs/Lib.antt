@@ -10,7 +10,6 @@ pub mod Looking
 pub mod Close
 pub mod Classes
 pub mod Naming
-pub mod Chains
 pub mod Sizes
 pub mod Placing
 pub mod EntryPlaces

@@ -1,4 +1,4 @@
-use Rattle.std.proofs.Common.{None, arith}
+use Rattle.std.proofs.Common.{None}
 use Rattle.std.proofs.lemmas.Option.{slice_get-get_or}
 use Rattle.md_clique.proofs.entries.entering.Goals as goal
 

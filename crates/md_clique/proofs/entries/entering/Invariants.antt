@@ -1,5 +1,3 @@
-use Rattle.std.proofs.Common.{◌≡◌, length}
-use Rattle.md_clique.specs.Cliques.{clique_count}
 use Rattle.md_clique.specs.Found.{AreFound}
 use Rattle.md_clique.proofs.entries.entering.Given as goal
 

@@ -1,8 +1,8 @@
-use Rattle.std.proofs.Common.{◌≡◌, ◌<◌, [], true, false, length, get_or, sym, ap, ◌∙◌, arith}
+use Rattle.std.proofs.Common.{◌≡◌, ◌<◌, [], true, get_or, sym, ap, ◌∙◌, arith}
 use Rattle.std.proofs.lemmas.List.{get_or_read}
 use Rattle.md_clique.specs.Cliques.{clique_count}
 use Rattle.md_clique.specs.Entries.{is_outside}
-use Rattle.md_clique.specs.Found.{first_of, is_lower}
+use Rattle.md_clique.specs.Found.{first_of}
 use Rattle.md_clique.proofs.Naming.{lt_clique_count}
 use Rattle.md_clique.proofs.EntryPlaces.{found_inside, found_first, found_higher, found_lower, is_none, old}
 use Rattle.md_clique.proofs.entries.Entrances.add.Goals as goal

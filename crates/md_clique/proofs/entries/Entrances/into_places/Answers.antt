@@ -1,6 +1,3 @@
-use Rattle.std.proofs.Common.{Option}
-use Rattle.md_clique.specs.declared.entries.Twice.{Twice}
-use Rattle.md_clique.specs.Found.{AreFound}
 use Rattle.md_clique.proofs.EntryPlaces.{found_all, found_twice}
 use Rattle.md_clique.proofs.entries.Entrances.into_places.Goals as goal
 
