@@ -1,9 +1,9 @@
 -- The sum of one context more.
-use Rattle.std.proofs.Common.{◌≡◌, ℕ, ◌+◌, ◌*◌, ◌^◌, ◌<◌, ◌≤◌, Bool, eqb, cond, List, [], ◌∷◌, ◌++◌, length, take, get_or, set, replicate, refl, sym, ◌∙◌, inl, inr, arith}
+use Rattle.std.proofs.Common.{◌≡◌, ℕ, ◌+◌, ◌<◌, ◌≤◌, Bool, cond, List, [], ◌∷◌, ◌++◌, length, get_or, replicate, refl, inl, inr, arith}
 use Rattle.std.specs.List.{sum_by}
-use Rattle.std.proofs.lemmas.Bool.{cases_eq, cases_Bool, cases_lt, eq-eqb, ne_eqb}
+use Rattle.std.proofs.lemmas.Bool.{cases_Bool, cases_lt}
 use Rattle.std.proofs.lemmas.List.{get_or_append_left, get_or_push, length_push, get_or_past, get_or-replicate, length-replicate}
-use Rattle.std.proofs.lemmas.List.Sums.{sum_by_push, sum_by-le-sum_by}
+use Rattle.std.proofs.lemmas.List.Sums.{sum_by-le-sum_by}
 use Rattle.md_base.specs.declared.measure.Measure.{Measure}
 use Rattle.md_base.specs.Counts.{count_of}
 use Rattle.md_dynamic.specs.declared.link.LinkRow.{LinkRow}
@@ -11,7 +11,7 @@ use Rattle.md_cost.specs.declared.sums.Sums.{Sums}
 use Rattle.md_cost.specs.SumOf.{sum_of, zero_sums}
 use Rattle.md_cost.proofs.Measures.{each_measure}
 use Rattle.md_cost.specs.Totals.{sum_where, context_own}
-use Rattle.md_cost.specs.Climbing.{AreOwn, AreSmall}
+use Rattle.md_cost.specs.Climbing.{AreOwn}
 
 -- a part of the links counts no more than all of them
 pub part_le : (test : LinkRow → Bool) (m : Measure) (rows : List LinkRow) → sum_where test m rows ≤ sum_by (λ r. count_of r.own m) rows

@@ -1,4 +1,4 @@
-use Rattle.std.proofs.Common.{◌≡◌, length, take, ap, ◌∙◌, arith}
+use Rattle.std.proofs.Common.{◌≡◌, ◌∙◌, arith}
 use Rattle.std.proofs.lemmas.List.{take_all}
 use Rattle.md_cost.proofs.lists.contexts_by_procedure.Goals as goal
 use Rattle.md_cost.proofs.lists.contexts_by_procedure.Goals.{After-deref}

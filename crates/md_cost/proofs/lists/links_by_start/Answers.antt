@@ -1,7 +1,7 @@
-use Rattle.std.proofs.Common.{◌≡◌, length, take, ap, ◌∙◌, arith}
+use Rattle.std.proofs.Common.{◌≡◌, ap, ◌∙◌, arith}
 use Rattle.std.proofs.lemmas.List.{take_all}
 use Rattle.md_cost.specs.Lists.{starts_of}
-use Rattle.md_cost.proofs.ListSteps.{starts_below, starts_more, length-starts_of}
+use Rattle.md_cost.proofs.ListSteps.{starts_below, length-starts_of}
 use Rattle.md_cost.proofs.lists.links_by_start.Goals as goal
 use Rattle.md_cost.proofs.lists.links_by_start.Goals.{After-deref}
 

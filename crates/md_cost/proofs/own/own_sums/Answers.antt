@@ -1,5 +1,5 @@
-use Rattle.std.proofs.Common.{◌≡◌, length, sym, arith}
-use Rattle.md_cost.proofs.OwnSteps.{owning_none, owning_more, owning_all}
+use Rattle.std.proofs.Common.{◌≡◌, arith}
+use Rattle.md_cost.proofs.OwnSteps.{owning_more, owning_all}
 use Rattle.md_cost.proofs.own.own_sums.Goals as goal
 
 pub loop-node-preserved : goal.loop-node-preserved

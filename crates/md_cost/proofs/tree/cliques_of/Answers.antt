@@ -1,4 +1,3 @@
-use Rattle.std.proofs.Common.{refl}
 use Rattle.md_clique.specs.Entries.{edges_of}
 use Rattle.md_cost.specs.Paths.{ends}
 use Rattle.md_cost.proofs.TreeSteps.{edges_all, edges_up}
