@@ -10,7 +10,6 @@ pub mod Looking
 pub mod Close
 pub mod Classes
 pub mod Naming
-pub mod Chains
 pub mod Sizes
 pub mod Placing
 pub mod EntryPlaces
@@ -22,3 +21,4 @@ pub mod Coming
 pub mod EnteredOnce
 pub mod StationPaths
 pub mod OneNumbering
+pub mod Singles

@@ -3,10 +3,12 @@
 --   order2  0 → 1 → 2 → 3, and 1 and 4 call each other
 --   order1  0 → 1, and 1, 2 and 3 reach one another
 --   pair    0 calls 1 and 2, which call each other: their clique is entered twice
-use Rattle.std.proofs.Common.{◌≡◌, ℕ, zero, suc, ◌<◌, List, [], ◌∷◌, Option, Some, None, refl, arith}
+use Rattle.std.proofs.Common.{◌≡◌, ℕ, zero, suc, ◌<◌, true, false, List, [], ◌∷◌, take, Option, Some, None, refl, arith}
 use Rattle.md_trace.specs.Reaches.{Reaches, here, more}
 use Rattle.md_clique.specs.Cliques.{clique_count, members_of}
 use Rattle.md_clique.specs.Entries.{edges_of, entries, AreReached}
+use Rattle.md_clique.specs.declared.entries.Twice.{Twice}
+use Rattle.md_clique.specs.Found.{first_of, is_lower, IsLowestTwice}
 
 abbrev pub order2 : List (Option ℕ × ℕ)
 order2 = (None, 0) ∷ (Some 0, 1) ∷ (Some 1, 2) ∷ (Some 2, 3) ∷ (Some 1, 4) ∷ (Some 4, 1) ∷ []
@@ -55,3 +57,14 @@ pair_walks (suc (suc (suc v))) h = absurd (omega arith)
 
 pub pair_reached : (n : ℕ) → n ≡ 3 → AreReached pair n
 pair_reached n e = record { place = 0; root = 0; is_root = refl; reached = λ v h. pair_walks v (omega arith) }
+
+-- So the first link of each clique is kept, or a number that is no place where there is none yet, and clique 1 is the
+-- lowest that is entered twice, by its first two links. Where two cliques are, a higher one isn't told.
+abbrev pair_twice : Option Twice
+pair_twice = Some (record { clique = 1; a = 1; b = 2 })
+
+pair_found : (first_of (entries (0 ∷ 1 ∷ 1 ∷ []) pair 1) ≡ 1) × (first_of (entries (0 ∷ 1 ∷ 1 ∷ []) (take 1 pair) 1) ≡ 4294967295) × (is_lower 0 pair_twice ≡ true) × (is_lower 1 pair_twice ≡ false) × (is_lower 1 None ≡ true)
+pair_found = (refl, refl, refl, refl, refl)
+
+pair_lowest : IsLowestTwice 2 (entries (0 ∷ 1 ∷ 1 ∷ []) pair) pair_twice
+pair_lowest = (omega arith, refl, λ q lt. (let e : q ≡ 0 = omega arith in rw e (omega arith)))

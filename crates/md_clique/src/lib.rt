@@ -12,6 +12,7 @@ mod search;
 mod threads;
 
 pub use clique::Cliques;
-pub use entries::{EnterFault, entering};
-pub use graph::cliques;
+pub use entries::{EnterFault, Entrances, entering};
+pub use graph::{cliques, single_cliques};
 pub use laws::{cliques_are_determined, each_clique_has_one_entry, stations_lead_up_to_the_root};
+pub use members::{Layout, lay_out};

@@ -1,5 +1,5 @@
 // The classes of mutual reachability, by path-based search with a stack of its own.
-ghost use Rattle.std.specs.Prelude.{◌≡◌, ◌<◌, ◌≢◌, ℕ, length, slice_index, IfOk, OnOk};
+ghost use Rattle.std.specs.Prelude.{◌≡◌, ◌<◌, ◌≢◌, ◌^◌, ℕ, length, slice_index, IfOk, OnOk};
 ghost use Rattle.md_clique.specs.Links.{AreWithin, AreThreaded};
 ghost use Rattle.md_clique.specs.Search.{AreClasses, state_of};
 
@@ -41,7 +41,7 @@ pub enum Move {
     /// Join the last part of the trail to the one before it.
     Join,
     /// Be done with this node's last link that is left.
-    Pass(u32, usize),
+    Pass(u32, u32),
     /// Be done with the last pending node, which has no links left.
     Skip,
     /// Close the last part of the trail.
@@ -52,7 +52,7 @@ pub enum Move {
 #[derive(Drop)]
 pub struct Search {
     /// For each node a bound on its links that are left to look at: the last of them is right below.
-    pub left: Vec<usize>,
+    pub left: Vec<u32>,
     /// The nodes whose class isn't known yet, in the order in which they were entered.
     pub trail: Vec<u32>,
     /// Where the parts of the trail begin; the nodes of a part reach one another.
@@ -71,7 +71,7 @@ impl Search {
     ghost use Rattle.md_clique.specs.Kept.{kept, work};
 
     /// A search that has entered none of these many nodes.
-    fn new(alloc: Global, nodes: u32, last: Vec<usize>) -> Result<Search, NoMemory>
+    fn new(alloc: Global, nodes: u32, last: Vec<u32>) -> Result<Search, NoMemory>
         ensures { IfOk result (λ search. kept search ≡ record { left = last.items; trail = []; first = []; pending = []; states = replicate nodes State.New; count = 0 }) }
     {
         let size = nodes as usize;
@@ -105,7 +105,7 @@ impl Search {
             return Move::Skip;
         }
         let link = left - 1;
-        let end = links[link].1;
+        let end = links[link as usize].1;
         match self.states[end as usize] {
             State::New => Move::Enter(end),
             State::Open(at) => {
@@ -149,7 +149,7 @@ impl Search {
     }
 
     /// Is done with the last link of the node that is left.
-    fn pass(&mut self, links: &[(u32, u32)], before: &[usize], node: u32, link: usize)
+    fn pass(&mut self, links: &[(u32, u32)], before: &[u32], node: u32, link: u32)
         requires threaded { AreThreaded links.now before.now }
         requires stands { Stands links.now (kept self.old) }
         requires may { MayPass links.now (kept self.old) node link }
@@ -157,7 +157,7 @@ impl Search {
         ensures works { work (kept self.new) < work (kept self.old) }
         ensures states { self.new.states ≡ self.old.states }
     {
-        self.left[node as usize] = before[link];
+        self.left[node as usize] = before[link as usize];
     }
 
     /// Is done with the last pending node.
@@ -187,7 +187,7 @@ impl Search {
     }
 
     /// Makes the next move.
-    fn step(&mut self, links: &[(u32, u32)], before: &[usize]) -> Result<(), NoMemory>
+    fn step(&mut self, links: &[(u32, u32)], before: &[u32]) -> Result<(), NoMemory>
         requires within { AreWithin links.now (length self.old.states.items) }
         requires threaded { AreThreaded links.now before.now }
         requires stands { Stands links.now (kept self.old) }
@@ -218,7 +218,7 @@ impl Search {
     }
 
     /// Closes all that is reached from a node, where the node is new. Nothing is open before or afterwards.
-    fn explore(&mut self, links: &[(u32, u32)], before: &[usize], root: u32) -> Result<(), NoMemory>
+    fn explore(&mut self, links: &[(u32, u32)], before: &[u32], root: u32) -> Result<(), NoMemory>
         requires within { AreWithin links.now (length self.old.states.items) }
         requires threaded { AreThreaded links.now before.now }
         requires stands { Stands links.now (kept self.old) }
@@ -243,7 +243,7 @@ impl Search {
     fn explore_all(
         &mut self,
         links: &[(u32, u32)],
-        before: &[usize],
+        before: &[u32],
         nodes: u32,
     ) -> Result<(), NoMemory>
         requires within { AreWithin links.now nodes }
@@ -299,7 +299,8 @@ pub struct Classes {
 
 /// The classes of mutual reachability of a graph, in an order of their own.
 pub fn find_classes(alloc: Global, nodes: u32, links: &[(u32, u32)]) -> Result<Classes, NoMemory>
-    requires { AreWithin links.now nodes }
+    requires within { AreWithin links.now nodes }
+    requires few { length links.now < 2 ^ 32 }
     ensures { IfOk result (λ classes. AreClasses links.now nodes classes.states.items classes.count) }
 {
     let Threads { before, last } = thread_links(alloc, nodes, links)?;

@@ -1,8 +1,8 @@
 -- Sums by key, one value more.
 use Rattle.std.proofs.Common.{◌≡◌, ℕ, zero, suc, ◌+◌, ◌-◌, ◌<◌, ◌≤◌, ◌^◌, cond, List, [], ◌∷◌, ◌++◌, length, take, get_or, set, replicate, Option, Some, None, IfSome, refl, sym, ap, ◌∙◌, inl, inr, arith, add-one}
 use Rattle.std.proofs.lemmas.Bool.{cases_eq, eq-eqb, ne_eqb}
-use Rattle.std.proofs.lemmas.List.{get_or-set_same, get_or-set_other, length-replicate, length-set, take_all}
-use Rattle.std.proofs.lemmas.List.Sums.{sum_by_push, sum_by-take-le}
+use Rattle.std.proofs.lemmas.List.{get_or-set_same, get_or-set_other, length-replicate, length-set, length-take, length_push, take_all}
+use Rattle.std.proofs.lemmas.List.Sums.{sum_by_push}
 use Rattle.md_base.specs.declared.measure.Measure.{Measure}
 use Rattle.md_base.specs.Counts.{count_of}
 use Rattle.md_trace.specs.Context.{same_option}
@@ -87,19 +87,31 @@ module _ (key : LinkRow → Option ℕ) (rows : List LinkRow) (count i : ℕ) (s
     is = λ s m lt. (let size = is.each in let before = is.is s m lt in let g = grows s m in let a = more.is s m (omega arith) in omega arith);
   }
 
-  pub by_links_room : length rows < 4294967296 → AreSmall rows → (o : Option ℕ) → o ≡ key row → IfSome o (λ s. s < count)
+  pub by_links_room : i + 1 < 4294967296 → AreSmall (take i rows) → ((m : Measure) → sum_of own m < 4294967296) → length (take i rows) ≤ i → (o : Option ℕ) → o ≡ key row → IfSome o (λ s. s < count)
       → HasRoom sums o own
-  by_links_room few small None e below = tt
-  by_links_room few small (Some s) e below = let size = is.each in (
+  by_links_room few small its le None e below = tt
+  by_links_room few small its le (Some s) e below = let size = is.each in (
     omega arith,
     λ m.
         let now = is.is s m below in
         let g : sum_where (λ r. same_option (Some s) (key r)) m (take (i + 1) rows) ≡ sum_where (λ r. same_option (Some s) (key r)) m (take i rows) + sum_of own m = grows s m ∙ (rw (← e) (rw (eq-eqb s s refl) refl)) in
-        let part = part_le (λ r. same_option (Some s) (key r)) m (take (i + 1) rows) in
-        let front = sum_by-take-le (λ (r : LinkRow). count_of r.own m) rows (i + 1) in
+        let part = part_le (λ r. same_option (Some s) (key r)) m (take i rows) in
         let all = small m in
+        let own_small = its m in
         omega arith,
   )
+
+pub length-take-le-n : {X : Type 0} (n : ℕ) (xs : List X) → length (take n xs) ≤ n
+length-take-le-n n xs = let size = length-take n xs in omega arith
+
+pub small_more : (rows : List LinkRow) (i : ℕ) (row : LinkRow) → take (i + 1) rows ≡ take i rows ++ row ∷ [] → (own : Sums) → ((m : Measure) → sum_of own m ≡ count_of row.own m) → ((m : Measure) → sum_of own m < 4294967296) → AreSmall (take i rows) → AreSmall (take (i + 1) rows)
+small_more rows i row next own own_is its small = λ m.
+    let s = small m in
+    let o = own_is m in
+    let b = its m in
+    let size = length_push (take i rows) row in
+    let more = sum_by_push (λ (r : LinkRow). count_of r.own m) (take i rows) row in
+    rw next (omega arith)
 
 pub by_links_all : (key : LinkRow → Option ℕ) (rows : List LinkRow) (count : ℕ) (sums : List Sums) → ByLinks key rows count (length rows) sums → AreOwnBy key rows count sums
 by_links_all key rows count sums is = record { each = is.each; is = λ s m lt. rw (take_all (length rows) rows (omega arith)) at (is.is s m lt) }

@@ -20,3 +20,4 @@ pub mod ThreadSteps
 pub mod WalkSteps
 pub mod OutermostSteps
 pub mod Worked
+pub mod ListSteps

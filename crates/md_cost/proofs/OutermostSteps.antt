@@ -1,5 +1,5 @@
 -- A step of the walk down the tree of contexts, with the keys of each kind.
-use Rattle.std.proofs.Common.{◌≡◌, ◌<◌, ℕ, List, length, get_or, set, replicate, false, Option, Some, None, arith}
+use Rattle.std.proofs.Common.{◌≡◌, ◌<◌, ℕ, List, length, get_or, map, set, replicate, false, Option, Some, None, arith}
 use Rattle.md_dynamic.specs.Profile.{ProfileRows}
 use Rattle.md_dynamic.specs.Valid.{IsValid}
 use Rattle.md_clique.specs.Cliques.{clique_count}
@@ -8,7 +8,7 @@ use Rattle.md_cost.specs.declared.outermost.Walk.{Walk}
 use Rattle.md_cost.specs.FileView.{procedure_at, module_at, site_above}
 use Rattle.md_cost.specs.Outermost.{Enters, IsWithin, Leaves, WalkStands}
 use Rattle.md_cost.specs.Paths.{EntriesRise, start_of}
-use Rattle.md_cost.specs.Walking.{AreMarks, AreNexts, AreThreaded, Stands, above, work}
+use Rattle.md_cost.specs.Walking.{AreMarks, AreNexts, AreThreaded, Stands, above, at_bound, work}
 use Rattle.md_cost.proofs.ClimbSteps.{entries_rise, start_there}
 use Rattle.md_cost.proofs.ValidSteps.{module_below, procedure_there, site_below}
 use Rattle.md_cost.proofs.WalkSteps.{begun, entered, entered_less, finished, key_below, left, left_less}
@@ -34,13 +34,13 @@ module _ (f : ProfileRows) (valid : IsValid f) (cliques entries : List ℕ) (ris
   there = start_there cliques entries f.links rise
 
   pub procedure_within : (walk : Walk) → WalkStands f cliques entries walk → (d : ℕ) → d < length cliques → IsWithin d (procedure_at f d) walk.procedures
-  procedure_within walk is d lt = within cliques (start_of f.links entries) (procedure_at f) (length f.statics.procs) (procedure_there f valid) walk.first.items walk.procedures walk.at is.procedures d lt
+  procedure_within walk is d lt = within cliques (start_of f.links entries) (procedure_at f) (length f.statics.procs) (procedure_there f valid) (map at_bound walk.first.items) walk.procedures walk.at is.procedures d lt
 
   pub module_within : (walk : Walk) → WalkStands f cliques entries walk → (d : ℕ) → d < length cliques → IsWithin d (module_at f d) walk.modules
-  module_within walk is d lt = within cliques (start_of f.links entries) (module_at f) (length f.statics.modules) (module_below f valid) walk.first.items walk.modules walk.at is.modules d lt
+  module_within walk is d lt = within cliques (start_of f.links entries) (module_at f) (length f.statics.modules) (module_below f valid) (map at_bound walk.first.items) walk.modules walk.at is.modules d lt
 
   pub site_within : (walk : Walk) → WalkStands f cliques entries walk → (d : ℕ) → d < length cliques → IsWithin d (site_above f cliques entries d) walk.sites
-  site_within walk is d lt = within cliques (start_of f.links entries) (site_above f cliques entries) (length f.statics.sites) (site_there f valid cliques entries) walk.first.items walk.sites walk.at is.sites d lt
+  site_within walk is d lt = within cliques (start_of f.links entries) (site_above f cliques entries) (length f.statics.sites) (site_there f valid cliques entries) (map at_bound walk.first.items) walk.sites walk.at is.sites d lt
 
   module _ (next : List (Option ℕ)) (nexts : AreNexts (length cliques) (above cliques (start_of f.links entries)) next) where
     module _ (key : ℕ → Option ℕ) (count : ℕ) (below : (d q : ℕ) → key d ≡ Some q → q < count) (first : List (Option ℕ)) (claims : Claims) (at : ℕ) (is : Stands cliques (start_of f.links entries) key count first claims.active.items claims.outermost.items at) where
@@ -60,34 +60,34 @@ module _ (f : ProfileRows) (valid : IsValid f) (cliques entries : List ℕ) (ris
 
     module _ (walk : Walk) (is : WalkStands f cliques entries walk) (now : Walk) where
       -- it enters a context
-      pub walk_entered : (c : ℕ) → get_or walk.first.items walk.at None ≡ Some c → now.at ≡ c → now.first.items ≡ set walk.first.items walk.at (get_or next c None)
+      pub walk_entered : (c : ℕ) → get_or (map at_bound walk.first.items) walk.at None ≡ Some c → now.at ≡ c → map at_bound now.first.items ≡ set (map at_bound walk.first.items) walk.at (get_or next c None)
           → Enters c (procedure_at f c) walk.procedures now.procedures → Enters c (module_at f c) walk.modules now.modules → Enters c (site_above f cliques entries c) walk.sites now.sites
           → WalkStands f cliques entries now
       walk_entered c child at first procedures modules sites = record {
-        procedures = rw (at, first) (entered_with (procedure_at f) (length f.statics.procs) (procedure_there f valid) walk.first.items walk.procedures walk.at is.procedures c child now.procedures procedures);
-        modules = rw (at, first) (entered_with (module_at f) (length f.statics.modules) (module_below f valid) walk.first.items walk.modules walk.at is.modules c child now.modules modules);
-        sites = rw (at, first) (entered_with (site_above f cliques entries) (length f.statics.sites) (site_there f valid cliques entries) walk.first.items walk.sites walk.at is.sites c child now.sites sites);
+        procedures = rw (at, first) (entered_with (procedure_at f) (length f.statics.procs) (procedure_there f valid) (map at_bound walk.first.items) walk.procedures walk.at is.procedures c child now.procedures procedures);
+        modules = rw (at, first) (entered_with (module_at f) (length f.statics.modules) (module_below f valid) (map at_bound walk.first.items) walk.modules walk.at is.modules c child now.modules modules);
+        sites = rw (at, first) (entered_with (site_above f cliques entries) (length f.statics.sites) (site_there f valid cliques entries) (map at_bound walk.first.items) walk.sites walk.at is.sites c child now.sites sites);
       }
 
-      pub walk_entered_less : (c : ℕ) → get_or walk.first.items walk.at None ≡ Some c → now.at ≡ c → now.first.items ≡ set walk.first.items walk.at (get_or next c None)
-          → work cliques now.first.items now.at < work cliques walk.first.items walk.at
+      pub walk_entered_less : (c : ℕ) → get_or (map at_bound walk.first.items) walk.at None ≡ Some c → now.at ≡ c → map at_bound now.first.items ≡ set (map at_bound walk.first.items) walk.at (get_or next c None)
+          → work cliques (map at_bound now.first.items) now.at < work cliques (map at_bound walk.first.items) walk.at
       walk_entered_less c child at first = rw (at, first)
-          (entered_less cliques (start_of f.links entries) rises there (procedure_at f) (length f.statics.procs) (λ d q lt e. procedure_there f valid d q e) next nexts walk.first.items walk.procedures.active.items walk.procedures.outermost.items walk.at is.procedures c child)
+          (entered_less cliques (start_of f.links entries) rises there (procedure_at f) (length f.statics.procs) (λ d q lt e. procedure_there f valid d q e) next nexts (map at_bound walk.first.items) walk.procedures.active.items walk.procedures.outermost.items walk.at is.procedures c child)
 
       -- it leaves one
-      pub walk_left : walk.at < length cliques → get_or walk.first.items walk.at None ≡ None → now.at ≡ above cliques (start_of f.links entries) walk.at → now.first.items ≡ walk.first.items
+      pub walk_left : walk.at < length cliques → get_or (map at_bound walk.first.items) walk.at None ≡ None → now.at ≡ above cliques (start_of f.links entries) walk.at → map at_bound now.first.items ≡ map at_bound walk.first.items
           → Leaves walk.at (procedure_at f walk.at) walk.procedures now.procedures → Leaves walk.at (module_at f walk.at) walk.modules now.modules → Leaves walk.at (site_above f cliques entries walk.at) walk.sites now.sites
           → WalkStands f cliques entries now
       walk_left inside over at first procedures modules sites = record {
-        procedures = rw (at, first) (left_with (procedure_at f) (length f.statics.procs) (procedure_there f valid) walk.first.items walk.procedures walk.at is.procedures inside over now.procedures procedures);
-        modules = rw (at, first) (left_with (module_at f) (length f.statics.modules) (module_below f valid) walk.first.items walk.modules walk.at is.modules inside over now.modules modules);
-        sites = rw (at, first) (left_with (site_above f cliques entries) (length f.statics.sites) (site_there f valid cliques entries) walk.first.items walk.sites walk.at is.sites inside over now.sites sites);
+        procedures = rw (at, first) (left_with (procedure_at f) (length f.statics.procs) (procedure_there f valid) (map at_bound walk.first.items) walk.procedures walk.at is.procedures inside over now.procedures procedures);
+        modules = rw (at, first) (left_with (module_at f) (length f.statics.modules) (module_below f valid) (map at_bound walk.first.items) walk.modules walk.at is.modules inside over now.modules modules);
+        sites = rw (at, first) (left_with (site_above f cliques entries) (length f.statics.sites) (site_there f valid cliques entries) (map at_bound walk.first.items) walk.sites walk.at is.sites inside over now.sites sites);
       }
 
-      pub walk_left_less : walk.at < length cliques → get_or walk.first.items walk.at None ≡ None → now.at ≡ above cliques (start_of f.links entries) walk.at → now.first.items ≡ walk.first.items
-          → work cliques now.first.items now.at < work cliques walk.first.items walk.at
+      pub walk_left_less : walk.at < length cliques → get_or (map at_bound walk.first.items) walk.at None ≡ None → now.at ≡ above cliques (start_of f.links entries) walk.at → map at_bound now.first.items ≡ map at_bound walk.first.items
+          → work cliques (map at_bound now.first.items) now.at < work cliques (map at_bound walk.first.items) walk.at
       walk_left_less inside over at first = rw (at, first)
-          (left_less cliques (start_of f.links entries) rises there (procedure_at f) (length f.statics.procs) (λ d q lt e. procedure_there f valid d q e) next nexts walk.first.items walk.procedures.active.items walk.procedures.outermost.items walk.at is.procedures inside over)
+          (left_less cliques (start_of f.links entries) rises there (procedure_at f) (length f.statics.procs) (λ d q lt e. procedure_there f valid d q e) next nexts (map at_bound walk.first.items) walk.procedures.active.items walk.procedures.outermost.items walk.at is.procedures inside over)
 
   -- before the walk
   pub begun_with : (key : ℕ → Option ℕ) (count : ℕ) → ((d q : ℕ) → key d ≡ Some q → q < count) → (first next : List (Option ℕ)) → AreThreaded (length cliques) (above cliques (start_of f.links entries)) first next

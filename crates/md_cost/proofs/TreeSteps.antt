@@ -1,19 +1,22 @@
 -- The links of a sound profile as `cliques` and `entering` take them.
-use Rattle.std.proofs.Common.{◌≡◌, ℕ, zero, suc, ◌<◌, List, [], ◌∷◌, ◌++◌, length, get_or, All, IfSome, ◌⊎◌, Option, Some, None, true, refl, sym, ap, ◌∙◌, inl, inr, arith}
+use Rattle.std.proofs.Common.{◌≡◌, ℕ, zero, suc, ◌<◌, ◌≤◌, List, [], ◌∷◌, ◌++◌, length, get_or, All, IfSome, IfErr, Result, Ok, Err, ◌⊎◌, Option, Some, None, true, refl, sym, ap, ◌∙◌, inl, inr, arith}
 use Rattle.std.specs.List.{slice_get}
-use Rattle.std.proofs.lemmas.Bool.{cases_lt, cases_eq, cases_order, eq-eqb, ne_eqb}
-use Rattle.std.proofs.lemmas.Option.{slice_get-get_or}
+use Rattle.std.proofs.lemmas.Bool.{cases_lt, cases_eq, cases_order, eq-eqb, ne_eqb, leb-true}
+use Rattle.std.proofs.lemmas.Option.{slice_get-get_or, slice_get_within, get_or_from_slice_get}
 use Rattle.md_trace.specs.Reaches.{Reaches, here, more}
 use Rattle.md_trace.specs.Cliques.{AreCliques}
 use Rattle.md_dynamic.specs.declared.link.LinkRow.{LinkRow}
 use Rattle.md_clique.specs.Cliques.{clique_count}
-use Rattle.md_clique.specs.Entries.{edges_of, enters, AreReached, AreEntries}
+use Rattle.md_clique.specs.Entries.{edges_of, enters, AreReached, AreEntries, MayFault}
+use Rattle.md_clique.specs.declared.entries.EnterFault.{EnterFault}
+use Rattle.md_clique.specs.declared.entries.EnterFault.TheVariants.{TwoEntries, NoMemory}
 use Rattle.md_clique.proofs.Walks.{walk_on}
 use Rattle.md_clique.proofs.Naming.{lt_clique_count}
 use Rattle.md_clique.proofs.Entered.{clique_there, edge_is_link}
 use Rattle.md_clique.proofs.EnteredOnce.{its_place, only_place}
-use Rattle.md_cost.specs.Paths.{ends, EntriesRise}
+use Rattle.md_cost.specs.Paths.{ends, leads_up, EntriesRise}
 use Rattle.md_cost.specs.Sound.{AreSound}
+use Rattle.md_cost.specs.Tree.{MayRefuse}
 
 pub ends-push : (xs : List LinkRow) (x : LinkRow) → ends (xs ++ x ∷ []) ≡ ends xs ++ (x.caller, x.callee) ∷ []
 ends-push [] x = refl
@@ -59,12 +62,24 @@ edge_there ((Some x, y) ∷ ys) zero a b is =
     (0, rw (h, g) refl)
 edge_there ((Some x, y) ∷ ys) (suc p) a b is = let r = edge_there ys p a b is in (suc r.0, r.1)
 
+-- where no link leads to an older context, no edge does
+up_is : (o : Option ℕ) (a b c : ℕ) → o ≡ Some a → c ≡ b → leads_up o c ≡ true → a ≤ b
+up_is o a b c starts ends up = leb-true a b (rw (starts, ends) at up)
+
+pub edges_up : (links : List LinkRow) → All (λ (r : LinkRow). leads_up r.caller r.callee ≡ true) links → All (λ (edge : ℕ × ℕ). edge.0 ≤ edge.1) (edges_of (ends links))
+edges_up links up k d lt =
+    let at = slice_get-get_or (edges_of (ends links)) k d lt in
+    let l = edge_is_link (ends links) k (get_or (edges_of (ends links)) k d).0 (get_or (edges_of (ends links)) k d).1 at in
+    let r = row_at links l.0 (Some (get_or (edges_of (ends links)) k d).0) (get_or (edges_of (ends links)) k d).1 l.1 in
+    let its : leads_up r.0.caller r.0.callee ≡ true = rw (get_or_from_slice_get links l.0 r.0 r.0 r.1) at (up l.0 r.0 (slice_get_within links l.0 r.0 r.1)) in
+    up_is r.0.caller (get_or (edges_of (ends links)) k d).0 (get_or (edges_of (ends links)) k d).1 r.0.callee r.2 r.3 its
+
 same_pair : (o p : Option ℕ) (a b : ℕ) → o ≡ p → a ≡ b → ◌≡◌ {A = Option ℕ × ℕ} (o, a) (p, b)
 same_pair o p a b e f = rw (e, f) refl
 
 module _ (n : ℕ) (links : List LinkRow) (sound : AreSound n links) where
   -- each end is one of the contexts
-  ends_there : (p : ℕ) (row : LinkRow) → slice_get links p ≡ Some row → (row.callee < n) × ((a : ℕ) → row.caller ≡ Some a → a < n)
+  pub ends_there : (p : ℕ) (row : LinkRow) → slice_get links p ≡ Some row → (row.callee < n) × ((a : ℕ) → row.caller ≡ Some a → a < n)
   ends_there zero row at =
       let e : sound.root_row ≡ row = (let q : Some sound.root_row ≡ Some row = sym sound.root_there ∙ at in cc) in
       let some = sound.some_contexts in
@@ -74,6 +89,13 @@ module _ (n : ℕ) (links : List LinkRow) (sound : AreSound n links) where
   ends_there (suc p) row at =
       let between = sound.others p row at in
       (between.callee_there, λ a called. (let q : Some between.start ≡ Some a = sym between.caller ∙ called in let e : between.start ≡ a = cc in rw e at between.start_there))
+
+  start_within : (p : ℕ) (row : LinkRow) (o : Option ℕ) → slice_get links p ≡ Some row → row.caller ≡ o → IfSome o (λ a. a < n)
+  start_within p row None at is = tt
+  start_within p row (Some a) at is = (ends_there p row at).1 a is
+
+  pub start_there : (p : ℕ) (row : LinkRow) → slice_get links p ≡ Some row → IfSome row.caller (λ a. a < n)
+  start_there p row at = start_within p row row.caller at refl
 
   ends_within : (p : ℕ) (o : Option ℕ) (b : ℕ) → slice_get (ends links) p ≡ Some (o, b) → (b < n) × IfSome o (λ a. a < n)
   ends_within p None b at = let r = row_at links p None b at in let t = ends_there p r.0 r.1 in (rw r.3 at t.0, tt)
@@ -164,3 +186,12 @@ callees_there n links sound k d lt = (ends_there n links sound k (get_or links k
 -- there is a clique
 pub some_clique : (n : ℕ) (es : List (ℕ × ℕ)) (cliques : List ℕ) → 0 < n → AreCliques n es cliques → 0 < clique_count cliques
 some_clique n es cliques some are = let size = are.each in let lt = lt_clique_count cliques 0 (omega arith) in omega arith
+
+-- what is said of an answer that isn't Ok
+pub if_err : {A : Type 0} (P Q : EnterFault → Type 0) (r : Result A EnterFault) → ((e : EnterFault) → P e → Q e) → IfErr r P → IfErr r Q
+if_err P Q (Ok a) step h = tt
+if_err P Q (Err e) step h = step e h
+
+pub refuses : (n : ℕ) (links : List LinkRow) (cliques : List ℕ) → AreCliques n (edges_of (ends links)) cliques → (fault : EnterFault) → MayFault cliques (ends links) fault → MayRefuse n links fault
+refuses n links cliques are (TwoEntries k a b) may = record { cliques = cliques; cliques_are = are; twice = may }
+refuses n links cliques are NoMemory may = tt

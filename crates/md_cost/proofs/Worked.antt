@@ -1,5 +1,5 @@
 -- Worked runs and profiles, computed.
-use Rattle.std.proofs.Common.{◌≡◌, ℕ, true, List, [], ◌∷◌, Option, Some, None, map, refl}
+use Rattle.std.proofs.Common.{◌≡◌, ℕ, true, false, List, [], ◌∷◌, Option, Some, None, map, refl}
 use Rattle.md_base.specs.declared.measure.Counts.{Counts}
 use Rattle.md_base.specs.declared.measure.Measure.{Measure}
 use Rattle.md_base.specs.declared.measure.Measure.TheVariants.{Calls, Exits, Allocs, Words}
@@ -9,7 +9,10 @@ use Rattle.md_trace.specs.Context.{chain, placed_of}
 use Rattle.md_trace.specs.Totals.{stations, own, in_procedure, procedure_total, site_total, clique_total, module_total}
 use Rattle.md_dynamic.specs.declared.link.LinkRow.{LinkRow}
 use Rattle.md_dynamic.specs.Profile.{ProfileRows}
-use Rattle.md_cost.specs.Paths.{path_of}
+use Rattle.md_clique.specs.Cliques.{members_of}
+use Rattle.md_cost.specs.Lists.{starts_of}
+use Rattle.md_cost.specs.Paths.{leads_up, path_of}
+use Rattle.md_cost.specs.Walking.{at_bound}
 use Rattle.md_cost.specs.View.{Row, OfLink, OfContext, OfClique, OfProcedure, OfSite}
 use Rattle.md_cost.specs.FileView.{file_own, file_view}
 
@@ -89,6 +92,18 @@ ho_file_totals = (refl, refl, refl, refl, refl, refl, refl, refl, refl, refl, re
 -- its paths in so many steps
 ho_paths : (path_of ho_cliques (0 ∷ 1 ∷ 2 ∷ 4 ∷ []) ho_file.links 3 ≡ 3 ∷ 1 ∷ 0 ∷ []) × (path_of ho_cliques (0 ∷ 1 ∷ 2 ∷ 4 ∷ []) ho_file.links 0 ≡ 0 ∷ [])
 ho_paths = (refl, refl)
+
+-- A link to an older context, as that of the recursion, doesn't lead up; one to the context itself does. The links from
+-- drive's context are those whose caller it is, and the root link stands past the last context.
+ho_lists :
+    (leads_up (Some 1) 3 ≡ true) × (leads_up (Some 3) 1 ≡ false) × (leads_up (Some 1) 1 ≡ true) × (leads_up None 0 ≡ true)
+    × (starts_of 4 ho_file.links ≡ 4 ∷ 0 ∷ 1 ∷ 1 ∷ 1 ∷ []) × (members_of (starts_of 4 ho_file.links) 1 ≡ 2 ∷ 3 ∷ 4 ∷ []) × (members_of (starts_of 4 ho_file.links) 2 ≡ [])
+    × (members_of (starts_of 4 ho_file.links) 4 ≡ 0 ∷ [])
+ho_lists = (refl, refl, refl, refl, refl, refl, refl, refl)
+
+-- a bound is one more than an item, and there is none where it is 0
+bounds : (at_bound 0 ≡ None) × (at_bound 1 ≡ Some 0) × (at_bound 4 ≡ Some 3)
+bounds = (refl, refl, refl)
 
 -- a link whose exits are full counts as many as it shows, and a total has more than one link can show
 abbrev full : ProfileRows

@@ -11,5 +11,6 @@ pub mod Costs
 pub mod Climbing
 pub mod Sound
 pub mod Tree
+pub mod Lists
 pub mod Loading
 pub mod Kept

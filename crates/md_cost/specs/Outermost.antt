@@ -1,13 +1,13 @@
 -- A walk down the tree of contexts that asks three things of each at once: whether it is the outermost of its procedure,
 -- of its module, and of the call site at which its clique is entered.
-use Rattle.std.specs.Prelude.{ℕ, ◌≡◌, ◌<◌, List, Option, IfSome, length, slice_set}
+use Rattle.std.specs.Prelude.{ℕ, ◌≡◌, ◌<◌, List, Option, IfSome, length, map, slice_set}
 use Rattle.md_dynamic.specs.Profile.{ProfileRows}
 use Rattle.md_cost.specs.declared.claims.Claims.{Claims}
 use Rattle.md_cost.specs.declared.outermost.Outermost.{Outermost}
 use Rattle.md_cost.specs.declared.outermost.Walk.{Walk}
 use Rattle.md_cost.specs.FileView.{procedure_at, module_at, site_above}
 use Rattle.md_cost.specs.Paths.{start_of}
-use Rattle.md_cost.specs.Walking.{AreMarks, Stands, claimed, is_free, marked_by, with_key, without_key}
+use Rattle.md_cost.specs.Walking.{AreMarks, Stands, at_bound, claimed, is_free, marked_by, with_key, without_key}
 
 -- a context and its key are there
 pub record IsWithin (node : ℕ) (key : Option ℕ) (claims : Claims) : Type 0 where
@@ -25,7 +25,7 @@ pub record Leaves (node : ℕ) (key : Option ℕ) (old new : Claims) : Type 0 wh
 
 -- the walk stands with each kind of key
 abbrev pub StandsWith : ProfileRows → List ℕ → List ℕ → (ℕ → Option ℕ) → ℕ → Walk → Claims → Type 0
-StandsWith f cliques entries key count walk claims = Stands cliques (start_of f.links entries) key count walk.first.items claims.active.items claims.outermost.items walk.at
+StandsWith f cliques entries key count walk claims = Stands cliques (start_of f.links entries) key count (map at_bound walk.first.items) claims.active.items claims.outermost.items walk.at
 
 pub record WalkStands (f : ProfileRows) (cliques entries : List ℕ) (walk : Walk) : Type 0 where
   pub procedures : StandsWith f cliques entries (procedure_at f) (length f.statics.procs) walk walk.procedures

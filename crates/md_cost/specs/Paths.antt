@@ -1,6 +1,6 @@
 -- The path of a context up to clique 0, over the links that enter cliques. For a profile that is read from a file it
 -- plays the part of the stations: there is no trace to ask.
-use Rattle.std.specs.Prelude.{ℕ, ◌≡◌, ◌<◌, zero, suc, List, [], ◌∷◌, length, Option, Some, None, slice_get, slice_index, unwrap_or, if◌then◌else◌, nat_le}
+use Rattle.std.specs.Prelude.{ℕ, ◌≡◌, ◌<◌, Bool, true, zero, suc, List, [], ◌∷◌, length, Option, Some, None, slice_get, slice_index, unwrap_or, if◌then◌else◌, nat_le}
 use Rattle.md_dynamic.specs.declared.link.LinkRow.{LinkRow}
 use Rattle.md_clique.specs.Cliques.{clique_count}
 
@@ -8,6 +8,11 @@ use Rattle.md_clique.specs.Cliques.{clique_count}
 abbrev pub ends : List LinkRow → List (Option ℕ × ℕ)
 ends [] = []
 ends (r ∷ rs) = (r.caller, r.callee) ∷ ends rs
+
+-- a link leads to no older context than the one where it starts, if it starts in one
+abbrev pub leads_up : Option ℕ → ℕ → Bool
+leads_up None to = true
+leads_up (Some from) to = nat_le from to
 
 abbrev pub start_of_row : Option LinkRow → ℕ
 start_of_row None = 0

@@ -1,6 +1,6 @@
 -- A walk down the tree of contexts, from the contexts of clique 0, from each context to those right above whose cliques an entering link
 -- starts there. It tells for each context whether one above it on its path has the same key.
-use Rattle.std.specs.Prelude.{ℕ, suc, ◌≡◌, ◌≢◌, ◌<◌, ◌≤◌, ◌==◌, ◌+◌, ◌-◌, ◌*◌, ◌⊎◌, sum_by, nat_lt, Bool, true, false, not, List, [], ◌∷◌, length, Option, Some, None, slice_index, slice_index_or, slice_set, if◌then◌else◌}
+use Rattle.std.specs.Prelude.{ℕ, zero, suc, ◌≡◌, ◌≢◌, ◌<◌, ◌≤◌, ◌==◌, ◌+◌, ◌-◌, ◌*◌, ◌⊎◌, sum_by, nat_lt, Bool, true, false, not, List, [], ◌∷◌, length, Option, Some, None, slice_index, slice_index_or, slice_set, if◌then◌else◌}
 use Rattle.std.specs.List.{list_any}
 use Rattle.md_trace.specs.Context.{same_option}
 use Rattle.md_clique.specs.Cliques.{clique_count}
@@ -30,6 +30,16 @@ pub record AreThreaded (n : ℕ) (parent : ℕ → ℕ) (first next : List (Opti
   pub each_first : length first ≡ suc n
   pub firsts : (p : ℕ) → p ≤ n → IsFirst n parent p 0 (slice_index_or first p None)
   pub nexts : AreNexts n parent next
+
+-- the item of which this is a bound, which is one more than it, or 0 where there is none
+abbrev pub at_bound : ℕ → Option ℕ
+at_bound zero = None
+at_bound (suc c) = Some c
+
+-- the parent of each item
+pub record AreUps (n : ℕ) (parent : ℕ → ℕ) (up : List ℕ) : Type 0 where
+  pub each : length up ≡ n
+  pub is : (d : ℕ) → d < n → slice_index up d ≡ parent d
 
 -- the key of an item, unless one of these has it
 abbrev pub mark_of : (ℕ → Option ℕ) → ℕ → List ℕ → Option ℕ

@@ -1,8 +1,9 @@
 // The sums of a profile: own counts and totals of each kind of row.
-ghost use Rattle.std.specs.Prelude.{◌≡◌, IfOk, length};
+ghost use Rattle.std.specs.Prelude.{IfOk, length};
 ghost use Rattle.md_dynamic.specs.Valid.{IsValid};
 ghost use Rattle.md_cost.specs.Climbing.{AreSmall, AreTotals};
 ghost use Rattle.md_cost.specs.Costs.{AreCosts};
+ghost use Rattle.md_cost.specs.Incoming.{AreIncoming};
 ghost use Rattle.md_cost.specs.Paths.{EntriesRise};
 ghost use Rattle.md_cost.specs.Tree.{IsTree};
 
@@ -37,8 +38,8 @@ pub fn sum_costs(alloc: Global, profile: &Profile, tree: &Tree) -> Result<Costs,
 {
     let nodes = profile.nodes().len() as u32;
     let incoming = thread_incoming(alloc, nodes, profile.links())?;
-    let contexts = context_totals(alloc, profile, tree, nodes)?;
     let own = own_by_kind(alloc, profile)?;
+    let contexts = context_totals(alloc, profile, tree, &incoming)?;
     let outermost = find_outermost(alloc, profile, tree)?;
     let totals = totals_by_kind(alloc, profile, tree, &outermost, &contexts)?;
     Ok(Costs {
@@ -54,16 +55,17 @@ fn context_totals(
     alloc: Global,
     profile: &Profile,
     tree: &Tree,
-    nodes: u32,
+    incoming: &Incoming,
 ) -> Result<Vec<Sums>, NoMemory>
     requires valid { IsValid profile.now }
     requires tree { IsTree (length profile.now.nodes) profile.now.links tree.now.cliques tree.now.entries.items }
     requires rise { EntriesRise tree.now.cliques tree.now.entries.items profile.now.links }
-    requires nodes { nodes ≡ length profile.now.nodes }
-    ensures totals { IfOk result (λ sums. AreTotals tree.now.cliques tree.now.entries.items profile.now.links sums.items) }
-    ensures small { IfOk result (λ _. AreSmall profile.now.links) }
+    requires incoming { AreIncoming (length profile.now.nodes) profile.now.links incoming.now.last.items incoming.now.before.items }
+    requires small { AreSmall profile.now.links }
+    ensures { IfOk result (λ sums. AreTotals tree.now.cliques tree.now.entries.items profile.now.links sums.items) }
 {
-    let mut totals = own_sums(alloc, &tree.cliques, nodes, profile.links())?;
+    let nodes = profile.nodes().len() as u32;
+    let mut totals = own_sums(alloc, nodes, incoming, profile.links())?;
     climb(&tree.cliques, &tree.entries, profile.links(), &mut totals);
     Ok(totals)
 }

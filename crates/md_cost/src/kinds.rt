@@ -27,8 +27,8 @@ pub struct Kinds {
 
 /// The own counts: of procedures and modules over the links to their contexts, and of call sites over the links at them.
 pub fn own_by_kind(alloc: Global, profile: &Profile) -> Result<Kinds, NoMemory>
-    requires valid { IsValid profile.now }
-    requires small { AreSmall profile.now.links }
+    requires { IsValid profile.now }
+    ensures small { IfOk result (λ _. AreSmall profile.now.links) }
     ensures procedures { IfOk result (λ own. AreOwnBy (λ r. procedure_at profile.now r.callee) profile.now.links (length profile.now.statics.procs) own.procedures.items) }
     ensures modules { IfOk result (λ own. AreOwnBy (λ r. module_at profile.now r.callee) profile.now.links (length profile.now.statics.modules) own.modules.items) }
     ensures sites { IfOk result (λ own. AreOwnBy (λ r. r.site) profile.now.links (length profile.now.statics.sites) own.sites.items) }

@@ -9,6 +9,7 @@ mod incoming;
 mod keys;
 mod kinds;
 mod laws;
+mod lists;
 mod loaded;
 mod outermost;
 mod own;

@@ -2,18 +2,20 @@
 use crate::Sums;
 use crate::costs::Costs;
 use crate::incoming::own_sum;
+use crate::lists::Lists;
 use crate::totals::sum_of_members;
 use crate::tree::Tree;
 use md_base::{CsdId, PdId, ProcId, SiteId};
 use md_dynamic::Profile;
 use std::marker::Model;
 
-/// A profile with its cliques, the links that enter them, and the sums of its rows.
+/// A profile with its cliques, the links that enter them, the sums of its rows, and what lists its links and contexts.
 #[derive(Drop)]
 pub struct Loaded {
     profile: Profile,
     tree: Tree,
     costs: Costs,
+    lists: Lists,
 }
 
 impl Model for Loaded {
@@ -30,28 +32,33 @@ impl Model for Loaded {
 
 // Each number is that of the view of the profile: whatever view there is, since there is one.
 impl Loaded {
-    ghost use Rattle.std.specs.Prelude.{◌≡◌, ◌<◌, Some, length, slice_index, option_map};
+    ghost use Rattle.std.specs.Prelude.{◌≡◌, ◌<◌, ◌==◌, Some, length, slice_index, option_map};
     ghost use Rattle.md_base.specs.declared.measure.Measure.{Measure};
+    ghost use Rattle.md_trace.specs.Context.{same_option};
     ghost use Rattle.md_clique.specs.Cliques.{clique_count, members_of};
+    ghost use Rattle.md_clique.specs.Places.{places};
     ghost use Rattle.md_dynamic.specs.Valid.{IsValid};
     ghost use Rattle.md_cost.specs.Costs.{AreCosts};
     ghost use Rattle.md_cost.specs.FileView.{IsFileView};
+    ghost use Rattle.md_cost.specs.Lists.{AreLists};
     ghost use Rattle.md_cost.specs.Loading.{IsLoadedOf};
     ghost use Rattle.md_cost.specs.SumOf.{sum_of};
     ghost use Rattle.md_cost.specs.Tree.{IsTree};
     ghost use Rattle.md_cost.specs.View.{View, OfLink, OfContext, OfClique, OfProcedure, OfSite, OfModule};
 
     /// A loaded profile of these parts. Takes no memory.
-    pub(crate) fn from_parts(profile: Profile, tree: Tree, costs: Costs) -> Loaded
+    pub(crate) fn from_parts(profile: Profile, tree: Tree, costs: Costs, lists: Lists) -> Loaded
         requires valid { IsValid profile }
         requires tree { IsTree (length profile.nodes) profile.links tree.cliques tree.entries.items }
         requires costs { AreCosts profile tree.cliques tree.entries.items costs }
+        requires lists { AreLists profile lists }
         ensures { result ≡ record { profile = profile; cliques = tree.cliques; entries = tree.entries.items } }
     {
         Loaded {
             profile,
             tree,
             costs,
+            lists,
         }
     }
 
@@ -98,6 +105,24 @@ impl Loaded {
         ensures view { (v : View) → IsFileView self.now.profile v → result.now ≡ members_of v.cliques clique }
     {
         self.tree.cliques.members(clique)
+    }
+
+    /// The links that start in a context, in rising order. Takes no memory.
+    pub fn links_from(&self, node: PdId) -> &[u32]
+        requires { node < length self.now.profile.nodes }
+        ensures links { result.now ≡ places (λ r. same_option r.caller (Some node)) self.now.profile.links }
+        ensures view { (v : View) → IsFileView self.now.profile v → result.now ≡ places (λ x. same_option x.caller (Some node)) v.links }
+    {
+        self.lists.links.of(node.number())
+    }
+
+    /// The contexts of a procedure, in rising order. Takes no memory.
+    pub fn contexts_of(&self, id: ProcId) -> &[u32]
+        requires { id < length self.now.profile.statics.procs }
+        ensures contexts { result.now ≡ places (λ p. p == id) self.now.profile.nodes }
+        ensures view { (v : View) → IsFileView self.now.profile v → result.now ≡ places (λ p. p == id) v.nodes }
+    {
+        self.lists.contexts.of(id.number())
     }
 
     /// The own counts of a link. Takes no memory.

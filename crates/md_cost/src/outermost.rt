@@ -6,7 +6,7 @@ ghost use Rattle.md_cost.specs.Paths.{EntriesRise};
 ghost use Rattle.md_cost.specs.Tree.{IsTree};
 
 use crate::claims::Claims;
-use crate::descent::{Children, above, descend};
+use crate::descent::{Children, below, descend};
 use crate::keys::{Keys, keys_of};
 use crate::tree::Tree;
 use md_base::NoMemory;
@@ -32,7 +32,7 @@ pub fn find_outermost(alloc: Global, profile: &Profile, tree: &Tree) -> Result<O
     let size = profile.nodes().len();
     let nodes = size as u32;
     let statics = profile.statics();
-    let Children { first, next } = descend(alloc, tree, profile.links(), nodes)?;
+    let Children { first, next, up } = descend(alloc, tree, profile.links(), nodes)?;
     let mut walk = Walk {
         at: nodes,
         first,
@@ -41,7 +41,7 @@ pub fn find_outermost(alloc: Global, profile: &Profile, tree: &Tree) -> Result<O
         sites: Claims::none(alloc, statics.sites().len(), size)?,
     };
     while !walk.is_over(nodes) {
-        walk.step(profile, tree, &next);
+        walk.step(profile, tree, &next, &up);
     }
     let Walk {
         at: _,
@@ -87,60 +87,59 @@ impl Outermost {
     }
 }
 
-/// Where a walk is, the number past the last context being above all; the first context below each that was not entered;
-/// and what it knows of the keys of each kind.
+/// Where a walk is, the number past the last context being above all; a bound of the first context below each that was
+/// not entered; and what it knows of the keys of each kind.
 #[derive(Drop)]
 pub struct Walk {
     pub at: u32,
-    pub first: Vec<Option<u32>>,
+    pub first: Vec<u32>,
     pub procedures: Claims,
     pub modules: Claims,
     pub sites: Claims,
 }
 
 impl Walk {
-    ghost use Rattle.std.specs.Prelude.{◌≡◌, ◌<◌, ◌↔◌, IsTrue, None, length, slice_index_or, slice_set};
+    ghost use Rattle.std.specs.Prelude.{◌≡◌, ◌<◌, ◌↔◌, IsTrue, length, map, slice_index, slice_set};
     ghost use Rattle.md_dynamic.specs.Valid.{IsValid};
     ghost use Rattle.md_cost.specs.Outermost.{Enters, Leaves, IsWithin, WalkStands};
     ghost use Rattle.md_cost.specs.Paths.{EntriesRise, start_of};
     ghost use Rattle.md_cost.specs.Tree.{IsTree};
-    ghost use Rattle.md_cost.specs.Walking.{AreNexts, above, work};
+    ghost use Rattle.md_cost.specs.Walking.{AreNexts, AreUps, above, at_bound, work};
 
     /// Whether it has come back with nothing left to enter.
     fn is_over(&self, nodes: u32) -> bool
         requires { self.now.at < length self.now.first.items }
-        ensures { IsTrue result ↔ ((self.now.at ≡ nodes) × (slice_index_or self.now.first.items self.now.at None ≡ None)) }
+        ensures { IsTrue result ↔ ((self.now.at ≡ nodes) × (slice_index self.now.first.items self.now.at ≡ 0)) }
     {
-        self.at == nodes && self.first[self.at as usize].is_none()
+        self.at == nodes && self.first[self.at as usize] == 0
     }
 
     /// Enters the next context below, or leaves this one.
-    fn step(&mut self, profile: &Profile, tree: &Tree, next: &[Option<u32>])
+    fn step(&mut self, profile: &Profile, tree: &Tree, next: &[u32], up: &[u32])
         requires valid { IsValid profile.now }
         requires tree { IsTree (length profile.now.nodes) profile.now.links tree.now.cliques tree.now.entries.items }
         requires rise { EntriesRise tree.now.cliques tree.now.entries.items profile.now.links }
-        requires nexts { AreNexts (length tree.now.cliques) (above tree.now.cliques (start_of profile.now.links tree.now.entries.items)) next.now }
+        requires nexts { AreNexts (length tree.now.cliques) (above tree.now.cliques (start_of profile.now.links tree.now.entries.items)) (map at_bound next.now) }
+        requires ups { AreUps (length tree.now.cliques) (above tree.now.cliques (start_of profile.now.links tree.now.entries.items)) up.now }
         requires stands { WalkStands profile.now tree.now.cliques tree.now.entries.items self.old }
-        requires more { (self.old.at ≡ length tree.now.cliques) × (slice_index_or self.old.first.items self.old.at None ≡ None) → ⊥ }
+        requires more { (self.old.at ≡ length tree.now.cliques) × (slice_index self.old.first.items self.old.at ≡ 0) → ⊥ }
         ensures stands { WalkStands profile.now tree.now.cliques tree.now.entries.items self.new }
-        ensures less { work tree.now.cliques self.new.first.items self.new.at < work tree.now.cliques self.old.first.items self.old.at }
+        ensures less { work tree.now.cliques (map at_bound self.new.first.items) self.new.at < work tree.now.cliques (map at_bound self.old.first.items) self.old.at }
     {
-        match self.first[self.at as usize] {
+        match below(self.first[self.at as usize]) {
             Some(child) => {
                 let keys = keys_of(profile, tree, child);
                 self.enter(child, next[child as usize], keys);
             }
             None => {
                 let keys = keys_of(profile, tree, self.at);
-                let nodes = profile.nodes().len() as u32;
-                let up = above(tree, profile.links(), nodes, self.at);
-                self.leave(up, keys);
+                self.leave(up[self.at as usize], keys);
             }
         }
     }
 
-    /// Enters a context below, after which this one is the next.
-    fn enter(&mut self, child: u32, next: Option<u32>, keys: Keys)
+    /// Enters a context below, of which the next one has this bound.
+    fn enter(&mut self, child: u32, next: u32, keys: Keys)
         requires at { self.old.at < length self.old.first.items }
         requires procedures { IsWithin child keys.procedures self.old.procedures }
         requires modules { IsWithin child keys.modules self.old.modules }

@@ -1,32 +1,30 @@
 // Own counts of contexts: those of the links that lead there.
-ghost use Rattle.std.specs.Prelude.{◌≡◌, ◌<◌, ◌^◌, All, IfOk, length};
+ghost use Rattle.std.specs.Prelude.{◌≡◌, ◌<◌, ◌^◌, ℕ, List, IfOk, length};
 ghost use Rattle.md_cost.specs.Climbing.{AreOwn, AreSmall};
+ghost use Rattle.md_cost.specs.Incoming.{AreIncoming};
 
 use crate::Sums;
+use crate::incoming::{Incoming, own_sum};
 use md_base::NoMemory;
-use md_clique::Cliques;
 use md_dynamic::LinkRow;
 use std::alloc::Global;
 
-/// The sums of the links that lead to each context.
+/// The own counts of each of so many contexts.
 pub fn own_sums(
     alloc: Global,
-    cliques: &Cliques,
     nodes: u32,
+    incoming: &Incoming,
     links: &[LinkRow],
 ) -> Result<Vec<Sums>, NoMemory>
-    requires nodes { nodes ≡ length cliques.now }
-    requires ends { All (λ link. link.callee < length cliques.now) links.now }
+    requires nodes { nodes ≡ length incoming.now.last.items }
+    requires incoming { AreIncoming (length incoming.now.last.items) links.now incoming.now.last.items incoming.now.before.items }
     requires few { length links.now < 2 ^ 32 }
-    ensures own { IfOk result (λ own. AreOwn cliques.now links.now own.items) }
-    ensures small { IfOk result (λ _. AreSmall links.now) }
+    requires small { AreSmall links.now }
+    ensures { (cliques : List ℕ) → length cliques ≡ nodes → IfOk result (λ own. AreOwn cliques links.now own.items) }
 {
-    let mut sums = vec![in alloc; Sums::ZERO; nodes as usize]?;
-    for link in links {
-        let own = Sums::from_counts(link.own);
-        let node = link.callee.number();
-        let sum = sums[node as usize].plus(own);
-        sums[node as usize] = sum;
+    let mut sums = Vec::with_capacity(alloc, nodes as usize)?;
+    for node in 0..nodes {
+        sums.push(own_sum(incoming, links, node))?;
     }
     Ok(sums)
 }

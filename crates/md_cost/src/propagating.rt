@@ -6,6 +6,7 @@ ghost use Rattle.md_cost.specs.Loading.{IsLoadedOf};
 ghost use Rattle.md_cost.specs.Tree.{IsTree, MayRefuse};
 
 use crate::costs::{Costs, sum_costs};
+use crate::lists::find_lists;
 use crate::loaded::Loaded;
 use crate::tree::{Tree, find_tree};
 use md_clique::EnterFault;
@@ -25,7 +26,8 @@ pub fn propagate(alloc: Global, profile: Profile) -> Result<Loaded, CostFault>
     ensures two { IfErr result (λ fault. MayRefuse (length profile.nodes) profile.links fault) }
 {
     let (tree, costs) = tree_and_costs(alloc, &profile)?;
-    Ok(Loaded::from_parts(profile, tree, costs))
+    let lists = find_lists(alloc, &profile)?;
+    Ok(Loaded::from_parts(profile, tree, costs, lists))
 }
 
 /// The cliques of a valid profile with the links that enter them, and its sums.

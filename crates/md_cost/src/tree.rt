@@ -1,13 +1,13 @@
 // The cliques of a profile, and the link that enters each.
-ghost use Rattle.std.specs.Prelude.{◌≡◌, ◌<◌, ◌^◌, IfOk, IfErr, length};
+ghost use Rattle.std.specs.Prelude.{◌≡◌, All, IfOk, IfErr, IsTrue, true};
 ghost use Rattle.md_trace.specs.Cliques.{AreCliques};
 ghost use Rattle.md_clique.specs.Entries.{AreEntries, edges_of};
-ghost use Rattle.md_cost.specs.Paths.{ends, EntriesRise};
+ghost use Rattle.md_cost.specs.Paths.{ends, leads_up, EntriesRise};
 ghost use Rattle.md_cost.specs.Sound.{AreSound};
 ghost use Rattle.md_cost.specs.Tree.{IsTree, MayRefuse};
 
 use md_base::NoMemory;
-use md_clique::{Cliques, EnterFault, cliques, entering};
+use md_clique::{Cliques, EnterFault, Entrances, cliques, single_cliques};
 use md_dynamic::LinkRow;
 use std::alloc::Global;
 
@@ -30,13 +30,34 @@ pub fn find_tree(alloc: Global, nodes: u32, links: &[LinkRow]) -> Result<Tree, E
     Ok(Tree { cliques, entries })
 }
 
-/// The cliques of so many contexts with these links.
+/// The cliques of so many contexts with these links. Where no link leads to an older context, as none does in a run
+/// without recursion, each context is one by itself.
 fn cliques_of(alloc: Global, nodes: u32, links: &[LinkRow]) -> Result<Cliques, NoMemory>
     requires { AreSound nodes links.now }
     ensures { IfOk result (λ found. AreCliques nodes (edges_of (ends links.now)) found) }
 {
+    if lead_up(links) {
+        return single_cliques(alloc, nodes);
+    }
     let edges = edges_between(alloc, links)?;
     cliques(alloc, nodes, &edges)
+}
+
+/// Whether no link leads to an older context.
+fn lead_up(links: &[LinkRow]) -> bool
+    ensures { IsTrue result → All (λ r. leads_up r.caller r.callee ≡ true) links.now }
+{
+    links.iter().all(|link| leads_up(link))
+}
+
+/// Whether a link leads to no older context than the one where it starts, if it starts in one.
+fn leads_up(link: &LinkRow) -> bool
+    ensures { result ≡ leads_up link.now.caller link.now.callee }
+{
+    match link.caller {
+        Some(caller) => caller.number() <= link.callee.number(),
+        None => true,
+    }
 }
 
 /// The links that enter the cliques of so many contexts.
@@ -51,8 +72,11 @@ fn entries_of(
     ensures one { IfOk result (λ found. AreEntries cliques.now (ends links.now) found.items) }
     ensures two { IfErr result (λ fault. MayRefuse nodes links.now fault) }
 {
-    let ends = ends_of_links(alloc, links)?;
-    entering(alloc, cliques, &ends)
+    let mut found = Entrances::new(alloc, cliques)?;
+    for (place, link) in links.iter().enumerate() {
+        found.add(cliques, place as u32, start_of(link), link.callee.number());
+    }
+    found.into_places()
 }
 
 /// Where each link starts and ends, but for the root link.
@@ -68,23 +92,12 @@ fn edges_between(alloc: Global, links: &[LinkRow]) -> Result<Vec<(u32, u32)>, No
     Ok(edges)
 }
 
-/// Where each link starts, if it does, and where it ends.
-fn ends_of_links(alloc: Global, links: &[LinkRow]) -> Result<Vec<(Option<u32>, u32)>, NoMemory>
-    ensures { IfOk result (λ found. found.items ≡ ends links.now) }
-{
-    let mut found = Vec::with_capacity(alloc, links.len())?;
-    for link in links {
-        found.push(ends_of_link(link))?;
-    }
-    Ok(found)
-}
-
-/// Where a link starts, if it does, and where it ends.
-fn ends_of_link(link: &LinkRow) -> (Option<u32>, u32)
-    ensures { result ≡ (link.now.caller, link.now.callee) }
+/// Where a link starts, if it does.
+fn start_of(link: &LinkRow) -> Option<u32>
+    ensures { result ≡ link.now.caller }
 {
     match link.caller {
-        Some(caller) => (Some(caller.number()), link.callee.number()),
-        None => (None, link.callee.number()),
+        Some(caller) => Some(caller.number()),
+        None => None,
     }
 }

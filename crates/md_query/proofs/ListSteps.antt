@@ -1,15 +1,13 @@
 -- One more number, place or row of a list.
-use Rattle.std.proofs.Common.{◌≡◌, ℕ, ◌+◌, ◌<◌, ◌≤◌, Bool, true, false, cond, eqb, List, [], ◌∷◌, ◌++◌, length, get_or, set, take, map, Option, Some, None, refl, sym, ap, ◌∙◌, inl, inr, subst, arith}
+use Rattle.std.proofs.Common.{◌≡◌, ℕ, suc, ◌+◌, ◌<◌, ◌≤◌, Bool, true, false, cond, eqb, ltb, List, [], ◌∷◌, ◌++◌, length, get_or, set, take, map, Option, Some, None, refl, sym, ap, ◌∙◌, inl, inr, subst, arith}
 use Rattle.std.specs.Prelude.{All}
-use Rattle.std.specs.List.{find, range_with_len}
-use Rattle.std.proofs.lemmas.Bool.{cases_Bool, cases_eq, eq-eqb, ne_eqb}
+use Rattle.std.specs.List.{find, position, position_or_len, range_with_len, slice_get}
+use Rattle.std.proofs.lemmas.Bool.{cases_Bool, cases_eq, cases_lt, eq-eqb, ne_eqb, lt-ltb, le-ltb}
 use Rattle.std.proofs.lemmas.List.{take_more, length-take-le, map_push, append_assoc, append-nil, get_or-set_same, get_or-set_other, length-append, length-set}
 use Rattle.std.proofs.lemmas.List.Elements.{All-nil, All-cons, All-head, All-tail, All-weaker}
 use Rattle.std.proofs.lemmas.List.FromFn.{map-range_with_len_more, length-range_with_len, get_or-range_with_len}
 use Rattle.md_clique.specs.Places.{places_from, places}
 use Rattle.md_clique.proofs.EntryPlaces.{places_from-push}
-use Rattle.md_clique.specs.Members.{Follows}
-use Rattle.md_clique.proofs.Chains.{follows_some, follows_none}
 
 -- ---- numbers
 
@@ -69,6 +67,30 @@ found_has {X} p P (y ∷ ys) x all e = elim (cases_Bool (p y)) [
 pub found_there : (p : ℕ → Bool) (n q : ℕ) → find p (range_with_len 0 n) ≡ Some q → q < n
 found_there p n q e = found_has p (λ (x : ℕ). x < n) (range_with_len 0 n) q (range_there n) e
 
+-- the first place is where the first element stands that passes
+abbrev first_at : ℕ → ℕ → ℕ → Option ℕ
+first_at k a n = cond (ltb a n) (Some (k + a)) None
+
+one_later : (k a n : ℕ) → first_at (k + 1) a n ≡ first_at k (suc a) (suc n)
+one_later k a n = elim (cases_lt a n) [
+  | inl less ↦ (let e : (k + 1) + a ≡ k + suc a = omega arith in rw (lt-ltb a n less, lt-ltb (suc a) (suc n) (omega arith), e) refl)
+  | inr more ↦ rw (le-ltb a n more, le-ltb (suc a) (suc n) (omega arith)) refl
+]
+
+first_from : {X : Type 0} (p : X → Bool) (k : ℕ) (xs : List X) → slice_get (places_from p k xs) 0 ≡ first_at k (position_or_len p xs) (length xs)
+first_from p k [] = refl
+first_from p k (x ∷ xs) =
+    let more : 1 + position_or_len p xs ≡ suc (position_or_len p xs) = omega arith in
+    elim (cases_Bool (p x)) [
+      | inl holds ↦ (let e : k + 0 ≡ k = omega arith in rw (holds, lt-ltb 0 (suc (length xs)) (omega arith), e) refl)
+      | inr fails ↦ rw (fails, more) (first_from p (k + 1) xs ∙ one_later k (position_or_len p xs) (length xs))
+    ]
+
+pub first_place : {X : Type 0} (p : X → Bool) (xs : List X) → slice_get (places p xs) 0 ≡ position p xs
+first_place p xs =
+    let e : 0 + position_or_len p xs ≡ position_or_len p xs = omega arith in
+    first_from p 0 xs ∙ ap (λ (a : ℕ). cond (ltb (position_or_len p xs) (length xs)) (Some a) None) e
+
 -- ---- how many there are of each
 
 pub record AreSizes {X : Type 0} (key : X → ℕ) (count : ℕ) (xs : List X) (found : List ℕ) : Type 0 where
@@ -101,27 +123,6 @@ sizes_more key count xs i d found size lt below is_size is = record {
 pub pushed_more : {X Y : Type 0} (f : X → Y) (old : List Y) (xs : List X) (i : ℕ) (d : X) → i < length xs → (old ++ map f (take i xs)) ++ f (get_or xs i d) ∷ [] ≡ old ++ map f (take (i + 1) xs)
 pushed_more f old xs i d lt =
     append_assoc old (map f (take i xs)) (f (get_or xs i d) ∷ []) ∙ ap (λ ys. old ++ ys) (sym (map_push f (take i xs) (get_or xs i d)) ∙ ap (λ ys. map f ys) (sym (take_more xs i d lt)))
-
--- ---- rows along a thread
-
--- a row for each number of a list that follows the head: so many are there, and the rest for a list that follows this one
-abbrev pub RowsGoOn : {Y : Type 0} → (ℕ → Y) → List (Option ℕ) → Option ℕ → Option ℕ → List Y → List Y → Type 0
-RowsGoOn f next head at begun rows = (links : List ℕ) → Follows next head links → (rest : List ℕ) × Follows next at rest × (rows ++ map f rest ≡ begun ++ map f links)
-
-pub rows_begin : {Y : Type 0} (f : ℕ → Y) (next : List (Option ℕ)) (head : Option ℕ) (begun : List Y) → RowsGoOn f next head head begun begun
-rows_begin f next head begun links follows = (links, follows, refl)
-
-pub rows_more : {Y : Type 0} (f : ℕ → Y) (next : List (Option ℕ)) (head : Option ℕ) (x : ℕ) (begun rows : List Y) → RowsGoOn f next head (Some x) begun rows → RowsGoOn f next head (get_or next x None) begun (rows ++ f x ∷ [])
-rows_more f next head x begun rows on links follows =
-    let w = on links follows in
-    let s = follows_some next x w.0 w.1 in
-    (s.0, s.2, append_assoc rows (f x ∷ []) (map f s.0) ∙ (rw s.1 at (w.2)))
-
-pub rows_all : {Y : Type 0} (f : ℕ → Y) (next : List (Option ℕ)) (head : Option ℕ) (begun rows : List Y) → RowsGoOn f next head None begun rows → (links : List ℕ) → Follows next head links → rows ≡ begun ++ map f links
-rows_all f next head begun rows on links follows =
-    let w = on links follows in
-    let e = follows_none next w.0 w.1 in
-    sym (append-nil rows) ∙ (rw e at (w.2))
 
 -- ---- one row more, by what the code knows
 

@@ -1,41 +1,20 @@
 -- The lists of a view are those of its profile.
-use Rattle.std.proofs.Common.{◌≡◌, ℕ, ◌+◌, ◌<◌, Bool, eqb, List, [], ◌∷◌, length, map, min, take, Option, Some, None, refl, sym, ap, ◌∙◌, inl, inr, arith}
-use Rattle.std.specs.Prelude.{unwrap_or}
-use Rattle.std.proofs.lemmas.Bool.{cases_Bool, ne_eqb}
+use Rattle.std.proofs.Common.{◌≡◌, ℕ, List, ◌∷◌, length, map, min, take, Some, refl, sym, ap, ◌∙◌, arith}
 use Rattle.std.specs.List.{range_with_len}
 use Rattle.std.proofs.lemmas.List.{length-map, take_min}
 use Rattle.md_base.specs.declared.measure.Measure.{Measure}
 use Rattle.md_base.specs.declared.measure.Measure.TheVariants.{Calls, Exits, Fails, Redos, Allocs, Words, Excps}
-use Rattle.md_trace.specs.Context.{same_option}
 use Rattle.md_dynamic.specs.Profile.{ProfileRows}
-use Rattle.md_dynamic.specs.declared.link.LinkRow.{LinkRow}
-use Rattle.md_clique.specs.Cliques.{clique_count, members_of}
-use Rattle.md_clique.specs.Places.{places_from}
+use Rattle.md_clique.specs.Cliques.{clique_count}
 use Rattle.md_cost.specs.declared.sums.Sums.{Sums}
 use Rattle.md_cost.specs.SumOf.{sum_of}
 use Rattle.md_cost.specs.View.{View, Join, OfClique}
 use Rattle.md_cost.specs.FileView.{IsFileView, join_of}
 use Rattle.md_people.specs.Ranked.{ranked}
 use Rattle.md_static.specs.Tables.{Static}
-use Rattle.md_query.specs.PageOf.{links_from, excps_rows, menu_rows, proc_row, count_in_proc, top_procs}
+use Rattle.md_query.specs.PageOf.{excps_rows, menu_rows, proc_row, count_in_proc, top_procs}
 use Rattle.md_query.specs.declared.row.Row.TheVariants as row
 use Rattle.md_query.specs.declared.row.What.TheVariants as what
-use Rattle.md_query.specs.Threads.{starts_of}
-
--- where two tests agree on what two functions give, they pass the same places
-pub places_agree : {X Y Z : Type 0} (p : Y → Bool) (q : Z → Bool) (g : X → Y) (h : X → Z) (k : ℕ) (xs : List X) → ((x : X) → p (g x) ≡ q (h x)) → places_from p k (map g xs) ≡ places_from q k (map h xs)
-places_agree p q g h k [] same = refl
-places_agree p q g h k (x ∷ xs) same =
-    let rest = places_agree p q g h (k + 1) xs same in
-    elim (cases_Bool (q (h x))) [
-      | inl holds ↦ rw (same x, holds) (ap (λ (ys : List ℕ). k ∷ ys) rest)
-      | inr fails ↦ rw (same x, fails) rest
-    ]
-
--- a start is the context c below n, or there is none
-start_is : (n c : ℕ) (o : Option ℕ) → c < n → eqb (unwrap_or o n) c ≡ same_option o (Some c)
-start_is n c None lt = ne_eqb n c (λ e. absurd (omega arith))
-start_is n c (Some a) lt = refl
 
 module _ (f : ProfileRows) (v : View) (is : IsFileView f v) where
   pub statics_are : v.statics ≡ f.statics
@@ -49,12 +28,6 @@ module _ (f : ProfileRows) (v : View) (is : IsFileView f v) where
 
   pub finished_is : v.finished ≡ f.finished
   finished_is = ap (λ (w : View). w.finished) is.is
-
-  -- the links of the thread of a context are those that start there
-  pub links_from_is : (c : ℕ) → c < length f.nodes → members_of (starts_of (length f.nodes) f.links) c ≡ links_from v c
-  links_from_is c lt =
-      places_agree (λ (s : ℕ). eqb s c) (λ (x : Join). same_option x.caller (Some c)) (λ (r : LinkRow). unwrap_or r.caller (length f.nodes)) join_of 0 f.links (λ r. start_is (length f.nodes) c r.caller lt)
-      ∙ ap (λ (xs : List Join). places_from (λ (x : Join). same_option x.caller (Some c)) 0 xs) (sym links_are)
 
   -- the menu, by the total of clique 0
   pub menu_told : (total : Sums) (cliques : ℕ) → ((m : Measure) → v.total (OfClique 0) m ≡ Some (sum_of total m)) → cliques ≡ clique_count v.cliques

@@ -3,4 +3,3 @@ pub mod Asked
 pub mod Told
 pub mod Page
 pub mod PageOf
-pub mod Threads

@@ -212,9 +212,12 @@ fn find_clique_named(alloc: Global, loaded: &Loaded, name: &[u8]) -> Result<Opti
 
 /// The page of the clique of a procedure's first context, if it has one.
 fn find_first_clique(alloc: Global, loaded: &Loaded, id: ProcId) -> Result<Option<Page>, NoMemory>
+    requires { id < length loaded.now.profile.statics.procs }
     ensures { IfOk result (λ found. (v : View) → IsFileView loaded.now.profile v → found ≡ option_map (clique_page v) (first_clique v id)) }
 {
-    match first_context(loaded.profile().nodes(), id) {
+    // it is valid and has a view, which `profile` says
+    let _profile = loaded.profile();
+    match first_context(loaded, id) {
         Some(node) => {
             let page = clique_page(alloc, loaded, loaded.clique_of(node))?;
             Ok(Some(page))

@@ -12,7 +12,6 @@ mod read;
 mod row;
 mod rows;
 mod tables;
-mod threads;
 
 pub use answer::{PageFault, page};
 pub use pair::{measure_named, number_within};

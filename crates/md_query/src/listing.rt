@@ -1,17 +1,14 @@
 // Rows for lists of procedures, contexts, call sites, links and modules.
-ghost use Rattle.std.specs.Prelude.{◌≡◌, ◌<◌, ◌++◌, ◌^◌, ℕ, List, All, OnOk, Some, length, map, ◌+◌, ◌==◌};
+ghost use Rattle.std.specs.Prelude.{◌≡◌, ◌<◌, ◌++◌, ◌==◌, All, OnOk, length, map};
 ghost use Rattle.std.specs.List.{range_with_len};
-ghost use Rattle.md_clique.specs.Members.{AreRising, AreThreads, Follows};
 ghost use Rattle.md_clique.specs.Places.{places};
 ghost use Rattle.md_cost.specs.FileView.{IsFileView};
 ghost use Rattle.md_cost.specs.View.{View};
 ghost use Rattle.md_query.specs.PageOf.{proc_row, of_row, site_row, link_row, context_rows, module_row};
-ghost use Rattle.md_query.specs.Threads.{starts_of};
 
 use crate::lists::sizes_of_modules;
 use crate::row::Row;
 use crate::rows::{context_row, link_row, of_row, proc_row, site_row};
-use crate::threads::Threads;
 use md_base::{CsdId, NoMemory, PdId, ProcId, SiteId};
 use md_cost::Loaded;
 use std::alloc::Global;
@@ -50,18 +47,13 @@ pub fn push_sites(rows: &mut Vec<Row>, loaded: &Loaded, ids: &[u32]) -> Result<(
 }
 
 /// Adds the rows of a context of a clique: its own, and those of the links that start there.
-pub fn push_context(
-    rows: &mut Vec<Row>,
-    loaded: &Loaded,
-    node: u32,
-    threads: &Threads,
-) -> Result<(), NoMemory>
-    requires there { node < length loaded.now.profile.nodes }
-    requires threads { AreThreads (starts_of (length loaded.now.profile.nodes) loaded.now.profile.links) (length loaded.now.profile.nodes + 1) threads.now.first.items threads.now.next.items }
+pub fn push_context(rows: &mut Vec<Row>, loaded: &Loaded, node: u32) -> Result<(), NoMemory>
+    requires { node < length loaded.now.profile.nodes }
     ensures { (v : View) → IsFileView loaded.now.profile v → OnOk result (rows.new.items ≡ rows.old.items ++ context_rows v node) }
 {
-    rows.push(context_row(loaded, PdId::new(node)))?;
-    push_links(rows, loaded, threads.first[node as usize], &threads.next)
+    let node = PdId::new(node);
+    rows.push(context_row(loaded, node))?;
+    push_links(rows, loaded, loaded.links_from(node))
 }
 
 /// Adds the row of each module.
@@ -77,22 +69,13 @@ pub fn push_modules(alloc: Global, rows: &mut Vec<Row>, loaded: &Loaded) -> Resu
     Ok(())
 }
 
-/// Adds the rows of the links of a thread.
-fn push_links(
-    rows: &mut Vec<Row>,
-    loaded: &Loaded,
-    head: Option<u32>,
-    next: &[Option<u32>],
-) -> Result<(), NoMemory>
-    requires each { length next.now ≡ length loaded.now.profile.links }
-    requires there { (link : ℕ) → head ≡ Some link → link < length next.now }
-    requires rising { AreRising next.now }
-    ensures { (v : View) (links : List ℕ) → IsFileView loaded.now.profile v → Follows next.now head links → OnOk result (rows.new.items ≡ rows.old.items ++ map (link_row v) links) }
+/// Adds the rows of these links from a context.
+fn push_links(rows: &mut Vec<Row>, loaded: &Loaded, links: &[u32]) -> Result<(), NoMemory>
+    requires { All (λ link. link < length loaded.now.profile.links) links.now }
+    ensures { (v : View) → IsFileView loaded.now.profile v → OnOk result (rows.new.items ≡ rows.old.items ++ map (link_row v) links.now) }
 {
-    let mut at = head;
-    while let Some(link) = at {
-        rows.push(link_row(loaded, CsdId::new(link)))?;
-        at = next[link as usize];
+    for link in links {
+        rows.push(link_row(loaded, CsdId::new(*link)))?;
     }
     Ok(())
 }

@@ -5,6 +5,7 @@ ghost use Rattle.std.specs.Str.{bytes_eq};
 ghost use Rattle.md_clique.specs.Places.{places};
 
 use md_base::{Name, NoMemory, PdId, ProcId};
+use md_cost::Loaded;
 use md_static::{Proc, Site};
 use std::alloc::Global;
 
@@ -19,36 +20,15 @@ pub fn numbers_below(alloc: Global, count: u32) -> Result<Vec<u32>, NoMemory>
     Ok(ids)
 }
 
-/// The contexts of a procedure, in rising order.
-pub fn contexts_of(alloc: Global, nodes: &[ProcId], id: ProcId) -> Result<Vec<u32>, NoMemory>
-    requires { length nodes.now < 2 ^ 32 }
-    ensures { IfOk result (λ found. found.items ≡ places (λ p. p == id) nodes.now) }
+/// The first context of a procedure, if it has one.
+pub fn first_context(loaded: &Loaded, id: ProcId) -> Option<PdId>
+    requires { id < length loaded.now.profile.statics.procs }
+    ensures { result ≡ position (λ p. p == id) loaded.now.profile.nodes }
 {
-    let mut found = Vec::new(alloc);
-    for (node, proc) in nodes.iter().enumerate() {
-        if proc.number() == id.number() {
-            found.push(node as u32)?;
-        }
-    }
-    Ok(found)
-}
-
-/// The first context of a procedure.
-pub fn first_context(nodes: &[ProcId], id: ProcId) -> Option<PdId>
-    requires { length nodes.now < 2 ^ 32 }
-    ensures { result ≡ position (λ p. p == id) nodes.now }
-{
-    match first_place(nodes, id) {
-        Some(node) => Some(PdId::new(node as u32)),
+    match loaded.contexts_of(id).first() {
+        Some(node) => Some(PdId::new(*node)),
         None => None,
     }
-}
-
-/// The first of these places where a procedure stands.
-fn first_place(nodes: &[ProcId], id: ProcId) -> Option<usize>
-    ensures { result ≡ position (λ p. p == id) nodes.now }
-{
-    nodes.iter().position(|found| found.number() == id.number())
 }
 
 /// The call sites of a procedure, in rising order.

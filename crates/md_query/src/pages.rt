@@ -7,10 +7,9 @@ ghost use Rattle.md_query.specs.declared.row.Title.TheVariants as title;
 ghost use Rattle.md_query.specs.PageOf.{page_with, menu_rows, clique_page, proc_row, proc_rows, module_row, module_page, all_procs, all_modules, top_procs};
 
 use crate::listing::{push_context, push_contexts, push_modules, push_procs, push_sites};
-use crate::lists::{contexts_of, numbers_below, procs_of_module, sites_of};
+use crate::lists::{numbers_below, procs_of_module, sites_of};
 use crate::row::{Page, Row, Title, What};
 use crate::rows::entered_row;
-use crate::threads::thread_links;
 use md_base::{Measure, NoMemory, ProcId};
 use md_cost::Loaded;
 use md_people::{Sort, ranked_procs};
@@ -49,13 +48,13 @@ pub fn clique_page(alloc: Global, loaded: &Loaded, id: u32) -> Result<Page, NoMe
     requires { id < clique_count loaded.now.cliques }
     ensures { IfOk result (λ page. (v : View) → IsFileView loaded.now.profile v → page ≡ clique_page v id) }
 {
-    let profile = loaded.profile();
-    let threads = thread_links(alloc, profile.links(), profile.nodes().len() as u32)?;
+    // it is valid and has a view, which `profile` says
+    let _profile = loaded.profile();
     let mut rows = Vec::new(alloc);
     rows.push(entered_row(loaded, id))?;
     rows.push(Row::Total(loaded.clique_total(id)))?;
     for node in loaded.members(id) {
-        push_context(&mut rows, loaded, *node, &threads)?;
+        push_context(&mut rows, loaded, *node)?;
     }
     Ok(Page::from_parts(Title::Clique(id), rows))
 }
@@ -88,13 +87,11 @@ pub fn proc_page(alloc: Global, loaded: &Loaded, id: ProcId) -> Result<Page, NoM
     requires { id < length loaded.now.profile.statics.procs }
     ensures { IfOk result (λ page. (v : View) → IsFileView loaded.now.profile v → page ≡ page_with (title.Proc id) (proc_rows v id)) }
 {
-    let profile = loaded.profile();
-    let nodes = contexts_of(alloc, profile.nodes(), id)?;
-    let sites = sites_of(alloc, profile.statics().sites(), id)?;
+    let sites = sites_of(alloc, loaded.profile().statics().sites(), id)?;
     let mut rows = Vec::new(alloc);
     rows.push(Row::Own(loaded.proc_own(id)))?;
     rows.push(Row::Total(loaded.proc_total(id)))?;
-    push_contexts(&mut rows, loaded, &nodes)?;
+    push_contexts(&mut rows, loaded, loaded.contexts_of(id))?;
     push_sites(&mut rows, loaded, &sites)?;
     Ok(Page::from_parts(Title::Proc(id.number()), rows))
 }

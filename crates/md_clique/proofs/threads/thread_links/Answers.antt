@@ -20,7 +20,7 @@ loop-place-init c =
 
 pub loop-place-preserved : goal.loop-place-preserved
 loop-place-preserved c =
-    let there = c.requires.starts c.loop-place.place c.loop-place-test.true in
+    let there = c.requires.within.starts c.loop-place.place c.loop-place-test.true in
     let each = c.loop-place.invariant.nodes_each in
     let read = get_or_read c.loop-place.last.items (start_of c.args.links.now c.loop-place.place) c.index.result.now (omega arith) c.index.ensures 0 in
     rw (c.in_ok-push.ensures.items, read) (threading_more c.args.links.now c.loop-place.place c.args.nodes c.loop-place.before.items c.loop-place.last.items c.loop-place.invariant there)

@@ -12,8 +12,8 @@ returns c =
     let entries = c.args.tree.now.entries.items in
     record {
       incoming = rw (c.nodes.ensures, c.links.ensures) at c.in_ok-incoming.ensures;
-      contexts = c.in_ok-contexts.ensures.totals;
-      small = c.in_ok-contexts.ensures.small;
+      contexts = c.in_ok-contexts.ensures;
+      small = c.in_ok-own.ensures.small;
       own_procedures = gives_own f c.requires.valid cliques entries c.requires.tree (λ q. OfProcedure q) (λ r. procedure_at f r.callee) (length f.statics.procs) (λ q m. refl) c.in_ok-own.own.procedures.items c.in_ok-own.ensures.procedures;
       procedures = gives_totals f c.requires.valid cliques entries c.requires.tree (λ q. OfProcedure q) (procedure_at f) (length f.statics.procs) (λ q m. refl) c.in_ok-totals.totals.procedures.items c.in_ok-totals.ensures.procedures;
       own_modules = gives_own f c.requires.valid cliques entries c.requires.tree (λ q. OfModule q) (λ r. module_at f r.callee) (length f.statics.modules) (λ q m. refl) c.in_ok-own.own.modules.items c.in_ok-own.ensures.modules;
@@ -22,8 +22,11 @@ returns c =
       sites = gives_totals f c.requires.valid cliques entries c.requires.tree (λ q. OfSite q) (site_above f cliques entries) (length f.statics.sites) (λ q m. refl) c.in_ok-totals.totals.sites.items c.in_ok-totals.ensures.sites;
     }
 
-pub context_totals-requires-clause-nodes : goal.context_totals-requires-clause-nodes
-context_totals-requires-clause-nodes c = grind (arith, common_steps)
+pub context_totals-requires-clause-incoming : goal.context_totals-requires-clause-incoming
+context_totals-requires-clause-incoming c = rw (c.nodes.ensures, c.links.ensures) at c.in_ok-incoming.ensures
+
+pub context_totals-requires-clause-small : goal.context_totals-requires-clause-small
+context_totals-requires-clause-small c = c.in_ok-own.ensures.small
 
 pub context_totals-requires-clause-rise : goal.context_totals-requires-clause-rise
 context_totals-requires-clause-rise c = grind (arith, common_steps)
@@ -55,11 +58,8 @@ totals_by_kind-requires-clause-valid c = grind (arith, common_steps)
 pub thread_incoming-requires-clause-few : goal.thread_incoming-requires-clause-few
 thread_incoming-requires-clause-few c = grind (arith, common_steps)
 
-pub own_by_kind-requires-clause-small : goal.own_by_kind-requires-clause-small
-own_by_kind-requires-clause-small c = grind (arith, common_steps)
-
-pub own_by_kind-requires-clause-valid : goal.own_by_kind-requires-clause-valid
-own_by_kind-requires-clause-valid c = grind (arith, common_steps)
+pub own_by_kind-requires : goal.own_by_kind-requires
+own_by_kind-requires c = grind (arith, common_steps)
 
 pub find_outermost-requires-clause-rise : goal.find_outermost-requires-clause-rise
 find_outermost-requires-clause-rise c = grind (arith, common_steps)

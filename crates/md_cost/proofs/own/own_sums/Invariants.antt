@@ -1,5 +1,5 @@
 use Rattle.md_cost.proofs.OwnSteps.{Owning}
 use Rattle.md_cost.proofs.own.own_sums.Given as goal
 
-abbrev pub invariant-loop-link : goal.invariant-loop-link
-invariant-loop-link l = Owning l.cliques l.links l.link-index l.sums.items
+abbrev pub invariant-loop-node : goal.invariant-loop-node
+invariant-loop-node l = Owning l.links l.node l.sums.items

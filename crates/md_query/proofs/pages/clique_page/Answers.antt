@@ -1,10 +1,8 @@
-use Rattle.std.proofs.Common.{◌≡◌, ℕ, ◌+◌, ◌<◌, List, ◌++◌, ◌∷◌, [], eqb, length, get_or, take, Option, Some, None, refl, sym, ap, ◌∙◌, arith}
+use Rattle.std.proofs.Common.{◌≡◌, ℕ, ◌+◌, ◌<◌, List, ◌++◌, ◌∷◌, [], eqb, length, get_or, take, sym, ap, ◌∙◌, arith}
 use Rattle.std.proofs.lemmas.Grind.{common_steps}
-use Rattle.std.specs.Prelude.{IfSome, All}
+use Rattle.std.specs.Prelude.{All}
 use Rattle.std.specs.List.{flat_map}
 use Rattle.std.proofs.lemmas.List.{take_more, take_all, flat_map_more}
-use Rattle.std.proofs.lemmas.Option.{slice_get-get_or}
-use Rattle.md_cost.proofs.ValidSteps.{caller_there}
 use Rattle.md_cost.specs.View.{OfClique}
 use Rattle.md_query.specs.declared.row.Row.{Row}
 use Rattle.md_query.specs.declared.row.Row.TheVariants as row
@@ -13,19 +11,8 @@ use Rattle.md_query.specs.PageOf.{context_rows, entered_row, page_with, total_of
 use Rattle.md_query.proofs.ListSteps.{places_there}
 use Rattle.md_query.proofs.pages.clique_page.Goals as goal
 
-if_some : {P : ℕ → Type 0} (o : Option ℕ) → ((c : ℕ) → o ≡ Some c → P c) → IfSome o P
-if_some None h = tt
-if_some (Some c) h = h c refl
-
-pub thread_links-requires-clause-callers : goal.thread_links-requires-clause-callers
-thread_links-requires-clause-callers c =
-    let f = c.args.loaded.now.profile in
-    let links : c.links.result.now ≡ f.links = cc in
-    let nodes : c.nodes.result.now ≡ f.nodes = cc in
-    rw (links, nodes) (λ k d lt. if_some (get_or f.links k d).caller (λ from called. caller_there f c.profile-profile.ensures.valid k from (get_or f.links k d) (slice_get-get_or f.links k d lt) called))
-
-pub push_context-requires-clause-there : goal.push_context-requires-clause-there
-push_context-requires-clause-there c =
+pub push_context-requires : goal.push_context-requires
+push_context-requires c =
     let cliques = c.args.loaded.now.cliques in
     let size = c.profile-profile.ensures.loaded.tree.cliques_are.each in
     let all : All (λ (q : ℕ). q < length cliques) c.members-node-items.result.now = rw c.members-node-items.ensures.members (places_there (λ (k : ℕ). eqb k c.args.id) cliques) in
@@ -47,12 +34,6 @@ returns c = λ v is.
     c.from_parts.ensures
     ∙ ap (λ (rs : List Row). page_with (title.Clique c.args.id) rs) (c.loop-node.invariant v is ∙ ap (λ (ids : List ℕ). entered_row v c.args.id ∷ row.Total (total_of v (OfClique c.args.id)) ∷ flat_map (context_rows v) ids) (take_all c.loop-node.node-index members (omega arith) ∙ c.members-node-items.ensures.view v is))
 
-pub push_context-requires-clause-threads : goal.push_context-requires-clause-threads
-push_context-requires-clause-threads c = grind (arith, common_steps)
-
-pub thread_links-requires-clause-few : goal.thread_links-requires-clause-few
-thread_links-requires-clause-few c = grind (arith, common_steps)
-
 pub loop-node-init : goal.loop-node-init
 loop-node-init c = grind (arith, common_steps)
 
@@ -67,6 +48,3 @@ returns-in_err-push-2 c = grind (arith, common_steps)
 
 pub returns-in_err-push_context : goal.returns-in_err-push_context
 returns-in_err-push_context c = grind (arith, common_steps)
-
-pub returns-in_err-threads : goal.returns-in_err-threads
-returns-in_err-threads c = grind (arith, common_steps)

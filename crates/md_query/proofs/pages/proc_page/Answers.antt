@@ -5,14 +5,11 @@ use Rattle.md_query.proofs.ListSteps.{places_there}
 use Rattle.md_query.proofs.pages.proc_page.Goals as goal
 
 pub push_contexts-requires : goal.push_contexts-requires
-push_contexts-requires c = rw (c.deref.ensures.value, c.in_ok-nodes.ensures, c.nodes.ensures, c.profile-profile.ensures.profile) (places_there (λ (p : ℕ). eqb p c.args.id) c.args.loaded.now.profile.nodes)
+push_contexts-requires c = rw c.contexts_of.ensures.contexts (places_there (λ (p : ℕ). eqb p c.args.id) c.args.loaded.now.profile.nodes)
 
 pub push_sites-requires : goal.push_sites-requires
 push_sites-requires c =
-    rw (c.deref-2.ensures.value, c.in_ok-sites.ensures, c.sites.ensures, c.statics.ensures, c.profile-profile.ensures.profile) (places_there (λ (s : Site). eqb s.owner c.args.id) c.args.loaded.now.profile.statics.sites)
-
-pub returns-in_err-nodes : goal.returns-in_err-nodes
-returns-in_err-nodes c = grind (arith, common_steps)
+    rw (c.deref.ensures.value, c.in_ok-sites.ensures, c.sites.ensures, c.statics.ensures, c.profile.ensures.profile) (places_there (λ (s : Site). eqb s.owner c.args.id) c.args.loaded.now.profile.statics.sites)
 
 pub returns-in_err-push : goal.returns-in_err-push
 returns-in_err-push c = grind (arith, common_steps)

@@ -1,0 +1,69 @@
+// The links by the contexts where they start, and the contexts by their procedures.
+ghost use Rattle.std.specs.Prelude.{◌≡◌, ◌<◌, ◌+◌, ◌^◌, ℕ, All, IfOk, IfSome, length, slice_index, unwrap_or};
+ghost use Rattle.md_clique.specs.Members.{AreLaidOut};
+ghost use Rattle.md_dynamic.specs.Valid.{IsValid};
+ghost use Rattle.md_cost.specs.Lists.{AreLists, starts_of};
+
+use md_base::{NoMemory, PdId};
+use md_clique::{Layout, lay_out};
+use md_dynamic::{LinkRow, Profile};
+use std::alloc::Global;
+
+/// The links of each context that start there, and the contexts of each procedure.
+#[derive(Drop)]
+pub struct Lists {
+    /// By context; past the last one are those that start nowhere.
+    pub links: Layout,
+    /// By procedure.
+    pub contexts: Layout,
+}
+
+/// Lists the links and the contexts of a valid profile.
+pub fn find_lists(alloc: Global, profile: &Profile) -> Result<Lists, NoMemory>
+    requires { IsValid profile.now }
+    ensures { IfOk result (λ lists. AreLists profile.now lists) }
+{
+    let nodes = profile.nodes().len() as u32;
+    Ok(Lists {
+        links: links_by_start(alloc, profile.links(), nodes)?,
+        contexts: contexts_by_procedure(alloc, profile)?,
+    })
+}
+
+/// The links, by the contexts where they start.
+fn links_by_start(alloc: Global, links: &[LinkRow], nodes: u32) -> Result<Layout, NoMemory>
+    requires callers { All (λ r. IfSome r.caller (λ c. c < nodes)) links.now }
+    requires few { length links.now < 2 ^ 32 }
+    ensures laid { IfOk result (λ found. AreLaidOut (starts_of nodes links.now) found.order.items found.starts.items (nodes + 1)) }
+    ensures each { IfOk result (λ found. length found.starts.items ≡ nodes + 1 + 1) }
+{
+    let mut starts = Vec::with_capacity(alloc, links.len())?;
+    for link in links {
+        starts.push(start_of(link.caller, nodes))?;
+    }
+    lay_out(alloc, &starts, nodes as usize + 1)
+}
+
+/// Where a link starts, or the number past the last context.
+fn start_of(caller: Option<PdId>, nodes: u32) -> u32
+    ensures { result ≡ unwrap_or caller nodes }
+{
+    match caller {
+        Some(caller) => caller.number(),
+        None => nodes,
+    }
+}
+
+/// The contexts, by their procedures.
+fn contexts_by_procedure(alloc: Global, profile: &Profile) -> Result<Layout, NoMemory>
+    requires { IsValid profile.now }
+    ensures laid { IfOk result (λ found. AreLaidOut profile.now.nodes found.order.items found.starts.items (length profile.now.statics.procs)) }
+    ensures each { IfOk result (λ found. length found.starts.items ≡ length profile.now.statics.procs + 1) }
+{
+    let nodes = profile.nodes();
+    let mut procedures = Vec::with_capacity(alloc, nodes.len())?;
+    for node in nodes {
+        procedures.push(node.number())?;
+    }
+    lay_out(alloc, &procedures, profile.statics().procs().len())
+}
