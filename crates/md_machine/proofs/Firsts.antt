@@ -57,3 +57,12 @@ first_stacks {M} code mark k call more frames choices slots heads some_head numb
       heap = heap;
       output = output;
     }
+
+-- each frame that there is at first is main's
+pub first_callers : {M : Type 0} (frames : List (Frame M)) (n call : ℕ) (mark : M) → frames ≡ replicate n (main_head call mark) → (k : ℕ) (f : Frame M) → slice_get frames k ≡ Some f → f.caller ≡ 0
+first_callers {M} frames n call mark is k f at = each n k (ap (λ (fs : List (Frame M)). slice_get fs k) (sym is) ∙ at)
+  where
+    each : (n k : ℕ) → slice_get (replicate n (main_head call mark)) k ≡ Some f → f.caller ≡ 0
+    each zero k e = absurd (cc e)
+    each (suc n) zero e = let same : Some (main_head call mark) ≡ Some f = e in let one : main_head call mark ≡ f = cc same in ap (λ (g : Frame M). g.caller) (sym one)
+    each (suc n) (suc k) e = each n k e
