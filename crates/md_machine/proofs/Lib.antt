@@ -1,5 +1,6 @@
 pub mod Following
 pub mod Keeping
+pub mod Opened
 pub mod Nearing
 pub mod Making
 pub mod Quiet

@@ -6,12 +6,13 @@ use Rattle.md_ports.specs.Instrumented.{IsInstrumented}
 use Rattle.md_machine.specs.Running.{IsFoldedOf}
 use Rattle.md_machine.proofs.Executing.{ok_by, on_ok_by, on_err_by}
 use Rattle.md_machine.proofs.program.execute.Goals as goal
+use Rattle.md_machine.proofs.Opened.{closed}
 
 -- code with its ports is the folded code of its program
 folded_of : (s : Hlds) (budget : ℕ) (code : Code) → AcceptedTextsAreWithinBounds → budget < 2 ^ 32 → (is : IsInstrumented s code) → IsFoldedOf s budget is.plain code
 folded_of s budget code within small is = record {
   its = record { bounds = within is.of_text.text s budget is.of_text.spells is.modes small; coded = is.coded; text = is.of_text.text; spells = is.of_text.spells; modes = is.modes };
-  is = is.folded;
+  is = closed is.folded;
 }
 
 pub perform-requires : goal.perform-requires
