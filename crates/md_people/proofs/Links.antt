@@ -1,9 +1,10 @@
 -- The links of a view, and those of its profile.
-use Rattle.std.proofs.Common.{◌≡◌, ℕ, zero, suc, ◌+◌, ◌<◌, Bool, true, false, cond, List, [], ◌∷◌, ◌++◌, length, get_or, map, take, refl, sym, ap, ◌∙◌, inl, inr, arith}
-use Rattle.std.specs.Prelude.{unwrap_or}
+use Rattle.std.proofs.Common.{◌≡◌, ℕ, zero, suc, ◌+◌, ◌<◌, Bool, cond, List, [], ◌∷◌, ◌++◌, length, get_or, map, take, refl, sym, ap, ◌∙◌, inl, inr, arith}
+use Rattle.std.specs.Prelude.{All, unwrap_or}
 use Rattle.std.specs.List.{slice_get}
 use Rattle.std.proofs.lemmas.Bool.{cases_Bool}
-use Rattle.std.proofs.lemmas.List.{append-nil, length-take-le, map_push, take_more}
+use Rattle.std.proofs.lemmas.List.{length-take-le, take_more}
+use Rattle.std.proofs.lemmas.List.Elements.{All-nil, All-cons, All-weaker}
 use Rattle.md_base.specs.declared.measure.Measure.{Measure}
 use Rattle.md_dynamic.specs.declared.link.LinkRow.{LinkRow}
 use Rattle.md_clique.specs.Places.{places_from, places}
@@ -35,6 +36,19 @@ places_map_from p g k (x ∷ xs) =
 pub places_map : {X Y : Type 0} (p : Y → Bool) (g : X → Y) (xs : List X) → places p (map g xs) ≡ places (λ x. p (g x)) xs
 places_map p g xs = places_map_from p g 0 xs
 
+-- a place is within the list
+places_below : {X : Type 0} (p : X → Bool) (k : ℕ) (xs : List X) → All (λ q. q < k + length xs) (places_from p k xs)
+places_below p k [] = All-nil (λ q. q < k + 0)
+places_below p k (x ∷ xs) =
+    let rest = All-weaker (λ q. q < (k + 1) + length xs) (λ q. q < k + length (x ∷ xs)) (λ q lt. omega arith) (places_from p (k + 1) xs) (places_below p (k + 1) xs) in
+    elim (cases_Bool (p x)) [
+      | inl holds ↦ rw holds (All-cons (λ q. q < k + length (x ∷ xs)) k (places_from p (k + 1) xs) (omega arith) rest)
+      | inr fails ↦ rw fails rest
+    ]
+
+pub places_there : {X : Type 0} (p : X → Bool) (xs : List X) → All (λ q. q < length xs) (places p xs)
+places_there p xs = All-weaker (λ q. q < 0 + length xs) (λ q. q < length xs) (λ q lt. omega arith) (places p xs) (places_below p 0 xs)
+
 -- a link of a profile without its counts
 pub join_told : (links : List LinkRow) (l : ℕ) (row : LinkRow) (d : Join) → row ≡ get_or links l row → l < length links → unwrap_or (slice_get (map join_of links) l) d ≡ join_of row
 join_told [] l row d is lt = absurd (omega arith)
@@ -44,15 +58,3 @@ join_told (r ∷ rs) (suc l) row d is lt = join_told rs l row d is (omega arith)
 -- sums that tell numbers by measure
 pub sums_told : (s : Sums) (n : Measure → ℕ) → ((m : Measure) → sum_of s m ≡ n m) → s ≡ sums_by n
 sums_told s n is = λ i. sums_by (λ (m : Measure). is m i)
-
--- a row more, or none, for the next element
-module _ {X : Type 0} (f : ℕ → X) (p : LinkRow → Bool) (links : List LinkRow) (i : ℕ) (row : LinkRow) (lt : i < length links) (is : row ≡ get_or links i row) where
-  pub row_in : (rows new : List X) (r : X) → p row ≡ true → rows ≡ map f (places p (take i links)) → r ≡ f i → new ≡ rows ++ r ∷ [] → new ≡ map f (places p (take (i + 1) links))
-  row_in rows new r passes rows_are r_is new_is =
-      new_is ∙ ap (λ (rs : List X). rs ++ r ∷ []) rows_are ∙ ap (λ (y : X). map f (places p (take i links)) ++ y ∷ []) r_is ∙ sym (map_push f (places p (take i links)) i)
-      ∙ sym (ap (λ (ks : List ℕ). map f ks) (places_more p links i row lt is ∙ ap (λ (b : Bool). places p (take i links) ++ cond b (i ∷ []) []) passes))
-
-  pub row_out : (rows : List X) → p row ≡ false → rows ≡ map f (places p (take i links)) → rows ≡ map f (places p (take (i + 1) links))
-  row_out rows fails rows_are =
-      rows_are
-      ∙ sym (ap (λ (ks : List ℕ). map f ks) (places_more p links i row lt is ∙ ap (λ (b : Bool). places p (take i links) ++ cond b (i ∷ []) []) fails ∙ append-nil (places p (take i links))))

@@ -8,6 +8,8 @@ use Rattle.md_dynamic.specs.Profile.{ProfileRows}
 use Rattle.md_cost.specs.SumOf.{sum_of}
 use Rattle.md_cost.specs.View.{View, OfLink}
 use Rattle.md_people.specs.declared.gathered.Gathered.{Gathered}
+use Rattle.md_people.specs.declared.gathered.Slots.{Slots}
+use Rattle.md_people.specs.declared.gathered.Slots.TheVariants as slots
 use Rattle.md_people.specs.Callers.{sum_some}
 use Rattle.md_people.specs.Counts.{own_counts, sums_by}
 use Rattle.md_people.specs.Ports.{PortsRow}
@@ -46,6 +48,12 @@ caller_slot f q r = if slice_index f.nodes r.callee == q then Some (unwrap_or r.
 -- the slot of a link at the site: the procedure to which it leads
 abbrev pub callee_slot : ProfileRows → (site : ℕ) → LinkRow → Option ℕ
 callee_slot f s r = if same_option r.site (Some s) then Some (slice_index f.nodes r.callee) else None
+
+-- the slot of a link of those that are added up
+abbrev pub slot_by : Slots → ProfileRows → LinkRow → Option ℕ
+slot_by (slots.Callers q) f r = caller_slot f q r
+slot_by slots.Sites f r = r.site
+slot_by (slots.Callees s) f r = callee_slot f s r
 
 -- the links at a site
 abbrev pub links_at : View → (site : ℕ) → List ℕ

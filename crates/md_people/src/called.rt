@@ -1,5 +1,5 @@
 // What a procedure calls.
-ghost use Rattle.std.specs.Prelude.{◌≡◌, ◌<◌, ◌++◌, Some, length, map, slice_index_or, IfOk, IfSome, OnOk};
+ghost use Rattle.std.specs.Prelude.{◌≡◌, ◌<◌, ◌++◌, Some, length, slice_index_or, IfOk, IfSome, OnOk};
 ghost use Rattle.std.specs.List.{flat_map, range_with_len};
 ghost use Rattle.md_trace.specs.Context.{same_option};
 ghost use Rattle.md_dynamic.specs.declared.link.LinkRow.{LinkRow};
@@ -10,7 +10,7 @@ ghost use Rattle.md_people.specs.Gathered.{HasSmallTotal, callee_slot, gathered_
 ghost use Rattle.md_people.specs.Words.{called_words};
 
 use crate::costs::whole_of;
-use crate::gathered::{Gathered, gathered_by};
+use crate::gathered::{Gathered, Slots, gathered_by};
 use crate::led::add_from;
 use crate::name::add_full_name;
 use crate::order::in_order;
@@ -48,8 +48,7 @@ fn callee_rows(
     ensures { IfOk result (λ rows. (v : View) → IsFileView loaded.now.profile v → rows.items ≡ callee_rows v by id) }
 {
     let sites = loaded.profile().statics().sites();
-    let slots = site_slots(alloc, loaded)?;
-    let found = gathered_by(alloc, loaded, by, &slots, sites.len())?;
+    let found = gathered_by(alloc, loaded, by, &Slots::Sites, sites.len())?;
     let mut rows = Vec::new(alloc);
     for site in 0..sites.len() {
         if sites[site].owner.number() == id.number() {
@@ -57,27 +56,6 @@ fn callee_rows(
         }
     }
     Ok(rows)
-}
-
-/// The slot of each link: its site.
-fn site_slots(alloc: Global, loaded: &Loaded) -> Result<Vec<Option<u32>>, NoMemory>
-    ensures { IfOk result (λ slots. slots.items ≡ map (λ r. r.site) loaded.now.profile.links) }
-{
-    let links = loaded.profile().links();
-    let mut slots = Vec::new(alloc);
-    for link in 0..links.len() {
-        slots.push(number_of(links[link].site))?;
-    }
-    Ok(slots)
-}
-
-fn number_of(site: Option<SiteId>) -> Option<u32>
-    ensures { result ≡ site }
-{
-    match site {
-        Some(site) => Some(site.number()),
-        None => None,
-    }
 }
 
 /// Adds the rows of the procedures that are called at a site, of whose links these are the sums: a site that is not higher-order calls one.
@@ -113,7 +91,7 @@ fn push_callees(
     let alloc: Global = *rows.allocator();
     let statics = loaded.profile().statics();
     let procs = statics.procs().len();
-    let slots = callee_slots(alloc, loaded, site)?;
+    let slots = Slots::Callees(SiteId::new(site));
     let found = gathered_by(alloc, loaded, by, &slots, procs)?;
     for proc in 0..procs {
         push_callee(rows, statics, site, proc as u32, found[proc])?;
@@ -121,20 +99,8 @@ fn push_callees(
     Ok(())
 }
 
-/// The slot of each link at the site: the procedure to which it leads.
-fn callee_slots(alloc: Global, loaded: &Loaded, site: u32) -> Result<Vec<Option<u32>>, NoMemory>
-    ensures { IfOk result (λ slots. slots.items ≡ map (callee_slot loaded.now.profile site) loaded.now.profile.links) }
-{
-    let count = loaded.profile().links().len();
-    let mut slots = Vec::new(alloc);
-    for link in 0..count {
-        slots.push(callee_slot(loaded, site, CsdId::new(link as u32)))?;
-    }
-    Ok(slots)
-}
-
 /// The slot of a link, if it is at the site.
-fn callee_slot(loaded: &Loaded, site: u32, link: CsdId) -> Option<u32>
+pub(crate) fn callee_slot(loaded: &Loaded, site: SiteId, link: CsdId) -> Option<u32>
     requires there { link < length loaded.now.profile.links }
     ensures { (row : LinkRow) → row ≡ slice_index_or loaded.now.profile.links link row → result ≡ callee_slot loaded.now.profile site row }
 {
@@ -148,11 +114,11 @@ fn callee_slot(loaded: &Loaded, site: u32, link: CsdId) -> Option<u32>
     }
 }
 
-fn is_at(at: Option<SiteId>, site: u32) -> bool
+fn is_at(at: Option<SiteId>, site: SiteId) -> bool
     ensures { result ≡ same_option at (Some site) }
 {
     match at {
-        Some(at) => at.number() == site,
+        Some(at) => at.number() == site.number(),
         None => false,
     }
 }

@@ -1,6 +1,5 @@
 // The links that start in a context.
 ghost use Rattle.std.specs.Prelude.{◌≡◌, ◌<◌, ◌^◌, Some, length, map, IfOk, IfSome};
-ghost use Rattle.md_trace.specs.Context.{same_option};
 ghost use Rattle.md_cost.specs.FileView.{IsFileView};
 ghost use Rattle.md_cost.specs.View.{View, OfLink};
 ghost use Rattle.md_people.specs.Context.{callee_row, callees_table, links_from};
@@ -20,6 +19,7 @@ pub fn callees_table(
     by: Measure,
     node: PdId,
 ) -> Result<Table, NoMemory>
+    requires there { node < length loaded.now.profile.nodes }
     ensures { IfOk result (λ table. (v : View) → IsFileView loaded.now.profile v → table ≡ callees_table v by node) }
 {
     let whole = whole_of(loaded, by);
@@ -35,26 +35,16 @@ fn callee_rows(
     by: Measure,
     node: PdId,
 ) -> Result<Vec<PortsRow>, NoMemory>
+    requires there { node < length loaded.now.profile.nodes }
     ensures { IfOk result (λ rows. (v : View) → IsFileView loaded.now.profile v → rows.items ≡ map (callee_row v by) (links_from v node)) }
 {
-    let links = loaded.profile().links();
+    let links = loaded.links_from(node);
     let mut rows = Vec::new(alloc);
-    for link in 0..links.len() {
-        if starts_at(links[link].caller, node) {
-            let row = callee_row(alloc, loaded, by, CsdId::new(link as u32))?;
-            rows.push(row)?;
-        }
+    for place in 0..links.len() {
+        let row = callee_row(alloc, loaded, by, CsdId::new(links[place]))?;
+        rows.push(row)?;
     }
     Ok(rows)
-}
-
-fn starts_at(caller: Option<PdId>, node: PdId) -> bool
-    ensures { result ≡ same_option caller (Some node) }
-{
-    match caller {
-        Some(caller) => caller.number() == node.number(),
-        None => false,
-    }
 }
 
 /// The row of a link.

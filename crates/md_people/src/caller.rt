@@ -1,5 +1,5 @@
 // The callers of a procedure.
-ghost use Rattle.std.specs.Prelude.{◌≡◌, ◌<◌, ◌++◌, codes, length, map, slice_index_or, unwrap_or, IfOk, IfSome, OnOk};
+ghost use Rattle.std.specs.Prelude.{◌≡◌, ◌<◌, ◌++◌, codes, length, slice_index_or, unwrap_or, IfOk, IfSome, OnOk};
 ghost use Rattle.md_dynamic.specs.declared.link.LinkRow.{LinkRow};
 ghost use Rattle.md_cost.specs.FileView.{IsFileView};
 ghost use Rattle.md_cost.specs.View.{View};
@@ -8,7 +8,7 @@ ghost use Rattle.md_people.specs.Gathered.{HasSmallTotal, caller_slot, row_of};
 ghost use Rattle.md_people.specs.Words.{caller_words};
 
 use crate::costs::whole_of;
-use crate::gathered::{Gathered, gathered_by};
+use crate::gathered::{Gathered, Slots, gathered_by};
 use crate::led::{line_at, owner_at};
 use crate::name::{add_full_name, add_number};
 use crate::order::in_order;
@@ -46,8 +46,7 @@ fn caller_rows(
 {
     let statics = loaded.profile().statics();
     let sites = statics.sites().len();
-    let slots = caller_slots(alloc, loaded, id)?;
-    let found = gathered_by(alloc, loaded, by, &slots, sites + 1)?;
+    let found = gathered_by(alloc, loaded, by, &Slots::Callers(id), sites + 1)?;
     let mut rows = Vec::new(alloc);
     push_root(&mut rows, found[sites])?;
     for site in 0..sites {
@@ -56,20 +55,8 @@ fn caller_rows(
     Ok(rows)
 }
 
-/// The slot of each link that leads to a context of the procedure: its site, or the one past the last site for the root link.
-fn caller_slots(alloc: Global, loaded: &Loaded, id: ProcId) -> Result<Vec<Option<u32>>, NoMemory>
-    ensures { IfOk result (λ slots. slots.items ≡ map (caller_slot loaded.now.profile id) loaded.now.profile.links) }
-{
-    let count = loaded.profile().links().len();
-    let mut slots = Vec::new(alloc);
-    for link in 0..count {
-        slots.push(caller_slot(loaded, id, CsdId::new(link as u32)))?;
-    }
-    Ok(slots)
-}
-
 /// The slot of a link, if it leads to a context of the procedure.
-fn caller_slot(loaded: &Loaded, id: ProcId, link: CsdId) -> Option<u32>
+pub(crate) fn caller_slot(loaded: &Loaded, id: ProcId, link: CsdId) -> Option<u32>
     requires there { link < length loaded.now.profile.links }
     ensures { (row : LinkRow) → row ≡ slice_index_or loaded.now.profile.links link row → result ≡ caller_slot loaded.now.profile id row }
 {

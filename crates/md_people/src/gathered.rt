@@ -1,16 +1,19 @@
 // The sums of some links.
-ghost use Rattle.std.specs.Prelude.{◌≡◌, ◌<◌, ◌≤◌, ◌+◌, ◌^◌, ◌∷◌, [], Some, None, ℕ, All, IfOk, IfSome, length, slice_index_or};
+ghost use Rattle.std.specs.Prelude.{◌≡◌, ◌<◌, ◌≤◌, ◌+◌, ◌^◌, ◌∷◌, [], Some, None, ℕ, All, IfOk, IfSome, length, map, slice_index_or};
 ghost use Rattle.md_base.specs.declared.measure.Measure.{Measure};
 ghost use Rattle.md_trace.specs.Context.{same_option};
 ghost use Rattle.md_clique.specs.Places.{places};
+ghost use Rattle.md_dynamic.specs.declared.link.LinkRow.{LinkRow};
 ghost use Rattle.md_cost.specs.FileView.{IsFileView};
 ghost use Rattle.md_cost.specs.SumOf.{sum_of};
 ghost use Rattle.md_cost.specs.View.{View, OfLink};
 ghost use Rattle.md_people.specs.Callers.{sum_some};
-ghost use Rattle.md_people.specs.Gathered.{HasSmallTotal, IsWithin, gathered_of, with_link};
+ghost use Rattle.md_people.specs.Gathered.{HasSmallTotal, IsWithin, gathered_of, slot_by, with_link};
 
+use crate::called::callee_slot;
 use crate::callee::total_of;
-use md_base::{CsdId, Measure, NoMemory};
+use crate::caller::caller_slot;
+use md_base::{CsdId, Measure, NoMemory, ProcId, SiteId};
 use md_cost::{Loaded, Sums};
 use std::alloc::Global;
 
@@ -21,30 +24,63 @@ pub(crate) struct Gathered {
     pub own: Sums,
 }
 
-/// The sums of the links of each slot, where there are any: `slots` has the one to which each link belongs, if it does to one.
+/// Which links are added up, and to which slot each of them belongs.
+#[derive(Clone, Copy)]
+pub(crate) enum Slots {
+    /// Those that lead to contexts of a procedure: the site of each, or the number past the last site for the root link.
+    Callers(ProcId),
+    /// Those at sites: the site of each.
+    Sites,
+    /// Those at a site: the procedure to which each leads.
+    Callees(SiteId),
+}
+
+/// The sums of the links of each slot, where there are any. All links are looked at once.
 pub(crate) fn gathered_by(
     alloc: Global,
     loaded: &Loaded,
     by: Measure,
-    slots: &[Option<u32>],
+    slots: &Slots,
     count: usize,
 ) -> Result<Vec<Option<Gathered>>, NoMemory>
-    requires each { length slots.now ≡ length loaded.now.profile.links }
-    requires there { All (λ s. IfSome s (λ k. k < count)) slots.now }
+    requires { All (λ s. IfSome s (λ k. k < count)) (map (slot_by slots.now loaded.now.profile) loaded.now.profile.links) }
     ensures each { IfOk result (λ found. length found.items ≡ count) }
-    ensures sums { IfOk result (λ found. (v : View) (k : ℕ) → IsFileView loaded.now.profile v → k < count → slice_index_or found.items k None ≡ gathered_of v by (places (same_option (Some k)) slots.now)) }
+    ensures sums { IfOk result (λ found. (v : View) (k : ℕ) → IsFileView loaded.now.profile v → k < count → slice_index_or found.items k None ≡ gathered_of v by (places (same_option (Some k)) (map (slot_by slots.now loaded.now.profile) loaded.now.profile.links))) }
     ensures small { IfOk result (λ found. (k : ℕ) → IfSome (slice_index_or found.items k None) HasSmallTotal) }
 {
-    // it is valid, so it has no more than 2 ^ 32 links, which `profile` says
-    let _profile = loaded.profile();
+    let links = loaded.profile().links().len();
     let mut found = vec![in alloc; None; count]?;
-    for link in 0..slots.len() {
-        if let Some(slot) = slots[link] {
-            let sum = with_link(loaded, by, found[slot as usize], CsdId::new(link as u32));
+    for link in 0..links {
+        let id = CsdId::new(link as u32);
+        if let Some(slot) = slot_of(loaded, slots, id) {
+            let sum = with_link(loaded, by, found[slot as usize], id);
             found[slot as usize] = Some(sum);
         }
     }
     Ok(found)
+}
+
+/// The slot of a link, if it is one of those that are added up.
+fn slot_of(loaded: &Loaded, slots: &Slots, link: CsdId) -> Option<u32>
+    requires there { link < length loaded.now.profile.links }
+    ensures { (row : LinkRow) → row ≡ slice_index_or loaded.now.profile.links link row → result ≡ slot_by slots.now loaded.now.profile row }
+{
+    match slots {
+        Slots::Callers(id) => caller_slot(loaded, *id, link),
+        Slots::Sites => site_of(loaded, link),
+        Slots::Callees(site) => callee_slot(loaded, *site, link),
+    }
+}
+
+/// The site of a link, if it has one.
+fn site_of(loaded: &Loaded, link: CsdId) -> Option<u32>
+    requires there { link < length loaded.now.profile.links }
+    ensures { (row : LinkRow) → row ≡ slice_index_or loaded.now.profile.links link row → result ≡ row.site }
+{
+    match loaded.profile().links()[link.number() as usize].site {
+        Some(site) => Some(site.number()),
+        None => None,
+    }
 }
 
 /// The sums of one link more.

@@ -40,19 +40,7 @@ places_le p k (x ∷ xs) =
     let rest = places_le p (k + 1) xs in
     elim (cases_Bool (p x)) [ inl holds ↦ rw holds (omega arith) | inr fails ↦ rw fails (omega arith) ]
 
-places_below : {X : Type 0} (p : X → Bool) (k : ℕ) (xs : List X) → All (λ q. q < k + length xs) (places_from p k xs)
-places_below p k [] = All-nil (λ q. q < k + 0)
-places_below p k (x ∷ xs) =
-    let rest = All-weaker (λ q. q < (k + 1) + length xs) (λ q. q < k + length (x ∷ xs)) (λ q lt. omega arith) (places_from p (k + 1) xs) (places_below p (k + 1) xs) in
-    elim (cases_Bool (p x)) [
-      | inl holds ↦ rw holds (All-cons (λ q. q < k + length (x ∷ xs)) k (places_from p (k + 1) xs) (omega arith) rest)
-      | inr fails ↦ rw fails rest
-    ]
-
--- a place is within the list, and a number of a range below its end
-pub places_there : {X : Type 0} (p : X → Bool) (xs : List X) → All (λ q. q < length xs) (places p xs)
-places_there p xs = All-weaker (λ q. q < 0 + length xs) (λ q. q < length xs) (λ q lt. omega arith) (places p xs) (places_below p 0 xs)
-
+-- a number of a range is below its end
 pub range_there : (n : ℕ) → All (λ q. q < n) (range_with_len 0 n)
 range_there n k d lt = let size = length-range_with_len 0 n in let at = get_or-range_with_len 0 n k d (omega arith) in omega arith
 

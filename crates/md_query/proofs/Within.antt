@@ -42,7 +42,8 @@ use Rattle.md_query.specs.declared.row.Title.TheVariants as title
 use Rattle.md_query.specs.Asked.{Asked, Menu, Root, Clique, Procs, Top, Proc as ProcAsked, Modules, Module, Hot, Tree, Flame, Find, Context, Callers, CallersNamed, ProcNamed, CliqueNamed}
 use Rattle.md_query.specs.Page.{PageRows, IsCall, IsRowWithin, IsWithin}
 use Rattle.md_query.specs.PageOf.{own_of, total_of, page_of, page_with, entered_row, clique_page, module_page, excps_rows, menu_rows, link_row_at, link_row, context_row, context_rows, links_from, clique_rows, proc_row, of_row, site_row, contexts_of, sites_of, proc_rows, all_procs, count_in_proc, top_procs, procs_of_module, module_row, module_rows, all_modules, module_named, table_rows, context_page, callers_page, proc_page, clique_at, first_clique}
-use Rattle.md_query.proofs.ListSteps.{found_there, places_there, range_there}
+use Rattle.md_people.proofs.Links.{places_there}
+use Rattle.md_query.proofs.ListSteps.{found_there, range_there}
 use Rattle.md_query.proofs.ViewLists.{statics_are, nodes_are, links_are}
 
 all_flat : {X Y : Type 0} (P : Y → Type 0) (g : X → List Y) (xs : List X) → All (λ x. All P (g x)) xs → All P (flat_map g xs)

@@ -10,11 +10,6 @@ abbrev pub SiteCost : Kept → Kept → ℕ → ℕ → ℕ → ℕ → Type 0
 SiteCost old new s q before after =
     IsSomeAnd (slice_get old.rows.statics.sites s) (λ x. MatchOption (callee_of x.kind) (after ≤ before + (12 + new_sites old.rows new.rows q)) (λ c. after ≤ before + (9 + new_sites old.rows new.rows q)))
 
--- the same where it is known that a plain site has no link yet: at most 7 and 10
-abbrev pub NewCost : Kept → Kept → ℕ → ℕ → ℕ → ℕ → Type 0
-NewCost old new s q before after =
-    IsSomeAnd (slice_get old.rows.statics.sites s) (λ x. MatchOption (callee_of x.kind) (after ≤ before + (10 + new_sites old.rows new.rows q)) (λ c. after ≤ before + (7 + new_sites old.rows new.rows q)))
-
 -- the first call, that of the main procedure, takes at most 9
 abbrev pub CallCost : Kept → Kept → Option ℕ → ℕ → ℕ → ℕ → Type 0
 CallCost old new None q before after = after ≤ before + 9

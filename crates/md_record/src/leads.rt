@@ -34,6 +34,7 @@ pub(crate) fn known<L: Ledger>(
 /// Counts a call on the link of `callee` at a site in a context, where a plain site has no link yet, and gives the link. A new
 /// one leads to `old`, which is the callee's active context, or to a new context where there is none. A link that is there takes no
 /// memory.
+#[inline(never)]
 pub(crate) fn lead<L: Ledger>(
     tables: &mut Tables,
     node: PdId,

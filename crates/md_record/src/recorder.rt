@@ -37,9 +37,7 @@ impl Recorder {
     ghost use Rattle.md_static.specs.Tables.{site_table};
     ghost use Rattle.md_record.specs.Kept.{Kept, Stands, IsAsBefore};
     ghost use Rattle.md_record.specs.Belongs.{Belongs};
-    ghost use Rattle.md_record.specs.Costs.{CallCost, SiteCost, NewCost, RefusedCost};
-    ghost use Rattle.md_record.specs.Leads.{HasLink, IsEmptySlot};
-    ghost use Rattle.md_static.specs.Sites.{sites_of};
+    ghost use Rattle.md_record.specs.Costs.{CallCost, SiteCost, RefusedCost};
     ghost use Rattle.md_record.specs.Memory.{TakesMemory};
     ghost use Rattle.md_dynamic.specs.OfHistory.{IsProfileOf};
     ghost use Rattle.md_dynamic.specs.Valid.{IsValid};
@@ -143,72 +141,15 @@ impl Recorder {
         ensures cost_refused { OnErr result (RefusedCost self.old (Some site) callee steps.old steps.new) }
     {
         let node = self.current();
-        match known(&self.tables, node, site, steps) {
-            Some(link) => self.call_again(node, site, callee, link, steps),
-            None => self.call_new(node, site, callee, steps),
-        }
-    }
-
-    /// A call on a link that is there, by the current activation, whose context this is. Five table steps.
-    #[inline(always)]
-    fn call_again<L: Ledger>(
-        &mut self,
-        node: PdId,
-        site: SiteId,
-        callee: ProcId,
-        link: CsdId,
-        steps: &mut Steps<L>,
-    ) -> Result<Saved, NoMemory>
-        requires can { CanTake (Stands self.old) (next_call (Some site) callee) }
-        requires current { option_map (λ e. e.1) (slice_get self.old.chain (length self.old.chain - 1)) ≡ Some node }
-        requires known { HasLink self.old.rows node site callee link }
-        requires below { link < length self.old.rows.links }
-        ensures taken { OnOk result (Takes (Stands self.old) (Stands self.new) (next_call (Some site) callee)) }
-        ensures marked { IfOk result (λ saved. MarksNewest (Stands self.old) (Belongs saved) (next_call (Some site) callee)) }
-        ensures refused { OnErr result (StandsAsBefore (Stands self.old) (Stands self.new)) }
-        ensures as_before { OnErr result (IsAsBefore self.old self.new) }
-        ensures statics { self.new.rows.statics ≡ self.old.rows.statics }
-        ensures needed { OnErr result (TakesMemory (Stands self.old) (Some site) callee) }
-        ensures cost { OnOk result (steps.new ≡ steps.old + 5) }
-        ensures cost_refused { OnErr result (steps.new ≡ steps.old) }
-    {
         self.chain.reserve(1)?;
         let old = self.tables.active(callee, steps); // due again when it is left
-        self.tables.count(link, Measure::Calls, 1, steps);
-        let end = self.tables.end_of(link, steps);
-        self.tables.set_active(callee, Some(end), steps);
-        self.chain.push_reserved((link, end));
-        Ok(Saved {
-            top: end,
-            middle: link,
-            old,
-        })
-    }
-
-    /// A call at a higher-order site, or at a plain one without a link, by the current activation, whose context this is.
-    #[inline(never)]
-    fn call_new<L: Ledger>(
-        &mut self,
-        node: PdId,
-        site: SiteId,
-        callee: ProcId,
-        steps: &mut Steps<L>,
-    ) -> Result<Saved, NoMemory>
-        requires can { CanTake (Stands self.old) (next_call (Some site) callee) }
-        requires current { option_map (λ e. e.1) (slice_get self.old.chain (length self.old.chain - 1)) ≡ Some node }
-        requires empty { IsEmptySlot self.old.rows node site }
-        ensures taken { OnOk result (Takes (Stands self.old) (Stands self.new) (next_call (Some site) callee)) }
-        ensures marked { IfOk result (λ saved. MarksNewest (Stands self.old) (Belongs saved) (next_call (Some site) callee)) }
-        ensures refused { OnErr result (StandsAsBefore (Stands self.old) (Stands self.new)) }
-        ensures as_before { OnErr result (IsAsBefore self.old self.new) }
-        ensures statics { self.new.rows.statics ≡ self.old.rows.statics }
-        ensures needed { OnErr result (TakesMemory (Stands self.old) (Some site) callee) }
-        ensures cost { OnOk result (NewCost self.old self.new site callee steps.old steps.new) }
-        ensures cost_refused { OnErr result (steps.new ≤ steps.old + (7 + length (sites_of callee self.old.rows.statics.sites))) }
-    {
-        self.chain.reserve(1)?;
-        let old = self.tables.active(callee, steps);
-        let link = lead(&mut self.tables, node, site, callee, &old, steps)?;
+        let link = match known(&self.tables, node, site, steps) {
+            Some(link) => {
+                self.tables.count(link, Measure::Calls, 1, steps);
+                link
+            }
+            None => lead(&mut self.tables, node, site, callee, &old, steps)?,
+        };
         let end = self.tables.end_of(link, steps);
         self.tables.set_active(callee, Some(end), steps);
         self.chain.push_reserved((link, end));

@@ -1,14 +1,13 @@
-use Rattle.std.proofs.Common.{arith, ◌<◌, IfSome, None, Some, Option, map, ◌≡◌, ℕ, Bool, true, false, eqb, cond, List, [], ◌++◌, length, take, sym, ap, ◌∙◌}
+use Rattle.std.proofs.Common.{arith, ◌<◌, IfSome, None, Option, map, ◌≡◌, ℕ, Bool, true, false, eqb, cond, List, [], ◌++◌, length, take, sym, ap, ◌∙◌}
 use Rattle.std.specs.List.{flat_map, range_with_len}
 use Rattle.std.proofs.lemmas.Bool.{eq-eqb, ne_eqb}
 use Rattle.std.proofs.lemmas.List.{append-nil, take_all}
 use Rattle.md_static.specs.declared.entry.Site.{Site}
 use Rattle.md_static.specs.Tables.{Static}
 use Rattle.md_clique.specs.Places.{places}
-use Rattle.md_trace.specs.Context.{same_option}
 use Rattle.md_dynamic.specs.declared.link.LinkRow.{LinkRow}
 use Rattle.md_cost.proofs.ValidSteps.{all_sites_there}
-use Rattle.std.proofs.lemmas.List.Elements.{All-map, All-same}
+use Rattle.std.proofs.lemmas.List.Elements.{All-map}
 use Rattle.std.proofs.lemmas.List.{get_or_read}
 use Rattle.std.specs.Prelude.{All}
 use Rattle.md_people.specs.Gathered.{gathered_of}
@@ -48,14 +47,13 @@ returns c = λ v is.
     let are : sites ≡ v.statics.sites = c.sites-sites.ensures ∙ (rw (c.statics.ensures, c.profile.ensures.profile) (ap (λ (t : Static). t.sites) (sym (statics_are c.args.loaded.now.profile v is)))) in
     c.loop-site.invariant v is ∙ ap (λ (xs : List Site). flat_map g (places p xs)) (take_all c.loop-site.site sites c.loop-site-test.false ∙ are)
 
-pub gathered_by-requires-clause-there : goal.gathered_by-requires-clause-there
-gathered_by-requires-clause-there c =
+pub gathered_by-requires : goal.gathered_by-requires
+gathered_by-requires c =
     let f = c.args.loaded.now.profile in
     let g : LinkRow → Option ℕ = λ y. y.site in
     let P : Option ℕ → Type 0 = λ s. IfSome s (λ k. k < length f.statics.sites) in
     let all : All P (map g f.links) = All-map P g f.links (all_sites_there f c.profile.ensures.valid) in
-    let slots : c.deref.result.now ≡ map g f.links = c.deref.ensures.value ∙ c.in_ok-slots.ensures in
-    rw (c.sites-sites.ensures, c.statics.ensures, c.profile.ensures.profile) (All-same P c.deref.result.now (map g f.links) slots all)
+    rw (c.sites-sites.ensures, c.statics.ensures, c.profile.ensures.profile) all
 
 pub push_site-requires-clause-sum : goal.push_site-requires-clause-sum
 push_site-requires-clause-sum c = λ v is.
@@ -64,8 +62,6 @@ push_site-requires-clause-sum c = λ v is.
     let s = c.loop-site.site in
     let lt = c.loop-site-test.true in
     let each = c.in_ok-found.ensures.each in
-    let slots : c.deref.result.now ≡ map g f.links = c.deref.ensures.value ∙ c.in_ok-slots.ensures in
     let at = get_or_read c.in_ok-found.found.items s c.index.result.now (omega arith) c.index.ensures None in
     at ∙ c.in_ok-found.ensures.sums v s is lt
-    ∙ ap (λ (ss : List (Option ℕ)). gathered_of v c.args.by (places (same_option (Some s)) ss)) slots
     ∙ ap (λ (ls : List ℕ). gathered_of v c.args.by ls) (site_places f v is s)

@@ -2,7 +2,7 @@ use Rattle.std.proofs.Common.{◌≡◌, ◌<◌, ◌≤◌, ℕ, List, ◌++◌
 use Rattle.std.specs.Prelude.{All}
 use Rattle.std.specs.List.{flat_map, range_with_len}
 use Rattle.std.proofs.lemmas.List.{append-nil, get_or_read}
-use Rattle.std.proofs.lemmas.List.Elements.{All-map, All-same}
+use Rattle.std.proofs.lemmas.List.Elements.{All-map}
 use Rattle.md_trace.specs.Context.{same_option}
 use Rattle.md_static.specs.Tables.{Static}
 use Rattle.md_clique.specs.Places.{places}
@@ -17,16 +17,15 @@ use Rattle.md_people.proofs.Slots.{caller_more, callee_below, callee_links}
 use Rattle.md_people.proofs.Views.{statics_are}
 use Rattle.md_people.proofs.called.push_callees.Goals as goal
 
-pub gathered_by-requires-clause-there : goal.gathered_by-requires-clause-there
-gathered_by-requires-clause-there c =
+pub gathered_by-requires : goal.gathered_by-requires
+gathered_by-requires c =
     let f = c.args.loaded.now.profile in
     let valid = c.profile.ensures.valid in
     let g = callee_slot f c.args.site in
     let P : Option ℕ → Type 0 = λ s. IfSome s (λ k. k < length f.statics.procs) in
     let all : All P (map g f.links) = All-map P g f.links (λ k d lt.
     callee_below f c.args.site (length f.statics.procs) (get_or f.links k d) (valid.rows.nodes_there (get_or f.links k d).callee 0 (callees_there (length f.nodes) f.links (valid_sound f valid).links k d lt))) in
-    let slots : c.deref.result.now ≡ map g f.links = c.deref.ensures.value ∙ c.in_ok-slots.ensures in
-    rw (c.procs-procs.ensures, c.statics-statics.ensures, c.profile.ensures.profile) (All-same P c.deref.result.now (map g f.links) slots all)
+    rw (c.new.ensures, c.procs-procs.ensures, c.statics-statics.ensures, c.profile.ensures.profile) all
 
 pub push_callee-requires : goal.push_callee-requires
 push_callee-requires c =
@@ -48,11 +47,10 @@ loop-proc-preserved c = λ v is.
     let r = c.loop-proc.proc in
     let lt = c.loop-proc-test.true in
     let each = c.in_ok-found.ensures.each in
-    let slots : c.deref.result.now ≡ map g f.links = c.deref.ensures.value ∙ c.in_ok-slots.ensures in
     let at = get_or_read c.in_ok-found.found.items r c.index.result.now (omega arith) c.index.ensures None in
     let sum : c.index.result.now ≡ gathered_of v by (links_to v r (Some s)) =
     at ∙ c.in_ok-found.ensures.sums v r is lt
-    ∙ ap (λ (ss : List (Option ℕ)). gathered_of v by (places (same_option (Some r)) ss)) slots
+    ∙ ap (λ (x : ℕ). gathered_of v by (places (same_option (Some r)) (map (callee_slot f x) f.links))) c.new.ensures
     ∙ ap (λ (ls : List ℕ). gathered_of v by ls) (callee_links f v is s r) in
     let tables : c.statics-statics.result.now ≡ v.statics = c.statics-statics.ensures ∙ (rw c.profile.ensures.profile (sym (statics_are f v is))) in
     let words = called_words c.statics-statics.result.now s r in

@@ -1,41 +1,33 @@
-use Rattle.std.proofs.Common.{◌≡◌, ℕ, ◌<◌, ◌≤◌, Bool, List, length, get_or, map, Some, sym, ap, ◌∙◌}
-use Rattle.std.proofs.lemmas.List.{take_all}
+use Rattle.std.proofs.Common.{◌≡◌, ℕ, ◌<◌, List, [], ◌∷◌, ◌++◌, length, get_or, map, take, Some, sym, ap, ◌∙◌}
+use Rattle.std.specs.Prelude.{All}
+use Rattle.std.proofs.lemmas.List.{map_more, take_all}
 use Rattle.md_trace.specs.Context.{same_option}
 use Rattle.md_dynamic.specs.declared.link.LinkRow.{LinkRow}
-use Rattle.md_clique.specs.Places.{places}
-use Rattle.md_cost.specs.FileView.{join_of}
-use Rattle.md_cost.specs.View.{View, Join}
 use Rattle.md_people.specs.Context.{callee_row}
-use Rattle.md_people.proofs.Links.{places_map, row_in, row_out}
+use Rattle.md_people.specs.Ports.{PortsRow}
+use Rattle.md_people.proofs.Links.{places_there}
 use Rattle.md_people.proofs.callee.callee_rows.Goals as goal
-use Rattle.md_people.proofs.callee.callee_rows.Goals.{then-starts_at+in_ok-row+in_ok-push, else-starts_at}
 
-pub loop-link-preserved : goal.loop-link-preserved
-loop-link-preserved c = λ v is.
+pub callee_row-requires : goal.callee_row-requires
+callee_row-requires c =
     let links = c.args.loaded.now.profile.links in
-    let i = c.loop-link.link in
-    let p : LinkRow → Bool = λ r. same_option r.caller (Some c.args.node) in
-    let row = c.index-links-link.result in
-    let there : i < length links = rw (c.links-links.ensures, c.profile.ensures.profile) at c.loop-link-test.true in
-    let row_is : row ≡ get_or links i row = rw (c.links-links.ensures, c.profile.ensures.profile) at c.index-links-link.is in
-    elim c.if-starts_at.branch [
-      | then-starts_at+in_ok-row+in_ok-push w ↦ (
-          rw w.rows-is (row_in (callee_row v c.args.by) p links i row there row_is c.loop-link.rows.items w.push.new.self.items w.in_ok-row.row
-          (ap p c.index-links-link.is ∙ sym c.starts_at.ensures ∙ w.if-starts_at.true)
-          (c.loop-link.invariant v is)
-          (w.in_ok-row.ensures v is ∙ ap (λ (l : ℕ). callee_row v c.args.by l) w.new.ensures)
-          w.in_ok-push.ensures.items))
-      | else-starts_at w ↦ (
-          rw w.rows-is (row_out (callee_row v c.args.by) p links i row there row_is c.loop-link.rows.items (ap p c.index-links-link.is ∙ sym c.starts_at.ensures ∙ w.if-starts_at.false) (c.loop-link.invariant v is)))
-    ]
+    let from = c.links_from-links.result.now in
+    let all : All (λ q. q < length links) from = rw c.links_from-links.ensures.links (places_there (λ (r : LinkRow). same_option r.caller (Some c.args.node)) links) in
+    let there : c.new.result < length links = rw c.new.ensures (all c.loop-place.place 0 c.loop-place-test.true) in
+    record { there = there }
+
+pub loop-place-preserved : goal.loop-place-preserved
+loop-place-preserved c = λ v is.
+    let f = callee_row v c.args.by in
+    let from = c.links_from-links.result.now in
+    let i = c.loop-place.place in
+    let at : c.new.result ≡ get_or from i 0 = c.new.ensures in
+    c.in_ok-push.ensures.items ∙ ap (λ (rs : List PortsRow). rs ++ c.in_ok-row.row ∷ []) (c.loop-place.invariant v is)
+    ∙ ap (λ (r : PortsRow). map f (take i from) ++ r ∷ []) (c.in_ok-row.ensures v is ∙ ap (λ (d : ℕ). f d) at)
+    ∙ sym (map_more f from i 0 c.loop-place-test.true)
 
 pub returns : goal.returns
 returns c = λ v is.
-    let links = c.args.loaded.now.profile.links in
-    let p : LinkRow → Bool = λ r. same_option r.caller (Some c.args.node) in
-    let q : Join → Bool = λ x. same_option x.caller (Some c.args.node) in
-    let end : length links ≤ c.loop-link.link = rw (c.links-links.ensures, c.profile.ensures.profile) at c.loop-link-test.false in
-    c.loop-link.invariant v is
-    ∙ ap (λ (rs : List LinkRow). map (callee_row v c.args.by) (places p rs)) (take_all c.loop-link.link links end)
-    ∙ ap (λ (ks : List ℕ). map (callee_row v c.args.by) ks) (sym (places_map q join_of links))
-    ∙ ap (λ (js : List Join). map (callee_row v c.args.by) (places q js)) (sym (ap (λ (w : View). w.links) is.is))
+    let f = callee_row v c.args.by in
+    let from = c.links_from-links.result.now in
+    c.loop-place.invariant v is ∙ ap (λ (ls : List ℕ). map f ls) (take_all c.loop-place.place from c.loop-place-test.false ∙ c.links_from-links.ensures.view v is)

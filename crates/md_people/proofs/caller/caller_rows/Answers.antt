@@ -2,7 +2,7 @@ use Rattle.std.proofs.Common.{◌≡◌, ◌+◌, ◌<◌, ℕ, List, ◌++◌, 
 use Rattle.std.specs.Prelude.{All}
 use Rattle.std.specs.List.{flat_map, range_with_len}
 use Rattle.std.proofs.lemmas.List.{append-nil, get_or_read}
-use Rattle.std.proofs.lemmas.List.Elements.{All-map, All-same}
+use Rattle.std.proofs.lemmas.List.Elements.{All-map}
 use Rattle.md_trace.specs.Context.{same_option}
 use Rattle.md_static.specs.Tables.{Static}
 use Rattle.md_clique.specs.Places.{places}
@@ -17,14 +17,13 @@ use Rattle.md_people.proofs.Slots.{caller_more, root_links, site_links, slot_bel
 use Rattle.md_people.proofs.Views.{statics_are}
 use Rattle.md_people.proofs.caller.caller_rows.Goals as goal
 
-pub gathered_by-requires-clause-there : goal.gathered_by-requires-clause-there
-gathered_by-requires-clause-there c =
+pub gathered_by-requires : goal.gathered_by-requires
+gathered_by-requires c =
     let f = c.args.loaded.now.profile in
     let g = caller_slot f c.args.id in
     let P : Option ℕ → Type 0 = λ s. IfSome s (λ k. k < length f.statics.sites + 1) in
     let all : All P (map g f.links) = All-map P g f.links (λ k d lt. slot_below f c.args.id (get_or f.links k d) (all_sites_there f c.profile.ensures.valid k d lt)) in
-    let slots : c.deref.result.now ≡ map g f.links = c.deref.ensures.value ∙ c.in_ok-slots.ensures in
-    rw (c.sites-sites.ensures, c.statics-statics.ensures, c.profile.ensures.profile) (All-same P c.deref.result.now (map g f.links) slots all)
+    rw (c.sites-sites.ensures, c.statics-statics.ensures, c.profile.ensures.profile) all
 
 pub push_root-requires : goal.push_root-requires
 push_root-requires c =
@@ -50,11 +49,9 @@ loop-site-init c = λ v is.
     let n = length c.sites-sites.result.now in
     let each = c.in_ok-found.ensures.each in
     let size : n ≡ length f.statics.sites = rw (c.sites-sites.ensures, c.statics-statics.ensures, c.profile.ensures.profile) refl in
-    let slots : c.deref.result.now ≡ map g f.links = c.deref.ensures.value ∙ c.in_ok-slots.ensures in
     let at = get_or_read c.in_ok-found.found.items n c.index.result.now (omega arith) c.index.ensures None in
     let sum : c.index.result.now ≡ gathered_of v by (links_to v q None) =
     at ∙ c.in_ok-found.ensures.sums v n is (omega arith)
-    ∙ ap (λ (ss : List (Option ℕ)). gathered_of v by (places (same_option (Some n)) ss)) slots
     ∙ ap (λ (k : ℕ). gathered_of v by (places (same_option (Some k)) (map g f.links))) size
     ∙ ap (λ (ls : List ℕ). gathered_of v by ls) (root_links f (all_sites_there f c.profile.ensures.valid) v is by q) in
     c.in_ok-push_root.ensures ∙ ap (λ (rs : List PortsRow). rs ++ row_of c.index.result.now (codes "root")) c.new-rows.ensures.items
@@ -71,11 +68,9 @@ loop-site-preserved c = λ v is.
     let lt = c.loop-site-test.true in
     let each = c.in_ok-found.ensures.each in
     let size : length c.sites-sites.result.now ≡ length f.statics.sites = rw (c.sites-sites.ensures, c.statics-statics.ensures, c.profile.ensures.profile) refl in
-    let slots : c.deref.result.now ≡ map g f.links = c.deref.ensures.value ∙ c.in_ok-slots.ensures in
     let at = get_or_read c.in_ok-found.found.items s c.index-in-loop-site.result.now (omega arith) c.index-in-loop-site.ensures None in
     let sum : c.index-in-loop-site.result.now ≡ gathered_of v by (links_to v q (Some s)) =
     at ∙ c.in_ok-found.ensures.sums v s is (omega arith)
-    ∙ ap (λ (ss : List (Option ℕ)). gathered_of v by (places (same_option (Some s)) ss)) slots
     ∙ ap (λ (ls : List ℕ). gathered_of v by ls) (site_links f (all_sites_there f c.profile.ensures.valid) v is by q s (omega arith)) in
     let tables : c.statics-statics.result.now ≡ v.statics = c.statics-statics.ensures ∙ (rw c.profile.ensures.profile (sym (statics_are f v is))) in
     let words = caller_words c.statics-statics.result.now s in

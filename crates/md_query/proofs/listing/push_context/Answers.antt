@@ -6,7 +6,7 @@ use Rattle.md_trace.specs.Context.{same_option}
 use Rattle.md_dynamic.specs.declared.link.LinkRow.{LinkRow}
 use Rattle.md_query.specs.declared.row.Row.{Row}
 use Rattle.md_query.specs.PageOf.{context_row, link_row, links_from}
-use Rattle.md_query.proofs.ListSteps.{places_there}
+use Rattle.md_people.proofs.Links.{places_there}
 use Rattle.md_query.proofs.listing.push_context.Goals as goal
 
 pub push_links-requires : goal.push_links-requires

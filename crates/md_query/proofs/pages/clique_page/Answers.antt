@@ -8,7 +8,7 @@ use Rattle.md_query.specs.declared.row.Row.{Row}
 use Rattle.md_query.specs.declared.row.Row.TheVariants as row
 use Rattle.md_query.specs.declared.row.Title.TheVariants as title
 use Rattle.md_query.specs.PageOf.{context_rows, entered_row, page_with, total_of}
-use Rattle.md_query.proofs.ListSteps.{places_there}
+use Rattle.md_people.proofs.Links.{places_there}
 use Rattle.md_query.proofs.pages.clique_page.Goals as goal
 
 pub push_context-requires : goal.push_context-requires

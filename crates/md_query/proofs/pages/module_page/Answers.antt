@@ -1,6 +1,6 @@
 use Rattle.std.proofs.Common.{eqb}
 use Rattle.md_static.specs.declared.entry.Proc.{Proc}
-use Rattle.md_query.proofs.ListSteps.{places_there}
+use Rattle.md_people.proofs.Links.{places_there}
 use Rattle.md_query.proofs.pages.module_page.Goals as goal
 
 pub push_procs-requires : goal.push_procs-requires

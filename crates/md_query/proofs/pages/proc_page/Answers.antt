@@ -1,7 +1,7 @@
 use Rattle.std.proofs.Common.{ℕ, eqb, arith}
 use Rattle.std.proofs.lemmas.Grind.{common_steps}
 use Rattle.md_static.specs.declared.entry.Site.{Site}
-use Rattle.md_query.proofs.ListSteps.{places_there}
+use Rattle.md_people.proofs.Links.{places_there}
 use Rattle.md_query.proofs.pages.proc_page.Goals as goal
 
 pub push_contexts-requires : goal.push_contexts-requires
