@@ -57,8 +57,9 @@ fn show_menu<O: Sink>(alloc: Global, profiled: Profiled, n: u32, out: &mut O) ->
     }
 }
 
-/// The program of `n` procedures below `main`: the last one does nothing, and each other one calls the next one twice.
-fn gen_text(alloc: Global, n: u32) -> Result<Vec<u8>, NoMemory>
+/// The text of a program of `n` procedures below `main`, from 1 to 20: the last one does nothing, and each other one calls the next one
+/// twice. So its run has 2^n contexts, and weighs 3 * 2^n + 2.
+pub fn gen_text(alloc: Global, n: u32) -> Result<Vec<u8>, NoMemory>
     requires some { 1 ≤ n }
     requires few { n ≤ 20 }
     ensures { IfOk result (λ text. text.items ≡ gen_text n) }

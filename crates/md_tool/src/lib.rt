@@ -19,3 +19,4 @@ mod turns;
 mod write;
 
 pub use command::{Status, top};
+pub use generate::gen_text;
