@@ -1,5 +1,5 @@
 -- The map of callees as a link is added: it has the new link where the site is higher-order, and no other key.
-use Rattle.std.proofs.Common.{ℕ, MatchOption, ◌+◌, ◌==◌, ◌&&◌, ◌≡◌, inl, inr, Bool, true, false, cond, List, [], ◌∷◌, ◌++◌, length, Option, Some, None, IsSomeAnd, slice_get, refl, sym, ap, ◌∙◌, subst, arith}
+use Rattle.std.proofs.Common.{ℕ, MatchOption, ◌+◌, ◌==◌, ◌&&◌, ◌≡◌, inl, inr, true, false, cond, List, [], ◌∷◌, ◌++◌, length, Option, Some, None, IsSomeAnd, slice_get, refl, sym, ap, ◌∙◌, subst, arith}
 use Rattle.std.specs.Map.{lookup}
 use Rattle.std.proofs.lemmas.Bool.{cases_eq, eq-eqb, ne_eqb, and_left, and_right, and_from}
 use Rattle.md_static.specs.declared.entry.Site.{Site}

@@ -1,7 +1,7 @@
 -- The tables stay tables where a link, or a context and a link, are added.
-use Rattle.std.proofs.Common.{ℕ, zero, suc, All, MatchOption, ◌+◌, ◌-◌, ◌%◌, ◌^◌, ◌==◌, ◌&&◌, ◌≡◌, ◌<◌, ◌≤◌, inl, inr, Bool, true, false, cond, List, [], ◌∷◌, ◌++◌, length, replicate, get_or, set, Option, Some, None, IfSome, IsSomeAnd, IsTrue, ◌↔◌, slice_get, refl, sym, ap, ◌∙◌, subst, arith}
+use Rattle.std.proofs.Common.{ℕ, zero, suc, All, MatchOption, ◌+◌, ◌-◌, ◌%◌, ◌^◌, ◌==◌, ◌&&◌, ◌≡◌, ◌<◌, ◌≤◌, inl, inr, Bool, true, false, List, [], ◌∷◌, ◌++◌, length, replicate, get_or, set, Option, Some, None, IfSome, IsSomeAnd, IsTrue, ◌↔◌, slice_get, refl, sym, ap, ◌∙◌, subst, arith}
 use Rattle.std.specs.Map.{lookup}
-use Rattle.std.proofs.lemmas.Bool.{cases_eq, eq-eqb, eqb-true, ne_eqb, and_left, and_right, and_from, and_parts}
+use Rattle.std.proofs.lemmas.Bool.{cases_eq, eq-eqb, eqb-true, ne_eqb, and_left, and_parts}
 use Rattle.std.proofs.lemmas.List.{length-set, length-append, length-replicate}
 use Rattle.std.proofs.lemmas.Option.{get_or_from_slice_get}
 use Rattle.md_static.specs.declared.entry.Site.{Site}
@@ -17,7 +17,7 @@ use Rattle.md_dynamic.specs.declared.slot.CalleeKey.{CalleeKey}
 use Rattle.md_dynamic.specs.declared.slot.Slot.{Slot}
 use Rattle.md_dynamic.specs.declared.span.Span.{Span}
 use Rattle.md_dynamic.specs.Links.{link_row, root_row, number_of}
-use Rattle.md_dynamic.specs.Rows.{Rows, base_of, Owns, IsPlainSite, IsHigherOrderSite, MayLead, IsFresh, link_in, callee_in, place_by, place_in, is_from, is_call, place_at, AreSlots, IsFound, AreUsed, HasCallees, AreCallees, HasItsEnds, AreTables}
+use Rattle.md_dynamic.specs.Rows.{Rows, base_of, Owns, IsPlainSite, IsHigherOrderSite, MayLead, IsFresh, link_in, callee_in, place_by, place_in, is_from, is_call, place_at, AreSlots, IsFound, AreUsed, AreCallees, HasItsEnds, AreTables}
 use Rattle.md_dynamic.specs.Slots.{slot_of, slot_link, slots_before, is_key}
 use Rattle.md_dynamic.specs.Spans.{AreSpans, span_of}
 use Rattle.md_dynamic.proofs.Callees.{from-same, from-other, call-stays, IsEntered, found-new, callees-entered}
