@@ -354,7 +354,7 @@ goes_returns s t next claim (c ∷ js) f [] q outer good over out left h j =
               ends = λ l i later. (
                 (
                   later.still f.act (job_below j) (outside_callers s t (activations h) outer f.act f.act (c ∷ js) (omega arith) j.callers) ∙ rw (eq-eqb f.act f.act refl) refl,
-                  same_parent f.act later (job_below j) ∙ j.callers.0 ∙ sym later.runs,
+                  (c.act, same_parent f.act later (job_below j) ∙ j.callers.0, later.runs),
                 ),
                 j.ends.ends l (RedoOf f.act ∷ i) (later_redo f.act (later_then since (λ b below outside. outside.1) later) (λ b below outside. outside.0)),
               );

@@ -1,7 +1,7 @@
 -- The tables stay tables where a link, or a context and a link, are added.
-use Rattle.std.proofs.Common.{ℕ, zero, suc, All, MatchOption, ◌+◌, ◌-◌, ◌%◌, ◌^◌, ◌==◌, ◌&&◌, ◌≡◌, ◌<◌, ◌≤◌, inl, inr, Bool, true, false, cond, List, [], ◌∷◌, ◌++◌, length, replicate, get_or, set, Option, Some, None, IfSome, IsSomeAnd, IsTrue, ◌↔◌, slice_get, refl, sym, ap, ◌∙◌, subst, arith}
+use Rattle.std.proofs.Common.{ℕ, zero, suc, All, MatchOption, ◌+◌, ◌-◌, ◌%◌, ◌^◌, ◌==◌, ◌&&◌, ◌≡◌, ◌<◌, ◌≤◌, inl, inr, Bool, true, false, List, [], ◌∷◌, ◌++◌, length, replicate, get_or, set, Option, Some, None, IfSome, IsSomeAnd, IsTrue, ◌↔◌, slice_get, refl, sym, ap, ◌∙◌, subst, arith}
 use Rattle.std.specs.Map.{lookup}
-use Rattle.std.proofs.lemmas.Bool.{cases_eq, eq-eqb, eqb-true, ne_eqb, and_left, and_right, and_from, and_parts}
+use Rattle.std.proofs.lemmas.Bool.{cases_eq, eq-eqb, eqb-true, ne_eqb, and_left, and_parts}
 use Rattle.std.proofs.lemmas.List.{length-set, length-append, length-replicate}
 use Rattle.std.proofs.lemmas.Option.{get_or_from_slice_get}
 use Rattle.md_static.specs.declared.entry.Site.{Site}
@@ -20,21 +20,10 @@ use Rattle.md_dynamic.specs.Links.{link_row, root_row, number_of}
 use Rattle.md_dynamic.specs.Rows.{Rows, base_of, Owns, IsPlainSite, IsHigherOrderSite, MayLead, IsFresh, link_in, callee_in, place_by, place_in, is_from, is_call, place_at, AreSlots, IsFound, AreUsed, AreCallees, HasItsEnds, AreTables}
 use Rattle.md_dynamic.specs.Slots.{slot_of, slot_link, slots_before, is_key}
 use Rattle.md_dynamic.specs.Spans.{AreSpans, span_of}
+use Rattle.md_dynamic.proofs.Callees.{from-same, from-other, call-stays, IsEntered, found-new, callees-entered}
+use Rattle.md_dynamic.proofs.Options.{some-and, and-some, if-some}
 use Rattle.md_dynamic.proofs.Offsets.{before-push, before-next, place-inside, place-within, places-apart, wrapped}
 use Rattle.md_dynamic.proofs.Positions.{number-same, number-some, number-other, number-first, number-new, number-set, number-below, none-passes}
-
--- the value of which a fact is told
-pub some-and : {A : Type 0} (P : A → Type 0) (o : Option A) → IsSomeAnd o P → (x : A) × (o ≡ Some x) × P x
-some-and P None is = absurd is
-some-and P (Some x) is = (x, refl, is)
-
--- a fact of a value that is there
-pub and-some : {A : Type 0} (P : A → Type 0) (o : Option A) (x : A) → o ≡ Some x → P x → IsSomeAnd o P
-and-some P o x is holds = subst (λ z. IsSomeAnd z P) (sym is) holds
-
-pub if-some : {A : Type 0} (P Q : A → Type 0) (o : Option A) → ((x : A) → P x → Q x) → IfSome o P → IfSome o Q
-if-some P Q None all is = tt
-if-some P Q (Some x) all is = all x is
 
 -- the span that is read is that of the procedure
 pub span-read : (sites : List Site) (procs q v : ℕ) (spans : List Span) (span : Span) → AreSpans sites procs spans → q < procs → v ≡ q → span ≡ get_or spans v span → span ≡ span_of sites q
@@ -57,18 +46,6 @@ pub get-replicate : {A : Type 0} (n k : ℕ) (x : A) → k < n → slice_get (re
 get-replicate zero k x below = absurd (omega (arith, below))
 get-replicate (suc n) zero x below = refl
 get-replicate (suc n) (suc k) x below = get-replicate n k x (omega (arith, below))
-
--- ---- which links a link is
-
-from-same : (v s to calls : ℕ) → is_from v s (link_row v s to calls) ≡ true
-from-same v s to calls = and_from (v == v) (s == s) (eq-eqb v v refl) (eq-eqb s s refl)
-
-from-other : (v s node site to calls : ℕ) → ((v ≡ node) → (s ≡ site) → ⊥) → is_from v s (link_row node site to calls) ≡ false
-from-other v s node site to calls apart =
-    elim (cases_eq v node) [
-      | inl same ↦ and_right (v == node) (s == site) (ne_eqb s site (λ e. apart same e))
-      | inr other ↦ and_left (v == node) (s == site) (ne_eqb v node other)
-    ]
 
 not-from : (v s n : ℕ) (l : LinkRow) (caller : Option ℕ) → l.caller ≡ caller → IfSome caller (λ w. w < n) → n ≤ v → is_from v s l ≡ false
 not-from v s n l None is below high = (let e : same_option (Some v) l.caller ≡ false = ap (same_option (Some v)) is in and_left (same_option (Some v) l.caller) (same_option (Some s) l.site) e)
@@ -182,101 +159,6 @@ slots-context sites nodes nodes2 slots slots2 links q rise are callers nodes_are
       ];
     } in
     subst (λ ns. AreSlots sites ns slots2 links) (sym nodes_are) all
-
--- ---- callees
-
--- whether a link is of a callee stays where the context to which it leads stays
-call-stays : (nodes nodes2 : List ℕ) (v s q : ℕ) (l : LinkRow) → slice_get nodes2 l.callee ≡ slice_get nodes l.callee → is_call nodes2 v s q l ≡ is_call nodes v s q l
-call-stays nodes nodes2 v s q l same = ap (λ o. is_from v s l && same_option (Some q) o) same
-
--- a link was entered at this key, where its site is higher-order
-abbrev pub IsEntered : Option ℕ → ℕ → ℕ → ℕ → ℕ → List (CalleeKey × ℕ) → List (CalleeKey × ℕ) → Type 0
-IsEntered kind node site q k old new =
-    MatchOption kind ((v s r : ℕ) → lookup (is_key v s r) new ≡ cond (is_key node site q (record { node = v; site = s; callee = r })) (Some k) (lookup (is_key v s r) old)) (λ c. new ≡ old)
-
-module _ (sites : List Site) (nodes nodes2 : List ℕ) (callees callees2 : List (CalleeKey × ℕ)) (links : List LinkRow) (node site q to calls : ℕ) (x : Site) (are : AreCallees sites nodes callees links)
-    (there : slice_get sites site ≡ Some x) (stay : (k : ℕ) (l : LinkRow) → slice_get links k ≡ Some l → slice_get nodes2 l.callee ≡ slice_get nodes l.callee) (end : slice_get nodes2 to ≡ Some q)
-  where
-    abbrev row : LinkRow
-    row = link_row node site to calls
-
-    older : (v s r : ℕ) → number_of (is_call nodes2 v s r) links ≡ number_of (is_call nodes v s r) links
-    older v s r = number-same (is_call nodes2 v s r) (is_call nodes v s r) 0 links (λ k l is. call-stays nodes nodes2 v s r l (stay k l is))
-
-    elsewhere : (v s r : ℕ) → is_call nodes2 v s r row ≡ false → number_of (is_call nodes2 v s r) (links ++ row ∷ []) ≡ number_of (is_call nodes v s r) links
-    elsewhere v s r bad = number-other (is_call nodes2 v s r) 0 links row bad ∙ older v s r
-
-    apart : (v s r : ℕ) → ((v ≡ node) → (s ≡ site) → ⊥) → is_call nodes2 v s r row ≡ false
-    apart v s r ne = and_left (is_from v s row) (same_option (Some r) (slice_get nodes2 to)) (from-other v s node site to calls ne)
-
-    key-other : (v s r : ℕ) → ((v ≡ node) → (s ≡ site) → (r ≡ q) → ⊥) → is_key node site q (record { node = v; site = s; callee = r }) ≡ false
-    key-other v s r ne =
-        elim (cases_eq node v) [
-          | inl one ↦ elim (cases_eq site s) [
-            | inl two ↦ and_right (node == v) ((site == s) && (q == r)) (and_right (site == s) (q == r) (ne_eqb q r (λ three. ne (sym one) (sym two) (sym three))))
-            | inr other ↦ and_right (node == v) ((site == s) && (q == r)) (and_left (site == s) (q == r) (ne_eqb site s other))
-          ]
-          | inr other ↦ and_left (node == v) ((site == s) && (q == r)) (ne_eqb node v other)
-        ]
-
-    call-other : (v s r : ℕ) → ((v ≡ node) → (s ≡ site) → (r ≡ q) → ⊥) → is_call nodes2 v s r row ≡ false
-    call-other v s r ne =
-        elim (cases_eq v node) [
-          | inl one ↦ elim (cases_eq s site) [
-            | inl two ↦ and_right (is_from v s row) (same_option (Some r) (slice_get nodes2 to)) (ap (same_option (Some r)) end ∙ ne_eqb r q (λ three. ne one two three))
-            | inr other ↦ apart v s r (λ e f. other f)
-          ]
-          | inr other ↦ apart v s r (λ e f. other e)
-        ]
-
-    key-same : is_key node site q (record { node = node; site = site; callee = q }) ≡ true
-    key-same = and_from (node == node) ((site == site) && (q == q)) (eq-eqb node node refl) (and_from (site == site) (q == q) (eq-eqb site site refl) (eq-eqb q q refl))
-
-    call-same : is_call nodes2 node site q row ≡ true
-    call-same = and_from (is_from node site row) (same_option (Some q) (slice_get nodes2 to)) (from-same node site to calls) (ap (same_option (Some q)) end ∙ eq-eqb q q refl)
-
-    -- a link of a plain site is no callee
-    callees-plain : (c : ℕ) → callee_of x.kind ≡ Some c → callees2 ≡ callees → AreCallees sites nodes2 callees2 (links ++ row ∷ [])
-    callees-plain c plain now = λ v s r y at many.
-        let ne : (v ≡ node) → (s ≡ site) → ⊥ = λ e f. (
-        let own : y ≡ x = (let z : slice_get sites site ≡ Some y = ap (slice_get sites) (sym f) ∙ at in cc (z, there)) in
-        let two : None ≡ Some c = sym many ∙ ap (λ (z : Site). callee_of z.kind) own ∙ plain in
-        cc) in
-        ap (lookup (is_key v s r)) now ∙ are v s r y at many ∙ sym (elsewhere v s r (apart v s r ne))
-
-    callees-many : number_of (is_call nodes node site q) links ≡ None → ((v s r : ℕ) → lookup (is_key v s r) callees2 ≡ cond (is_key node site q (record { node = v; site = s; callee = r })) (Some (length links)) (lookup (is_key v s r) callees)) →
-        AreCallees sites nodes2 callees2 (links ++ row ∷ [])
-    callees-many none now = λ v s r y at many.
-        let other : ((v ≡ node) → (s ≡ site) → (r ≡ q) → ⊥) → lookup (is_key v s r) callees2 ≡ number_of (is_call nodes2 v s r) (links ++ row ∷ []) = λ ne.
-        now v s r ∙ ap (λ b. cond b (Some (length links)) (lookup (is_key v s r) callees)) (key-other v s r ne) ∙ are v s r y at many ∙ sym (elsewhere v s r (call-other v s r ne)) in
-        elim (cases_eq v node) [
-          | inl one ↦ elim (cases_eq s site) [
-            | inl two ↦ elim (cases_eq r q) [
-              | inl three ↦
-                  let count : 0 + length links ≡ length links = omega arith in
-                  let here : lookup (is_key node site q) callees2 ≡ number_of (is_call nodes2 node site q) (links ++ row ∷ []) =
-                  now node site q ∙ ap (λ b. cond b (Some (length links)) (lookup (is_key node site q) callees)) key-same
-                  ∙ sym (number-new (is_call nodes2 node site q) 0 links row (older node site q ∙ none) call-same ∙ ap (λ k. Some k) count) in
-                  let P : ℕ → ℕ → ℕ → Type 0 = λ a b d. lookup (is_key a b d) callees2 ≡ number_of (is_call nodes2 a b d) (links ++ row ∷ []) in
-                  subst (λ a. P a s r) (sym one) (subst (λ b. P node b r) (sym two) (subst (λ d. P node site d) (sym three) here))
-              | inr ne ↦ other (λ e f g. ne g)
-            ]
-            | inr ne ↦ other (λ e f g. ne f)
-          ]
-          | inr ne ↦ other (λ e f g. ne e)
-        ]
-
-    -- the new link is found by its callee
-    pub found-new : number_of (is_call nodes node site q) links ≡ None → IsFound nodes2 (links ++ row ∷ []) node site (length links)
-    found-new none =
-        let count : 0 + length links ≡ length links = omega arith in
-        let first : number_of (is_call nodes2 node site q) (links ++ row ∷ []) ≡ Some (length links) = number-new (is_call nodes2 node site q) 0 links row (older node site q ∙ none) call-same ∙ ap (λ k. Some k) count in
-        and-some (λ (l : LinkRow). IsSomeAnd (slice_get nodes2 l.callee) (λ p. number_of (is_call nodes2 node site p) (links ++ row ∷ []) ≡ Some (length links))) (slice_get (links ++ row ∷ []) (length links)) row (get-push-new links row)
-        (and-some (λ p. number_of (is_call nodes2 node site p) (links ++ row ∷ []) ≡ Some (length links)) (slice_get nodes2 to) q end first)
-
-    pub callees-entered : (o : Option ℕ) → callee_of x.kind ≡ o → MatchOption o (number_of (is_call nodes node site q) links ≡ None) (λ c. Unit {0}) → IsEntered o node site q (length links) callees callees2 → AreCallees sites nodes2 callees2 (links ++ row ∷ [])
-    callees-entered None kind none now = callees-many none now
-    callees-entered (Some c) kind none now = callees-plain c kind now
 
 -- ---- the link that was used last
 
@@ -422,7 +304,7 @@ link-tables s spans nodes bases slots slots2 callees callees2 links links2 activ
       bases_are = t.bases_are;
       slots_are = slots-entered s.sites nodes slots links node site to calls a.row t.sound.owners_rise t.slots_are a.there a.owner (callee_of a.row.kind) slots2 refl (fresh-plain _ _ (callee_of a.row.kind) a.fresh) a.slots_now;
       used_are = used-entered s nodes nodes slots slots2 callees callees2 links node site q to calls t.sound.owners_rise t.slots_are.each t.used_are t.callees_are a (λ k l is. refl) end few;
-      callees_are = callees-entered s.sites nodes nodes callees callees2 links node site q to calls a.row t.callees_are a.there (λ k l is. refl) end (callee_of a.row.kind) refl (fresh-many _ _ (callee_of a.row.kind) a.fresh) a.callees_now;
+      callees_are = callees-entered s.sites nodes nodes callees callees2 links node site q to calls a.row t.callees_are a.there (λ k l is. refl) end (callee_of a.row.kind) refl (fresh-many _ _ (callee_of a.row.kind) a.fresh) a.owner (λ v p is. is) a.callees_now;
       ends = λ k l is. elim (get-push-either links new l k is) [
         | inl last ↦ subst (HasItsEnds nodes) (sym last.1) (get-within nodes node a.row.owner a.owner, get-within nodes to q end)
         | inr old ↦ t.ends k l old
@@ -479,7 +361,7 @@ context-tables s spans nodes nodes2 bases bases2 slots mid slots2 callees callee
           let mid_used = used-entered s nodes ns slots mid callees callees2 links node site q (length nodes) calls t.sound.owners_rise t.slots_are.each t.used_are t.callees_are a (λ k l is. get-push-old nodes q l.callee (t.ends k l is).1) (get-push-new nodes q) few in
           subst (λ zs. AreUsed s.sites ns zs (links ++ new ∷ [])) (sym slots_are) (used-context s.sites nodes ns mid (links ++ new ∷ []) q t.sound.owners_rise mids.each mid_used);
       callees_are = callees-entered s.sites nodes ns callees callees2 links node site q (length nodes) calls a.row t.callees_are a.there (λ k l is. get-push-old nodes q l.callee (t.ends k l is).1) (get-push-new nodes q)
-          (callee_of a.row.kind) refl (fresh-many _ _ (callee_of a.row.kind) a.fresh) a.callees_now;
+          (callee_of a.row.kind) refl (fresh-many _ _ (callee_of a.row.kind) a.fresh) a.owner (λ v p is. get-push-old nodes q v (get-within nodes v p is) ∙ is) a.callees_now;
       ends = λ k l is. elim (get-push-either links new l k is) [
         | inl last ↦ subst (HasItsEnds ns) (sym last.1) ((let within = get-within nodes node a.row.owner a.owner in omega (arith, within, count)), omega (arith, count))
         | inr old ↦ ends-more nodes q l l.caller refl (t.ends k l old)
@@ -528,7 +410,7 @@ new-tables s spans main base base_is sound right below =
           ap (λ u. slots_before s.sites (main ∷ []) u + place_of s.sites x.owner t) only.0 ∙ (let e : 0 + place_of s.sites x.owner t ≡ place_of s.sites x.owner t = omega arith in e) ∙ ap (λ p. place_of s.sites p t) only.1 in
           let read = ap (slice_get (replicate (length (sites_of main s.sites)) (slot_of None))) place ∙ get-replicate (length (sites_of main s.sites)) (t - first_site main s.sites) (slot_of None) inside in
           and-some (λ slot. IfSome (slot_link slot) (IsFound (main ∷ []) (root_row ∷ []) v t)) (slice_get (replicate (length (sites_of main s.sites)) (slot_of None)) (place_at s.sites (main ∷ []) v x.owner t)) (slot_of None) read tt;
-      callees_are = λ v t q x at kind. refl;
+      callees_are = record { right = λ v t q x at kind. refl; alone = λ v t q k is. absurd (cc) };
       ends = λ k l is. subst (HasItsEnds (main ∷ [])) (sym (only-member root_row l k is).1) (tt, omega arith);
       pointers = length-replicate (length s.procs) None;
       active_there = λ q v is. absurd (no-pointer (length s.procs) q v is);
@@ -606,7 +488,7 @@ count-tables s spans nodes bases slots callees links active j old new t at calle
           let slot = some-and (λ slot. IfSome (slot_link slot) (IsFound nodes links v n)) (slice_get slots (place_at s.sites nodes v x.owner n)) (t.used_are v n x there kind mine) in
           and-some (λ slot. IfSome (slot_link slot) (IsFound nodes (set links j new) v n)) (slice_get slots (place_at s.sites nodes v x.owner n)) slot.0 slot.1
           (if-some (IsFound nodes links v n) (IsFound nodes (set links j new) v n) (slot_link slot.0) (λ k is. found-counted nodes links j old new v n k at callee (call v n) is) slot.2);
-      callees_are = λ v n q x there kind. t.callees_are v n q x there kind ∙ sym (number-set (is_call nodes v n q) 0 links j old new at (call v n q));
+      callees_are = record { right = λ v n q x there kind. t.callees_are.right v n q x there kind ∙ sym (number-set (is_call nodes v n q) 0 links j old new at (call v n q)); alone = t.callees_are.alone };
       ends = λ k l is. elim (cases_eq k j) [
         | inl same ↦
             let e : l ≡ new = (let now : slice_get (set links j new) k ≡ Some new = ap (slice_get (set links j new)) same ∙ get-set-same links j new (get-within links j old at) in cc (now, is)) in
@@ -768,7 +650,7 @@ module _ (r : Rows) (spans : List Span) (bases : List ℕ) (slots : List Slot) (
   pub callee-read : (q : ℕ) → IsHigherOrderSite old site → lookup (is_key node site q) callees ≡ callee_in old node site q
   callee-read q many =
       let kind = some-and (λ (z : Site). callee_of z.kind ≡ None) (slice_get r.statics.sites site) (subst (λ (z : Rows). IsHigherOrderSite z site) (sym same) many) in
-      t.callees_are node site q kind.0 kind.1 kind.2 ∙ ap (λ (z : Rows). callee_in z node site q) same
+      t.callees_are.right node site q kind.0 kind.1 kind.2 ∙ ap (λ (z : Rows). callee_in z node site q) same
 
   -- what is known where a link is added
   pub adding : (slots2 : List Slot) (callees2 : List (CalleeKey × ℕ)) (q place k : ℕ) (x : Site) → IsFresh old node site q → slice_get old.statics.sites site ≡ Some x → place ≡ place_in old node site → k ≡ length r.links →

@@ -6,7 +6,7 @@ use Rattle.md_static.specs.declared.entry.SiteKind.{SiteKind}
 use Rattle.md_static.specs.declared.entry.SiteKind.TheVariants.{Plain, HigherOrder}
 use Rattle.md_dynamic.specs.declared.slot.CalleeKey.{CalleeKey}
 use Rattle.md_dynamic.specs.Links.{link_row, root_row}
-use Rattle.md_dynamic.specs.Rows.{Rows, link_in, callee_in, place_in}
+use Rattle.md_dynamic.specs.Rows.{Rows, link_in, callee_in, place_in, HasCallees, AreCallees}
 use Rattle.md_dynamic.specs.Slots.{slot_of, slot_link, slots_before, is_key}
 
 abbrev site : ℕ → SiteKind → Site
@@ -77,3 +77,23 @@ found_by_its_key = refl
 
 not_found_under_another_context : lookup {X = ℕ} (is_key 0 1 3) ((key 1 1 2, 2) ∷ (key 1 1 3, 4) ∷ []) ≡ None
 not_found_under_another_context = refl
+
+-- a key is of the higher-order site in a context of drive, and of no plain site, another's context or one that isn't there
+has_callees : HasCallees sites driven.nodes 1 1
+has_callees = (refl, refl)
+
+plain_sites_have_none : HasCallees sites driven.nodes 1 2 → ⊥
+plain_sites_have_none is = let kind : Some 1 ≡ None = is.0 in cc
+
+other_contexts_have_none : HasCallees sites driven.nodes 0 1 → ⊥
+other_contexts_have_none is = let owner : Some 0 ≡ Some 1 = is.1 in cc
+
+missing_contexts_have_none : HasCallees sites driven.nodes 4 1 → ⊥
+missing_contexts_have_none is = let owner : None ≡ Some 1 = is.1 in cc
+
+missing_sites_have_none : HasCallees sites driven.nodes 1 3 → ⊥
+missing_sites_have_none is = is
+
+-- so a map that has the link of a plain site besides isn't the map of callees
+a_plain_site_is_no_key : AreCallees sites driven.nodes ((key 1 2 1, 3) ∷ (key 1 1 2, 2) ∷ (key 1 1 3, 4) ∷ []) driven.links → ⊥
+a_plain_site_is_no_key are = plain_sites_have_none (are.alone 1 2 1 3 refl)

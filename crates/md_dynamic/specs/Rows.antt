@@ -126,10 +126,15 @@ AreUsed sites nodes slots links =
     (v s : ℕ) (x : Site) → slice_get sites s ≡ Some x → callee_of x.kind ≡ None → slice_get nodes v ≡ Some x.owner
     → IsSomeAnd (slice_get slots (place_at sites nodes v x.owner s)) (λ slot. IfSome (slot_link slot) (IsFound nodes links v s))
 
--- the map of callees has the links of higher-order sites, each under its context, site and procedure
-abbrev pub AreCallees : List Site → List ℕ → List (CalleeKey × ℕ) → List LinkRow → Type 0
-AreCallees sites nodes callees links =
-    (v s q : ℕ) (x : Site) → slice_get sites s ≡ Some x → callee_of x.kind ≡ None → lookup (is_key v s q) callees ≡ number_of (is_call nodes v s q) links
+-- site s is a higher-order one, and v is a context of the procedure that has it
+abbrev pub HasCallees : List Site → List ℕ → ℕ → ℕ → Type 0
+HasCallees sites nodes v s = IsSomeAnd (slice_get sites s) (λ x. (callee_of x.kind ≡ None) × (slice_get nodes v ≡ Some x.owner))
+
+-- The map of callees has the links of higher-order sites, each under its context, site and procedure. It has no key of another
+-- site, nor of a context that isn't there.
+pub record AreCallees (sites : List Site) (nodes : List ℕ) (callees : List (CalleeKey × ℕ)) (links : List LinkRow) : Type 0 where
+  pub right : (v s q : ℕ) (x : Site) → slice_get sites s ≡ Some x → callee_of x.kind ≡ None → lookup (is_key v s q) callees ≡ number_of (is_call nodes v s q) links
+  pub alone : (v s q k : ℕ) → lookup (is_key v s q) callees ≡ Some k → HasCallees sites nodes v s
 
 -- the ends of each link are there
 abbrev pub HasItsEnds : List ℕ → LinkRow → Type 0

@@ -9,7 +9,7 @@ use Rattle.md_trace.specs.PortHistory.{SiteTable, current, MayFollow, IsPortHist
 use Rattle.md_trace.specs.Context.{Placed, chain, contexts, placed_of, current_chain}
 use Rattle.md_trace.specs.Links.{Leading, links}
 use Rattle.md_trace.specs.Counted.{longest}
-use Rattle.md_trace.proofs.Histories.{orderly, chain-of}
+use Rattle.md_trace.proofs.Histories.{orderly, chain-of, chain-redo}
 use Rattle.md_trace.proofs.LinkFacts.{AreRight, are-right, are-calls}
 use Rattle.md_trace.proofs.Longest.{chain-longest, current-longest}
 use Rattle.md_trace.proofs.Numbered.{numbered-below}
@@ -102,7 +102,7 @@ back t h k a top middle q old active2 chain2 st b at below may active_is chain_i
     let order = orderly t m h st.history in
     let y = b.activation in
     let c = current_chain m h in
-    let unfolded : chain xs (Some a) ≡ y ∷ c = chain-of m a h y order b.there ∙ ap (λ o. y ∷ chain xs o) may.1 in
+    let unfolded : chain xs (Some a) ≡ y ∷ c = chain-redo m a h y order b.there may.1 in
     let mine : y.link.procedure ≡ q = mark-procedure t h k a top middle q old st b at in
     let due : Some top ≡ nearest q (y ∷ c) = ap Some b.top_is ∙ sym (nearest-same q y c mine) in
     let new : ActiveIs (length k.rows.statics.procs) (y ∷ c) active2 =
@@ -119,7 +119,7 @@ room-back t h k a top middle old st b may =
     let m = t.main in
     let xs = placed_of m h in
     let order = orderly t m h st.history in
-    let unfolded : chain xs (Some a) ≡ b.activation ∷ current_chain m h = chain-of m a h b.activation order b.there ∙ ap (λ o. b.activation ∷ chain xs o) may.1 in
+    let unfolded : chain xs (Some a) ≡ b.activation ∷ current_chain m h = chain-redo m a h b.activation order b.there may.1 in
     let below = numbered-below xs a b.activation b.there in
     let most = chain-longest t m h a st.history (omega (arith, below, length-placed m (activations h))) in
     let len : length k.chain ≡ length (current_chain m h) = sym (length-reverse k.chain) ∙ steps-length (links m xs) (current_chain m h) (reverse k.chain) st.chain_is in

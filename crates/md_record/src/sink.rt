@@ -1,4 +1,6 @@
-// The recorder as a sink of port events: its calls, each with a fresh ledger.
+// The recorder as a sink of port events: its calls, each with a fresh ledger. How many table steps a call of the trait takes is said by
+// the recorder's call of the same name, for any ledger (clauses `cost` and `cost_refused`). No clause here names the count: a
+// ledger under a name that is picked for it can't be handed to a caller, and is let go.
 ghost use Rattle.std.specs.Prelude.{ℕ, ◌≡◌, ◌<◌, List, ◌∷◌, IfOk, OnOk, OnErr};
 ghost use Rattle.md_trace.specs.declared.event.Event.{Event};
 ghost use Rattle.md_trace.specs.declared.event.Event.TheVariants.{Exit, Redo, Fail, Excp};

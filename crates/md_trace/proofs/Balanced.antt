@@ -12,7 +12,7 @@ use Rattle.md_trace.specs.Balance.{LinksBalance}
 use Rattle.md_trace.specs.Count.{activation_of, amount, passing, sum_where}
 use Rattle.md_trace.proofs.Chains.{chain-none}
 use Rattle.md_trace.proofs.Counting.{sum-agree, sum-other, sum-passing}
-use Rattle.md_trace.proofs.Histories.{orderly, chain-of, chain-call, current-there, exited-there}
+use Rattle.md_trace.proofs.Histories.{orderly, chain-of, chain-redo, chain-call, current-there, exited-there}
 use Rattle.md_trace.proofs.Numbered.{numbered-new}
 use Rattle.md_trace.proofs.Placing.{length-placed}
 use Rattle.md_trace.proofs.Setwise.{newest, passing-at, passing-more}
@@ -98,7 +98,7 @@ balance t m test (Redo a ∷ h) is =
     let y = exited-there m a h order is.1.0 in
     let e = Redo a in
     after-event test xs xs e h a y.0 1 0 (current_chain m (e ∷ h)) (current_chain m h) refl y.1 (λ meas. refl) refl
-    (longer-by (test y.0) _ _ (ap (how_many test) (chain-of m a h y.0 order y.1 ∙ ap (λ o. y.0 ∷ chain xs o) is.1.1))) (balance t m test h is.0)
+    (longer-by (test y.0) _ _ (ap (how_many test) (chain-redo m a h y.0 order y.1 is.1.1))) (balance t m test h is.0)
 balance t m test (Exit a ∷ h) is =
     let y = left-behind t m test a h is.0 is.1 in
     let e = Exit a in

@@ -16,7 +16,7 @@ use Rattle.md_trace.specs.Laws.{procedure-below}
 use Rattle.md_trace.proofs.Lists.{get-set-same, get-set-other, get-push-new}
 use Rattle.md_trace.proofs.Numbered.{numbered-there}
 use Rattle.md_trace.proofs.Placing.{length-placed, procedure_of-placed}
-use Rattle.md_trace.proofs.Histories.{callee-below, procedure-of-table, orderly, current-there, chain-of, chain-call}
+use Rattle.md_trace.proofs.Histories.{callee-below, procedure-of-table, orderly, current-there, chain-of, chain-redo, chain-call}
 use Rattle.md_trace.proofs.Setwise.{newest, set-exit, set-fail, set-excp, set-redo, set-alloc, set-exit-other, set-fail-other, set-excp-other, set-redo-other, set-alloc-other, set-call, set-call-other}
 use Rattle.md_trace.proofs.Longest.{chain-longest, current-longest}
 
@@ -228,7 +228,7 @@ chain-back t h a q is marked may =
     let m = t.main in
     let order = orderly t m h is in
     let y = placed-at m h a q marked in
-    (y.0, y.2, chain-of m a h y.0 order y.1 ∙ ap (λ o. y.0 ∷ chain (placed_of m h) o) may.1)
+    (y.0, y.2, chain-redo m a h y.0 order y.1 may.1)
 
 -- there is room to go back
 pub room-back : (t : SiteTable) (h : List Event) (k : Counted) (a q : ℕ) → CountsFor k t h → procedure_of (activations h) a ≡ Some q → MayFollow t h (Redo a) → length k.chain < k.room

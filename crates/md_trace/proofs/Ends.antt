@@ -92,7 +92,7 @@ known-redo t h b a is known =
                 let y = numbered-there xs b ((orderly t t.main h is.0).exited b is.1.0) in
                 let at : parent_of xs b ≡ y.0.parent = rw y.1 in
                 let Q : Option ℕ → Type 0 = λ o. Runs xs o a in
-                inr (above b a y.0 y.1 (subst Q (sym is.1.1 ∙ at) runs))
+                inr (above b a y.0 y.1 (subst Q (is.1.1.2 ∙ sym is.1.1.1 ∙ at) runs))
           ]
     ]
 

@@ -5,7 +5,7 @@ use Rattle.std.proofs.lemmas.Bool.Decides.{eqb_tells}
 use Rattle.md_trace.specs.declared.event.Event.{Event}
 use Rattle.md_trace.specs.declared.event.Event.TheVariants.{Call, Exit, Redo, Fail, Excp, Alloc}
 use Rattle.md_trace.specs.Activation.{activations, numbered, parent_of, procedure_of}
-use Rattle.md_trace.specs.PortHistory.{SiteTable, CallSite, IsSiteTable, MayCallAt, MayCall, current, has_exited, MayFollow, IsPortHistory}
+use Rattle.md_trace.specs.PortHistory.{SiteTable, CallSite, IsSiteTable, MayCallAt, MayCall, current, has_exited, CallerRuns, MayFollow, IsPortHistory}
 use Rattle.md_trace.specs.Context.{Placed, chain, place, link_of, placed_of, current_chain}
 use Rattle.std.proofs.lemmas.Option.{get_or_from_slice_get}
 use Rattle.md_trace.proofs.Lists.{get-within}
@@ -110,6 +110,10 @@ chain-of m a h y order is =
     let unfolded = chain-unfold (placed_of m h) a y order.parents is in
     let e : chain (placed_of m h) (parent_of (activations h) a) ≡ chain (placed_of m h) y.parent = ap (chain (placed_of m h)) (parent_of-placed m (activations h) a y is) in
     cc
+
+-- an activation that is entered again stands before the chain of its caller, which runs
+pub chain-redo : (m a : ℕ) (h : List Event) (y : Placed) → IsOrderly m h → numbered (placed_of m h) a ≡ Some y → CallerRuns h a → chain (placed_of m h) (Some a) ≡ y ∷ current_chain m h
+chain-redo m a h y order is caller = chain-of m a h y order is ∙ ap (λ o. y ∷ chain (placed_of m h) o) (caller.1 ∙ sym caller.2)
 
 -- a call puts the new activation before the current chain
 pub chain-call : (t : SiteTable) (m a : ℕ) (p s : Option ℕ) (q : ℕ) (h : List Event) → IsOrderly m h → MayFollow t h (Call a p s q) →

@@ -17,7 +17,7 @@ use Rattle.md_base.specs.declared.measure.Measure.TheVariants.{Calls, Exits, Fai
 use Rattle.md_trace.specs.declared.event.Event.{Event}
 use Rattle.md_trace.specs.declared.event.Event.TheVariants.{Call, Exit, Redo, Fail, Excp, Alloc}
 use Rattle.md_trace.specs.Balance.{last_port}
-use Rattle.md_trace.specs.PortHistory.{SiteTable, IsPortHistory, current}
+use Rattle.md_trace.specs.PortHistory.{SiteTable, MayFollow, IsPortHistory, current}
 use Rattle.md_trace.specs.Context.{placed_of, contexts, has_link}
 use Rattle.md_trace.specs.Links.{Leading, links, root_link}
 use Rattle.md_trace.specs.Totals.{own, in_context, in_procedure, at_site, in_module, link_total, clique_total, context_total, procedure_total, site_total, module_total}
@@ -171,6 +171,15 @@ some_table = record { main = 0; procedures = 2; sites = record { owner = 0; call
 
 some_is_history : IsPortHistory some_table some
 some_is_history = search rules
+
+-- Main has answered, and nothing comes any more. By a rule that asked only that the caller be who runs, and took nobody for
+-- the caller of activation 0, an activation without a caller would be entered again.
+some_is_over : MayFollow some_table some (Redo 0) → ⊥
+some_is_over may = let running : None ≡ Some may.1.0 = may.1.2 in cc
+
+-- the pruned activation isn't entered again either: its caller is left
+cut_is_over : MayFollow some_table some (Redo 1) → ⊥
+cut_is_over may = let running : None ≡ Some may.1.0 = may.1.2 in cc
 
 some_contexts : all_contexts some ≡ 0 ∷ 1 ∷ []
 some_contexts = refl

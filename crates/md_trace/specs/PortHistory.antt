@@ -59,11 +59,15 @@ MayCall t h (Some p) None q = ⊥
 abbrev pub HasRoom : List Event → Type 0
 HasRoom h = length (activations h) < 4294967294
 
+-- The caller of activation a runs. Activation 0 has no caller, so it isn't entered again: after its end nobody runs.
+abbrev pub CallerRuns : List Event → ℕ → Type 0
+CallerRuns h a = (p : ℕ) × (parent_of (activations h) a ≡ Some p) × (current h ≡ Some p)
+
 -- the event may come after h
 abbrev pub MayFollow : SiteTable → List Event → Event → Type 0
 MayFollow t h (Call a p s q) = (a ≡ length (activations h)) × HasRoom h × (p ≡ current h) × MayCall t h p s q
 MayFollow t h (Exit a) = current h ≡ Some a
-MayFollow t h (Redo a) = (has_exited h a ≡ true) × (parent_of (activations h) a ≡ current h)
+MayFollow t h (Redo a) = (has_exited h a ≡ true) × CallerRuns h a
 MayFollow t h (Fail a) = current h ≡ Some a
 MayFollow t h (Excp a) = current h ≡ Some a
 MayFollow t h (Alloc a w) = current h ≡ Some a

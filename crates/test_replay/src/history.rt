@@ -52,11 +52,11 @@ struct Past {
 }
 
 impl Past {
-    ghost use Rattle.std.specs.Prelude.{◌≡◌, ◌<◌, ◌↔◌, List, ◌∷◌, length, true, OnOk, OnErr, IsTrue, IfSome, slice_get, slice_set};
+    ghost use Rattle.std.specs.Prelude.{ℕ, ◌≡◌, ◌<◌, ◌↔◌, List, ◌∷◌, length, true, OnOk, OnErr, IsTrue, IfSome, Some, slice_get, slice_set};
     ghost use Rattle.md_static.specs.Tables.{site_table};
     ghost use Rattle.md_trace.specs.declared.event.Event.{Event};
     ghost use Rattle.md_trace.specs.Activation.{activations, parent_of};
-    ghost use Rattle.md_trace.specs.PortHistory.{SiteTable, current, has_exited, MayCall, MayFollow, IsPortHistory};
+    ghost use Rattle.md_trace.specs.PortHistory.{SiteTable, has_exited, CallerRuns, MayCall, MayFollow, IsPortHistory};
     ghost use Rattle.test_replay.specs.Past.{IsPast};
 
     /// Whether the event may follow.
@@ -83,12 +83,22 @@ impl Past {
         }
     }
 
-    /// Whether the activation has exited, and its parent runs.
+    /// Whether the activation has exited, and its caller runs.
     fn may_redo(&self, act: u32) -> bool
-        ensures { (t : SiteTable) (h : List Event) → IsPortHistory t h → IsPast self.now.rows.items self.now.current h → (IsTrue result ↔ ((has_exited h act ≡ true) × (parent_of (activations h) act ≡ current h))) }
+        ensures { (t : SiteTable) (h : List Event) → IsPortHistory t h → IsPast self.now.rows.items self.now.current h → (IsTrue result ↔ ((has_exited h act ≡ true) × CallerRuns h act)) }
     {
         match self.row(act) {
-            Some(row) => row.exited && same(row.parent, self.current),
+            Some(row) => row.exited && self.runs(row.parent),
+            None => false,
+        }
+    }
+
+    /// Whether there is a caller, and it runs.
+    fn runs(&self, caller: Option<u32>) -> bool
+        ensures { IsTrue result ↔ ((p : ℕ) × (caller ≡ Some p) × (self.now.current ≡ Some p)) }
+    {
+        match caller {
+            Some(act) => same(self.current, Some(act)),
             None => false,
         }
     }

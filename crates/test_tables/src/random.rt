@@ -59,16 +59,15 @@ pub fn random_events(
     Ok(events)
 }
 
-/// What comes next, if anything does: a call, a way out of the activation that runs, or a redo of some other.
+/// What comes next, if anything does: a call, a way out of the activation that runs, or a redo of some other. The main
+/// procedure's activation isn't left, since nothing comes after its end.
 fn next_event(statics: &Statics, rows: &[Row], now: Now) -> Option<Event> {
-    let Some(act) = now.current else {
-        return come_back(rows, now);
-    };
+    let act = now.current?;
     match below(now.state, 20) {
         0..=7 => go_down(statics, rows, act, now),
-        8..=11 => Some(Event::Exit { act }),
-        12 => Some(Event::Fail { act }),
-        13 => Some(Event::Excp { act }),
+        8..=11 if act > 0 => Some(Event::Exit { act }),
+        12 if act > 0 => Some(Event::Fail { act }),
+        13 if act > 0 => Some(Event::Excp { act }),
         14..=17 => come_back(rows, now),
         _ => Some(Event::Alloc {
             act,

@@ -6,8 +6,10 @@ use Rattle.test_replay.proofs.history.Past.may_redo.Goals as goal
 
 pub returns-then-row : goal.returns-then-row
 returns-then-row c = λ t h is past.
-    let r = row-tells c.args.self.now.rows.items c.args.self.now.current h c.args.act c.in-Some.row past (sym c.row.ensures ∙ c.in-Some.is) in
-    (λ yes. (r.exited ∙ c.if-row.true, r.parent ∙ c.same.ensures.0 yes ∙ past.now_is), λ may. c.same.ensures.1 (sym r.parent ∙ may.1 ∙ sym past.now_is))
+    let r = row-tells c.args.self.now.rows.items c.args.self.now.current h c.args.act c.in-Some.row past (sym c.row.ensures ∙ c.in-Some.is) in (
+      λ yes. (r.exited ∙ c.if-row.true, (let caller = c.runs.ensures.0 yes in (caller.0, r.parent ∙ caller.1, sym past.now_is ∙ caller.2))),
+      λ may. c.runs.ensures.1 (may.1.0, sym r.parent ∙ may.1.1, past.now_is ∙ may.1.2),
+    )
 
 pub returns-else-row : goal.returns-else-row
 returns-else-row c = λ t h is past.
