@@ -1,5 +1,6 @@
 // A case: what the program is given, and what has to come of it.
 use crate::connections::Connections;
+use crate::failing::{Fails, Object};
 use std::alloc::{AllocError, Global};
 use test_cases::unescaped;
 
@@ -17,10 +18,10 @@ pub struct Case {
     pub words: Vec<String>,
     /// The files that are there.
     pub files: Vec<File>,
-    /// The calls on the store, on `out` and on `err` that fail, counted from 1; 0 is none.
-    pub store_fails: u64,
-    pub out_fails: u64,
-    pub err_fails: u64,
+    /// The calls that fail.
+    pub fails: Fails,
+    /// The objects whose calls are to fail in turn, one in each further run.
+    pub each: Vec<Object>,
     /// The most bytes that one call takes or gives.
     pub most: usize,
     pub status: u64,
@@ -38,9 +39,8 @@ impl Case {
             name: String::new(alloc),
             words: Vec::new(alloc),
             files: Vec::new(alloc),
-            store_fails: 0,
-            out_fails: 0,
-            err_fails: 0,
+            fails: Fails::none(),
+            each: Vec::new(alloc),
             most: 4096,
             status: 0,
             out: Vec::new(alloc),
@@ -71,6 +71,7 @@ impl Case {
                 let file = file_of(alloc, value)?;
                 self.left.push(file)?;
             }
+            "each-fails" => self.add_object(value)?,
             "out" => self.out = unescaped(alloc, value)?,
             "err" => self.err = unescaped(alloc, value)?,
             _ => {
@@ -81,13 +82,22 @@ impl Case {
         Ok(())
     }
 
+    /// The calls of one object more are to fail in turn.
+    fn add_object(&mut self, name: &str) -> Result<(), AllocError> {
+        if let Some(object) = Object::named(name) {
+            self.each.push(object)?;
+        }
+        Ok(())
+    }
+
     /// Sets a number.
     fn set(&mut self, key: &str, number: u64) {
         match key {
             "status" => self.status = number,
-            "store-fails" => self.store_fails = number,
-            "out-fails" => self.out_fails = number,
-            "err-fails" => self.err_fails = number,
+            "store-fails" => self.fails.store = number,
+            "out-fails" => self.fails.out = number,
+            "err-fails" => self.fails.err = number,
+            "net-fails" => self.fails.net = number,
             "most" => self.most = number as usize,
             _ => {}
         }

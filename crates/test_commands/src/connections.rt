@@ -15,8 +15,6 @@ pub struct Request {
 #[derive(Drop)]
 pub struct Connections {
     pub requests: Vec<Request>,
-    /// The call on the net that fails, counted from 1; 0 is none.
-    pub net_fails: u64,
     /// What has to be written to each connection that is served, in order.
     pub responses: Vec<Vec<u8>>,
     /// The port at which the net has to listen in the end; 0 is none.
@@ -28,7 +26,6 @@ impl Connections {
     pub fn new(alloc: Global) -> Connections {
         Connections {
             requests: Vec::new(alloc),
-            net_fails: 0,
             responses: Vec::new(alloc),
             port: 0,
         }
@@ -42,10 +39,6 @@ impl Connections {
             "more" => self.go_on(alloc, value),
             "request-fails" => {
                 self.fail(number_of(value));
-                Ok(())
-            }
-            "net-fails" => {
-                self.net_fails = number_of(value);
                 Ok(())
             }
             "listens" => {

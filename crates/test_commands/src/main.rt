@@ -4,8 +4,10 @@
 
 mod case;
 mod connections;
+mod failing;
 mod net;
 mod outcome;
+mod tries;
 
 use case::Case;
 use std::io;

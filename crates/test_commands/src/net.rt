@@ -7,10 +7,15 @@ use crate::outcome::failing;
 use std::alloc::{AllocError, Global};
 use test_memory::{MemLink, MemNet};
 
-/// A net over which these connections come.
-pub fn net_of(alloc: Global, connections: &Connections, most: usize) -> Result<MemNet, AllocError> {
+/// A net over which these connections come, and of which this call fails.
+pub fn net_of(
+    alloc: Global,
+    connections: &Connections,
+    most: usize,
+    fails: u64,
+) -> Result<MemNet, AllocError> {
     let coming = links_of(alloc, &connections.requests, most.max(1))?;
-    let fails = failing(alloc, connections.net_fails)?;
+    let fails = failing(alloc, fails)?;
     Ok(MemNet::new(coming, fails))
 }
 

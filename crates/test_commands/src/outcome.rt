@@ -1,48 +1,83 @@
 // What comes of a case.
 use crate::case::{Case, File};
+use crate::failing::Fails;
 use crate::net::{are_written, is_there, net_of};
+use crate::tries::tried;
 use md_tool::{Status, top};
 use std::alloc::{AllocError, Global};
-use test_memory::{MemSink, MemStore};
+use test_memory::{MemNet, MemSink, MemStore};
 
 /// Where a run keeps its profile where no other name is given.
-const PROFILE: &str = "mdprof.data";
+pub const PROFILE: &str = "mdprof.data";
+
+/// What came of a case.
+#[derive(Drop)]
+pub struct Came {
+    pub status: u64,
+    pub store: MemStore,
+    pub out: MemSink,
+    pub err: MemSink,
+    pub net: MemNet,
+}
 
 /// `ok` and the case's name, or its name and what came otherwise than it says.
 pub fn of(alloc: Global, case: &Case) -> Result<String, AllocError> {
-    let mut store = store_of(alloc, case)?;
-    let mut out = sink_of(alloc, case.most, case.out_fails)?;
-    let mut err = sink_of(alloc, case.most, case.err_fails)?;
-    let mut net = net_of(alloc, &case.connections, case.most)?;
-    let Status(status) = top(alloc, &case.words, &mut store, &mut out, &mut err, &mut net);
+    let came = run(alloc, case, case.fails)?;
     let name = case.name.as_str();
-    let what = if status as u64 != case.status {
-        "another status"
-    } else if out.bytes() != case.out.as_slice() {
-        "another output"
-    } else if err.bytes() != case.err.as_slice() {
-        "something else on the error stream"
-    } else if !are_left(&store, case) {
-        "other files"
-    } else if !are_written(net.served(), &case.connections.responses) {
-        "other responses"
-    } else if !is_there(net.port(), case.connections.port) {
-        "another port"
-    } else {
+    if let Some(what) = wrong(&came, case) {
+        let status = came.status;
+        return format!(in alloc; "FAILED {name}: {what}, status {status}");
+    }
+    if case.each.is_empty() {
         return format!(in alloc; "ok {name}");
-    };
-    format!(in alloc; "FAILED {name}: {what}, status {status}")
+    }
+    tried(alloc, case)
+}
+
+/// Runs the case's words where these calls fail.
+pub fn run(alloc: Global, case: &Case, fails: Fails) -> Result<Came, AllocError> {
+    let mut store = store_of(alloc, case, fails.store)?;
+    let mut out = sink_of(alloc, case.most, fails.out)?;
+    let mut err = sink_of(alloc, case.most, fails.err)?;
+    let mut net = net_of(alloc, &case.connections, case.most, fails.net)?;
+    let Status(status) = top(alloc, &case.words, &mut store, &mut out, &mut err, &mut net);
+    Ok(Came {
+        status: status as u64,
+        store,
+        out,
+        err,
+        net,
+    })
+}
+
+/// What came otherwise than the case says, if something did.
+pub fn wrong(came: &Came, case: &Case) -> Option<&'static str> {
+    if came.status != case.status {
+        Some("another status")
+    } else if came.out.bytes() != case.out.as_slice() {
+        Some("another output")
+    } else if came.err.bytes() != case.err.as_slice() {
+        Some("something else on the error stream")
+    } else if !are_left(&came.store, case) {
+        Some("other files")
+    } else if !are_written(came.net.served(), &case.connections.responses) {
+        Some("other responses")
+    } else if !is_there(came.net.port(), case.connections.port) {
+        Some("another port")
+    } else {
+        None
+    }
 }
 
 /// A store that holds the case's files.
-fn store_of(alloc: Global, case: &Case) -> Result<MemStore, AllocError> {
+fn store_of(alloc: Global, case: &Case, fails: u64) -> Result<MemStore, AllocError> {
     let mut files = Vec::new(alloc);
     for file in &case.files {
         let name = String::from_str(alloc, file.name.as_str())?;
         let bytes = file.bytes.to_vec(alloc)?;
         files.push((name, bytes))?;
     }
-    let fails = failing(alloc, case.store_fails)?;
+    let fails = failing(alloc, fails)?;
     Ok(MemStore::new(files, case.most.max(1), fails))
 }
 
@@ -85,10 +120,10 @@ fn may_be_left(case: &Case, name: &str, bytes: &[u8]) -> bool {
 }
 
 /// Whether the case's command is a run.
-fn is_of_run(case: &Case) -> bool {
+pub fn is_of_run(case: &Case) -> bool {
     matches!(case.words.first(), Some(word) if word.as_str() == "run")
 }
 
-fn is_same(file: &File, name: &str, bytes: &[u8]) -> bool {
+pub fn is_same(file: &File, name: &str, bytes: &[u8]) -> bool {
     file.name.as_str() == name && file.bytes.as_slice() == bytes
 }
