@@ -97,9 +97,9 @@ impl Past {
     fn runs(&self, caller: Option<u32>) -> bool
         ensures { IsTrue result ↔ ((p : ℕ) × (caller ≡ Some p) × (self.now.current ≡ Some p)) }
     {
-        match caller {
-            Some(act) => same(self.current, Some(act)),
-            None => false,
+        match (caller, self.current) {
+            (Some(caller), Some(act)) => caller == act,
+            (None, _) | (_, None) => false,
         }
     }
 
