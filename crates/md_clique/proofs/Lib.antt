@@ -1,5 +1,7 @@
 pub mod Walks
-pub mod Threading
+pub mod Lasts
+pub mod SameLinks
+pub mod Sorting
 pub mod Parts
 pub mod Beginning
 pub mod Enter

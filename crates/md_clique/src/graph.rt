@@ -10,23 +10,17 @@ use crate::search::{Classes, find_classes};
 use md_base::NoMemory;
 use std::alloc::Global;
 
-/// The most links of which a search keeps places.
-const MOST_LINKS: usize = 4_294_967_295;
-
 /// The cliques of the graph of these nodes and links, each link a pair of the node where it starts and the one where
 /// it ends: two nodes are in one clique where each reaches the other over zero or more links. Cliques are numbered
 /// from 0 in the order of their least nodes. It takes time and memory that grow with nodes and links together: where no
 /// link leads to a lower node, each node is a clique by itself; other graphs are searched by paths (Gabow 2000), with a
-/// stack of its own. More links than 4,294,967,295 aren't searched: there is no memory for so many.
+/// stack of its own.
 pub fn cliques(alloc: Global, nodes: u32, links: &[(u32, u32)]) -> Result<Cliques, NoMemory>
     requires { All (λ link. (link.0 < nodes) × (link.1 < nodes)) links.now }
     ensures { IfOk result (λ cliques. AreCliques nodes links.now cliques) }
 {
     if lead_up(links) {
         return single_cliques(alloc, nodes);
-    }
-    if links.len() > MOST_LINKS {
-        return Err(NoMemory);
     }
     let Classes { states, count } = find_classes(alloc, nodes, links)?;
     let Numbering { numbers, count } = number_classes(alloc, &states, count)?;

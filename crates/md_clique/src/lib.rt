@@ -8,8 +8,8 @@ mod graph;
 mod laws;
 mod members;
 mod numbering;
+mod order;
 mod search;
-mod threads;
 
 pub use clique::Cliques;
 pub use entries::{EnterFault, Entrances, entering};

@@ -1,9 +1,9 @@
 // The classes of mutual reachability, by path-based search with a stack of its own.
-ghost use Rattle.std.specs.Prelude.{◌≡◌, ◌<◌, ◌≢◌, ◌^◌, ℕ, length, slice_index, IfOk, OnOk};
-ghost use Rattle.md_clique.specs.Links.{AreWithin, AreThreaded};
+ghost use Rattle.std.specs.Prelude.{◌≡◌, ◌<◌, ◌≢◌, ℕ, length, slice_index, IfOk, OnOk};
+ghost use Rattle.md_clique.specs.Links.{AreInOrder, AreWithin};
 ghost use Rattle.md_clique.specs.Search.{AreClasses, state_of};
 
-use crate::threads::{Threads, thread_links};
+use crate::order::{bound_before, in_order, last_links};
 use md_base::NoMemory;
 use std::alloc::Global;
 
@@ -41,7 +41,7 @@ pub enum Move {
     /// Join the last part of the trail to the one before it.
     Join,
     /// Be done with this node's last link that is left.
-    Pass(u32, u32),
+    Pass(u32, usize),
     /// Be done with the last pending node, which has no links left.
     Skip,
     /// Close the last part of the trail.
@@ -52,7 +52,7 @@ pub enum Move {
 #[derive(Drop)]
 pub struct Search {
     /// For each node a bound on its links that are left to look at: the last of them is right below.
-    pub left: Vec<u32>,
+    pub left: Vec<usize>,
     /// The nodes whose class isn't known yet, in the order in which they were entered.
     pub trail: Vec<u32>,
     /// Where the parts of the trail begin; the nodes of a part reach one another.
@@ -66,12 +66,12 @@ pub struct Search {
 
 impl Search {
     ghost use Rattle.std.specs.Prelude.{◌≡◌, ◌<◌, ◌≢◌, ℕ, [], length, replicate, IfOk, OnOk};
-    ghost use Rattle.md_clique.specs.Links.{AreWithin, AreThreaded};
+    ghost use Rattle.md_clique.specs.Links.{AreInOrder, AreWithin};
     ghost use Rattle.md_clique.specs.Search.{Stands, May, MayEnter, MayJoin, MayPass, MaySkip, MayClose, NoneRenewed, state_of};
     ghost use Rattle.md_clique.specs.Kept.{kept, work};
 
     /// A search that has entered none of these many nodes.
-    fn new(alloc: Global, nodes: u32, last: Vec<u32>) -> Result<Search, NoMemory>
+    fn new(alloc: Global, nodes: u32, last: Vec<usize>) -> Result<Search, NoMemory>
         ensures { IfOk result (λ search. kept search ≡ record { left = last.items; trail = []; first = []; pending = []; states = replicate nodes State.New; count = 0 }) }
     {
         let size = nodes as usize;
@@ -105,7 +105,7 @@ impl Search {
             return Move::Skip;
         }
         let link = left - 1;
-        let end = links[link as usize].1;
+        let end = links[link].1;
         match self.states[end as usize] {
             State::New => Move::Enter(end),
             State::Open(at) => {
@@ -149,15 +149,15 @@ impl Search {
     }
 
     /// Is done with the last link of the node that is left.
-    fn pass(&mut self, links: &[(u32, u32)], before: &[u32], node: u32, link: u32)
-        requires threaded { AreThreaded links.now before.now }
+    fn pass(&mut self, links: &[(u32, u32)], node: u32, link: usize)
+        requires order { AreInOrder links.now }
         requires stands { Stands links.now (kept self.old) }
         requires may { MayPass links.now (kept self.old) node link }
         ensures stands { Stands links.now (kept self.new) }
         ensures works { work (kept self.new) < work (kept self.old) }
         ensures states { self.new.states ≡ self.old.states }
     {
-        self.left[node as usize] = before[link as usize];
+        self.left[node as usize] = bound_before(links, link);
     }
 
     /// Is done with the last pending node.
@@ -187,9 +187,9 @@ impl Search {
     }
 
     /// Makes the next move.
-    fn step(&mut self, links: &[(u32, u32)], before: &[u32]) -> Result<(), NoMemory>
+    fn step(&mut self, links: &[(u32, u32)]) -> Result<(), NoMemory>
         requires within { AreWithin links.now (length self.old.states.items) }
-        requires threaded { AreThreaded links.now before.now }
+        requires order { AreInOrder links.now }
         requires stands { Stands links.now (kept self.old) }
         requires some { 0 < length self.old.first.items }
         ensures stands { OnOk result (Stands links.now (kept self.new)) }
@@ -203,7 +203,7 @@ impl Search {
                 Ok(())
             }
             Move::Pass(node, link) => {
-                self.pass(links, before, node, link);
+                self.pass(links, node, link);
                 Ok(())
             }
             Move::Skip => {
@@ -218,9 +218,9 @@ impl Search {
     }
 
     /// Closes all that is reached from a node, where the node is new. Nothing is open before or afterwards.
-    fn explore(&mut self, links: &[(u32, u32)], before: &[u32], root: u32) -> Result<(), NoMemory>
+    fn explore(&mut self, links: &[(u32, u32)], root: u32) -> Result<(), NoMemory>
         requires within { AreWithin links.now (length self.old.states.items) }
-        requires threaded { AreThreaded links.now before.now }
+        requires order { AreInOrder links.now }
         requires stands { Stands links.now (kept self.old) }
         requires none_open { length self.old.trail.items ≡ 0 }
         requires there { root < length self.old.states.items }
@@ -234,20 +234,15 @@ impl Search {
         };
         self.enter(links, root)?;
         while !self.first.is_empty() {
-            self.step(links, before)?;
+            self.step(links)?;
         }
         Ok(())
     }
 
     /// Closes all nodes.
-    fn explore_all(
-        &mut self,
-        links: &[(u32, u32)],
-        before: &[u32],
-        nodes: u32,
-    ) -> Result<(), NoMemory>
+    fn explore_all(&mut self, links: &[(u32, u32)], nodes: u32) -> Result<(), NoMemory>
         requires within { AreWithin links.now nodes }
-        requires threaded { AreThreaded links.now before.now }
+        requires order { AreInOrder links.now }
         requires nodes { length self.old.states.items ≡ nodes }
         requires stands { Stands links.now (kept self.old) }
         requires none_open { length self.old.trail.items ≡ 0 }
@@ -257,7 +252,7 @@ impl Search {
         ensures seen { OnOk result ((v : ℕ) → v < nodes → state_of self.new.states.items v ≢ State.New) }
     {
         for root in 0..nodes {
-            self.explore(links, before, root)?;
+            self.explore(links, root)?;
         }
         Ok(())
     }
@@ -299,12 +294,22 @@ pub struct Classes {
 
 /// The classes of mutual reachability of a graph, in an order of their own.
 pub fn find_classes(alloc: Global, nodes: u32, links: &[(u32, u32)]) -> Result<Classes, NoMemory>
-    requires within { AreWithin links.now nodes }
-    requires few { length links.now < 2 ^ 32 }
+    requires { AreWithin links.now nodes }
     ensures { IfOk result (λ classes. AreClasses links.now nodes classes.states.items classes.count) }
 {
-    let Threads { before, last } = thread_links(alloc, nodes, links)?;
+    let sorted = in_order(alloc, nodes, links)?;
+    let classes = classes_in_order(alloc, nodes, &sorted)?;
+    Ok(classes)
+}
+
+/// The classes of a graph whose links stand in the order of the nodes where they start.
+fn classes_in_order(alloc: Global, nodes: u32, links: &[(u32, u32)]) -> Result<Classes, NoMemory>
+    requires within { AreWithin links.now nodes }
+    requires order { AreInOrder links.now }
+    ensures { IfOk result (λ classes. AreClasses links.now nodes classes.states.items classes.count) }
+{
+    let last = last_links(alloc, nodes, links)?;
     let mut search = Search::new(alloc, nodes, last)?;
-    search.explore_all(links, &before, nodes)?;
+    search.explore_all(links, nodes)?;
     Ok(search.into_classes())
 }

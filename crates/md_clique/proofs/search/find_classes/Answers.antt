@@ -1,38 +1,10 @@
-use Rattle.std.proofs.Common.{arith}
-use Rattle.std.proofs.lemmas.Grind.{common_steps}
-use Rattle.md_clique.specs.Kept.{kept}
-use Rattle.md_clique.proofs.Beginning.{begins}
-use Rattle.md_clique.proofs.Classes.{are_classes}
+use Rattle.md_clique.proofs.SameLinks.{classes_same, within_same}
 use Rattle.md_clique.proofs.search.find_classes.Goals as goal
 
-pub explore_all-requires-clause-stands : goal.explore_all-requires-clause-stands
-explore_all-requires-clause-stands c =
-    rw c.in_ok-search.ensures (begins c.args.links.now c.args.nodes c.in_ok-before.field-0.last.items c.in_ok-before.ensures.starts c.in_ok-before.ensures.nodes (omega arith))
+pub classes_in_order-requires-clause-within : goal.classes_in_order-requires-clause-within
+classes_in_order-requires-clause-within c = rw c.deref.ensures.value (within_same c.args.links.now c.in_ok-sorted.sorted.items c.args.nodes c.in_ok-sorted.ensures.same c.requires)
 
 pub returns : goal.returns
 returns c =
-    let e = c.in_ok-explore_all.ensures.nodes in
-    let all = are_classes c.args.links.now (kept c.explore_all.new.self) c.in_ok-explore_all.ensures.stands c.in_ok-explore_all.ensures.none_open
-    (λ v there. c.in_ok-explore_all.ensures.seen v (omega (arith, e, there))) in
-    rw (c.into_classes.ensures.states, c.into_classes.ensures.count) (rw e at all)
-
-pub returns-in_err-before : goal.returns-in_err-before
-returns-in_err-before c = grind (arith, common_steps)
-
-pub returns-in_err-search : goal.returns-in_err-search
-returns-in_err-search c = grind (arith, common_steps)
-
-pub explore_all-requires-clause-within : goal.explore_all-requires-clause-within
-explore_all-requires-clause-within c = grind (arith, common_steps)
-
-pub explore_all-requires-clause-threaded : goal.explore_all-requires-clause-threaded
-explore_all-requires-clause-threaded c = grind (arith, common_steps)
-
-pub explore_all-requires-clause-nodes : goal.explore_all-requires-clause-nodes
-explore_all-requires-clause-nodes c = grind (arith, common_steps)
-
-pub explore_all-requires-clause-none_open : goal.explore_all-requires-clause-none_open
-explore_all-requires-clause-none_open c = grind (arith, common_steps)
-
-pub returns-in_err-explore_all : goal.returns-in_err-explore_all
-returns-in_err-explore_all c = grind (arith, common_steps)
+    classes_same c.args.links.now c.in_ok-sorted.sorted.items c.args.nodes c.in_ok-classes.classes.states.items c.in_ok-classes.classes.count c.in_ok-sorted.ensures.same
+    (rw c.deref.ensures.value at c.in_ok-classes.ensures)

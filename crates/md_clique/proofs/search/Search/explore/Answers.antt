@@ -32,8 +32,8 @@ loop-self-init c = grind (arith, common_steps)
 pub step-requires-clause-within : goal.step-requires-clause-within
 step-requires-clause-within c = grind (arith, common_steps)
 
-pub step-requires-clause-threaded : goal.step-requires-clause-threaded
-step-requires-clause-threaded c = grind (arith, common_steps)
+pub step-requires-clause-order : goal.step-requires-clause-order
+step-requires-clause-order c = grind (arith, common_steps)
 
 pub step-requires-clause-stands : goal.step-requires-clause-stands
 step-requires-clause-stands c = grind (arith, common_steps)

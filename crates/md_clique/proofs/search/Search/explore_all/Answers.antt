@@ -8,8 +8,8 @@ loop-root-init c = grind (arith, common_steps)
 pub explore-requires-clause-within : goal.explore-requires-clause-within
 explore-requires-clause-within c = grind (arith, common_steps)
 
-pub explore-requires-clause-threaded : goal.explore-requires-clause-threaded
-explore-requires-clause-threaded c = grind (arith, common_steps)
+pub explore-requires-clause-order : goal.explore-requires-clause-order
+explore-requires-clause-order c = grind (arith, common_steps)
 
 pub explore-requires-clause-stands : goal.explore-requires-clause-stands
 explore-requires-clause-stands c = grind (arith, common_steps)

@@ -26,8 +26,8 @@ join-requires-clause-stands c = grind (arith, common_steps)
 pub join-requires-clause-may : goal.join-requires-clause-may
 join-requires-clause-may c = grind (arith, common_steps)
 
-pub pass-requires-clause-threaded : goal.pass-requires-clause-threaded
-pass-requires-clause-threaded c = grind (arith, common_steps)
+pub pass-requires-clause-order : goal.pass-requires-clause-order
+pass-requires-clause-order c = grind (arith, common_steps)
 
 pub pass-requires-clause-stands : goal.pass-requires-clause-stands
 pass-requires-clause-stands c = grind (arith, common_steps)
