@@ -55,8 +55,9 @@ breaks_read bytes d b =
     let all = written b.field ++ b.rest in
     let s = starts bytes b.t b.first (b.field ∷ b.others) all b.begins in
     let room = (rooms_of bytes b.t b.first (b.field ∷ b.others) all b.begins).1.0 in
+    let place : d.at ≡ length (laid b.first) - back b.field = (let sum : d.at + back b.field ≡ length (laid b.first) = b.place in omega (arith, sum)) in
     from_there bytes b.t b.first (b.field ∷ b.others) all b.begins (Err d)
-    (s.goes.1.stops room b.broken (length (laid b.first)) b.rest ∙ damage_is d (length (laid b.first) - back b.field) (kind_of b.field) b.place b.kind)
+    (s.goes.1.stops room b.broken (length (laid b.first)) b.rest ∙ damage_is d (length (laid b.first) - back b.field) (kind_of b.field) place b.kind)
 
 pub early_read : (bytes : List ℕ) (d : Damage) → EndsEarly bytes d → read profile_file 0 bytes ≡ Err d
 early_read bytes d e =

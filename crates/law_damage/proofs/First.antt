@@ -1,5 +1,5 @@
 -- Bytes have a first damage by the definition, or keep all rules; and a reader finds that damage and no other.
-use Rattle.std.proofs.Common.{◌≡◌, ◌↔◌, ℕ, ◌-◌, ◌<◌, ◌≤◌, ◌⊎◌, inl, inr, true, false, List, [], ◌∷◌, ◌++◌, length, All, Result, Ok, Err, refl, sym, ap, subst, ◌∙◌, append_assoc, append-nil, arith}
+use Rattle.std.proofs.Common.{◌≡◌, ◌↔◌, ℕ, ◌+◌, ◌-◌, ◌<◌, ◌≤◌, ◌⊎◌, inl, inr, true, false, List, [], ◌∷◌, ◌++◌, length, All, Result, Ok, Err, refl, sym, ap, subst, ◌∙◌, append_assoc, append-nil, arith}
 use Rattle.std.proofs.lemmas.Bool.{cases_Bool, both_ways}
 use Rattle.std.proofs.lemmas.Grind.{flat_map-append}
 use Rattle.std.proofs.lemmas.List.Elements.{recursion_from_All, All-from_recursion}
@@ -17,6 +17,7 @@ use Rattle.law_damage.proofs.Tests.{fine, fine_keeps, keeps_fine}
 use Rattle.law_damage.proofs.Along.{AreKept}
 use Rattle.law_damage.proofs.Sections.{profile_of}
 use Rattle.law_damage.proofs.Orphans.{some_orphan}
+use Rattle.law_damage.proofs.Places.{place_within}
 use Rattle.law_damage.proofs.Finds.{in_parts, first_read, rules_read}
 use Rattle.law_damage.proofs.Meets.{Meets, whole, within}
 use Rattle.law_damage.proofs.Built.{built}
@@ -49,9 +50,11 @@ parts_of xs first others x bytes rest are is =
 
 breaks : (bytes : List ℕ) (t : FileRows) (first : List Field) (x : Field) (others : List Field) (rest : List ℕ) → CanBeWritten t → fields t ≡ first ++ x ∷ others → AreKept first → bytes ≡ laid first ++ (written x ++ rest) → (Keeps x → ⊥) → Found bytes
 breaks bytes t first x others rest can are all is not =
+    let le : back x ≤ length (laid first) = place_within t first others x are in
+    let place : (length (laid first) - back x) + back x ≡ length (laid first) = omega (arith, le) in
     inl (
       record { at = length (laid first) - back x; kind = kind_of x },
-      inl (record { t = t; first = first; field = x; others = others; rest = rest; begins = begins_with bytes t first (x ∷ others) (written x ++ rest) can are all is; broken = not; kind = refl; place = refl }),
+      inl (record { t = t; first = first; field = x; others = others; rest = rest; begins = begins_with bytes t first (x ∷ others) (written x ++ rest) can are all is; broken = not; kind = refl; place = place }),
     )
 
 ends : (bytes : List ℕ) (t : FileRows) (first : List Field) (x : Field) (others : List Field) (part lacking : List ℕ) → CanBeWritten t → fields t ≡ first ++ x ∷ others → AreKept first → bytes ≡ laid first ++ part → written x ≡ part ++ lacking → 0 < length lacking → Found bytes

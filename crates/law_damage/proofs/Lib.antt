@@ -3,6 +3,7 @@ pub mod Expected
 pub mod Along
 pub mod Sections
 pub mod Orphans
+pub mod Places
 pub mod Finds
 pub mod Meets
 pub mod Built

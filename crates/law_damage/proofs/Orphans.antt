@@ -90,11 +90,11 @@ contexts_size procs before (x ∷ xs) =
     let more = contexts_size procs (before ++ x ∷ []) xs in
     omega (arith, laid_size (ContextProc procs x ∷ []) (behind (context_fields procs) (before ++ x ∷ []) xs), four x, length-append (u32 x) [], more)
 
-counts_size : (ns : List ℕ) → length (laid (map LinkCount ns)) ≡ 4 * length ns
+pub counts_size : (ns : List ℕ) → length (laid (map LinkCount ns)) ≡ 4 * length ns
 counts_size [] = refl
 counts_size (n ∷ ns) = omega (arith, length-append (u32 n) (laid (map LinkCount ns)), four n, counts_size ns)
 
-numbers_size : (a b c : ℕ) (xs : List ℕ) → length (u32 a ++ (u32 b ++ (u32 c ++ xs))) ≡ 12 + length xs
+pub numbers_size : (a b c : ℕ) (xs : List ℕ) → length (u32 a ++ (u32 b ++ (u32 c ++ xs))) ≡ 12 + length xs
 numbers_size a b c xs =
     omega (arith, length-append (u32 a) (u32 b ++ (u32 c ++ xs)), length-append (u32 b) (u32 c ++ xs), length-append (u32 c) xs, four a, four b, four c)
 

@@ -1,5 +1,5 @@
 -- The first damage of small files, by rows that are given.
-use Rattle.std.proofs.Common.{◌≡◌, ℕ, ◌+◌, ◌-◌, ◌<◌, Bool, true, false, ◌&&◌, ◌==◌, nat_lt, List, [], ◌∷◌, ◌++◌, length, take, drop, inl, inr, refl, sym, ◌∙◌, append-nil, arith}
+use Rattle.std.proofs.Common.{◌≡◌, ℕ, ◌+◌, ◌-◌, ◌<◌, ◌≤◌, Bool, true, false, ◌&&◌, ◌==◌, nat_lt, List, [], ◌∷◌, ◌++◌, length, take, drop, inl, inr, refl, sym, ◌∙◌, append-nil, arith}
 use Rattle.std.specs.List.{list_all, list_any, AllByRecursion}
 use Rattle.std.proofs.lemmas.Bool.{and_parts, eqb-true, ltb-true, false≢true}
 use Rattle.std.proofs.lemmas.List.Elements.{All-from_recursion}
@@ -13,6 +13,7 @@ use Rattle.law_damage.specs.Damage.{CanBeWritten, Begins, IsFirstDamage}
 use Rattle.law_damage.proofs.Tests.{fine, fine_keeps, keeps_fine}
 use Rattle.law_damage.proofs.Along.{AreRoomy, AreKept}
 use Rattle.law_damage.proofs.Orphans.{reaches, is_reached}
+use Rattle.law_damage.proofs.Places.{place_within}
 
 -- ---- what has to be shown of the rows, by tests
 
@@ -68,6 +69,8 @@ begins bytes t first others rest can are keep is = record { rows = writable t ca
 breaks : (bytes : List ℕ) (t : FileRows) (n : ℕ) (x : Field) (rest : List ℕ) → is_writable t ≡ true → fields t ≡ take n (fields t) ++ x ∷ drop (n + 1) (fields t) → list_all fine (take n (fields t)) ≡ true → fine x ≡ false
     → bytes ≡ laid (take n (fields t)) ++ (written x ++ rest) → IsFirstDamage bytes (record { at = length (laid (take n (fields t))) - back x; kind = kind_of x })
 breaks bytes t n x rest can are keep wrong is =
+    let le : back x ≤ length (laid (take n (fields t))) = place_within t (take n (fields t)) (drop (n + 1) (fields t)) x are in
+    let place : (length (laid (take n (fields t))) - back x) + back x ≡ length (laid (take n (fields t))) = omega (arith, le) in
     inl (record {
       t = t;
       first = take n (fields t);
@@ -77,7 +80,7 @@ breaks bytes t n x rest can are keep wrong is =
       begins = begins bytes t (take n (fields t)) (x ∷ drop (n + 1) (fields t)) (written x ++ rest) can are keep is;
       broken = λ keeps. false≢true (sym wrong ∙ keeps_fine x keeps);
       kind = refl;
-      place = refl;
+      place = place;
     })
 
 -- the bytes end within it

@@ -1,5 +1,5 @@
 -- The damage of a file that spells no profile: the first rule that it breaks, and its place.
-use Rattle.std.specs.Prelude.{ℕ, ◌≡◌, ◌⊎◌, ◌-◌, ◌<◌, List, [], ◌∷◌, ◌++◌, length, All, Any}
+use Rattle.std.specs.Prelude.{ℕ, ◌≡◌, ◌⊎◌, ◌+◌, ◌<◌, List, [], ◌∷◌, ◌++◌, length, All, Any}
 use Rattle.md_deepfile.specs.Bytes.{magic}
 use Rattle.md_deepfile.specs.Format.{Damage}
 use Rattle.md_deepfile.specs.declared.damage.Kind.TheVariants as kinds
@@ -30,7 +30,7 @@ pub record BreaksRule (bytes : List ℕ) (d : Damage) : Type 0 where
   pub begins : Begins bytes t first (field ∷ others) (written field ++ rest)
   pub broken : Keeps field → ⊥
   pub kind : d.kind ≡ kind_of field
-  pub place : d.at ≡ length (laid first) - back field
+  pub place : d.at + back field ≡ length (laid first)
 
 -- behind such fields the file ends within one
 pub record EndsEarly (bytes : List ℕ) (d : Damage) : Type 0 where
