@@ -10,10 +10,10 @@ const MOST_CALLS: u64 = 1000;
 /// `ok`, the case's name, and how many calls failed in turn; or its name, and the call that left something that isn't due.
 pub fn tried(alloc: Global, case: &Case) -> Result<String, AllocError> {
     let name = case.name.as_str();
-    let mut all = 0;
+    let mut all: u64 = 0;
     for object in &case.each {
         let (calls, status) = tries(alloc, case, *object)?;
-        all += calls;
+        all = all.saturating_add(calls);
         if let Some(status) = status {
             return format!(in alloc; "FAILED {name}: call {calls} fails, status {status}");
         }
@@ -58,11 +58,12 @@ fn tells(status: u64, case: &Case, object: Object) -> bool {
     }
 }
 
-/// Whether the line of a fault ends what is on the error stream, or that is a front of what should be there.
+/// Whether the line of a fault ends what is on the error stream. Where a call of that stream fails it may be a front of what should
+/// be there.
 fn is_told(came: &Came, case: &Case, object: Object) -> bool {
     let bytes = came.err.bytes();
     match object {
-        Object::Err => case.err.starts_with(bytes),
+        Object::Err => bytes.ends_with(b" fault\n") || case.err.starts_with(bytes),
         Object::Store | Object::Out | Object::Net => bytes.ends_with(b" fault\n"),
     }
 }
