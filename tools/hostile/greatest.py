@@ -12,9 +12,9 @@ memory. The exit status is 1 where one ends by a signal, with a status that isn'
 import argparse
 import itertools
 import os
+import signal
 import string
 import struct
-import subprocess
 import sys
 import tempfile
 import time
@@ -64,14 +64,14 @@ def variables():
 def nested():
     """Goals in 200 others each, one behind the other."""
     deep = "not ( " * 199 + "fail" + " )" * 199
-    return closed(MAIN % "p, IO = IO0" + ":- pred p is semidet.\np :- true", f", {deep}", ".\n")
+    return closed(MAIN % "( p -> true ; true ), IO = IO0" + ":- pred p is semidet.\np :- true", f", {deep}", ".\n")
 
 
 def texts():
     main = MAIN % "IO = IO0"
     yield "one comment", filled(main + "% ", "x"), {0}
     yield "an open bracket after another", filled(main + ":- pred p is det.\np :- ", "("), {3}
-    yield "goals nested 200 deep, 400 of them", nested(), {0, 3}
+    yield "goals nested 200 deep, 500 of them", nested(), {0, 3}
     yield "predicates", filled(main, lambda i: f":- pred p{i} is det.\np{i} :- true.\n"), {0}
     yield "calls in one clause", closed(main + ":- pred p is det.\np :- true", ", p", ".\n"), {0}
     yield "a clause of 200,000 variables", variables(), {0}
@@ -88,24 +88,26 @@ def texts():
 def runs():
     yield "a call in each call", MAIN % "N = 4000000, count(N), IO = IO0" + (
         ":- pred count(int::in) is det.\ncount(N) :- Z = 0, ( N =< Z -> true ; D = 1, M = N - D, count(M) ).\n"), {0, 4}
-    yield "a choice in each call", MAIN % "N = 4000000, ( some [X] ( up(N, X), Z = 0, X < Z ) -> true ; true ), IO = IO0" + (
-        ":- pred up(int::in, int::out) is multi.\nup(N, X) :- ( X = N ; D = 1, M = N + D, up(M, X) ).\n"), {0, 4}
+    yield "a choice in each call", MAIN % "N = 4000000, ( p(N) -> true ; true ), IO = IO0" + (
+        ":- pred p(int::in) is multi.\np(N) :- Z = 0, ( N =< Z -> true ; ( X = 1 ; X = 2 ), M = N - X, p(M) ).\n"), {0, 4}
     yield "a cell in each call", MAIN % "N = 4000000, range(N, L), IO = IO0" + RANGE, {0, 4}
     yield "a cell of 255 parts in each call", MAIN % ("N = 4000000, " + ", ".join(f"X{i} = 1" for i in range(254)) + f", again(N, {', '.join(f'X{i}' for i in range(254))}), IO = IO0") + (
         f":- type t ---> t({', '.join(['int'] * 254)}).\n:- pred again({', '.join(['int::in'] * 255)}) is det.\n"
         f"again(N, {', '.join(f'X{i}' for i in range(254))}) :- Z = 0, ( N =< Z -> true ; T = t({', '.join(f'X{i}' for i in range(254))}), D = 1, M = N - D, again(M, {', '.join(f'X{i}' for i in range(254))}) ).\n"), {0, 4}
     yield "a context for each call", MAIN % "p1, IO = IO0" + "".join(
         f":- pred p{i} is det.\np{i} :- {f'p{i + 1}, p{i + 1}' if i < 23 else 'true'}.\n" for i in range(1, 24)), {0, 4}
-    yield "a context for each of 255 callees", MAIN % "N = 65000, Q = p0, all(N, Q), IO = IO0" + (
-        ":- pred all(int::in, pred::in(pred is det)) is det.\nall(N, Q) :- Z = 0, ( N =< Z -> true ; call(Q), D = 1, M = N - D, all(M, Q) ).\n:- pred p0 is det.\np0 :- "
-        + ", ".join(f"p{i}" for i in range(1, 256)) + ".\n" + "".join(f":- pred p{i} is det.\np{i} :- true.\n" for i in range(1, 256))), {0, 4}
+    yield "a call of a closure, and in it 255 calls, again and again", MAIN % "N = 30000, Q = p0, all(N, Q), IO = IO0" + (
+        ":- pred all(int::in, pred(int)::in(pred(in) is det)) is det.\nall(N, Q) :- Z = 0, ( N =< Z -> true ; call(Q, N), D = 1, M = N - D, all(M, Q) ).\n"
+        ":- pred p0(int::in) is det.\np0(N) :- " + ", ".join(f"p{i}(N)" for i in range(1, 256)) + ".\n"
+        + "".join(f":- pred p{i}(int::in) is det.\np{i}(N) :- true.\n" for i in range(1, 256))), {0, 4}
     yield "a byte for each step", MAIN % f"S = \"{'x' * 60000}\", N = 280, write(N, S, IO0, IO)" + (
         ":- pred write(int::in, string::in, io::di, io::uo) is det.\nwrite(N, S, IO0, IO) :- Z = 0, ( N =< Z -> IO = IO0"
         " ; io.write_string(S, IO0, IO1), D = 1, M = N - D, write(M, S, IO1, IO) ).\n"), {0, 4}
-    yield "two terms, four million deep, compared", MAIN % "N = 1200000, range(N, L), range(N, K), ( L = K -> true ; true ), IO = IO0" + RANGE, {0, 4}
-    yield "an answer out of a thousand calls, again and again", MAIN % "N = 1000, ( some [X] ( deep(N, X), Z = 0, X < Z ) -> true ; true ), IO = IO0" + (
-        ":- pred deep(int::in, int::out) is multi.\ndeep(N, X) :- Z = 0, ( N =< Z -> up(N, X) ; D = 1, M = N - D, deep(M, X) ).\n"
-        ":- pred up(int::in, int::out) is multi.\nup(N, X) :- ( X = N ; D = 1, M = N + D, M < 10000, up(M, X) ).\n").replace("M < 10000, ", ""), {0, 4}
+    yield "two terms, 900,000 deep, compared", MAIN % "N = 900000, range(N, L), range(N, K), ( L = K -> true ; true ), IO = IO0" + RANGE, {0, 4}
+    yield "4,096 answers, each out of a thousand calls", MAIN % "N = 1000, ( some [X] ( deep(N, X), Z = 9, Z < X ) -> true ; true ), IO = IO0" + (
+        ":- pred deep(int::in, int::out) is multi.\ndeep(N, X) :- Z = 0, ( N =< Z -> bits(X) ; D = 1, M = N - D, deep(M, X) ).\n"
+        ":- pred bits(int::out) is multi.\nbits(X) :- " + ", ".join(f"bit(A{i})" for i in range(12)) + ", X = A0.\n"
+        ":- pred bit(int::out) is multi.\nbit(X) :- ( X = 0 ; X = 1 ).\n"), {0, 4}
     yield "no end", MAIN % "spin, IO = IO0" + ":- pred spin is det.\nspin :- spin.\n", {4}
 
 
@@ -140,8 +142,8 @@ def linked(out, start, contexts, link):
 def files():
     many = (FILE - 4096) // 44
     two = head(procs=[number(0) + b"\x04main\x02", number(0) + b"\x01a\x00"], sites=((0, 1, 1), (1, 2, 1), (1, 3, 1)))
-    yield "one chain of contexts by a recursion's sites", lambda out: chain(out, many // 2), {0, 5}
-    yield "contexts below the first, by one higher-order site", lambda out: linked(out, head(sites=((0, 1, NONE),)), many, lambda i: (0, 0, i)), {5}
+    yield "a million procedures, a context each, in a chain", lambda out: chain(out, many // 2), {0, 5}
+    yield "contexts by links of one higher-order site to one procedure", lambda out: linked(out, head(sites=((0, 1, NONE),)), many, lambda i: (0, 0, i)), {5}
     yield "names of modules, 255 bytes each", lambda out: out.write(lots(lambda i: named(i, 255), lambda m, n: b"MDPROF02\x01" + number(n) + m, number(1) + number(0) + b"\x04main\x02" + number(0))), {0, 5}
     yield "zeros", lambda out: out.truncate(FILE), {5}
     yield "a count of 4,294,967,295 contexts, and zeros", lambda out: (out.write(two + number(NONE)), out.truncate(FILE)), {5}
@@ -166,24 +168,25 @@ def lots(item, wrap, rest):
 
 # ---- measuring
 
-def once(words, folder):
+def once(words):
     """The status, the wall seconds and the megabytes that a command takes; -1 where it doesn't end within five minutes."""
-    with open(os.devnull, "r+b") as null:
-        start = time.perf_counter()
-        process = subprocess.Popen(words, stdin=null, stdout=null, stderr=null, cwd=folder)
-        while True:
-            done, status, use = os.wait4(process.pid, os.WNOHANG)
-            if done:
-                return os.waitstatus_to_exitcode(status), time.perf_counter() - start, use.ru_maxrss / 1024
-            if time.perf_counter() - start > 300:
-                process.kill()
-                os.wait4(process.pid, 0)
-                return -1, 300.0, 0.0
-            time.sleep(0.001)
+    null = os.open(os.devnull, os.O_RDWR)
+    start = time.perf_counter()
+    process = os.posix_spawn(words[0], words, os.environ, file_actions=[(os.POSIX_SPAWN_DUP2, null, n) for n in (0, 1, 2)])
+    os.close(null)
+    while True:
+        done, status, use = os.wait4(process, os.WNOHANG)
+        if done:
+            return os.waitstatus_to_exitcode(status), time.perf_counter() - start, use.ru_maxrss / 1024
+        if time.perf_counter() - start > 300:
+            os.kill(process, signal.SIGKILL)
+            os.wait4(process, 0)
+            return -1, 300.0, 0.0
+        time.sleep(0.001)
 
 
-def tell(name, words, due, folder):
-    status, seconds, memory = once(words, folder)
+def tell(name, words, due):
+    status, seconds, memory = once(words)
     print(f"| {name} | {status} | {seconds:.2f} | {memory:.0f} |{'' if status in due else ' NOT DUE'}", flush=True)
     return status in due
 
@@ -203,8 +206,8 @@ def main():
                 with open(given, "wb") as out:
                     what(out) if part == "files" else out.write(what.encode("latin-1"))
                 words = {"texts": ["check", given], "files": ["page", given, "menu"],
-                         "runs": ["run", given, "--steps", STEPS, "--profile", "kept"]}[part]
-                fine = tell(name, [program, *words], due, folder) and fine
+                         "runs": ["run", given, "--steps", STEPS, "--profile", os.path.join(folder, "kept")]}[part]
+                fine = tell(name, [program, *words], due) and fine
     sys.exit(0 if fine else 1)
 
 
