@@ -6,7 +6,8 @@
 PROGRAM is a built mdprof. Each command is run on the profile or the text of a run with 4,096 contexts, with a limit on the process's
 addresses (RLIMIT_AS) that rises by --step (16,384) from the least with which the program starts to the first with which the command ends as
 it does without. Below it the status is 8, what was written to each stream is a front of what is written without a limit (but for the
-fault's line), and a file that the command stores is there whole or not at all. The status is 1 where something else came.
+fault's line), and a file that the command stores is there whole or not at all. Then small files whose counts say 4,294,967,295 are
+read with a limit of a megabyte more: they are damaged (5), and no room is taken for what they say. The status is 1 where something else came.
 """
 
 import argparse
@@ -82,6 +83,18 @@ def tried(program, words, folder, first, step):
     return low, "never as without a limit"
 
 
+def counted():
+    """Small files that say there is much in them, each with the words that read it."""
+    most = b"\xff\xff\xff\xff"
+    module, proc, site = b"\x01\0\0\0\x01t", b"\x01\0\0\0\0\0\0\0\x04main\x02", b"\0\0\0\0"
+    parts = [b"MDPROF02\x01", module, proc, site, b"\x01\0\0\0\0\0\0\0"]
+    for k in range(1, 6):
+        yield b"".join(parts[:k]) + most, ["page", "given", "menu"]
+    lines = [b"mdprof dump 2\nfinished yes\n", b"modules 1\nt\n", b"procs 1\n0 main 2\n", b"sites 0\n", b"contexts 1\n0\n"]
+    for k, name in enumerate([b"modules", b"procs", b"sites", b"contexts", b"links"], 1):
+        yield b"".join(lines[:k]) + name + b" 4294967295\n", ["undump", "given", "stored"]
+
+
 def main():
     a = argparse.ArgumentParser(description=__doc__, formatter_class=argparse.RawDescriptionHelpFormatter)
     a.add_argument("program")
@@ -100,6 +113,11 @@ def main():
             low, what = tried(program, words, folder, first, a.step)
             print(f"{' '.join(words)}: {low} limits were too low{'' if what is None else ': ' + what}", flush=True)
             wrong += what is not None
+        for given, words in counted():
+            pathlib.Path(folder, "given").write_bytes(given)
+            status = Ended(program, words, folder, first + (1 << 20)).status
+            print(f"{words[0]} of {len(given)} bytes that count 4,294,967,295: status {status}")
+            wrong += status != 5
     sys.exit(1 if wrong else 0)
 
 
