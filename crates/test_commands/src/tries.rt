@@ -39,6 +39,7 @@ fn tries(alloc: Global, case: &Case, object: Object) -> Result<(u64, Option<u64>
 /// Whether the status tells a fault of the object, and the streams and files have fronts of what they should have.
 fn is_due(came: &Came, case: &Case, object: Object) -> bool {
     tells(came.status, case, object)
+        && (came.status != 2 || came.out.bytes().is_empty())
         && case.out.starts_with(came.out.bytes())
         && is_told(came, case, object)
         && came
@@ -58,13 +59,24 @@ fn tells(status: u64, case: &Case, object: Object) -> bool {
     }
 }
 
-/// Whether the line of a fault ends what is on the error stream. Where a call of that stream fails it may be a front of what should
-/// be there.
+/// Whether the error stream has a front of what should be there, and behind it the line of the fault, which the status tells. Where a
+/// call of that stream fails there may be none.
 fn is_told(came: &Came, case: &Case, object: Object) -> bool {
     let bytes = came.err.bytes();
-    match object {
-        Object::Err => bytes.ends_with(b" fault\n") || case.err.starts_with(bytes),
-        Object::Store | Object::Out | Object::Net => bytes.ends_with(b" fault\n"),
+    let told = match came.status {
+        2 => bytes.starts_with(b"mdprof: ") && bytes.ends_with(b": read fault\n"),
+        7 => is_front_with(case.err.as_slice(), bytes, b"mdprof: write fault\n"),
+        9 => is_front_with(case.err.as_slice(), bytes, b"mdprof: network fault\n"),
+        _ => false,
+    };
+    told || (matches!(object, Object::Err) && case.err.starts_with(bytes))
+}
+
+/// Whether these are a front of what should be there, and then the line.
+fn is_front_with(due: &[u8], bytes: &[u8], line: &[u8]) -> bool {
+    match bytes.strip_suffix(line) {
+        Some(front) => due.starts_with(front),
+        None => false,
     }
 }
 
