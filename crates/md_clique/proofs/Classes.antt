@@ -1,9 +1,10 @@
 -- At the end all nodes are closed, and the classes are those of mutual reachability: classes don't rise along a walk.
-use Rattle.std.proofs.Common.{◌≡◌, ◌≢◌, ℕ, ◌<◌, ◌≤◌, List, length, get_or, refl, sym, ap, ◌∙◌, inl, inr, arith}
+use Rattle.std.proofs.Common.{◌≡◌, ◌≢◌, ℕ, ◌<◌, ◌≤◌, List, length, get_or, None, refl, sym, ap, ◌∙◌, inl, inr, arith}
 use Rattle.std.proofs.lemmas.Option.{slice_get_within, get_or_from_slice_get}
 use Rattle.md_trace.specs.Reaches.{Reaches, here, more}
 use Rattle.md_clique.specs.declared.search.State.{State}
 use Rattle.md_clique.specs.declared.search.State.TheVariants.{New, Closed}
+use Rattle.md_clique.specs.declared.adjacency.Adjacency.{Adjacency}
 use Rattle.md_clique.specs.Links.{start_of, end_of}
 use Rattle.md_clique.specs.Search.{Kept, Stands, AreClosed, AreClasses, state_of}
 use Rattle.md_clique.proofs.Close.{what_is}
@@ -21,7 +22,7 @@ falls_along links states count closed a b (more k x y z link rest) c is =
     let lower : on.0 ≤ f.0 = on.2 in
     (on.0, on.1, omega arith)
 
-module _ (links : List (ℕ × ℕ)) (k : Kept) (stands : Stands links k) (none_open : length k.trail ≡ 0) (seen : (v : ℕ) → v < length k.states → state_of k.states v ≢ New) where
+module _ (links : List (ℕ × ℕ)) (lists : Adjacency) (k : Kept) (stands : Stands links lists None k) (none_open : length k.trail ≡ 0) (seen : (v : ℕ) → v < length k.states → state_of k.states v ≢ New) where
   all_closed : (v : ℕ) → v < length k.states → (c : ℕ) × (state_of k.states v ≡ Closed c)
   all_closed v there = elim (what_is (state_of k.states v)) [
     | inl w ↦ elim w [

@@ -1,13 +1,14 @@
 -- The last part is closed as a class.
-use Rattle.std.proofs.Common.{◌≡◌, ◌≢◌, ℕ, suc, ◌+◌, ◌-◌, ◌<◌, ◌≤◌, ◌⊎◌, Bool, cond, List, [], ◌∷◌, length, get_or, take, drop, ◌^◌, refl, sym, ap, ◌∙◌, inl, inr, arith}
+use Rattle.std.proofs.Common.{◌≡◌, ◌≢◌, ℕ, suc, ◌+◌, ◌*◌, ◌-◌, ◌<◌, ◌≤◌, ◌⊎◌, Bool, cond, List, [], ◌∷◌, length, get_or, take, drop, ◌^◌, Some, None, refl, sym, ap, ◌∙◌, inl, inr, arith}
 use Rattle.std.proofs.lemmas.Bool.{cases_lt}
 use Rattle.std.proofs.lemmas.List.{get_or-take, length-take-le, get_or_past, get_or-drop, length-drop}
 use Rattle.std.proofs.lemmas.List.Sums.{sum_by-cons}
 use Rattle.md_trace.specs.Reaches.{Reaches}
 use Rattle.md_clique.specs.declared.search.State.{State}
 use Rattle.md_clique.specs.declared.search.State.TheVariants.{New, Open, Closed}
-use Rattle.md_clique.specs.Links.{start_of, end_of}
-use Rattle.md_clique.specs.Search.{Kept, Stands, MayClose, IsTrail, AreParts, AreWaiting, AreWalked, AreSettled, AreLeft, AreClosed, HasRoom, IsSettled, last_first, state_of, is_new, count_new, NoneRenewed}
+use Rattle.md_clique.specs.declared.adjacency.Adjacency.{Adjacency}
+use Rattle.md_clique.specs.Links.{AreListed, start_of, end_of}
+use Rattle.md_clique.specs.Search.{Kept, Stands, MayClose, IsTrail, AreParts, AreWaiting, AreWalked, AreSettled, AreClosed, HasRoom, IsLeft, IsSettled, last_first, pending_at, state_of, is_new, count_new, NoneRenewed}
 use Rattle.md_clique.specs.Kept.{work}
 use Rattle.md_clique.proofs.Parts.{not_later_than_last, not_later_joined, not_later_apart}
 
@@ -37,7 +38,7 @@ pub record Closes (trail : List ℕ) (s class : ℕ) (old new : List State) : Ty
   pub shut : (i : ℕ) → s ≤ i → i < length trail → state_of new (get_or trail i 0) ≡ Closed class
   pub others : (v : ℕ) → ((i : ℕ) → s ≤ i → i < length trail → get_or trail i 0 ≢ v) → state_of new v ≡ state_of old v
 
-module _ (links : List (ℕ × ℕ)) (k : Kept) (stands : Stands links k) (may : MayClose k) (states : List State) (closes : Closes k.trail (last_first k.first) k.count k.states states) where
+module _ (links : List (ℕ × ℕ)) (lists : Adjacency) (k : Kept) (listed : AreListed links (length k.states) lists.starts.items lists.ends.items) (stands : Stands links lists None k) (may : MayClose k) (states : List State) (closes : Closes k.trail (last_first k.first) k.count k.states states) where
   same_new : (v : ℕ) → state_of k.states v ≡ New → state_of states v ≡ New
   same_new v is = closes.others v (λ i le lt e. let o : New ≡ Open i = sym is ∙ (rw (← e) (stands.trail.placed i lt)) in cc) ∙ is
 
@@ -122,12 +123,13 @@ module _ (links : List (ℕ × ℕ)) (k : Kept) (stands : Stands links k) (may :
         rw (first_at a lt, cut) (stands.parts.rising a (length k.first - 1) lt (omega arith));
   }
 
-  new_waiting : AreWaiting k.pending (take (last_first k.first) k.trail) k.left
+  new_waiting : AreWaiting lists.starts.items k.pending (take (last_first k.first) k.trail)
   new_waiting = record {
     rising = stands.waiting.rising;
     within = λ a h. rw cut (may.none_pending a h);
-    all = λ i h some. let c = cut in let t = top_within in let lt : i < last_first k.first = omega arith in
-        stands.waiting.all i (omega arith) (rw (trail_at i lt) at some);
+    begins = λ a h. rw (trail_at (pending_at k.pending a).place (may.none_pending a h)) (stands.waiting.begins a h);
+    some = stands.waiting.some;
+    theirs = λ a h. rw (trail_at (pending_at k.pending a).place (may.none_pending a h)) (stands.waiting.theirs a h);
   }
 
   new_walked : AreWalked links (take (length k.first - 1) k.first) (take (last_first k.first) k.trail)
@@ -137,29 +139,52 @@ module _ (links : List (ℕ × ℕ)) (k : Kept) (stands : Stands links k) (may :
         rw (trail_at i li, trail_at j lj) (stands.walked.reaches i j (omega arith) (omega arith) (not_later_apart k.first i j not_later (λ h. li)));
   }
 
-  new_settled : AreSettled links (take (length k.first - 1) k.first) (take (last_first k.first) k.trail) k.left states
+  abbrev pub closed : Kept
+  closed = record k { trail = take (last_first k.first) k.trail; first = take (length k.first - 1) k.first; states = states; count = k.count + 1 }
+
+  still_settled : (i u : ℕ) → IsSettled k.first k.states i u → IsSettled (take (length k.first - 1) k.first) states i u
+  still_settled i u was = elim was [
+    | inl c ↦ inl (c.0, same_closed u c.0 c.1)
+    | inr o ↦ elim (cases_lt o.0 (last_first k.first)) [
+      | inl below ↦ inr (o.0, same_open u o.0 o.1 below, not_later_joined k.first i o.0 o.2)
+      | inr above ↦ inl (k.count, shut_open u o.0 o.1 above)
+    ]
+  ]
+
+  new_settled : AreSettled lists None closed
   new_settled = record {
-    settled = λ i t h lt st bound. let c = cut in let top = top_within in let li : i < last_first k.first = omega arith in
-        elim (stands.settled.settled i t (omega arith) lt (st ∙ trail_at i li) bound) as (λ _. IsSettled (take (length k.first - 1) k.first) states i (end_of links t)) [
-          | inl closed ↦ inl (closed.0, same_closed (end_of links t) closed.0 closed.1)
-          | inr o ↦ (let some = may.some in let lj : o.0 < last_first k.first = o.3 (length k.first - 1) (omega arith) li in
-              inr (o.0, same_open (end_of links t) o.0 o.1 lj, not_later_joined k.first i o.0 o.2, not_later_joined k.first o.0 i o.3))
+    settled = λ i p h from to. let c = cut in let top = top_within in let li : i < last_first k.first = omega arith in
+        elim (stands.settled.settled i p (omega arith) (rw (trail_at i li) at from) (rw (trail_at i li) at to)) [
+          | inl left ↦ inl left
+          | inr done ↦ elim done [
+            | inl settled ↦ inr (inl (still_settled i (get_or lists.ends.items p 0) settled))
+            | inr but ↦ inr (inr but)
+          ]
         ];
   }
 
-  new_left : AreLeft links k.left states
-  new_left = record {
-    each = stands.left.each ∙ sym closes.each;
-    theirs = stands.left.theirs;
-    unseen = λ t lt fresh. stands.left.unseen t lt (was_new (start_of links t) fresh);
-  }
-
   -- no link of the last part is left
-  none_left : (i : ℕ) → last_first k.first ≤ i → i < length k.trail → get_or k.left (get_or k.trail i 0) 0 ≡ 0
-  none_left i le lt = elim (cases_lt 0 (get_or k.left (get_or k.trail i 0) 0)) [
-    | inl some ↦ (let w = stands.waiting.all i lt some in let p = may.none_pending w.0 w.1 in let e : get_or k.pending w.0 0 ≡ i = w.2 in absurd (omega arith))
-    | inr g ↦ omega arith
-  ]
+  none_left : (i p : ℕ) → last_first k.first ≤ i → IsLeft k.pending i p → ⊥
+  none_left i p le left = let low = may.none_pending left.0 left.1 in let e : (pending_at k.pending left.0).place ≡ i = left.2 in absurd (omega arith)
+
+  -- a link from the last part ends at a node that is closed now
+  ends_closed : (t : ℕ) → t < length links → (i : ℕ) → state_of k.states (start_of links t) ≡ Open i → last_first k.first ≤ i → (d : ℕ) × (state_of states (end_of links t) ≡ Closed d) × (d ≤ k.count)
+  ends_closed t lt i is le =
+      let at = stands.trail.opened (start_of links t) i is in
+      let p = listed.all t lt in
+      elim (stands.settled.settled i p.0 at.0 (rw at.1 p.1) (rw at.1 p.2)) as (λ _. (d : ℕ) × (state_of states (end_of links t) ≡ Closed d) × (d ≤ k.count)) [
+        | inl left ↦ absurd (none_left i p.0 le left)
+        | inr done ↦ elim done as (λ _. (d : ℕ) × (state_of states (end_of links t) ≡ Closed d) × (d ≤ k.count)) [
+          | inl settled ↦ elim (rw (p.3) at settled) as (λ _. (d : ℕ) × (state_of states (end_of links t) ≡ Closed d) × (d ≤ k.count)) [
+            | inl c ↦ (let b = stands.closed.below (end_of links t) c.0 c.1 in (c.0, same_closed (end_of links t) c.0 c.1, omega arith))
+            | inr w ↦ elim (cases_lt w.0 (last_first k.first)) as (λ _. (d : ℕ) × (state_of states (end_of links t) ≡ Closed d) × (d ≤ k.count)) [
+              | inl below ↦ (let some = may.some in let lo : i < last_first k.first = w.2 (length k.first - 1) (omega arith) below in absurd (omega arith))
+              | inr above ↦ (k.count, shut_open (end_of links t) w.0 w.1 above, omega arith)
+            ]
+          ]
+          | inr but ↦ (let none : None ≡ Some (get_or lists.ends.items p.0 0) = but in cc)
+        ]
+      ]
 
   in_part : (u v i j : ℕ) → state_of k.states u ≡ Open i → state_of k.states v ≡ Open j → last_first k.first ≤ j → Reaches links u v
   in_part u v i j ou ov le = let a = stands.trail.opened u i ou in let b = stands.trail.opened v j ov in
@@ -179,15 +204,7 @@ module _ (links : List (ℕ × ℕ)) (k : Kept) (stands : Stands links k) (may :
     ];
     falls = λ t c lt is. elim (was_closed (start_of links t) c is) as (λ _. (d : ℕ) × (state_of states (end_of links t) ≡ Closed d) × (d ≤ c)) [
       | inl old ↦ (let f = stands.closed.falls t c lt old in (f.0, same_closed (end_of links t) f.0 f.1, f.2))
-      | inr o ↦ (let at = stands.trail.opened (start_of links t) o.0 o.1 in let e : c ≡ k.count = o.3 in
-          let none : get_or k.left (start_of links t) 0 ≡ 0 = rw (at.1) at (none_left o.0 o.2 at.0) in
-          elim (stands.settled.settled o.0 t at.0 lt (sym at.1) (omega arith)) as (λ _. (d : ℕ) × (state_of states (end_of links t) ≡ Closed d) × (d ≤ c)) [
-            | inl closed ↦ (let b = stands.closed.below (end_of links t) closed.0 closed.1 in (closed.0, same_closed (end_of links t) closed.0 closed.1, omega arith))
-            | inr w ↦ elim (cases_lt w.0 (last_first k.first)) as (λ _. (d : ℕ) × (state_of states (end_of links t) ≡ Closed d) × (d ≤ c)) [
-              | inl below ↦ (let some = may.some in let lo : o.0 < last_first k.first = w.2 (length k.first - 1) (omega arith) below in let le = o.2 in absurd (omega arith))
-              | inr above ↦ (k.count, shut_open (end_of links t) w.0 w.1 above, omega arith)
-            ]
-          ])
+      | inr o ↦ (let e : c ≡ k.count = o.3 in rw e (ends_closed t lt o.0 o.1 o.2))
     ];
     below = λ v d is. elim (was_closed v d is) [
       | inl old ↦ (let b = stands.closed.below v d old in omega arith)
@@ -217,14 +234,15 @@ module _ (links : List (ℕ × ℕ)) (k : Kept) (stands : Stands links k) (may :
   pub count_fits : k.count + 1 < 2 ^ 32
   count_fits = let some = may.some in let r = stands.room.in_classes in let f = stands.room.fits in omega arith
 
-  abbrev pub closed : Kept
-  closed = record k { trail = take (last_first k.first) k.trail; first = take (length k.first - 1) k.first; states = states; count = k.count + 1 }
+  pub close_stands : Stands links lists None closed
+  close_stands = record { trail = new_trail; parts = new_parts; waiting = new_waiting; walked = new_walked; settled = new_settled; closed = new_closed; room = new_room }
 
-  pub close_stands : Stands links closed
-  close_stands = record { trail = new_trail; parts = new_parts; waiting = new_waiting; walked = new_walked; settled = new_settled; left = new_left; closed = new_closed; room = new_room }
-
-  pub close_works : work closed < work k
-  close_works = let n = shorter in let m = as_many in let some = may.some in omega arith
+  pub close_works : work lists closed < work lists k
+  close_works =
+      let n = shorter in
+      let some = may.some in
+      let same : (length lists.ends.items + 4) * count_new states ≡ (length lists.ends.items + 4) * count_new k.states = ap (λ (n : ℕ). (length lists.ends.items + 4) * n) as_many in
+      omega arith
 
   pub close_renews : NoneRenewed k.states states
   close_renews = record { each = closes.each; seen = was_new }
@@ -244,8 +262,8 @@ closes_from_part trail s class old new each shut others = record {
 }
 
 -- the nodes of the rest of the trail are there
-pub closed_there : (links : List (ℕ × ℕ)) (k : Kept) (s : ℕ) → Stands links k → (i : ℕ) → i < length (drop s k.trail) → get_or (drop s k.trail) i 0 < length k.states
-closed_there links k s stands i low =
+pub closed_there : (links : List (ℕ × ℕ)) (lists : Adjacency) (k : Kept) (s : ℕ) → Stands links lists None k → (i : ℕ) → i < length (drop s k.trail) → get_or (drop s k.trail) i 0 < length k.states
+closed_there links lists k s stands i low =
     let n : length (drop s k.trail) ≡ length k.trail - s = length-drop s k.trail in
     let e : get_or (drop s k.trail) i 0 ≡ get_or k.trail (s + i) 0 = get_or-drop s k.trail i 0 in
     let stood : state_of k.states (get_or k.trail (s + i) 0) ≡ Open (s + i) = stands.trail.placed (s + i) (omega (arith, n, low)) in

@@ -1,15 +1,15 @@
 -- The last two parts reach each other, and become one.
-use Rattle.std.proofs.Common.{◌≡◌, ℕ, ◌-◌, ◌<◌, ◌≤◌, List, length, get_or, take, ◌∙◌, inl, inr, arith}
+use Rattle.std.proofs.Common.{◌≡◌, ℕ, ◌-◌, ◌<◌, ◌≤◌, List, length, get_or, take, None, ◌∙◌, inl, inr, arith}
 use Rattle.std.proofs.lemmas.Bool.{cases_lt}
 use Rattle.std.proofs.lemmas.List.{get_or-take, length-take-le}
 use Rattle.md_trace.specs.Reaches.{Reaches}
 use Rattle.md_clique.proofs.Walks.{walk_on}
-use Rattle.md_clique.specs.Links.{end_of}
-use Rattle.md_clique.specs.Search.{Kept, Stands, MayJoin, AreParts, AreWalked, AreSettled, IsSettled, NotLater, last_first, HasRoom}
+use Rattle.md_clique.specs.declared.adjacency.Adjacency.{Adjacency}
+use Rattle.md_clique.specs.Search.{Kept, Stands, MayJoin, AreParts, AreWalked, AreSettled, NotLater, last_first, HasRoom}
 use Rattle.md_clique.specs.Kept.{work}
 use Rattle.md_clique.proofs.Parts.{not_later_than_last, not_later_joined, not_later_apart}
 
-module _ (links : List (ℕ × ℕ)) (k : Kept) (stands : Stands links k) (may : MayJoin links k) where
+module _ (links : List (ℕ × ℕ)) (lists : Adjacency) (k : Kept) (stands : Stands links lists None k) (may : MayJoin links k) where
   -- the lowest part begins at 0, so there are two
   two : 1 < length k.first
   two = elim (cases_lt 1 (length k.first)) [
@@ -59,19 +59,25 @@ module _ (links : List (ℕ × ℕ)) (k : Kept) (stands : Stands links k) (may :
     ];
   }
 
-  new_settled : AreSettled links (take (length k.first - 1) k.first) k.trail k.left k.states
+  new_settled : AreSettled lists None (record k { first = take (length k.first - 1) k.first })
   new_settled = record {
-    settled = λ i t there lt st bound. elim (stands.settled.settled i t there lt st bound) as (λ _. IsSettled (take (length k.first - 1) k.first) k.states i (end_of links t)) [
-      | inl closed ↦ inl closed
-      | inr o ↦ inr (o.0, o.1, not_later_joined k.first i o.0 o.2, not_later_joined k.first o.0 i o.3)
+    settled = λ i p there from to. elim (stands.settled.settled i p there from to) [
+      | inl left ↦ inl left
+      | inr done ↦ elim done [
+        | inl settled ↦ elim settled [
+          | inl closed ↦ inr (inl (inl closed))
+          | inr o ↦ inr (inl (inr (o.0, o.1, not_later_joined k.first i o.0 o.2)))
+        ]
+        | inr but ↦ inr (inr but)
+      ]
     ];
   }
 
   new_room : HasRoom k.trail (take (length k.first - 1) k.first) k.states k.count
   new_room = record { on_trail = stands.room.on_trail; in_classes = let n = shorter in let r = stands.room.in_classes in omega arith; fits = stands.room.fits }
 
-  pub join_stands : Stands links (record k { first = take (length k.first - 1) k.first })
-  join_stands = record { trail = stands.trail; parts = new_parts; waiting = stands.waiting; walked = new_walked; settled = new_settled; left = stands.left; closed = stands.closed; room = new_room }
+  pub join_stands : Stands links lists None (record k { first = take (length k.first - 1) k.first })
+  join_stands = record { trail = stands.trail; parts = new_parts; waiting = stands.waiting; walked = new_walked; settled = new_settled; closed = stands.closed; room = new_room }
 
-  pub join_works : work (record k { first = take (length k.first - 1) k.first }) < work k
+  pub join_works : work lists (record k { first = take (length k.first - 1) k.first }) < work lists k
   join_works = let n = shorter in let t = two in omega arith

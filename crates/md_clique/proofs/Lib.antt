@@ -1,7 +1,8 @@
 pub mod Walks
-pub mod Lasts
 pub mod SameLinks
 pub mod Sorting
+pub mod Listed
+pub mod ListedLinks
 pub mod Parts
 pub mod Beginning
 pub mod Enter

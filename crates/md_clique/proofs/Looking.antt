@@ -1,14 +1,15 @@
--- What is known of the link that is looked at: it is the next one of a node of the last part.
-use Rattle.std.proofs.Common.{◌≡◌, ℕ, suc, ◌-◌, ◌<◌, ◌≤◌, List, length, get_or, Some, sym, ◌∙◌, inl, inr, arith}
-use Rattle.std.specs.List.{slice_get}
+-- What is known of the link that is looked at: it is the last one that is left of a node of the last part.
+use Rattle.std.proofs.Common.{◌≡◌, ◌⊎◌, ℕ, ◌+◌, ◌-◌, ◌<◌, ◌≤◌, List, length, get_or, Option, Some, None, refl, sym, ◌∙◌, inl, inr, arith}
 use Rattle.std.proofs.lemmas.Bool.{cases_lt}
 use Rattle.std.proofs.lemmas.List.{get_or_read, get_or_past}
-use Rattle.std.proofs.lemmas.Option.{slice_get_within, get_or_from_slice_get, slice_get-get_or}
+use Rattle.std.proofs.lemmas.Option.{slice_get-get_or}
 use Rattle.md_trace.specs.Reaches.{Reaches, here, more}
 use Rattle.md_clique.specs.declared.search.State.{State}
 use Rattle.md_clique.specs.declared.search.State.TheVariants.{New, Open, Closed}
-use Rattle.md_clique.specs.Links.{AreWithin, start_of, end_of}
-use Rattle.md_clique.specs.Search.{Kept, Stands, MayEnter, MayJoin, MayPass, last_first, state_of}
+use Rattle.md_clique.specs.declared.adjacency.Adjacency.{Adjacency}
+use Rattle.md_clique.specs.declared.search.Pending.{Pending}
+use Rattle.md_clique.specs.Links.{AreListed, AreWithin, start_of, end_of}
+use Rattle.md_clique.specs.Search.{Kept, Stands, IsSettled, MayEnter, MayJoin, MayPass, last_first, last_pending, state_of}
 use Rattle.md_clique.proofs.Parts.{not_later_than_last}
 use Rattle.md_clique.proofs.Walks.{walk_on}
 
@@ -19,70 +20,79 @@ open_there states v i is = elim (cases_lt v (length states)) [
   | inr g ↦ (let n : state_of states v ≡ New = get_or_past states v New g in let o : New ≡ Open i = sym n ∙ is in cc)
 ]
 
-pub record Looking (links : List (ℕ × ℕ)) (k : Kept) (node t : ℕ) : Type 0 where
-  pub i : ℕ
-  pub in_last : last_first k.first ≤ i
-  pub above : i < length k.trail
-  pub is_node : get_or k.trail i 0 ≡ node
-  pub bound : get_or k.left node 0 ≡ suc t
+-- a node of the trail is there
+pub node_there : (links : List (ℕ × ℕ)) (lists : Adjacency) (but : Option ℕ) (k : Kept) → Stands links lists but k → (i : ℕ) → i < length k.trail → get_or k.trail i 0 < length k.states
+node_there links lists but k stands i there = open_there k.states (get_or k.trail i 0) i (stands.trail.placed i there)
 
--- the node at a pending place
-pub pending_there : (links : List (ℕ × ℕ)) (k : Kept) → Stands links k → (place : ℕ) → Some place ≡ slice_get k.pending (length k.pending - 1) → place < length k.trail
-pending_there links k stands place is =
-    let w = slice_get_within k.pending (length k.pending - 1) place (sym is) in
-    let e : get_or k.pending (length k.pending - 1) 0 ≡ place = get_or_from_slice_get k.pending (length k.pending - 1) place 0 (sym is) in
-    rw e at (stands.waiting.within (length k.pending - 1) w)
+-- the last pending node, which is in the last part and has a link left
+pub record Looking (k : Kept) (last : Pending) : Type 0 where
+  pub some : 0 < length k.pending
+  pub is_last : last ≡ last_pending k.pending
+  pub in_last : last_first k.first ≤ last.place
+  pub left : last.from ≡ last.to → ⊥
 
-pub node_there : (links : List (ℕ × ℕ)) (k : Kept) → Stands links k → (place : ℕ) → Some place ≡ slice_get k.pending (length k.pending - 1) → (node : ℕ) → node ≡ get_or k.trail place node → node < length k.states
-node_there links k stands place is node read =
-    let there = pending_there links k stands place is in
-    let e : node ≡ get_or k.trail place 0 = get_or_read k.trail place node there read 0 in
-    open_there k.states node place (rw e (stands.trail.placed place there))
+module _ (links : List (ℕ × ℕ)) (lists : Adjacency) (k : Kept) (listed : AreListed links (length k.states) lists.starts.items lists.ends.items) (stands : Stands links lists None k) (last : Pending) (look : Looking k last) where
+  at : length k.pending - 1 < length k.pending
+  at = let some = look.some in omega arith
 
-pub looking : (links : List (ℕ × ℕ)) (k : Kept) → Stands links k → (first place : ℕ) → first ≡ last_first k.first → Some place ≡ slice_get k.pending (length k.pending - 1) → first ≤ place → (node : ℕ) → node ≡ get_or k.trail place node → (left : ℕ) → left ≡ get_or k.left node left → (left ≡ 0 → ⊥) → Looking links k node (left - 1)
-looking links k stands first place is_first is le node read left read_left some =
-    let there = pending_there links k stands place is in
-    let e : node ≡ get_or k.trail place 0 = get_or_read k.trail place node there read 0 in
-    let n = node_there links k stands place is node read in
-    let each = stands.left.each in
-    let m : node < length k.left = omega arith in
-    let b : left ≡ get_or k.left node 0 = get_or_read k.left node left m read_left 0 in
-    record { i = place; in_last = omega arith; above = there; is_node = sym e; bound = (let s : left ≡ suc (left - 1) = omega arith in sym b ∙ s) }
+  above : last.place < length k.trail
+  above = rw look.is_last (stands.waiting.within (length k.pending - 1) at)
 
-module _ (links : List (ℕ × ℕ)) (k : Kept) (stands : Stands links k) (node t : ℕ) (look : Looking links k node t) where
-  its_link : (t < length links) × (start_of links t ≡ node)
-  its_link = stands.left.theirs node t look.bound
+  v : ℕ
+  v = get_or k.trail last.place 0
 
-  pub link_there : t < length links
-  link_there = its_link.0
+  there : get_or k.trail last.place 0 < length k.states
+  there = node_there links lists None k stands last.place above
 
-  steps : Reaches links node (end_of links t)
-  steps = more t node (end_of links t) (end_of links t) (rw (← its_link.1) (slice_get-get_or links t (0, 0) its_link.0)) (here (end_of links t))
+  begins : last.from ≡ get_or lists.starts.items (get_or k.trail last.place 0) 0
+  begins = rw look.is_last (stands.waiting.begins (length k.pending - 1) at)
 
-  reached : (i : ℕ) → i < length k.trail → Reaches links (get_or k.trail i 0) (end_of links t)
-  reached i there = walk_on links _ node _
-      (rw look.is_node at (stands.walked.reaches i look.i there look.above (not_later_than_last k.first (length k.trail) i look.i stands.parts look.in_last)))
+  pub some_left : last.from < last.to
+  some_left = let le : last.from ≤ last.to = rw look.is_last (stands.waiting.some (length k.pending - 1) at) in let apart = look.left in omega arith
+
+  theirs : last.to ≤ get_or lists.starts.items (get_or k.trail last.place 0 + 1) 0
+  theirs = rw look.is_last (stands.waiting.theirs (length k.pending - 1) at)
+
+  pub end_there : last.to - 1 < length lists.ends.items
+  end_there = let within = listed.within (get_or k.trail last.place 0) there in let to = theirs in let some = some_left in omega arith
+
+  its_link : (t : ℕ) × (t < length links) × (start_of links t ≡ get_or k.trail last.place 0) × (end_of links t ≡ get_or lists.ends.items (last.to - 1) 0)
+  its_link = let some = some_left in let to = theirs in let from = begins in listed.theirs (get_or k.trail last.place 0) (last.to - 1) there (omega arith) (omega arith)
+
+  steps : Reaches links (get_or k.trail last.place 0) (get_or lists.ends.items (last.to - 1) 0)
+  steps =
+      let t = its_link in
+      let walk : Reaches links (start_of links t.0) (end_of links t.0) = more t.0 (start_of links t.0) (end_of links t.0) (end_of links t.0) (slice_get-get_or links t.0 (0, 0) t.1) (here (end_of links t.0)) in
+      rw (t.2, t.3) at walk
+
+  reached : (i : ℕ) → i < length k.trail → Reaches links (get_or k.trail i 0) (get_or lists.ends.items (last.to - 1) 0)
+  reached i lt = walk_on links _ (get_or k.trail last.place 0) _
+      (stands.walked.reaches i last.place lt above (not_later_than_last k.first (length k.trail) i last.place stands.parts look.in_last))
       steps
 
-  pub may_enter : AreWithin links (length k.states) → state_of k.states (end_of links t) ≡ New → MayEnter links k (end_of links t)
-  may_enter within is = record { there = within.ends t its_link.0; is_new = is; reached = reached }
+  pub link_within : AreWithin links (length k.states) → get_or lists.ends.items (last.to - 1) 0 < length k.states
+  link_within within = let t = its_link in rw (t.3) at (within.ends t.0 t.1)
 
-  pub may_join : (j : ℕ) → state_of k.states (end_of links t) ≡ Open j → j < last_first k.first → MayJoin links k
-  may_join j is earlier = let o = stands.trail.opened (end_of links t) j is in
-      record { i = look.i; j = j; in_last = look.in_last; above = look.above; earlier = earlier; reached = rw (o.1) (reached look.i look.above) }
-
-  pub may_pass : (j : ℕ) → state_of k.states (end_of links t) ≡ Open j → last_first k.first ≤ j → MayPass links k node t
-  may_pass j is last = record {
-    i = look.i;
-    there = look.above;
-    is_v = look.is_node;
-    bound = look.bound;
-    settled = inr (j, is, not_later_than_last k.first (length k.trail) look.i j stands.parts last, not_later_than_last k.first (length k.trail) j look.i stands.parts look.in_last);
+  may_pass : (but : Option ℕ) → IsSettled k.first k.states last.place (get_or lists.ends.items (last.to - 1) 0) ⊎ (but ≡ Some (get_or lists.ends.items (last.to - 1) 0)) → MayPass lists but k
+  may_pass but done = record {
+    some = look.some;
+    left = rw (← look.is_last) some_left;
+    settled = rw (← look.is_last) done;
   }
 
-  pub may_pass_closed : (c : ℕ) → state_of k.states (end_of links t) ≡ Closed c → MayPass links k node t
-  may_pass_closed c is = record { i = look.i; there = look.above; is_v = look.is_node; bound = look.bound; settled = inl (c, is) }
+  pub may_enter : AreWithin links (length k.states) → state_of k.states (get_or lists.ends.items (last.to - 1) 0) ≡ New → MayEnter links k (get_or lists.ends.items (last.to - 1) 0) × MayPass lists (Some (get_or lists.ends.items (last.to - 1) 0)) k
+  may_enter within is = (record { there = link_within within; is_new = is; reached = reached }, may_pass (Some (get_or lists.ends.items (last.to - 1) 0)) (inr refl))
+
+  pub may_join : (j : ℕ) → state_of k.states (get_or lists.ends.items (last.to - 1) 0) ≡ Open j → j < last_first k.first → MayJoin links k
+  may_join j is earlier = let o = stands.trail.opened (get_or lists.ends.items (last.to - 1) 0) j is in
+      record { i = last.place; j = j; in_last = look.in_last; above = above; earlier = earlier; reached = rw (o.1) (reached last.place above) }
+
+  pub may_pass_open : (j : ℕ) → state_of k.states (get_or lists.ends.items (last.to - 1) 0) ≡ Open j → last_first k.first ≤ j → MayPass lists None k
+  may_pass_open j is late = may_pass None (inl (inr (j, is, not_later_than_last k.first (length k.trail) last.place j stands.parts late)))
+
+  pub may_pass_closed : (c : ℕ) → state_of k.states (get_or lists.ends.items (last.to - 1) 0) ≡ Closed c → MayPass lists None k
+  may_pass_closed c is = may_pass None (inl (inl (c, is)))
 
 -- the state that is read there
-pub state_read : (links : List (ℕ × ℕ)) (states : List State) → AreWithin links (length states) → (t : ℕ) → t < length links → (s : State) → s ≡ get_or states (end_of links t) s → (is : State) → s ≡ is → state_of states (end_of links t) ≡ is
-state_read links states within t lt s read is e = sym (get_or_read states (end_of links t) s (within.ends t lt) read New) ∙ e
+pub state_read : (states : List State) (v : ℕ) → v < length states → (s : State) → s ≡ get_or states v s → (is : State) → s ≡ is → state_of states v ≡ is
+state_read states v there s read is e = sym (get_or_read states v s there read New) ∙ e

@@ -1,84 +1,99 @@
 -- One link more is looked at.
-use Rattle.std.proofs.Common.{◌≡◌, ℕ, suc, ◌+◌, ◌<◌, ◌≤◌, List, length, get_or, set, sum, sym, ◌∙◌, inl, inr, arith}
-use Rattle.std.proofs.lemmas.Bool.{cases_eq, cases_order, cases_lt}
-use Rattle.std.proofs.lemmas.List.{get_or-set_same, get_or-set_other, length-set, get_or_past}
+use Rattle.std.proofs.Common.{◌≡◌, ◌⊎◌, ℕ, ◌+◌, ◌-◌, ◌<◌, ◌≤◌, List, length, get_or, set, Option, Some, None, sym, ap, ◌∙◌, inl, inr, arith}
+use Rattle.std.specs.Prelude.{sum_by}
+use Rattle.std.proofs.lemmas.Bool.{cases_eq, cases_lt}
+use Rattle.std.proofs.lemmas.List.{get_or-set_same, get_or-set_other, length-set}
 use Rattle.std.proofs.lemmas.List.Sums.{sum_by-set}
-use Rattle.md_clique.specs.declared.search.State.TheVariants.{New, Open}
-use Rattle.md_clique.specs.Links.{IsBefore, start_of}
-use Rattle.md_clique.specs.Search.{Kept, Stands, MayPass, AreWaiting, AreSettled, AreLeft, state_of}
-use Rattle.md_clique.specs.Kept.{work}
+use Rattle.md_clique.specs.declared.adjacency.Adjacency.{Adjacency}
+use Rattle.md_clique.specs.declared.search.Pending.{Pending}
+use Rattle.md_clique.specs.Search.{Kept, Stands, MayPass, AreWaiting, AreSettled, IsLeft, last_pending, nothing_pending, passed, pending_at}
+use Rattle.md_clique.specs.Kept.{looks, work}
 
-module _ (links : List (ℕ × ℕ)) (k : Kept) (stands : Stands links k) (v t : ℕ) (may : MayPass links k v t) where
-  its_link : (t < length links) × (start_of links t ≡ v)
-  its_link = stands.left.theirs v t may.bound
+-- one link less is left
+abbrev lowered : Pending → Pending
+lowered w = record w { to = w.to - 1 }
 
-  is_open : state_of k.states v ≡ Open may.i
-  is_open = rw (← may.is_v) (stands.trail.placed may.i may.there)
+module _ (links : List (ℕ × ℕ)) (lists : Adjacency) (but : Option ℕ) (k : Kept) (stands : Stands links lists None k) (may : MayPass lists but k) where
+  last : ℕ
+  last = length k.pending - 1
 
-  v_there : v < length k.left
-  v_there = elim (cases_lt v (length k.left)) [ inl l ↦ l | inr g ↦ (let e : get_or k.left v 0 ≡ 0 = get_or_past k.left v 0 g in let was : get_or k.left v 0 ≡ suc t = may.bound in absurd (omega arith)) ]
+  at : length k.pending - 1 < length k.pending
+  at = let some = may.some in omega arith
 
-  pub link_there : t < length links
-  link_there = its_link.0
+  new_at : pending_at (set k.pending (length k.pending - 1) (lowered (last_pending k.pending))) (length k.pending - 1) ≡ lowered (last_pending k.pending)
+  new_at = get_or-set_same k.pending (length k.pending - 1) (lowered (last_pending k.pending)) nothing_pending at
 
-  module _ (b : ℕ) (bound : IsBefore links t b) where
-    at_v : get_or (set k.left v b) v 0 ≡ b
-    at_v = get_or-set_same k.left v b 0 v_there
+  old_at : (a : ℕ) → (a ≡ length k.pending - 1 → ⊥) → pending_at (set k.pending (length k.pending - 1) (lowered (last_pending k.pending))) a ≡ pending_at k.pending a
+  old_at a other = get_or-set_other k.pending (length k.pending - 1) a (lowered (last_pending k.pending)) nothing_pending other
 
-    elsewhere : (u : ℕ) → (u ≡ v → ⊥) → get_or (set k.left v b) u 0 ≡ get_or k.left u 0
-    elsewhere u ne = get_or-set_other k.left v u b 0 ne
+  size : length (set k.pending (length k.pending - 1) (lowered (last_pending k.pending))) ≡ length k.pending
+  size = length-set k.pending (length k.pending - 1) (lowered (last_pending k.pending))
 
-    new_left : AreLeft links (set k.left v b) k.states
-    new_left = record {
-      each = length-set k.left v b ∙ stands.left.each;
-      theirs = λ u s h. elim (cases_eq u v) [
-        | inl e ↦ (let now : b ≡ suc s = sym at_v ∙ (rw e at h) in
-            let q : start_of links s ≡ start_of links t = bound.same_start s now in
-            let le : b ≤ t = bound.earlier in
-            let lt : t < length links = its_link.0 in
-            (omega arith, q ∙ its_link.1 ∙ sym e))
-        | inr ne ↦ stands.left.theirs u s (sym (elsewhere u ne) ∙ h)
-      ];
-      unseen = λ s there fresh. elim (cases_eq (start_of links s) v) [
-        | inl e ↦ (let o : New ≡ Open may.i = sym fresh ∙ (rw e is_open) in cc)
-        | inr ne ↦ rw (elsewhere (start_of links s) ne) (stands.left.unseen s there fresh)
-      ];
-    }
+  same_place : (a : ℕ) → (pending_at (set k.pending (length k.pending - 1) (lowered (last_pending k.pending))) a).place ≡ (pending_at k.pending a).place
+  same_place a = elim (cases_eq a (length k.pending - 1)) [
+    | inl e ↦ rw e (ap (λ (w : Pending). w.place) new_at)
+    | inr other ↦ ap (λ (w : Pending). w.place) (old_at a other)
+  ]
 
-    new_waiting : AreWaiting k.pending k.trail (set k.left v b)
-    new_waiting = record {
-      rising = stands.waiting.rising;
-      within = stands.waiting.within;
-      all = λ i there some. elim (cases_eq (get_or k.trail i 0) v) [
-        | inl e ↦ stands.waiting.all i there (rw (e, may.bound) (omega arith))
-        | inr ne ↦ stands.waiting.all i there (rw (elsewhere (get_or k.trail i 0) ne) at some)
-      ];
-    }
+  same_from : (a : ℕ) → (pending_at (set k.pending (length k.pending - 1) (lowered (last_pending k.pending))) a).from ≡ (pending_at k.pending a).from
+  same_from a = elim (cases_eq a (length k.pending - 1)) [
+    | inl e ↦ rw e (ap (λ (w : Pending). w.from) new_at)
+    | inr other ↦ ap (λ (w : Pending). w.from) (old_at a other)
+  ]
 
-    new_settled : AreSettled links k.first k.trail (set k.left v b) k.states
-    new_settled = record {
-      settled = λ i s there lt st from. elim (cases_eq (start_of links s) v) [
-        | inl e ↦ (
-            let o : Open i ≡ Open may.i = sym (stands.trail.placed i there) ∙ (rw (← st, e) is_open) in
-            let same : i ≡ may.i = cc in
-            let le : b ≤ s = rw (e, at_v) at from in
-            elim (cases_order s t) [
-              | inl q ↦ rw (same, q) may.settled
-              | inr w ↦ elim w [
-                | inl less ↦ (let m : s < b = bound.all s less (e ∙ sym its_link.1) in absurd (omega arith))
-                | inr more ↦ stands.settled.settled i s there lt st (rw (e, may.bound) (omega arith))
-              ]
-            ])
-        | inr ne ↦ stands.settled.settled i s there lt st (rw (elsewhere (start_of links s) ne) at from)
-      ];
-    }
+  lower_to : (pending_at (set k.pending (length k.pending - 1) (lowered (last_pending k.pending))) (length k.pending - 1)).to ≡ (last_pending k.pending).to - 1
+  lower_to = ap (λ (w : Pending). w.to) new_at
 
-    pub pass_stands : Stands links (record k { left = set k.left v b })
-    pass_stands = record { trail = stands.trail; parts = stands.parts; waiting = new_waiting; walked = stands.walked; settled = new_settled; left = new_left; closed = stands.closed; room = stands.room }
+  same_to : (a : ℕ) → (a ≡ length k.pending - 1 → ⊥) → (pending_at (set k.pending (length k.pending - 1) (lowered (last_pending k.pending))) a).to ≡ (pending_at k.pending a).to
+  same_to a other = ap (λ (w : Pending). w.to) (old_at a other)
 
-    pub pass_works : work (record k { left = set k.left v b }) < work k
-    pass_works =
-        let s : sum (set k.left v b) + get_or k.left v 0 ≡ sum k.left + b = sum_by-set (λ x. x) k.left v b 0 v_there in
-        let was : get_or k.left v 0 ≡ suc t = may.bound in
-        let le : b ≤ t = bound.earlier in
-        omega arith
+  fewer_to : (a : ℕ) → (pending_at (set k.pending (length k.pending - 1) (lowered (last_pending k.pending))) a).to ≤ (pending_at k.pending a).to
+  fewer_to a = elim (cases_eq a (length k.pending - 1)) [
+    | inl e ↦ (let low = lower_to in rw e (omega arith))
+    | inr other ↦ (let same = same_to a other in omega arith)
+  ]
+
+  new_waiting : AreWaiting lists.starts.items (set k.pending (length k.pending - 1) (lowered (last_pending k.pending))) k.trail
+  new_waiting = record {
+    rising = λ a b le h. rw (same_place a, same_place b) (stands.waiting.rising a b le (rw size at h));
+    within = λ a h. rw (same_place a) (stands.waiting.within a (rw size at h));
+    begins = λ a h. rw (same_place a, same_from a) (stands.waiting.begins a (rw size at h));
+    some = λ a h. elim (cases_eq a (length k.pending - 1)) [
+      | inl e ↦ (let low = lower_to in let left = may.left in let from = same_from (length k.pending - 1) in rw e (omega arith))
+      | inr other ↦ (let was = stands.waiting.some a (rw size at h) in let from = same_from a in let to = same_to a other in omega arith)
+    ];
+    theirs = λ a h. (let was = stands.waiting.theirs a (rw size at h) in let to = fewer_to a in rw (same_place a) (omega arith));
+  }
+
+  -- what was left is left, or it is the link that is passed
+  still_left : (i p : ℕ) → IsLeft k.pending i p → IsLeft (set k.pending (length k.pending - 1) (lowered (last_pending k.pending))) i p ⊎ ((i ≡ (last_pending k.pending).place) × (p ≡ (last_pending k.pending).to - 1))
+  still_left i p left = elim (cases_eq left.0 (length k.pending - 1)) [
+    | inl e ↦ elim (cases_lt p ((last_pending k.pending).to - 1)) [
+      | inl less ↦ inl (length k.pending - 1, rw size at, same_place (length k.pending - 1) ∙ (rw e at left.2), rw lower_to less)
+      | inr more ↦ (let place : (last_pending k.pending).place ≡ i = rw e at left.2 in let below : p < (last_pending k.pending).to = rw e at left.3 in inr (sym place, omega arith))
+    ]
+    | inr other ↦ inl (left.0, rw size left.1, same_place left.0 ∙ left.2, rw (same_to left.0 other) left.3)
+  ]
+
+  new_settled : AreSettled lists but (passed k)
+  new_settled = record {
+    settled = λ i p there from to. elim (stands.settled.settled i p there from to) [
+      | inl left ↦ elim (still_left i p left) [
+        | inl still ↦ inl still
+        | inr this ↦ inr (rw (this.0, this.1) may.settled)
+      ]
+      | inr done ↦ elim done [
+        | inl settled ↦ inr (inl settled)
+        | inr but ↦ (let none : None ≡ Some (get_or lists.ends.items p 0) = but in cc)
+      ]
+    ];
+  }
+
+  pub pass_stands : Stands links lists but (passed k)
+  pass_stands = record { trail = stands.trail; parts = stands.parts; waiting = new_waiting; walked = stands.walked; settled = new_settled; closed = stands.closed; room = stands.room }
+
+  pub pass_works : work lists (passed k) < work lists k
+  pass_works =
+      let s : sum_by looks (set k.pending (length k.pending - 1) (lowered (last_pending k.pending))) + looks (last_pending k.pending) ≡ sum_by looks k.pending + looks (lowered (last_pending k.pending)) = sum_by-set looks k.pending (length k.pending - 1) (lowered (last_pending k.pending)) nothing_pending at in
+      let left = may.left in
+      omega arith

@@ -1,18 +1,11 @@
--- Lists with the same links have the same walks and classes.
+-- Lists with the same links have the same walks and cliques.
 use Rattle.std.proofs.Common.{◌≡◌, ℕ, ◌+◌, ◌<◌, ◌/◌, List, length, Some, ap, ◌∙◌, arith}
-use Rattle.std.proofs.Math.Nat.{div-one, div-mul-le_self}
+use Rattle.std.proofs.Math.Nat.{div-mul-le_self}
 use Rattle.std.proofs.lemmas.Nat.{le-div}
 use Rattle.std.proofs.lemmas.Option.{slice_get_within, get_or_from_slice_get, slice_get-get_or}
+use Rattle.md_trace.specs.Cliques.{AreCliques}
 use Rattle.md_trace.specs.Reaches.{Reaches, ReachesBoth, here, more}
-use Rattle.md_clique.specs.declared.search.State.{State}
-use Rattle.md_clique.specs.Links.{AreAmong, AreGrouped, AreInOrder, AreWithin, HaveSame, end_of, start_of}
-use Rattle.md_clique.specs.Search.{AreClasses}
-
-among_on : (a b c : List (ℕ × ℕ)) → AreAmong a b → AreAmong b c → AreAmong a c
-among_on a b c first next = λ t lt. let s = first t lt in let r = next s.0 s.1 in (r.0, r.1, r.2 ∙ s.2)
-
-pub same_on : (a b c : List (ℕ × ℕ)) → HaveSame a b → HaveSame b c → HaveSame a c
-same_on a b c first next = record { forth = among_on a b c first.forth next.forth; back = among_on c b a next.back first.back }
+use Rattle.md_clique.specs.Links.{AreAmong, AreListed, AreWithin, HaveSame, end_of, start_of}
 
 pub within_same : (links others : List (ℕ × ℕ)) (nodes : ℕ) → HaveSame links others → AreWithin links nodes → AreWithin others nodes
 within_same links others nodes same within = record {
@@ -28,6 +21,27 @@ within_same links others nodes same within = record {
       omega arith;
 }
 
+pub listed_same : (links others : List (ℕ × ℕ)) (nodes : ℕ) (starts ends : List ℕ) → HaveSame links others → AreListed others nodes starts ends → AreListed links nodes starts ends
+listed_same links others nodes starts ends same are = record {
+  each = are.each;
+  rising = are.rising;
+  within = are.within;
+  theirs = λ v p there from to.
+      let t = are.theirs v p there from to in
+      let s = same.back t.0 t.1 in
+      (s.0, s.1, ap (λ (l : ℕ × ℕ). l.0) s.2 ∙ t.2, ap (λ (l : ℕ × ℕ). l.1) s.2 ∙ t.3);
+  all = λ t lt.
+      let s = same.forth t lt in
+      let p = are.all s.0 s.1 in
+      let start : start_of others s.0 ≡ start_of links t = ap (λ (l : ℕ × ℕ). l.0) s.2 in
+      let end : end_of others s.0 ≡ end_of links t = ap (λ (l : ℕ × ℕ). l.1) s.2 in
+      (p.0, rw start at p.1, rw start at p.2, p.3 ∙ end);
+}
+
+-- the links of n nodes start in the runs up to the one of node n
+pub run_below : (links : List (ℕ × ℕ)) (nodes width : ℕ) → 0 < width → AreWithin links nodes → (t : ℕ) → t < length links → start_of links t / width < nodes / width + 1
+run_below links nodes width some within t lt = let low = within.starts t lt in let back = div-mul-le_self (start_of links t) width in let le = le-div (start_of links t / width) nodes width some (omega arith) in omega arith
+
 walk_among : (links others : List (ℕ × ℕ)) → AreAmong links others → (a b : ℕ) → Reaches links a b → Reaches others a b
 walk_among links others among a b (here x) = here x
 walk_among links others among a b (more k x y z is rest) =
@@ -38,21 +52,9 @@ walk_among links others among a b (more k x y z is rest) =
 both_among : (links others : List (ℕ × ℕ)) → AreAmong links others → (a b : ℕ) → ReachesBoth links a b → ReachesBoth others a b
 both_among links others among a b both = record { forth = walk_among links others among a b both.forth; back = walk_among links others among b a both.back }
 
-pub classes_same : (links others : List (ℕ × ℕ)) (nodes : ℕ) (states : List State) (count : ℕ) → HaveSame links others → AreClasses others nodes states count → AreClasses links nodes states count
-classes_same links others nodes states count same are = record {
+pub cliques_same : (links others : List (ℕ × ℕ)) (nodes : ℕ) (cliques : List ℕ) → HaveSame links others → AreCliques nodes others cliques → AreCliques nodes links cliques
+cliques_same links others nodes cliques same are = record {
   each = are.each;
-  below = are.below;
-  apart = λ a b la lb both. are.apart a b la lb (both_among links others same.forth a b both);
-  together = λ a b la lb e. both_among others links same.back a b (are.together a b la lb e);
+  classes = λ a b la lb. (λ e. both_among others links same.back a b ((are.classes a b la lb).0 e), λ both. (are.classes a b la lb).1 (both_among links others same.forth a b both));
+  in_order = are.in_order;
 }
-
--- each run of one node is that node
-pub in_order_by_one : (links : List (ℕ × ℕ)) → AreGrouped 1 links → AreInOrder links
-in_order_by_one links are = record { rising = λ s t le lt. let rise = are.rising s t le lt in let from = div-one (start_of links s) in let to = div-one (start_of links t) in omega arith }
-
--- the links of n nodes start in the runs up to the one of node n
-pub run_below : (links : List (ℕ × ℕ)) (nodes width : ℕ) → 0 < width → AreWithin links nodes → (t : ℕ) → t < length links → start_of links t / width < nodes / width + 1
-run_below links nodes width some within t lt = let low = within.starts t lt in let back = div-mul-le_self (start_of links t) width in let le = le-div (start_of links t / width) nodes width some (omega arith) in omega arith
-
-pub one_below : (links : List (ℕ × ℕ)) (nodes : ℕ) → AreWithin links nodes → (t : ℕ) → t < length links → start_of links t / 1 < nodes
-one_below links nodes within t lt = rw div-one (within.starts t lt)

@@ -2,7 +2,9 @@
 ghost use Rattle.std.specs.Prelude.{◌<◌, ◌≤◌, ◌≡◌, ◌^◌, ℕ, List, All, IfOk, IsTrue};
 ghost use Rattle.std.specs.List.{range_with_len};
 ghost use Rattle.md_trace.specs.Cliques.{AreCliques};
+ghost use Rattle.md_clique.specs.Links.{AreLists, links_of};
 
+use crate::adjacency::{Adjacency, list_links};
 use crate::clique::Cliques;
 use crate::members::{Layout, lay_out};
 use crate::numbering::{Numbering, number_classes};
@@ -22,7 +24,18 @@ pub fn cliques(alloc: Global, nodes: u32, links: &[(u32, u32)]) -> Result<Clique
     if lead_up(links) {
         return single_cliques(alloc, nodes);
     }
-    let Classes { states, count } = find_classes(alloc, nodes, links)?;
+    let lists = list_links(alloc, nodes, links)?;
+    listed_cliques(alloc, nodes, lists)
+}
+
+/// The cliques of the graph of these nodes whose links are listed so, numbered from 0 in the order of their least nodes. The
+/// lists are given up.
+pub fn listed_cliques(alloc: Global, nodes: u32, lists: Adjacency) -> Result<Cliques, NoMemory>
+    requires { AreLists nodes lists.starts.items lists.ends.items }
+    ensures { IfOk result (λ cliques. AreCliques nodes (links_of nodes lists.starts.items lists.ends.items) cliques) }
+{
+    let Classes { states, count } = find_classes(alloc, nodes, &lists)?;
+    drop(lists);
     let Numbering { numbers, count } = number_classes(alloc, &states, count)?;
     drop(states);
     let Layout { order, starts } = lay_out(alloc, &numbers, count as usize)?;

@@ -1,9 +1,9 @@
 // The classes of mutual reachability, by path-based search with a stack of its own.
-ghost use Rattle.std.specs.Prelude.{◌≡◌, ◌<◌, ◌≢◌, ℕ, length, slice_index, IfOk, OnOk};
-ghost use Rattle.md_clique.specs.Links.{AreInOrder, AreWithin};
+ghost use Rattle.std.specs.Prelude.{◌≡◌, ◌<◌, ◌≢◌, ℕ, List, length, slice_index, IfOk, OnOk};
+ghost use Rattle.md_clique.specs.Links.{AreLists, links_of};
 ghost use Rattle.md_clique.specs.Search.{AreClasses, state_of};
 
-use crate::order::{bound_before, in_order, last_links};
+use crate::adjacency::Adjacency;
 use md_base::NoMemory;
 use std::alloc::Global;
 
@@ -36,47 +36,55 @@ impl State {
 /// What the search does next.
 #[derive(Clone, Copy)]
 pub enum Move {
-    /// Walk on to this node, which is new.
+    /// Walk on to this node, which is new, by the last link that is left of the last pending node.
     Enter(u32),
     /// Join the last part of the trail to the one before it.
     Join,
-    /// Be done with this node's last link that is left.
-    Pass(u32, usize),
+    /// Be done with the last link that is left of the last pending node.
+    Pass,
     /// Be done with the last pending node, which has no links left.
     Skip,
     /// Close the last part of the trail.
     Close,
 }
 
+/// A node of the trail whose links may be left to look at.
+#[derive(Clone, Copy)]
+pub struct Pending {
+    /// The node's place on the trail.
+    pub place: u32,
+    /// Where its links begin in the lists.
+    pub from: usize,
+    /// Where those of them end that are left.
+    pub to: usize,
+}
+
 /// A search under way.
 #[derive(Drop)]
 pub struct Search {
-    /// For each node a bound on its links that are left to look at: the last of them is right below.
-    pub left: Vec<usize>,
     /// The nodes whose class isn't known yet, in the order in which they were entered.
     pub trail: Vec<u32>,
     /// Where the parts of the trail begin; the nodes of a part reach one another.
     pub first: Vec<u32>,
-    /// The places of the trail whose nodes may have links left.
-    pub pending: Vec<u32>,
+    /// The nodes of the trail that may have links left, in its order.
+    pub pending: Vec<Pending>,
     pub states: Vec<State>,
     /// How many classes are closed.
     pub count: u32,
 }
 
 impl Search {
-    ghost use Rattle.std.specs.Prelude.{◌≡◌, ◌<◌, ◌≢◌, ℕ, [], length, replicate, IfOk, OnOk};
-    ghost use Rattle.md_clique.specs.Links.{AreInOrder, AreWithin};
-    ghost use Rattle.md_clique.specs.Search.{Stands, May, MayEnter, MayJoin, MayPass, MaySkip, MayClose, NoneRenewed, state_of};
+    ghost use Rattle.std.specs.Prelude.{◌≡◌, ◌<◌, ◌≢◌, ℕ, List, Option, Some, None, [], length, replicate, IfOk, OnOk};
+    ghost use Rattle.md_clique.specs.Links.{AreListed, AreWithin};
+    ghost use Rattle.md_clique.specs.Search.{Stands, May, MayEnter, MayJoin, MayPass, MaySkip, MayClose, NoneRenewed, last_pending, passed, state_of};
     ghost use Rattle.md_clique.specs.Kept.{kept, work};
 
     /// A search that has entered none of these many nodes.
-    fn new(alloc: Global, nodes: u32, last: Vec<usize>) -> Result<Search, NoMemory>
-        ensures { IfOk result (λ search. kept search ≡ record { left = last.items; trail = []; first = []; pending = []; states = replicate nodes State.New; count = 0 }) }
+    fn new(alloc: Global, nodes: u32) -> Result<Search, NoMemory>
+        ensures { IfOk result (λ search. kept search ≡ record { trail = []; first = []; pending = []; states = replicate nodes State.New; count = 0 }) }
     {
         let size = nodes as usize;
         Ok(Search {
-            left: last,
             trail: Vec::with_capacity(alloc, size)?,
             first: Vec::with_capacity(alloc, size)?,
             pending: Vec::with_capacity(alloc, size)?,
@@ -86,97 +94,96 @@ impl Search {
     }
 
     /// What to do next: looks at one link of the last part, if one is left.
-    fn next_move(&self, links: &[(u32, u32)]) -> Move
-        requires within { AreWithin links.now (length self.now.states.items) }
-        requires stands { Stands links.now (kept self.now) }
+    fn next_move(&self, lists: &Adjacency) -> Move
+        ghost links: { List (ℕ × ℕ) }
+        requires within { AreWithin links (length self.now.states.items) }
+        requires listed { AreListed links (length self.now.states.items) lists.now.starts.items lists.now.ends.items }
+        requires stands { Stands links lists.now None (kept self.now) }
         requires some { 0 < length self.now.first.items }
-        ensures { May links.now (kept self.now) result }
+        ensures { May links lists.now (kept self.now) result }
     {
         let first = self.first[self.first.len() - 1];
-        let Some(&place) = self.pending.last() else {
+        let Some(&last) = self.pending.last() else {
             return Move::Close;
         };
-        if place < first {
+        if last.place < first {
             return Move::Close;
         }
-        let node = self.trail[place as usize];
-        let left = self.left[node as usize];
-        if left == 0 {
+        if last.from == last.to {
             return Move::Skip;
         }
-        let link = left - 1;
-        let end = links[link].1;
+        let end = lists.ends[last.to - 1];
         match self.states[end as usize] {
             State::New => Move::Enter(end),
-            State::Open(at) => {
-                if at < first {
-                    Move::Join
-                } else {
-                    Move::Pass(node, link)
-                }
-            }
-            State::Closed(_) => Move::Pass(node, link),
+            State::Open(at) => { if at < first { Move::Join } else { Move::Pass } }
+            State::Closed(_) => Move::Pass,
         }
     }
 
     /// Puts a new node at the end of the trail, as a part of its own.
-    fn enter(&mut self, links: &[(u32, u32)], node: u32) -> Result<(), NoMemory>
-        requires within { AreWithin links.now (length self.old.states.items) }
-        requires stands { Stands links.now (kept self.old) }
-        requires may { MayEnter links.now (kept self.old) node }
-        ensures stands { OnOk result (Stands links.now (kept self.new)) }
-        ensures works { OnOk result (work (kept self.new) < work (kept self.old)) }
+    fn enter(&mut self, lists: &Adjacency, node: u32) -> Result<(), NoMemory>
+        ghost links: { List (ℕ × ℕ) }
+        requires within { AreWithin links (length self.old.states.items) }
+        requires listed { AreListed links (length self.old.states.items) lists.now.starts.items lists.now.ends.items }
+        requires stands { Stands links lists.now (Some node) (kept self.old) }
+        requires may { MayEnter links (kept self.old) node }
+        ensures stands { OnOk result (Stands links lists.now None (kept self.new)) }
+        ensures works { OnOk result (work lists.now (kept self.new) < work lists.now (kept self.old)) }
         ensures states { OnOk result (NoneRenewed self.old.states.items self.new.states.items) }
         ensures seen { OnOk result (state_of self.new.states.items node ≢ State.New) }
     {
         let place = self.trail.len() as u32;
+        let from = lists.starts[node as usize];
+        let to = lists.starts[node as usize + 1];
         self.trail.push(node)?;
         self.first.push(place)?;
-        self.pending.push(place)?;
+        self.pending.push(Pending { place, from, to })?;
         self.states[node as usize] = State::Open(place);
         Ok(())
     }
 
     /// Makes one of the last two parts.
-    fn join(&mut self, links: &[(u32, u32)])
-        requires stands { Stands links.now (kept self.old) }
-        requires may { MayJoin links.now (kept self.old) }
-        ensures stands { Stands links.now (kept self.new) }
-        ensures works { work (kept self.new) < work (kept self.old) }
+    fn join(&mut self, lists: &Adjacency)
+        ghost links: { List (ℕ × ℕ) }
+        requires stands { Stands links lists.now None (kept self.old) }
+        requires may { MayJoin links (kept self.old) }
+        ensures stands { Stands links lists.now None (kept self.new) }
+        ensures works { work lists.now (kept self.new) < work lists.now (kept self.old) }
         ensures states { self.new.states ≡ self.old.states }
     {
         let _ = self.first.pop();
     }
 
-    /// Is done with the last link of the node that is left.
-    fn pass(&mut self, links: &[(u32, u32)], node: u32, link: usize)
-        requires order { AreInOrder links.now }
-        requires stands { Stands links.now (kept self.old) }
-        requires may { MayPass links.now (kept self.old) node link }
-        ensures stands { Stands links.now (kept self.new) }
-        ensures works { work (kept self.new) < work (kept self.old) }
-        ensures states { self.new.states ≡ self.old.states }
+    /// Is done with the last link that is left of the last pending node.
+    fn pass(&mut self)
+        requires some { 0 < length self.old.pending.items }
+        requires left { 0 < (last_pending self.old.pending.items).to }
+        ensures { kept self.new ≡ passed (kept self.old) }
     {
-        self.left[node as usize] = bound_before(links, link);
+        let last = self.pending.len() - 1;
+        self.pending[last].to -= 1;
     }
 
     /// Is done with the last pending node.
-    fn skip(&mut self, links: &[(u32, u32)])
-        requires stands { Stands links.now (kept self.old) }
+    fn skip(&mut self, lists: &Adjacency)
+        ghost links: { List (ℕ × ℕ) }
+        requires stands { Stands links lists.now None (kept self.old) }
         requires may { MaySkip (kept self.old) }
-        ensures stands { Stands links.now (kept self.new) }
-        ensures works { work (kept self.new) < work (kept self.old) }
+        ensures stands { Stands links lists.now None (kept self.new) }
+        ensures works { work lists.now (kept self.new) < work lists.now (kept self.old) }
         ensures states { self.new.states ≡ self.old.states }
     {
         let _ = self.pending.pop();
     }
 
     /// Closes the last part: its nodes are a class.
-    fn close(&mut self, links: &[(u32, u32)])
-        requires stands { Stands links.now (kept self.old) }
+    fn close(&mut self, lists: &Adjacency)
+        ghost links: { List (ℕ × ℕ) }
+        requires listed { AreListed links (length self.old.states.items) lists.now.starts.items lists.now.ends.items }
+        requires stands { Stands links lists.now None (kept self.old) }
         requires may { MayClose (kept self.old) }
-        ensures stands { Stands links.now (kept self.new) }
-        ensures works { work (kept self.new) < work (kept self.old) }
+        ensures stands { Stands links lists.now None (kept self.new) }
+        ensures works { work lists.now (kept self.new) < work lists.now (kept self.old) }
         ensures states { NoneRenewed self.old.states.items self.new.states.items }
     {
         let first = self.first[self.first.len() - 1] as usize;
@@ -187,44 +194,61 @@ impl Search {
     }
 
     /// Makes the next move.
-    fn step(&mut self, links: &[(u32, u32)]) -> Result<(), NoMemory>
-        requires within { AreWithin links.now (length self.old.states.items) }
-        requires order { AreInOrder links.now }
-        requires stands { Stands links.now (kept self.old) }
+    fn step(&mut self, lists: &Adjacency) -> Result<(), NoMemory>
+        ghost links: { List (ℕ × ℕ) }
+        requires within { AreWithin links (length self.old.states.items) }
+        requires listed { AreListed links (length self.old.states.items) lists.now.starts.items lists.now.ends.items }
+        requires stands { Stands links lists.now None (kept self.old) }
         requires some { 0 < length self.old.first.items }
-        ensures stands { OnOk result (Stands links.now (kept self.new)) }
-        ensures works { OnOk result (work (kept self.new) < work (kept self.old)) }
+        ensures stands { OnOk result (Stands links lists.now None (kept self.new)) }
+        ensures works { OnOk result (work lists.now (kept self.new) < work lists.now (kept self.old)) }
         ensures states { OnOk result (NoneRenewed self.old.states.items self.new.states.items) }
     {
-        match self.next_move(links) {
-            Move::Enter(node) => self.enter(links, node),
+        match self.next_move(lists) {
+            Move::Enter(node) => self.walk_on(lists, node),
             Move::Join => {
-                self.join(links);
+                self.join(lists);
                 Ok(())
             }
-            Move::Pass(node, link) => {
-                self.pass(links, node, link);
+            Move::Pass => {
+                self.pass();
                 Ok(())
             }
             Move::Skip => {
-                self.skip(links);
+                self.skip(lists);
                 Ok(())
             }
             Move::Close => {
-                self.close(links);
+                self.close(lists);
                 Ok(())
             }
         }
     }
 
+    /// Is done with the last link that is left of the last pending node, and enters the new node where it ends.
+    fn walk_on(&mut self, lists: &Adjacency, node: u32) -> Result<(), NoMemory>
+        ghost links: { List (ℕ × ℕ) }
+        requires within { AreWithin links (length self.old.states.items) }
+        requires listed { AreListed links (length self.old.states.items) lists.now.starts.items lists.now.ends.items }
+        requires stands { Stands links lists.now None (kept self.old) }
+        requires may { May links lists.now (kept self.old) (Move.Enter node) }
+        ensures stands { OnOk result (Stands links lists.now None (kept self.new)) }
+        ensures works { OnOk result (work lists.now (kept self.new) < work lists.now (kept self.old)) }
+        ensures states { OnOk result (NoneRenewed self.old.states.items self.new.states.items) }
+    {
+        self.pass();
+        self.enter(lists, node)
+    }
+
     /// Closes all that is reached from a node, where the node is new. Nothing is open before or afterwards.
-    fn explore(&mut self, links: &[(u32, u32)], root: u32) -> Result<(), NoMemory>
-        requires within { AreWithin links.now (length self.old.states.items) }
-        requires order { AreInOrder links.now }
-        requires stands { Stands links.now (kept self.old) }
+    fn explore(&mut self, lists: &Adjacency, root: u32) -> Result<(), NoMemory>
+        ghost links: { List (ℕ × ℕ) }
+        requires within { AreWithin links (length self.old.states.items) }
+        requires listed { AreListed links (length self.old.states.items) lists.now.starts.items lists.now.ends.items }
+        requires stands { Stands links lists.now None (kept self.old) }
         requires none_open { length self.old.trail.items ≡ 0 }
         requires there { root < length self.old.states.items }
-        ensures stands { OnOk result (Stands links.now (kept self.new)) }
+        ensures stands { OnOk result (Stands links lists.now None (kept self.new)) }
         ensures none_open { OnOk result (length self.new.trail.items ≡ 0) }
         ensures states { OnOk result (NoneRenewed self.old.states.items self.new.states.items) }
         ensures seen { OnOk result (state_of self.new.states.items root ≢ State.New) }
@@ -232,27 +256,28 @@ impl Search {
         let State::New = self.states[root as usize] else {
             return Ok(());
         };
-        self.enter(links, root)?;
+        self.enter(lists, root)?;
         while !self.first.is_empty() {
-            self.step(links)?;
+            self.step(lists)?;
         }
         Ok(())
     }
 
     /// Closes all nodes.
-    fn explore_all(&mut self, links: &[(u32, u32)], nodes: u32) -> Result<(), NoMemory>
-        requires within { AreWithin links.now nodes }
-        requires order { AreInOrder links.now }
+    fn explore_all(&mut self, lists: &Adjacency, nodes: u32) -> Result<(), NoMemory>
+        ghost links: { List (ℕ × ℕ) }
+        requires within { AreWithin links nodes }
+        requires listed { AreListed links nodes lists.now.starts.items lists.now.ends.items }
         requires nodes { length self.old.states.items ≡ nodes }
-        requires stands { Stands links.now (kept self.old) }
+        requires stands { Stands links lists.now None (kept self.old) }
         requires none_open { length self.old.trail.items ≡ 0 }
         ensures nodes { OnOk result (length self.new.states.items ≡ nodes) }
-        ensures stands { OnOk result (Stands links.now (kept self.new)) }
+        ensures stands { OnOk result (Stands links lists.now None (kept self.new)) }
         ensures none_open { OnOk result (length self.new.trail.items ≡ 0) }
         ensures seen { OnOk result ((v : ℕ) → v < nodes → state_of self.new.states.items v ≢ State.New) }
     {
         for root in 0..nodes {
-            self.explore(links, root)?;
+            self.explore(lists, root)?;
         }
         Ok(())
     }
@@ -263,7 +288,6 @@ impl Search {
         ensures count { result.count ≡ self.count }
     {
         let Search {
-            left: _,
             trail: _,
             first: _,
             pending: _,
@@ -292,24 +316,12 @@ pub struct Classes {
     pub count: u32,
 }
 
-/// The classes of mutual reachability of a graph, in an order of their own.
-pub fn find_classes(alloc: Global, nodes: u32, links: &[(u32, u32)]) -> Result<Classes, NoMemory>
-    requires { AreWithin links.now nodes }
-    ensures { IfOk result (λ classes. AreClasses links.now nodes classes.states.items classes.count) }
+/// The classes of mutual reachability of the graph with these lists, in an order of their own.
+pub fn find_classes(alloc: Global, nodes: u32, lists: &Adjacency) -> Result<Classes, NoMemory>
+    requires { AreLists nodes lists.now.starts.items lists.now.ends.items }
+    ensures { IfOk result (λ classes. AreClasses (links_of nodes lists.now.starts.items lists.now.ends.items) nodes classes.states.items classes.count) }
 {
-    let sorted = in_order(alloc, nodes, links)?;
-    let classes = classes_in_order(alloc, nodes, &sorted)?;
-    Ok(classes)
-}
-
-/// The classes of a graph whose links stand in the order of the nodes where they start.
-fn classes_in_order(alloc: Global, nodes: u32, links: &[(u32, u32)]) -> Result<Classes, NoMemory>
-    requires within { AreWithin links.now nodes }
-    requires order { AreInOrder links.now }
-    ensures { IfOk result (λ classes. AreClasses links.now nodes classes.states.items classes.count) }
-{
-    let last = last_links(alloc, nodes, links)?;
-    let mut search = Search::new(alloc, nodes, last)?;
-    search.explore_all(links, nodes)?;
+    let mut search = Search::new(alloc, nodes)?;
+    search.explore_all(lists, nodes)?;
     Ok(search.into_classes())
 }

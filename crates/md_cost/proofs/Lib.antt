@@ -6,6 +6,7 @@ pub mod OwnSteps
 pub mod ClimbSteps
 pub mod MemberSteps
 pub mod TreeSteps
+pub mod LinkLists
 pub mod Exchange
 pub mod EntrySteps
 pub mod GiveSteps

@@ -1,6 +1,6 @@
 -- What is laid out by numbers is listed as the profile says.
 use Rattle.std.proofs.Common.{◌≡◌, ℕ, zero, suc, ◌+◌, ◌<◌, Bool, eqb, List, [], ◌∷◌, ◌++◌, length, get_or, map, take, Option, Some, None, refl, ap, ◌∙◌, inl, inr, arith}
-use Rattle.std.specs.Prelude.{unwrap_or, All, IfSome}
+use Rattle.std.specs.Prelude.{unwrap_or, All, IfOk, IfSome, Result, Ok, Err}
 use Rattle.std.proofs.lemmas.List.Elements.{All-head, All-tail}
 use Rattle.std.proofs.lemmas.Bool.{cases_Bool, ne_eqb}
 use Rattle.std.proofs.lemmas.List.{take_more, map_push, length-map}
@@ -10,7 +10,9 @@ use Rattle.md_clique.specs.Cliques.{members_of}
 use Rattle.md_clique.specs.Places.{places, places_from}
 use Rattle.md_cost.specs.FileView.{join_of}
 use Rattle.md_cost.specs.View.{Join}
-use Rattle.md_cost.specs.Lists.{starts_of}
+use Rattle.md_clique.specs.declared.members.Layout.{Layout}
+use Rattle.md_clique.specs.Members.{AreLaidOut}
+use Rattle.md_cost.specs.Lists.{AreByStart, starts_of}
 
 -- where two tests agree on what two functions give, they pass the same places
 pub places_agree : {X Y Z : Type 0} (p : Y → Bool) (q : Z → Bool) (g : X → Y) (h : X → Z) (k : ℕ) (xs : List X) → ((x : X) → p (g x) ≡ q (h x)) → places_from p k (map g xs) ≡ places_from q k (map h xs)
@@ -61,3 +63,9 @@ starts_below n (x ∷ xs) all (suc v) lt = starts_below n xs (All-tail (λ (r : 
 pub if_some : {P : ℕ → Type 0} (o : Option ℕ) → ((c : ℕ) → o ≡ Some c → P c) → IfSome o P
 if_some None h = tt
 if_some (Some c) h = h c refl
+
+-- what is laid out by where the links start
+pub by_start : {E : Type 0} (n : ℕ) (links : List LinkRow) (r : Result Layout E) → IfOk r (λ layout. AreLaidOut (starts_of n links) layout.order.items layout.starts.items (n + 1)) → IfOk r (λ layout. length layout.starts.items ≡ n + 1 + 1)
+    → IfOk r (λ layout. (p : ℕ) → p < length layout.order.items → get_or layout.order.items p 0 < length (starts_of n links)) → IfOk r (λ layout. AreByStart n links layout)
+by_start n links (Ok layout) laid each places = record { laid = laid; each = each; places = λ p lt. rw length-starts_of at (places p lt) }
+by_start n links (Err e) laid each places = tt

@@ -1,5 +1,5 @@
 -- The links of a sound profile as `cliques` and `entering` take them.
-use Rattle.std.proofs.Common.{◌≡◌, ℕ, zero, suc, ◌<◌, ◌≤◌, List, [], ◌∷◌, ◌++◌, length, get_or, All, IfSome, IfErr, Result, Ok, Err, ◌⊎◌, Option, Some, None, true, refl, sym, ap, ◌∙◌, inl, inr, arith}
+use Rattle.std.proofs.Common.{◌≡◌, ℕ, zero, suc, ◌<◌, ◌≤◌, List, [], ◌∷◌, length, get_or, All, IfSome, IfErr, Result, Ok, Err, ◌⊎◌, Option, Some, None, true, refl, sym, ap, ◌∙◌, inl, inr, arith}
 use Rattle.std.specs.List.{slice_get}
 use Rattle.std.proofs.lemmas.Bool.{cases_lt, cases_eq, cases_order, eq-eqb, ne_eqb, leb-true}
 use Rattle.std.proofs.lemmas.Option.{slice_get-get_or, slice_get_within, get_or_from_slice_get}
@@ -17,20 +17,6 @@ use Rattle.md_clique.proofs.EnteredOnce.{its_place, only_place}
 use Rattle.md_cost.specs.Paths.{ends, leads_up, EntriesRise}
 use Rattle.md_cost.specs.Sound.{AreSound}
 use Rattle.md_cost.specs.Tree.{MayRefuse}
-
-pub ends-push : (xs : List LinkRow) (x : LinkRow) → ends (xs ++ x ∷ []) ≡ ends xs ++ (x.caller, x.callee) ∷ []
-ends-push [] x = refl
-ends-push (y ∷ ys) x = ap (λ (zs : List (Option ℕ × ℕ)). (y.caller, y.callee) ∷ zs) (ends-push ys x)
-
-pub edges_of-push_none : (xs : List (Option ℕ × ℕ)) (to : ℕ) → edges_of (xs ++ (None, to) ∷ []) ≡ edges_of xs
-edges_of-push_none [] to = refl
-edges_of-push_none ((None, b) ∷ ys) to = edges_of-push_none ys to
-edges_of-push_none ((Some a, b) ∷ ys) to = ap (λ (zs : List (ℕ × ℕ)). (a, b) ∷ zs) (edges_of-push_none ys to)
-
-pub edges_of-push_some : (xs : List (Option ℕ × ℕ)) (from to : ℕ) → edges_of (xs ++ (Some from, to) ∷ []) ≡ edges_of xs ++ (from, to) ∷ []
-edges_of-push_some [] from to = refl
-edges_of-push_some ((None, b) ∷ ys) from to = edges_of-push_some ys from to
-edges_of-push_some ((Some a, b) ∷ ys) from to = ap (λ (zs : List (ℕ × ℕ)). (a, b) ∷ zs) (edges_of-push_some ys from to)
 
 pub length-ends : (xs : List LinkRow) → length (ends xs) ≡ length xs
 length-ends [] = refl

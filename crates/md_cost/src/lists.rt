@@ -2,7 +2,7 @@
 ghost use Rattle.std.specs.Prelude.{◌≡◌, ◌<◌, ◌+◌, ◌^◌, ℕ, All, IfOk, IfSome, length, slice_index, unwrap_or};
 ghost use Rattle.md_clique.specs.Members.{AreLaidOut};
 ghost use Rattle.md_dynamic.specs.Valid.{IsValid};
-ghost use Rattle.md_cost.specs.Lists.{AreLists, starts_of};
+ghost use Rattle.md_cost.specs.Lists.{AreByStart, AreLists, starts_of};
 
 use md_base::{NoMemory, PdId};
 use md_clique::{Layout, lay_out};
@@ -34,8 +34,7 @@ pub fn find_lists(alloc: Global, profile: &Profile) -> Result<Lists, NoMemory>
 fn links_by_start(alloc: Global, links: &[LinkRow], nodes: u32) -> Result<Layout, NoMemory>
     requires callers { All (λ r. IfSome r.caller (λ c. c < nodes)) links.now }
     requires few { length links.now < 2 ^ 32 }
-    ensures laid { IfOk result (λ found. AreLaidOut (starts_of nodes links.now) found.order.items found.starts.items (nodes + 1)) }
-    ensures each { IfOk result (λ found. length found.starts.items ≡ nodes + 1 + 1) }
+    ensures { IfOk result (λ found. AreByStart nodes links.now found) }
 {
     let mut starts = Vec::with_capacity(alloc, links.len())?;
     for link in links {

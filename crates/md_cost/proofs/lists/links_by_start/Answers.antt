@@ -1,7 +1,7 @@
 use Rattle.std.proofs.Common.{◌≡◌, ap, ◌∙◌, arith}
 use Rattle.std.proofs.lemmas.List.{take_all}
 use Rattle.md_cost.specs.Lists.{starts_of}
-use Rattle.md_cost.proofs.ListSteps.{starts_below, length-starts_of}
+use Rattle.md_cost.proofs.ListSteps.{by_start, starts_below, length-starts_of}
 use Rattle.md_cost.proofs.lists.links_by_start.Goals as goal
 use Rattle.md_cost.proofs.lists.links_by_start.Goals.{After-deref}
 
@@ -14,5 +14,7 @@ lay_out-requires-clause-below c = rw (starts_are (goal.at.lay_out-requires-claus
 pub lay_out-requires-clause-fits : goal.lay_out-requires-clause-fits
 lay_out-requires-clause-fits c = rw (starts_are (goal.at.lay_out-requires-clause-fits c).After-deref, length-starts_of) c.requires.few
 
-pub returns-clause-laid : goal.returns-clause-laid
-returns-clause-laid c = rw (starts_are (goal.at.returns-clause-laid c).After-deref) at c.lay_out.ensures.laid
+pub returns : goal.returns
+returns c =
+    let starts = starts_are (goal.at.returns c).After-deref in
+    by_start c.args.nodes c.args.links.now c.lay_out.result (rw starts at c.lay_out.ensures.laid) c.lay_out.ensures.starts (rw starts at c.lay_out.ensures.places)

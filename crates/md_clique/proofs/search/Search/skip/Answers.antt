@@ -4,15 +4,15 @@ use Rattle.md_clique.specs.Kept.{kept}
 use Rattle.md_clique.proofs.search.Search.skip.Goals as goal
 
 pub returns-clause-stands : goal.returns-clause-stands
-returns-clause-stands c =
+returns-clause-stands g c =
     let o = c.args.self.now.pending.ok.0 in
     let e = c.pop.ensures.rest in
     let f : c.pop.new.self.items ≡ take (length c.args.self.now.pending.items - 1) c.args.self.now.pending.items = cc in
-    rw f (skip_stands c.args.links.now (kept c.args.self.now) c.requires.stands c.requires.may)
+    rw f (skip_stands g.links c.args.lists.now (kept c.args.self.now) c.requires.0 c.requires.1)
 
 pub returns-clause-works : goal.returns-clause-works
-returns-clause-works c =
+returns-clause-works g c =
     let o = c.args.self.now.pending.ok.0 in
     let e = c.pop.ensures.rest in
     let f : c.pop.new.self.items ≡ take (length c.args.self.now.pending.items - 1) c.args.self.now.pending.items = cc in
-    rw f (skip_works c.args.links.now (kept c.args.self.now) c.requires.stands c.requires.may)
+    rw f (skip_works g.links c.args.lists.now (kept c.args.self.now) c.requires.0 c.requires.1)

@@ -16,7 +16,7 @@ listed c =
     let n = length c.self.inside.profile.nodes in
     let number = c.number.ensures in
     let lt = there c in
-    c.of.ensures (starts_of n c.self.inside.profile.links) (n + 1) c.self.invariant.lists.links (omega arith) c.self.invariant.lists.link_starts
+    c.of.ensures (starts_of n c.self.inside.profile.links) (n + 1) c.self.invariant.lists.links.laid (omega arith) c.self.invariant.lists.links.each
     ∙ ap (λ (k : ℕ). members_of (starts_of n c.self.inside.profile.links) k) number
 
 pub returns-clause-links : goal.returns-clause-links
