@@ -1,1 +1,4 @@
-
+mod Looked
+mod Items
+mod Traced
+mod Weighed
