@@ -2,3 +2,5 @@ mod Looked
 mod Items
 mod Traced
 mod Weighed
+mod Finished
+mod Placed
