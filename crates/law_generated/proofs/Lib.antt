@@ -4,3 +4,5 @@ mod Traced
 mod Weighed
 mod Finished
 mod Placed
+mod Contexts
+mod Worked

@@ -90,8 +90,8 @@ have-more p site q xs has there = record {
 
 -- ---- what a call adds
 
--- From xs to ys there are m activations more, each in a context of its own, for a call by p at this site: nobody else who was
--- there has called anybody, and no chain has changed.
+-- From xs to ys m activations have come for a call by p at this site, each in a context of its own. Who was there before has
+-- called nobody at another site since, and has the chain that it had.
 pub record Grows (p site m : ℕ) (xs ys : List Placed) : Type 0 where
   pub has : HaveOwnContexts ys
   pub count : length ys ≡ length xs + m

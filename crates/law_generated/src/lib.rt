@@ -3,3 +3,9 @@
 #![tactic(auto)]
 
 mod laws;
+mod runs;
+
+pub use runs::{
+    generated_runs_are_finished, generated_runs_throw_nothing, greatest_budget_suffices,
+    main_is_first, no_smaller_budget_suffices,
+};
