@@ -11,7 +11,7 @@ use Rattle.law_events.specs.History.{told, history}
 use Rattle.law_events.specs.Table.{site_table}
 use Rattle.law_events.proofs.RunLaw.{told_append}
 use Rattle.law_generated.specs.Generated.{generated}
-use Rattle.law_generated.proofs.Items.{calls_of, call_items}
+use Rattle.law_generated.proofs.Items.{calls_of, call_items, first_half, second_half}
 use Rattle.law_generated.proofs.Traced.{main_body, whole_items, main_end}
 use Rattle.law_generated.proofs.Finished.{run-whole}
 use Rattle.law_generated.proofs.Placed.{IsUnlinked, AreProceduresBelow, HaveOwnContexts, call_at, Grows, grows-new, unlinked-new, below-new, grows-twice}
@@ -30,21 +30,21 @@ grows-call s (suc r) j k p site g h has is there un below =
     let xs = placed_of 0 h in
     let within : p < length xs = omega arith in
     let begun : List Event = CallOf k (Some p) (Some site) (suc j) ∷ h in
-    let left = call_items s r (suc j) (suc k) k (1 + (j + j)) (suc (body_number s (suc j))) in
-    let right = call_items s r (suc j) (suc k + calls_of r) k (2 + (j + j)) (suc (body_number s (suc j)) + 1) in
+    let left = first_half s r j k in
+    let right = second_half s r j k in
     let between : List Event = told left begun in
     let new : Grows p site 1 xs (placed_of 0 begun) = grows-new p site (suc j) xs has within un below in
     let free : (t : ℕ) → IsUnlinked k t (placed_of 0 begun) =
-        λ t. subst (λ m. IsUnlinked m t (placed_of 0 begun)) (sym is) (unlinked-new p site (suc j) t xs has within un below) in
+    λ t. subst (λ m. IsUnlinked m t (placed_of 0 begun)) (sym is) (unlinked-new p site (suc j) t xs has within un below) in
     let deeper : AreProceduresBelow (suc (suc j)) (chain (placed_of 0 begun) (Some k)) =
-        subst (λ m. AreProceduresBelow (suc (suc j)) (chain (placed_of 0 begun) (Some m))) (sym is) (below-new p site (suc j) xs has within un below) in
+    subst (λ m. AreProceduresBelow (suc (suc j)) (chain (placed_of 0 begun) (Some m))) (sym is) (below-new p site (suc j) xs has within un below) in
     let one : Grows k (1 + (j + j)) (calls_of r) (placed_of 0 begun) (placed_of 0 between) =
-        grows-call s r (suc j) (suc k) k (1 + (j + j)) (suc (body_number s (suc j))) begun new.has (omega (arith, new.count)) (omega arith) (free (1 + (j + j))) deeper in
+    grows-call s r (suc j) (suc k) k (1 + (j + j)) (suc (body_number s (suc j))) begun new.has (omega (arith, new.count)) (omega arith) (free (1 + (j + j))) deeper in
     let open_yet : k < length (placed_of 0 begun) = omega (arith, new.count) in
     let two : Grows k (2 + (j + j)) (calls_of r) (placed_of 0 between) (placed_of 0 (told right between)) =
-        grows-call s r (suc j) (suc k + calls_of r) k (2 + (j + j)) (suc (body_number s (suc j)) + 1) between one.has (omega (arith, new.count, one.count)) (omega arith)
-        (one.unlinked k (2 + (j + j)) (λ same at. absurd (omega arith)) open_yet (free (2 + (j + j))))
-        (subst (λ (ys : List Placed). AreProceduresBelow (suc (suc j)) ys) (sym (one.chains k open_yet)) deeper) in
+    grows-call s r (suc j) (suc k + calls_of r) k (2 + (j + j)) (suc (body_number s (suc j)) + 1) between one.has (omega (arith, new.count, one.count)) (omega arith)
+    (one.unlinked k (2 + (j + j)) (λ same at. absurd (omega arith)) open_yet (free (2 + (j + j))))
+    (subst (λ (ys : List Placed). AreProceduresBelow (suc (suc j)) ys) (sym (one.chains k open_yet)) deeper) in
     subst (λ (ys : List Placed). Grows p site (suc (calls_of r + calls_of r)) xs ys) (sym (told-both left right k begun))
     (grows-twice p site (1 + (j + j)) (2 + (j + j)) (calls_of r) xs (placed_of 0 begun) (placed_of 0 between) (placed_of 0 (told right between)) new
     (subst (λ m. Grows m (1 + (j + j)) (calls_of r) (placed_of 0 begun) (placed_of 0 between)) is one)

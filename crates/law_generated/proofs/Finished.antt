@@ -57,8 +57,8 @@ run-unfinished (suc r) budget some small few =
     false_from_ne_true _ (λ ends.
     let same : run s enough ≡ run s budget = (budgets s budget enough (omega arith)).finished ends in
     let whole : weight (run s enough) ≡ enough =
-        ap weight (run-whole (suc r) r enough refl small (omega arith)) ∙ weight-append (whole_items s r) main_end (plain-whole s r)
-        ∙ omega (arith, weight-whole s (suc r) r refl) in
+    ap weight (run-whole (suc r) r enough refl small (omega arith)) ∙ weight-append (whole_items s r) main_end (plain-whole s r)
+    ∙ omega (arith, weight-whole s (suc r) r refl) in
     let light : weight (run s budget) ≤ budget = rw (run-cut (suc r) budget) (weight-cut budget (main_items s budget (0, main_procedure))) in
     omega (arith, ap weight same))
 

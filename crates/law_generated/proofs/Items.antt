@@ -19,6 +19,13 @@ call_items s (suc r) j k p site g =
     ++ call_items s r (suc j) (suc k + calls_of r) k (2 + (j + j)) (suc (body_number s (suc j)) + 1))
     ++ Exit k ∷ [])
 
+-- the items of the two calls in the body of procedure suc j, as activation k
+abbrev pub first_half : (s : Hlds) (r j k : ℕ) → Items
+first_half s r j k = call_items s r (suc j) (suc k) k (1 + (j + j)) (suc (body_number s (suc j)))
+
+abbrev pub second_half : (s : Hlds) (r j k : ℕ) → Items
+second_half s r j k = call_items s r (suc j) (suc k + calls_of r) k (2 + (j + j)) (suc (body_number s (suc j)) + 1)
+
 -- ---- only turns, calls and exits
 
 pub data Plain : Items → Type 0 where
@@ -59,8 +66,8 @@ next-append _ ys k (exit a xs h) = next-append xs ys k h
 pub next-call : (s : Hlds) (r j k p site g m : ℕ) → next_after (call_items s r j k p site g) m ≡ m + calls_of r
 next-call s zero j k p site g m = omega arith
 next-call s (suc r) j k p site g m =
-    let left = call_items s r (suc j) (suc k) k (1 + (j + j)) (suc (body_number s (suc j))) in
-    let right = call_items s r (suc j) (suc k + calls_of r) k (2 + (j + j)) (suc (body_number s (suc j)) + 1) in
+    let left = first_half s r j k in
+    let right = second_half s r j k in
     let both : Plain (left ++ right) = plain-append left right (plain-call s r _ _ _ _ _) (plain-call s r _ _ _ _ _) in
     next-append (left ++ right) (Exit k ∷ []) (suc m) both
     ∙ next-append left right (suc m) (plain-call s r _ _ _ _ _)

@@ -45,7 +45,7 @@ none-linked c site q [] un = refl
 none-linked c site q (x ∷ xs) un =
     let l : Link = record { caller = Some c; site = Some site; procedure = q } in
     let other : same_link l x.link ≡ false =
-        false_from_ne_true _ (λ same. let e = same-link-true l x.link same in un.0 (sym (ap (λ (k : Link). k.caller) e)) (sym (ap (λ (k : Link). k.site) e))) in
+    false_from_ne_true _ (λ same. let e = same-link-true l x.link same in un.0 (sym (ap (λ (k : Link). k.caller) e)) (sym (ap (λ (k : Link). k.site) e))) in
     rw other (none-linked c site q xs un.1)
 
 none-above : (q : ℕ) (xs : List Placed) → AreProceduresBelow q xs → find (has_procedure q) xs ≡ None

@@ -10,7 +10,7 @@ use Rattle.md_hlds.proofs.BudgetLemmas.{won, lost}
 use Rattle.md_hlds.specs.Trace.{Turn, Call, Exit, Fail, Answer, Items, Does, Frame, first, excps, knowing, cut_off, back, run_body, body_frame, invoked, trace}
 use Rattle.law_generated.specs.Generated.{level_called, main_procedure}
 use Rattle.law_generated.proofs.Looked.{last_procedure, calling_procedure}
-use Rattle.law_generated.proofs.Items.{calls_of, call_items, Plain, nothing, turn, call, plain-append, plain-call, next_after, next-append, next-call, first-plain}
+use Rattle.law_generated.proofs.Items.{calls_of, call_items, first_half, second_half, Plain, nothing, turn, call, plain-append, plain-call, next_after, next-append, next-call, first-plain}
 
 -- the procedures of n levels are found by their names
 pub record HasLevels (s : Hlds) (n : ℕ) : Type 0 where
@@ -74,16 +74,16 @@ trace-call s n (suc r) j k g line site (suc (suc zero)) next a e rest pairs js h
 trace-call s n (suc r) j k g line site (suc (suc (suc m))) next a e rest pairs js has is deep count =
     let b = body_number s (suc j) in
     let between : ℕ = suc k + calls_of r in
-    let left = call_items s r (suc j) (suc k) k (1 + (j + j)) (suc b) in
-    let right = call_items s r (suc j) between k (2 + (j + j)) (suc b + 1) in
+    let left = first_half s r j k in
+    let right = second_half s r j k in
     let after : ℕ = between + calls_of r in
     let level : n ≡ suc (suc j) + r = omega arith in
     let body = calling-body s m j k between after left right
-        (trace-call s n r (suc j) (suc k) (suc b) (5 + (j + j)) (1 + (j + j)) (suc m) between k [] (second_call s j ∷ []) [] [] has level (omega arith) refl)
-        (trace-call s n r (suc j) between (suc b + 1) (5 + (j + j)) (2 + (j + j)) m after k [] [] [] [] has level (omega arith) refl) in
+    (trace-call s n r (suc j) (suc k) (suc b) (5 + (j + j)) (1 + (j + j)) (suc m) between k [] (second_call s j ∷ []) [] [] has level (omega arith) refl)
+    (trace-call s n r (suc j) between (suc b + 1) (5 + (j + j)) (2 + (j + j)) m after k [] [] [] [] has level (omega arith) refl) in
     let counted : next_after (left ++ right) (suc k) ≡ next =
-        next-append left right (suc k) (plain-call s r _ _ _ _ _) ∙ next-call s r (suc j) between k (2 + (j + j)) (suc b + 1) (next_after left (suc k))
-        ∙ omega (arith, next-call s r (suc j) (suc k) k (1 + (j + j)) (suc b) (suc k), count) in
+    next-append left right (suc k) (plain-call s r _ _ _ _ _) ∙ next-call s r (suc j) between k (2 + (j + j)) (suc b + 1) (next_after left (suc k))
+    ∙ omega (arith, next-call s r (suc j) (suc k) k (1 + (j + j)) (suc b) (suc k), count) in
     ap (λ o. invoked s (trace s (suc (suc (suc m)))) (frame a e (call_of g line site j ∷ rest) pairs) g rest js k site o [] []) (has.calling j (omega arith))
     ∙ ap (λ (ys : Items). Turn a (Some g) 3 ∷ Call k (Some a) (Some site) (suc j) ∷ ys)
     (run-plain (trace s (suc (suc (suc m)))) (body_frame s k [] (suc j, calling_procedure j) []) (frame a e rest pairs) js k next
@@ -129,7 +129,7 @@ trace-main s n r (suc (suc (suc m))) has is deep =
     let after : ℕ = 1 + calls_of r in
     let unify = numbered_goal (suc (body_number s 0) + 1) (At 3 (SimpleGoal (Unifies 1 (Var 0)))) in
     let call_one = trace-call s n r 0 1 (suc (body_number s 0)) 3 0 (suc m) after 0 (Some (Number (pos 0)) ∷ None ∷ []) (unify ∷ []) [] []
-        has (omega arith) (omega arith) refl in
+    has (omega arith) (omega arith) refl in
     ap (λ (ys : Items). Turn 0 (Some (body_number s 0)) 1 ∷ ys)
     (call_one ∙ ap (λ (ys : Items). items ++ ys) (last-unify s m after) ∙ sym (append_assoc items (Turn 0 (Some (suc (body_number s 0) + 1)) 1 ∷ []) (Answer main_left ∷ [])))
 

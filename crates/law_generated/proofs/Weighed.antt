@@ -6,7 +6,7 @@ use Rattle.md_hlds.specs.Hlds.{Hlds, body_number}
 use Rattle.md_hlds.specs.Trace.{Turn, Call, Exit, Redo, Fail, Excp, Alloc, Out, Throw, Answer, Stuck, Deep, Items}
 use Rattle.md_hlds.specs.Run.{cut, cut_turn, is_finished, error}
 use Rattle.md_hlds.proofs.TraceLemmas.{cut_allowed}
-use Rattle.law_generated.proofs.Items.{calls_of, call_items, Plain, nothing, turn, call, exit, plain-append, plain-call}
+use Rattle.law_generated.proofs.Items.{calls_of, call_items, first_half, second_half, Plain, nothing, turn, call, exit, plain-append, plain-call}
 use Rattle.law_generated.proofs.Traced.{whole_items, main_end}
 
 -- what the turns of these items weigh
@@ -25,8 +25,8 @@ weight-append _ ys (exit a xs h) = weight-append xs ys h
 pub weight-call : (s : Hlds) (r j k p site g : ℕ) → weight (call_items s r j k p site g) + 4 ≡ 6 * 2 ^ r
 weight-call s zero j k p site g = refl
 weight-call s (suc r) j k p site g =
-    let left = call_items s r (suc j) (suc k) k (1 + (j + j)) (suc (body_number s (suc j))) in
-    let right = call_items s r (suc j) (suc k + calls_of r) k (2 + (j + j)) (suc (body_number s (suc j)) + 1) in
+    let left = first_half s r j k in
+    let right = second_half s r j k in
     omega (
       arith,
       weight-append (left ++ right) (Exit k ∷ []) (plain-append left right (plain-call s r _ _ _ _ _) (plain-call s r _ _ _ _ _)),
