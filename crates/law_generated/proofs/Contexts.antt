@@ -1,20 +1,20 @@
 -- The contexts of the run of a generated program: as many as it has activations.
-use Rattle.std.proofs.Common.{◌≡◌, refl, ap, sym, ◌∙◌, subst, arith, ℕ, zero, suc, ◌+◌, ◌*◌, ◌^◌, ◌<◌, ◌≤◌, List, [], ◌∷◌, ◌++◌, length, Option, Some, None}
+use Rattle.std.proofs.Common.{◌≡◌, refl, ap, sym, ◌∙◌, subst, arith, ℕ, zero, suc, ◌+◌, ◌*◌, ◌^◌, ◌<◌, ◌≤◌, List, [], ◌∷◌, ◌++◌, length, Some, None}
 use Rattle.std.proofs.Math.Nat.{pow-succ'}
 use Rattle.md_hlds.specs.Hlds.{Hlds, body_number}
 use Rattle.md_hlds.specs.Trace.{Turn, Exit, Items}
 use Rattle.md_hlds.specs.Run.{run}
 use Rattle.md_trace.specs.declared.event.Event.{Event}
 use Rattle.md_trace.specs.declared.event.Event.TheVariants.{Call as CallOf}
-use Rattle.md_trace.specs.Context.{Placed, chain, contexts, with_placed, placed_of}
+use Rattle.md_trace.specs.Context.{Placed, chain, contexts, placed_of}
 use Rattle.law_events.specs.History.{told, history}
 use Rattle.law_events.specs.Table.{site_table}
 use Rattle.law_events.proofs.RunLaw.{told_append}
 use Rattle.law_generated.specs.Generated.{generated}
 use Rattle.law_generated.proofs.Items.{calls_of, call_items, first_half, second_half}
-use Rattle.law_generated.proofs.Traced.{main_body, whole_items, main_end}
+use Rattle.law_generated.proofs.Traced.{whole_items, main_end}
 use Rattle.law_generated.proofs.Finished.{run-whole}
-use Rattle.law_generated.proofs.Placed.{IsUnlinked, AreProceduresBelow, HaveOwnContexts, call_at, Grows, grows-new, unlinked-new, below-new, grows-twice}
+use Rattle.law_generated.proofs.Placed.{IsUnlinked, AreProceduresBelow, HaveOwnContexts, Grows, grows-new, unlinked-new, below-new, grows-twice}
 
 -- a body with two calls: what it leaves is what the second call leaves
 told-both : (left right : Items) (k : ℕ) (h : List Event) → placed_of 0 (told ((left ++ right) ++ Exit k ∷ []) h) ≡ placed_of 0 (told right (told left h))

@@ -1,10 +1,10 @@
 -- The run of a generated program within a budget that is its weight or more is all of its items; within a smaller one it isn't
 -- finished.
-use Rattle.std.proofs.Common.{◌≡◌, refl, ap, sym, ◌∙◌, subst, arith, ℕ, zero, suc, ◌+◌, ◌*◌, ◌^◌, ◌<◌, ◌≤◌, Bool, true, false, List, [], ◌∷◌, ◌++◌, Option, Some, None, is_some}
+use Rattle.std.proofs.Common.{◌≡◌, refl, ap, sym, ◌∙◌, arith, ℕ, zero, suc, ◌+◌, ◌*◌, ◌^◌, ◌<◌, ◌≤◌, true, false, ◌++◌, is_some}
+use Rattle.std.proofs.Math.Nat.{pow-succ'}
 use Rattle.std.proofs.Math.Pow.{pow_mono}
-use Rattle.std.proofs.lemmas.Nat.Bits.{lt_pow}
 use Rattle.std.proofs.lemmas.Bool.{false_from_ne_true, false≢true}
-use Rattle.md_hlds.specs.Trace.{Exit, Answer, Items}
+use Rattle.md_hlds.specs.Trace.{Items}
 use Rattle.md_hlds.specs.Run.{cut, main_items, run, is_finished, is_thrown}
 use Rattle.md_hlds.proofs.BudgetLemmas.{budgets}
 use Rattle.law_generated.specs.Generated.{generated, main_procedure, most_steps}
@@ -15,6 +15,11 @@ use Rattle.law_generated.proofs.Weighed.{weight, weight-append, weight-whole, cu
 has-levels : (n : ℕ) → n < 2 ^ 64 → HasLevels (generated n) n
 has-levels n small = record { calling = λ j below. calling_found n j small below; last = λ j is. last_found n j small is }
 
+-- a power is above its exponent
+below-power : (n : ℕ) → n < 2 ^ n
+below-power zero = omega arith
+below-power (suc n) = omega (arith, below-power n, pow-succ' 2 n)
+
 -- the run is main's items, cut by the budget
 run-cut : (n budget : ℕ) → run (generated n) budget ≡ cut budget (main_items (generated n) budget (0, main_procedure))
 unfolding run
@@ -23,7 +28,7 @@ run-cut n budget = refl
 -- with enough steps, the whole items, with r levels below procedure 1
 pub run-whole : (n r budget : ℕ) → n ≡ suc r → n < 2 ^ 64 → 3 * 2 ^ n + 2 ≤ budget → run (generated n) budget ≡ whole_items (generated n) r ++ main_end
 run-whole n r budget is small enough =
-    let deep : 3 * n ≤ budget = omega (arith, lt_pow n) in
+    let deep : 3 * n ≤ budget = omega (arith, below-power n) in
     let light : weight (whole_items (generated n) r) ≤ budget = omega (arith, weight-whole (generated n) n r is) in
     run-cut n budget
     ∙ ap (λ xs. cut budget xs) (main-traced (generated n) n r budget (has-levels n small) is deep)

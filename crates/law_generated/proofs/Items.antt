@@ -1,8 +1,8 @@
 -- The items of a call in a generated program, written as a recursion over the levels below it.
-use Rattle.std.proofs.Common.{◌≡◌, refl, ap, ◌∙◌, arith, ℕ, zero, suc, ◌+◌, List, [], ◌∷◌, ◌++◌, Option, Some, None}
+use Rattle.std.proofs.Common.{◌≡◌, refl, ap, ◌∙◌, arith, ℕ, zero, suc, ◌+◌, [], ◌∷◌, ◌++◌, Option, Some}
 use Rattle.md_hlds.specs.Hlds.{Hlds, body_number}
 use Rattle.md_hlds.specs.Value.{Env}
-use Rattle.md_hlds.specs.Trace.{Turn, Call, Exit, Answer, Items, first}
+use Rattle.md_hlds.specs.Trace.{Turn, Call, Exit, Items, first}
 
 -- how many calls come of a call with r levels below it: itself, and those of two calls on the next level
 abbrev pub calls_of : ℕ → ℕ

@@ -1,16 +1,14 @@
 -- Each procedure of a generated program is found by its name: names are `p` and a number, and numbers below 2 ^ 64 are written
 -- differently where they differ.
-use Rattle.std.proofs.Common.{◌≡◌, ◌≢◌, inl, inr, refl, ap, ◌∙◌, arith, ℕ, zero, suc, ◌+◌, ◌<◌, ◌≤◌, ◌^◌, Bool, true, false, cond, List, [], ◌∷◌, Option, Some, None}
+use Rattle.std.proofs.Common.{◌≡◌, ◌≢◌, inl, inr, refl, ap, ◌∙◌, arith, ℕ, zero, suc, ◌+◌, ◌<◌, ◌≤◌, ◌^◌, true, false, cond, [], ◌∷◌, Some, None}
 use Rattle.std.specs.Fmt.{decimal}
-use Rattle.std.specs.Str.{bytes_eq}
 use Rattle.std.proofs.lemmas.Bool.{eq-eqb, ne_eqb, false_from_ne_true}
 use Rattle.std.proofs.lemmas.Bool.Decides.{eqb_tells}
 use Rattle.std.proofs.lemmas.Fmt.{decimal_injective}
 use Rattle.std.proofs.lemmas.Slice.Eq.{bytes_eq-Decides}
 use Rattle.md_hlds.specs.declared.types.Det.TheVariants.{Det as One}
-use Rattle.md_hlds.specs.declared.goal.PredName.{PredName}
 use Rattle.md_hlds.specs.HldsGoal.{At, GoalExpr, SimpleGoal, Succeeds, CallGoal, ConjGoal, gathered}
-use Rattle.md_hlds.specs.Hlds.{Hlds, Procedure, is_called, find_procedure, procedure_called}
+use Rattle.md_hlds.specs.Hlds.{Procedure, is_called, find_procedure, procedure_called}
 use Rattle.md_hlds.specs.Run.{main_name}
 use Rattle.law_generated.specs.Generated.{level_name, level_called, level_goal, level_procedure, level_procedures, main_procedure, generated}
 

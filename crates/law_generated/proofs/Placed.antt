@@ -1,11 +1,9 @@
 -- In the run of a generated program each activation makes a context of its own, whose number is the activation's.
-use Rattle.std.proofs.Common.{◌≡◌, ◌≢◌, inl, inr, refl, ap, sym, ◌∙◌, subst, arith, ℕ, zero, suc, ◌+◌, ◌<◌, ◌≤◌, Bool, true, false, ◌&&◌, eqb, List, [], ◌∷◌, ◌++◌, length, Option, Some, None, find, cond, length-append}
+use Rattle.std.proofs.Common.{◌≡◌, inl, inr, refl, ap, sym, ◌∙◌, subst, arith, ℕ, suc, ◌+◌, ◌<◌, ◌≤◌, false, List, [], ◌∷◌, length, Some, None, find, length-append}
 use Rattle.std.proofs.lemmas.Bool.{eq-eqb, ne_eqb, false_from_ne_true}
 use Rattle.std.proofs.lemmas.Bool.Decides.{eqb_tells}
-use Rattle.md_trace.specs.declared.event.Event.{Event}
-use Rattle.md_trace.specs.declared.event.Event.TheVariants.{Call as CallOf, Exit as ExitOf}
 use Rattle.md_trace.specs.Activation.{Activation}
-use Rattle.md_trace.specs.Context.{Link, Placed, chain, context_of, contexts, same_link, has_link, has_procedure, context_at, with_placed, placed_of}
+use Rattle.md_trace.specs.Context.{Link, Placed, chain, context_of, contexts, same_link, has_link, has_procedure, with_placed}
 use Rattle.md_trace.proofs.Finds.{same-link-true}
 use Rattle.md_trace.proofs.Chains.{chain-new, chain-more}
 

@@ -1,9 +1,9 @@
 -- The trace of a generated program: a call's items, and then what is left.
-use Rattle.std.proofs.Common.{◌≡◌, refl, ap, sym, ◌∙◌, arith, ℕ, pos, zero, suc, ◌+◌, ◌*◌, ◌<◌, ◌≤◌, ◌^◌, List, [], ◌∷◌, ◌++◌, append_assoc, Option, Some, None}
+use Rattle.std.proofs.Common.{◌≡◌, refl, ap, sym, ◌∙◌, arith, ℕ, pos, zero, suc, ◌+◌, ◌*◌, ◌<◌, ◌≤◌, List, [], ◌∷◌, ◌++◌, append_assoc, Some, None}
 use Rattle.md_hlds.specs.declared.types.Det.TheVariants.{Det as One}
 use Rattle.md_hlds.specs.declared.goal.Term.TheVariants.{Var}
 use Rattle.md_hlds.specs.HldsGoal.{At, CallGoal, SimpleGoal, Unifies, Numbered, numbered_goal}
-use Rattle.md_hlds.specs.Hlds.{Hlds, Procedure, procedure_called, body_number}
+use Rattle.md_hlds.specs.Hlds.{Hlds, procedure_called, body_number}
 use Rattle.md_hlds.specs.Value.{Number, Env}
 use Rattle.md_hlds.specs.Run.{main_frame, main_items}
 use Rattle.md_hlds.proofs.BudgetLemmas.{won, lost}

@@ -1,5 +1,5 @@
 -- What the run of a generated program weighs, and that a budget of that weight allows all of it, and no smaller one.
-use Rattle.std.proofs.Common.{◌≡◌, refl, ap, sym, ◌∙◌, subst, arith, ℕ, zero, suc, ◌+◌, ◌*◌, ◌-◌, ◌^◌, ◌<◌, ◌≤◌, Bool, true, false, List, [], ◌∷◌, ◌++◌, Option, Some, None, nat_le}
+use Rattle.std.proofs.Common.{◌≡◌, refl, ap, ◌∙◌, arith, ℕ, zero, suc, ◌+◌, ◌*◌, ◌-◌, ◌^◌, ◌≤◌, Bool, true, false, [], ◌∷◌, ◌++◌, Option, Some, nat_le}
 use Rattle.std.proofs.Math.Nat.{pow-succ'}
 use Rattle.std.proofs.lemmas.Bool.{leb-true}
 use Rattle.md_hlds.specs.Hlds.{Hlds, body_number}
@@ -7,7 +7,7 @@ use Rattle.md_hlds.specs.Trace.{Turn, Call, Exit, Redo, Fail, Excp, Alloc, Out, 
 use Rattle.md_hlds.specs.Run.{cut, cut_turn, is_finished, error}
 use Rattle.md_hlds.proofs.TraceLemmas.{cut_allowed}
 use Rattle.law_generated.proofs.Items.{calls_of, call_items, first_half, second_half, Plain, nothing, turn, call, exit, plain-append, plain-call}
-use Rattle.law_generated.proofs.Traced.{whole_items, main_end}
+use Rattle.law_generated.proofs.Traced.{whole_items}
 
 -- what the turns of these items weigh
 abbrev pub weight : Items → ℕ

@@ -5,7 +5,7 @@ use Rattle.std.specs.Fmt.{digits}
 use Rattle.md_hlds.specs.Value.{Number}
 use Rattle.md_hlds.specs.Trace.{Turn, Call, Exit, Answer, Stuck}
 use Rattle.md_hlds.specs.Run.{run, is_finished}
-use Rattle.md_trace.specs.PortHistory.{CallSite, SiteTable}
+use Rattle.md_trace.specs.PortHistory.{CallSite}
 use Rattle.law_events.specs.Table.{site_table, HasSites}
 use Rattle.law_generated.specs.Generated.{level_name, generated}
 use Rattle.law_generated.specs.Runs.{generated_contexts}
