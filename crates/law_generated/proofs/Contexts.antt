@@ -61,6 +61,7 @@ calls-power (suc r) = omega (arith, calls-power r, pow-succ' 2 r)
 abbrev begun_main : List Event
 begun_main = CallOf 0 None None 0 ∷ []
 
+-- main's activation has main's context
 main-has : HaveOwnContexts (placed_of 0 begun_main)
 main-has = record {
   made = refl;
@@ -83,6 +84,7 @@ whole-placed s r =
 pub main_is_first : (n : ℕ) → (site_table (generated n)).main ≡ 0
 main_is_first n = refl
 
+-- each activation of the whole run has a context of its own
 pub run-contexts : (n budget : ℕ) → 1 ≤ n → n < 2 ^ 64 → 3 * 2 ^ n + 2 ≤ budget → length (contexts 0 (placed_of 0 (history (run (generated n) budget)))) ≡ 2 ^ n
 run-contexts zero budget some small enough = absurd (omega arith)
 run-contexts (suc r) budget some small enough =

@@ -12,6 +12,7 @@ use Rattle.law_generated.proofs.Looked.{calling_found, last_found}
 use Rattle.law_generated.proofs.Traced.{HasLevels, whole_items, main_end, plain-whole, main-traced}
 use Rattle.law_generated.proofs.Weighed.{weight, weight-append, weight-whole, cut-plain, finished-plain, error-plain, weight-cut}
 
+-- the generated programs are such
 has-levels : (n : ℕ) → n < 2 ^ 64 → HasLevels (generated n) n
 has-levels n small = record { calling = λ j below. calling_found n j small below; last = λ j is. last_found n j small is }
 
@@ -34,11 +35,13 @@ run-whole n r budget is small enough =
     ∙ ap (λ xs. cut budget xs) (main-traced (generated n) n r budget (has-levels n small) is deep)
     ∙ cut-plain budget (whole_items (generated n) r) main_end (plain-whole (generated n) r) light (λ l. refl)
 
+-- so it holds its answer
 pub run-finished : (n budget : ℕ) → 1 ≤ n → n < 2 ^ 64 → 3 * 2 ^ n + 2 ≤ budget → is_finished (run (generated n) budget) ≡ true
 run-finished zero budget some small enough = absurd (omega arith)
 run-finished (suc r) budget some small enough =
     ap is_finished (run-whole (suc r) r budget refl small enough) ∙ finished-plain (whole_items (generated (suc r)) r) main_end (plain-whole (generated (suc r)) r)
 
+-- and no Throw
 enough-throws-nothing : (n budget : ℕ) → 1 ≤ n → n < 2 ^ 64 → 3 * 2 ^ n + 2 ≤ budget → is_thrown (run (generated n) budget) ≡ false
 enough-throws-nothing zero budget some small enough = absurd (omega arith)
 enough-throws-nothing (suc r) budget some small enough =
@@ -69,5 +72,6 @@ run-unfinished (suc r) budget some small few =
 
 -- ---- the greatest budget
 
+-- 20 levels weigh less
 pub most-enough : (n : ℕ) → n ≤ 20 → 3 * 2 ^ n + 2 ≤ most_steps
 most-enough n few = omega (arith, pow_mono few)

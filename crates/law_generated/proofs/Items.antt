@@ -34,12 +34,14 @@ pub data Plain : Items → Type 0 where
   call : (a : ℕ) (p s : Option ℕ) (q : ℕ) (xs : Items) → Plain xs → Plain (Call a p s q ∷ xs)
   exit : (a : ℕ) (xs : Items) → Plain xs → Plain (Exit a ∷ xs)
 
+-- two such lists, one behind the other
 pub plain-append : (xs ys : Items) → Plain xs → Plain ys → Plain (xs ++ ys)
 plain-append _ ys nothing m = m
 plain-append _ ys (turn a g w xs h) m = turn a g w _ (plain-append xs ys h m)
 plain-append _ ys (call a p s q xs h) m = call a p s q _ (plain-append xs ys h m)
 plain-append _ ys (exit a xs h) m = exit a _ (plain-append xs ys h m)
 
+-- a call has no others
 pub plain-call : (s : Hlds) (r j k p site g : ℕ) → Plain (call_items s r j k p site g)
 plain-call s zero j k p site g = turn _ _ _ _ (call _ _ _ _ _ (turn _ _ _ _ (exit _ _ nothing)))
 plain-call s (suc r) j k p site g =
@@ -57,12 +59,14 @@ next_after [] k = k
 next_after (Call a p s q ∷ xs) k = next_after xs (suc k)
 next_after (x ∷ xs) k = next_after xs k
 
+-- behind two lists the number is that behind the second
 pub next-append : (xs ys : Items) (k : ℕ) → Plain xs → next_after (xs ++ ys) k ≡ next_after ys (next_after xs k)
 next-append _ ys k nothing = refl
 next-append _ ys k (turn a g w xs h) = next-append xs ys k h
 next-append _ ys k (call a p s q xs h) = next-append xs ys (suc k) h
 next-append _ ys k (exit a xs h) = next-append xs ys k h
 
+-- a call with r levels below it takes that many numbers
 pub next-call : (s : Hlds) (r j k p site g m : ℕ) → next_after (call_items s r j k p site g) m ≡ m + calls_of r
 next-call s zero j k p site g m = omega arith
 next-call s (suc r) j k p site g m =

@@ -74,12 +74,14 @@ last_procedure j = procedure_with j (SimpleGoal Succeeds)
 abbrev pub calling_procedure : ℕ → Procedure
 calling_procedure j = procedure_with j (two_calls j (5 + (j + j)))
 
+-- the goal of the last procedure, and of each other one
 last_goal : (n j line : ℕ) → suc j ≡ n → level_goal n j line ≡ SimpleGoal Succeeds
 last_goal n j line is = rw (eq-eqb (suc j) n is) refl
 
 calling_goal : (n j line : ℕ) → suc j ≢ n → level_goal n j line ≡ two_calls j line
 calling_goal n j line apart = rw (ne_eqb (suc j) n apart) refl
 
+-- the last procedure is found as it is, and so is each other one
 pub last_found : (n j : ℕ) → n < 2 ^ 64 → suc j ≡ n → procedure_called (generated n) (level_called (suc j)) ≡ Some (suc j, last_procedure j)
 last_found n j small is =
     level_found n j small (omega arith) ∙ ap (λ t. Some (suc j, procedure_with j t)) (last_goal n j (5 + (j + j)) is)

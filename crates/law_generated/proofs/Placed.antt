@@ -24,6 +24,7 @@ abbrev pub AreProceduresBelow : ℕ → List Placed → Type 0
 AreProceduresBelow q [] = Unit {0}
 AreProceduresBelow q (x ∷ xs) = (x.link.procedure < q) × AreProceduresBelow q xs
 
+-- greater bounds
 callers-more : (m n : ℕ) (xs : List Placed) → m ≤ n → AreCallersBelow m xs → AreCallersBelow n xs
 callers-more m n [] le below = tt
 callers-more m n (x ∷ xs) le below = (λ c is. omega (arith, below.0 c is), callers-more m n xs le below.1)
@@ -46,6 +47,7 @@ none-linked c site q (x ∷ xs) un =
     false_from_ne_true _ (λ same. let e = same-link-true l x.link same in un.0 (sym (ap (λ (k : Link). k.caller) e)) (sym (ap (λ (k : Link). k.site) e))) in
     rw other (none-linked c site q xs un.1)
 
+-- nor a procedure that is above those of a chain
 none-above : (q : ℕ) (xs : List Placed) → AreProceduresBelow q xs → find (has_procedure q) xs ≡ None
 none-above q [] below = refl
 none-above q (x ∷ xs) below = rw (ne_eqb q x.link.procedure (λ is. absurd (omega (arith, below.0)))) (none-above q xs below.1)
@@ -72,6 +74,7 @@ new-context : (p site q : ℕ) (xs : List Placed) → HaveOwnContexts xs → p <
 new-context p site q xs has there un below =
     rw (has.own p there, none-linked p site q xs un, none-above q (chain xs (Some p)) below, has.made) refl
 
+-- the new activation has the context of its number, and each other one the context that it had
 own-more : (y : Placed) (xs : List Placed) → HaveOwnContexts xs → y.context ≡ length xs → (a : ℕ) → a < suc (length xs) → context_of (y ∷ xs) (Some a) ≡ Some a
 own-more y xs has is a below =
     elim (eqb_tells a (length xs)) [
@@ -79,6 +82,7 @@ own-more y xs has is a below =
       | inr old ↦ rw old.0 (has.own a (omega (arith, old.1)))
     ]
 
+-- with a new context the activations have their own contexts as before
 have-more : (p site q : ℕ) (xs : List Placed) → HaveOwnContexts xs → p < length xs → HaveOwnContexts (placed_at p site q (length xs) ∷ xs)
 have-more p site q xs has there = record {
   made = rw (eq-eqb (length xs) (length (contexts 0 xs)) (sym has.made)) (length-append (contexts 0 xs) (q ∷ []) ∙ omega (arith, has.made));
@@ -96,9 +100,11 @@ pub record Grows (p site m : ℕ) (xs ys : List Placed) : Type 0 where
   pub unlinked : (c s : ℕ) → (c ≡ p → s ≡ site → ⊥) → c < length xs → IsUnlinked c s xs → IsUnlinked c s ys
   pub chains : (c : ℕ) → c < length xs → chain ys (Some c) ≡ chain xs (Some c)
 
+-- links that differ
 other-link : (p site c s : ℕ) → (c ≡ p → s ≡ site → ⊥) → Some p ≡ Some c → Some site ≡ Some s → ⊥
 other-link p site c s apart is at = apart (let e : c ≡ p = cc in e) (let e : s ≡ site = cc in e)
 
+-- what one new context changes
 grows-placed : (p site q : ℕ) (xs : List Placed) → HaveOwnContexts xs → p < length xs → Grows p site 1 xs (placed_at p site q (length xs) ∷ xs)
 grows-placed p site q xs has there = record {
   has = have-more p site q xs has there;
@@ -107,6 +113,7 @@ grows-placed p site q xs has there = record {
   chains = λ c below. chain-more (placed_at p site q (length xs)) xs (Some c) below;
 }
 
+-- a first call at a site adds one activation
 pub grows-new : (p site q : ℕ) (xs : List Placed) → HaveOwnContexts xs → p < length xs → IsUnlinked p site xs → AreProceduresBelow q (chain xs (Some p))
     → Grows p site 1 xs (with_placed 0 (call_at p site q) xs)
 grows-new p site q xs has there un below =

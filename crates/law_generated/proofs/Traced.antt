@@ -59,6 +59,8 @@ calling-body s m j k between after left right one two =
     ap (λ (ys : Items). Turn k (Some (body_number s (suc j))) 1 ∷ ys)
     (one ∙ ap (λ (ys : Items). left ++ ys) (two ∙ ap (λ (ys : Items). right ++ ys) (trace-done s m k [] after)) ∙ sym (append_assoc left right (Answer [] ∷ [])))
 
+-- the trace of a frame whose next goal is a call: the items of the call, and the trace of what is left, to any depth that has room for three
+-- turns a level
 pub trace-call : (s : Hlds) (n r j k g line site m next a : ℕ) (e : Env) (rest : List Numbered) (pairs : List (ℕ × ℕ)) (js : List Frame)
     → HasLevels s n → n ≡ suc j + r → 3 * r + 1 ≤ m → next ≡ k + calls_of r
     → trace s (suc m) (frame a e (call_of g line site j ∷ rest) pairs) js k ≡ call_items s r j k a site g ++ trace s m (frame a e rest pairs) js next
@@ -108,6 +110,7 @@ whole_items s r = Turn 0 None 4 ∷ Call 0 None None 0 ∷ main_body s r
 abbrev pub main_end : Items
 main_end = Exit 0 ∷ Answer main_left ∷ []
 
+-- main has turns, calls and exits alone, up to its end
 plain-body : (s : Hlds) (r : ℕ) → Plain (main_body s r)
 plain-body s r = turn _ _ _ _ (plain-append _ _ (plain-call s r 0 1 0 0 (suc (body_number s 0))) (turn _ _ _ _ nothing))
 
@@ -120,6 +123,7 @@ last-unify : (s : Hlds) (m k : ℕ)
     ≡ Turn 0 (Some (suc (body_number s 0) + 1)) 1 ∷ Answer main_left ∷ []
 last-unify s m k = ap (λ (ys : Items). Turn 0 (Some (suc (body_number s 0) + 1)) 1 ∷ ys) (trace-done s m 0 main_left k)
 
+-- the trace of main: its body and its answer
 trace-main : (s : Hlds) (n r m : ℕ) → HasLevels s n → n ≡ suc r → 3 * n ≤ m → trace s m (main_frame s (0, main_procedure)) [] 1 ≡ main_body s r ++ Answer main_left ∷ []
 trace-main s n r zero has is deep = absurd (omega arith)
 trace-main s n r (suc zero) has is deep = absurd (omega arith)
@@ -133,6 +137,7 @@ trace-main s n r (suc (suc (suc m))) has is deep =
     ap (λ (ys : Items). Turn 0 (Some (body_number s 0)) 1 ∷ ys)
     (call_one ∙ ap (λ (ys : Items). items ++ ys) (last-unify s m after) ∙ sym (append_assoc items (Turn 0 (Some (suc (body_number s 0) + 1)) 1 ∷ []) (Answer main_left ∷ [])))
 
+-- main's items: the whole of them, and its end
 pub main-traced : (s : Hlds) (n r m : ℕ) → HasLevels s n → n ≡ suc r → 3 * n ≤ m → main_items s m (0, main_procedure) ≡ whole_items s r ++ main_end
 main-traced s n r m has is deep =
     ap (λ (ys : Items). Turn 0 None 4 ∷ Call 0 None None 0 ∷ first ys 1 won lost []) (trace-main s n r m has is deep)

@@ -15,6 +15,7 @@ weight [] = 0
 weight (Turn a g w ∷ xs) = w + weight xs
 weight (x ∷ xs) = weight xs
 
+-- weights add up
 pub weight-append : (xs ys : Items) → Plain xs → weight (xs ++ ys) ≡ weight xs + weight ys
 weight-append _ ys nothing = omega arith
 weight-append _ ys (turn a g w xs h) = omega (arith, weight-append xs ys h)
@@ -36,6 +37,7 @@ weight-call s (suc r) j k p site g =
       pow-succ' 2 r,
     )
 
+-- what all of the run weighs
 pub weight-whole : (s : Hlds) (n r : ℕ) → n ≡ suc r → weight (whole_items s r) ≡ 3 * 2 ^ n + 2
 weight-whole s n r is =
     let items = call_items s r 0 1 0 0 (suc (body_number s 0)) in
@@ -52,6 +54,7 @@ cut-plain left _ ys (turn a g w xs h) fits light =
 cut-plain left _ ys (call a p s q xs h) fits light = ap (λ us. Call a p s q ∷ us) (cut-plain left xs ys h fits light)
 cut-plain left _ ys (exit a xs h) fits light = ap (λ us. Exit a ∷ us) (cut-plain left xs ys h fits light)
 
+-- an answer or a Throw among items behind plain ones is that of all of them
 pub finished-plain : (xs ys : Items) → Plain xs → is_finished (xs ++ ys) ≡ is_finished ys
 finished-plain _ ys nothing = refl
 finished-plain _ ys (turn a g w xs h) = finished-plain xs ys h
@@ -66,6 +69,7 @@ error-plain _ ys (exit a xs h) = error-plain xs ys h
 
 -- ---- no smaller budget
 
+-- a turn, by whether it is allowed
 light_turn : (left a : ℕ) (g : Option ℕ) (w : ℕ) (xs : Items) (fits : Bool) → nat_le w left ≡ fits → (w ≤ left → weight xs ≤ left - w)
     → weight (cut_turn a g w xs fits) ≤ left
 light_turn left a g w xs false is h = omega arith
