@@ -1,1 +1,4 @@
-
+pub mod Numbers
+pub mod Read
+pub mod Checked
+mod Worked
