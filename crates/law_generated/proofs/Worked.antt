@@ -1,76 +1,83 @@
--- The runs of small generated programs, computed: their items, their contexts and their sites were worked out by hand, and
--- `refl` says that the definitions give them.
-use Rattle.std.proofs.Common.{◌≡◌, refl, ℕ, ◌+◌, ◌^◌, false, pos, [], ◌∷◌, Some, None}
+-- The generated texts and programs, worked out by hand.
+use Rattle.std.proofs.Common.{◌≡◌, refl, ℕ, List, [], ◌∷◌, None, Some, codes}
+use Rattle.std.specs.Prelude.{⊤}
 use Rattle.std.specs.Fmt.{digits}
-use Rattle.md_hlds.specs.Value.{Number}
-use Rattle.md_hlds.specs.Trace.{Turn, Call, Exit, Answer, Stuck}
-use Rattle.md_hlds.specs.Run.{run, is_finished}
-use Rattle.md_trace.specs.PortHistory.{CallSite}
-use Rattle.law_events.specs.Table.{site_table, HasSites}
-use Rattle.law_generated.specs.Generated.{level_name, generated}
-use Rattle.law_generated.specs.Runs.{generated_contexts}
+use Rattle.md_hlds.specs.declared.types.Mode.TheVariants.{Di, Uo}
+use Rattle.md_hlds.specs.declared.types.Det.TheVariants.{Det as One}
+use Rattle.md_hlds.specs.declared.goal.Term.TheVariants.{Var}
+use Rattle.md_hlds.specs.HldsGoal.{HldsGoal, At, SimpleGoal, CallGoal, ConjGoal, gathered, Succeeds, Unifies}
+use Rattle.md_hlds.specs.Hlds.{Procedure, world}
+use Rattle.md_inst.specs.declared.fault.ModeFault.TheVariants.{UnknownName}
+use Rattle.md_modes.specs.Modes.{mode_fault}
+use Rattle.law_generated.specs.Generated.{level, gen_text, level_procedure, generated}
 
--- main calls procedure 1, which does nothing: its goal has the number 3, behind the conjunction of main and its two parts
-one_items :
-    run (generated 1) 8
-    ≡ (Turn 0 None 4 ∷ Call 0 None None 0 ∷ Turn 0 (Some 0) 1
-    ∷ Turn 0 (Some 1) 1 ∷ Call 1 (Some 0) (Some 0) 1 ∷ Turn 1 (Some 3) 1 ∷ Exit 1
-    ∷ Turn 0 (Some 2) 1 ∷ Exit 0 ∷ Answer (Some (Number (pos 0)) ∷ Some (Number (pos 0)) ∷ []) ∷ [])
-unfolding run digits
-one_items = refl
-
-one_contexts : generated_contexts 1 8 ≡ 0 ∷ 1 ∷ []
-unfolding run digits
-one_contexts = refl
-
--- procedure 1 calls procedure 2 twice, at the sites 1 and 2
-two_items :
-    run (generated 2) 14
-    ≡ (Turn 0 None 4 ∷ Call 0 None None 0 ∷ Turn 0 (Some 0) 1
-    ∷ Turn 0 (Some 1) 3 ∷ Call 1 (Some 0) (Some 0) 1 ∷ Turn 1 (Some 3) 1
-    ∷ Turn 1 (Some 4) 1 ∷ Call 2 (Some 1) (Some 1) 2 ∷ Turn 2 (Some 6) 1 ∷ Exit 2
-    ∷ Turn 1 (Some 5) 1 ∷ Call 3 (Some 1) (Some 2) 2 ∷ Turn 3 (Some 6) 1 ∷ Exit 3
-    ∷ Exit 1
-    ∷ Turn 0 (Some 2) 1 ∷ Exit 0 ∷ Answer (Some (Number (pos 0)) ∷ Some (Number (pos 0)) ∷ []) ∷ [])
-unfolding run digits
-two_items = refl
-
-two_contexts : generated_contexts 2 14 ≡ 0 ∷ 1 ∷ 2 ∷ 2 ∷ []
-unfolding run digits
-two_contexts = refl
-
--- with a step less it lacks main's last goal, but no context; with 3 it lacks its first goal
-two_unfinished : is_finished (run (generated 2) 13) ≡ false
-unfolding run digits
-two_unfinished = refl
-
-two_contexts_yet : generated_contexts 2 13 ≡ 0 ∷ 1 ∷ 2 ∷ 2 ∷ []
-unfolding run digits
-two_contexts_yet = refl
-
--- each of the two calls of procedure 2 has two contexts of procedure 3 below it
-three_contexts : generated_contexts 3 26 ≡ 0 ∷ 1 ∷ 2 ∷ 3 ∷ 3 ∷ 2 ∷ 3 ∷ 3 ∷ []
-unfolding run digits
-three_contexts = refl
-
--- the sites have their numbers in text order
-abbrev plain : ℕ → ℕ → CallSite
-plain owner callee = record { owner = owner; callee = Some callee }
-
-three_table : site_table (generated 3) ≡ record { main = 0; procedures = 4; sites = plain 0 1 ∷ plain 1 2 ∷ plain 1 2 ∷ plain 2 3 ∷ plain 2 3 ∷ [] }
+unfoldable on_numbers : ⊤
 unfolding digits
-three_table = refl
+on_numbers = tt
 
-three_sites : HasSites (generated 3)
-unfolding digits
-three_sites = (refl, (refl, (refl, (refl, (refl, tt)))))
+-- ---- texts
 
--- with no procedure below main its call finds none
-none_stuck : run (generated 0) 100 ≡ (Turn 0 None 4 ∷ Call 0 None None 0 ∷ Turn 0 (Some 0) 1 ∷ Turn 0 (Some 1) 1 ∷ Stuck ∷ [])
-unfolding run digits
-none_stuck = refl
+one-procedure-does-nothing :
+    gen_text 1 ≡ codes ":- module gen.\n:- pred main(io::di, io::uo) is det.\nmain(IO0, IO) :- p1, IO = IO0.\n:- pred p1 is det.\np1 :- true.\n"
+unfolding on_numbers
+one-procedure-does-nothing = refl
 
--- numbers with more than 64 digits aren't told apart
-same_names : level_name (10 ^ 64 + 10 ^ 63) ≡ level_name (10 ^ 63)
-unfolding digits
-same_names = refl
+the-first-of-two-calls-the-second-twice :
+    gen_text 2 ≡ codes ":- module gen.\n:- pred main(io::di, io::uo) is det.\nmain(IO0, IO) :- p1, IO = IO0.\n:- pred p1 is det.\np1 :- p2, p2.\n:- pred p2 is det.\np2 :- true.\n"
+unfolding on_numbers
+the-first-of-two-calls-the-second-twice = refl
+
+-- refuses a rule by which a name has one digit, or its digits backwards
+numbers-have-two-digits : level 20 12 ≡ codes ":- pred p12 is det.\np12 :- p13, p13.\n"
+unfolding on_numbers
+numbers-have-two-digits = refl
+
+-- ---- programs
+
+abbrev calls : (line site : ℕ) → List ℕ → HldsGoal
+calls line site name = At line (CallGoal site (record { qualifier = None; name = name }) [])
+
+-- a procedure without arguments and variables
+abbrev without_arguments : List ℕ → (line clause_line : ℕ) → HldsGoal → Procedure
+without_arguments name line clause_line body =
+    record { qualifier = None; name = name; line = line; clause_line = clause_line; args = []; det = One; vars = []; head = []; body = body }
+
+abbrev main_of_two : Procedure
+main_of_two = record {
+  qualifier = None;
+  name = codes "main";
+  line = 2;
+  clause_line = 3;
+  args = (world, Di) ∷ (world, Uo) ∷ [];
+  det = One;
+  vars = codes "IO0" ∷ codes "IO" ∷ [];
+  head = 0 ∷ 1 ∷ [];
+  body = At 3 (ConjGoal (gathered (calls 3 0 (codes "p1") ∷ At 3 (SimpleGoal (Unifies 1 (Var 0))) ∷ [])));
+}
+
+-- refuses sites that are counted anew in each clause
+the-program-of-two-has-three-sites :
+    generated 2
+    ≡ record {
+      module_name = codes "gen";
+      module_line = 1;
+      types = [];
+      procedures =
+          main_of_two
+          ∷ without_arguments (codes "p1") 4 5 (At 5 (ConjGoal (gathered (calls 5 1 (codes "p2") ∷ calls 5 2 (codes "p2") ∷ []))))
+          ∷ without_arguments (codes "p2") 6 7 (At 7 (SimpleGoal Succeeds))
+          ∷ [];
+    }
+unfolding on_numbers
+the-program-of-two-has-three-sites = refl
+
+-- refuses a rule by which each procedure has one site more, or one line more, than that before it
+the-second-of-three-has-the-next-two-sites :
+    level_procedure 3 1 ≡ without_arguments (codes "p2") 6 7 (At 7 (ConjGoal (gathered (calls 7 3 (codes "p3") ∷ calls 7 4 (codes "p3") ∷ []))))
+unfolding on_numbers
+the-second-of-three-has-the-next-two-sites = refl
+
+-- with no procedure main calls one that there isn't: so the laws are of numbers from 1 on
+without-procedures-a-name-is-unknown : mode_fault (generated 0) ≡ Some (UnknownName 3)
+unfolding on_numbers mode_fault
+without-procedures-a-name-is-unknown = refl

@@ -1,11 +1,11 @@
 -- The generated programs: the text for each number, and the program that it spells.
-use Rattle.std.specs.Prelude.{ℕ, zero, suc, ◌+◌, ◌==◌, Bool, true, false, List, [], ◌∷◌, ◌++◌, Option, None, codes, if◌then◌else◌}
+use Rattle.std.specs.Prelude.{ℕ, zero, suc, ◌+◌, ◌==◌, List, [], ◌∷◌, ◌++◌, None, codes, if◌then◌else◌}
 use Rattle.std.specs.Fmt.{decimal}
 use Rattle.md_hlds.specs.declared.types.Mode.TheVariants.{Di, Uo}
 use Rattle.md_hlds.specs.declared.types.Det.TheVariants.{Det as One}
 use Rattle.md_hlds.specs.declared.goal.PredName.{PredName}
 use Rattle.md_hlds.specs.declared.goal.Term.TheVariants.{Var}
-use Rattle.md_hlds.specs.HldsGoal.{HldsGoal, At, GoalExpr, SimpleGoal, Succeeds, Unifies, CallGoal, ConjGoal, gathered}
+use Rattle.md_hlds.specs.HldsGoal.{At, GoalExpr, SimpleGoal, Succeeds, Unifies, CallGoal, ConjGoal, gathered}
 use Rattle.md_hlds.specs.Hlds.{Hlds, Procedure, world}
 
 -- ---- the text

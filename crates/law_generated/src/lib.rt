@@ -5,6 +5,7 @@
 mod laws;
 mod runs;
 
+pub use laws::generated_texts_are_accepted;
 pub use runs::{
     generated_runs_are_finished, generated_runs_throw_nothing, greatest_budget_suffices,
     main_is_first, no_smaller_budget_suffices,
