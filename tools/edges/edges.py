@@ -14,6 +14,7 @@ import random
 import shutil
 import signal
 import socket
+import struct
 import subprocess
 import sys
 import tempfile
@@ -301,6 +302,48 @@ def count_of_connections(program, folder):
         out, err = server.process.communicate(timeout=20)
         check(server.process.returncode == 0 and out == b"connections 3 answered 2\n", out, err)
     return out.decode().strip()
+
+
+@case
+def a_thousand_connections(program, folder):
+    """A thousand peers that are there at once, each of which asks for a page."""
+    with Server(program, folder, requests=1000) as server:
+        begun = time.time()
+        peers = [server.connect() for _ in range(1000)]
+        for it in peers:
+            it.sendall(HEAD)
+        for it in peers:
+            whole(it)
+            it.close()
+        seconds = time.time() - begun
+        out, err = server.process.communicate(timeout=20)
+        check(server.process.returncode == 0 and out == b"connections 1000 answered 1000\n", out, err)
+    return f"{seconds:.1f} s"
+
+
+@case
+def peers_that_reset(program, folder):
+    """Twenty peers that are gone by a reset, with half a head and a whole one sent; then one that asks."""
+    with Server(program, folder, requests=21) as server:
+        for head in (HEAD[:9], HEAD) * 10:
+            with server.connect() as it:
+                it.setsockopt(socket.SOL_SOCKET, socket.SO_LINGER, struct.pack("ii", 1, 0))
+                it.sendall(head)
+        server.get()
+        out, err = server.process.communicate(timeout=20)
+        check(server.process.returncode == 0 and out.startswith(b"connections 21 answered "), out, err)
+    return out.decode().strip()
+
+
+@case
+def another_address(program, folder):
+    """The port is listened at for peers of 127.0.0.1 alone."""
+    with Server(program, folder) as server:
+        try:
+            socket.create_connection(("127.0.0.2", server.port)).close()
+        except ConnectionRefusedError:
+            return "refused"
+    check(False, "reached at 127.0.0.2")
 
 
 # ---- faults of the system

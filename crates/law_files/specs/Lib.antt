@@ -1,3 +1,4 @@
 pub mod Spelled
 pub mod Views
 pub mod Through
+pub mod Runs

@@ -1,11 +1,15 @@
-//! What a profile says on its way through a file and through a text: laws over definitions alone, each the contract of a
-//! function that does nothing.
+//! What a profile says on its way through a file and through a text, and what holds of each run of an accepted text: laws over
+//! definitions alone, each the contract of a function that does nothing.
 #![tactic(auto)]
 
+mod runs;
 mod spelled;
 mod through;
 mod views;
 
+pub use runs::{
+    accepted_procedures_answer_as_declared, accepted_runs_are_left, accepted_runs_go_on,
+};
 pub use spelled::{
     dumped_profiles_are_spelled, encoded_profiles_are_spelled, files_are_whole_or_damaged,
     files_spell_one_profile, texts_are_whole_or_faulty, texts_spell_one_profile,

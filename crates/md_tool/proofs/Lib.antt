@@ -2,6 +2,7 @@ mod Worked
 pub mod AcceptLemmas
 pub mod StreamLemmas
 pub mod CheckLemmas
+pub mod RisesLemmas
 pub mod RunLemmas
 pub mod KeepLemmas
 pub mod PairLemmas

@@ -1,5 +1,5 @@
 -- Ends, faults and a generated program, worked out by hand.
-use Rattle.std.proofs.Common.{◌≡◌, ℕ, [], ◌∷◌, Some, None, codes, refl}
+use Rattle.std.proofs.Common.{◌≡◌, ℕ, [], ◌∷◌, Some, None, codes, refl, inl, inr}
 use Rattle.std.specs.Prelude.{⊤}
 use Rattle.std.specs.Fmt.{digits}
 use Rattle.md_deepfile.specs.declared.damage.Kind.TheVariants as kind
@@ -15,6 +15,7 @@ use Rattle.md_tool.specs.declared.fault.Refusal.TheVariants.{Text, Modes, Determ
 use Rattle.md_tool.specs.Ends.{end_of, Finished, Threw, RanOut}
 use Rattle.md_tool.specs.Fault.{fault_line}
 use Rattle.md_tool.specs.Generated.{gen_text}
+use Rattle.md_tool.specs.Rises.{IsToldBy}
 use Rattle.md_static.specs.Tables.{Static}
 use Rattle.md_cost.specs.declared.sums.Sums.{Sums}
 use Rattle.md_tool.specs.Summed.{sum_text}
@@ -121,3 +122,30 @@ a-front-of-a-full-name-is-none = refl
 -- refuses a rule by which a number that isn't there is the last one: whether it is there is asked of the program
 a-number-is-that-number : number_in two_of_a_name (Number 7) ≡ Some 7
 a-number-is-that-number = refl
+
+-- ---- counts of faults
+
+-- a file that couldn't be read was told so, and memory was refused as that was to be told
+a-fault-is-told : IsToldBy 2 2 6 7 × IsToldBy 2 8 6 7
+a-fault-is-told = (inr (refl, inl refl), inr (refl, inr refl))
+
+-- refuses a rule by which a fault may be passed over, as by reading once more: the count tells it
+a-fault-is-passed-over : IsToldBy 2 0 6 7 → ⊥
+a-fault-is-passed-over (inl same) = absurd (cc)
+a-fault-is-passed-over (inr (one, inl is)) = absurd (cc)
+a-fault-is-passed-over (inr (one, inr is)) = absurd (cc)
+
+-- refuses a rule by which damage may be told of a file that wasn't read to its end
+damage-of-a-file-half-read : IsToldBy 2 5 6 7 → ⊥
+damage-of-a-file-half-read (inl same) = absurd (cc)
+damage-of-a-file-half-read (inr (one, inl is)) = absurd (cc)
+damage-of-a-file-half-read (inr (one, inr is)) = absurd (cc)
+
+-- refuses a rule by which a command goes on behind a fault, and meets another one
+two-faults : IsToldBy 7 7 6 8 → ⊥
+two-faults (inl same) = absurd (cc)
+two-faults (inr (one, is)) = absurd (cc)
+
+-- a counter that stands at its last value stands there after a fault too
+a-fault-at-the-last-value : IsToldBy 7 7 18446744073709551615 18446744073709551615
+a-fault-at-the-last-value = inl refl

@@ -1,6 +1,7 @@
 pub mod Fault
 pub mod Accepted
 pub mod Ends
+pub mod Rises
 pub mod Ran
 pub mod Due
 pub mod Paged

@@ -4,6 +4,7 @@ ghost use Rattle.md_base.specs.Outside.{Rose};
 ghost use Rattle.md_hlds.specs.Hlds.{hlds_of};
 ghost use Rattle.md_tool.specs.Accepted.{Accepts, IsAccepted, ProgramHas, TextFault, refusal_of, modes_refusal, determinism_refusal, refused_at};
 ghost use Rattle.md_tool.specs.Due.{IsText, ReadFails};
+ghost use Rattle.md_tool.specs.Rises.{RisesBy};
 
 use crate::fault::{Fault, Refusal};
 use md_base::{ReadFault, Store, read_all};
@@ -22,6 +23,7 @@ pub fn read_text<S: Store>(alloc: Global, file: &str, store: &mut S) -> Result<V
         (ReadFails (S.held store.old) file.now (Rose (S.read_faults store.old) (S.read_faults store.new))) }
     ensures kept { S.held store.new ≡ S.held store.old }
     ensures writes { S.write_faults store.new ≡ S.write_faults store.old }
+    ensures reads { RisesBy Fault.Read (S.read_faults store.old) (S.read_faults store.new) result }
 {
     match read_all(alloc, store, file, LONGEST) {
         Ok(text) => Ok(text),

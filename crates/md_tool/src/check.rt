@@ -4,6 +4,7 @@ ghost use Rattle.md_base.specs.Outside.{Rose};
 ghost use Rattle.md_hlds.specs.Hlds.{hlds_of};
 ghost use Rattle.md_printer.specs.Printed.{printed};
 ghost use Rattle.md_tool.specs.Due.{CheckEnds, WriteEnds, check_output};
+ghost use Rattle.md_tool.specs.Rises.{RisesBy};
 
 use crate::accept::{accept, read_text};
 use crate::fault::Fault;
@@ -24,6 +25,9 @@ pub fn check_file<S: Store, O: Sink>(
     ensures ends { CheckEnds (S.held store.old) file.now printing (O.held out.old) (O.held out.new)
         (Rose (S.read_faults store.old) (S.read_faults store.new)) (Rose (O.write_faults out.old) (O.write_faults out.new)) result }
     ensures kept { S.held store.new ≡ S.held store.old }
+    ensures reads { RisesBy Fault.Read (S.read_faults store.old) (S.read_faults store.new) result }
+    ensures writes { S.write_faults store.new ≡ S.write_faults store.old }
+    ensures outs { RisesBy Fault.Write (O.write_faults out.old) (O.write_faults out.new) result }
 {
     let text = read_text(alloc, file, store)?;
     let checked = accept(alloc, &text)?;
@@ -32,8 +36,9 @@ pub fn check_file<S: Store, O: Sink>(
 
 /// Writes what there is to say of an accepted program.
 fn show<O: Sink>(alloc: Global, program: &Program, printing: bool, out: &mut O) -> Result<(), Fault>
-    ensures { WriteEnds (check_output printing (hlds_of program.now)) (O.held out.old) (O.held out.new)
+    ensures ends { WriteEnds (check_output printing (hlds_of program.now)) (O.held out.old) (O.held out.new)
         (Rose (O.write_faults out.old) (O.write_faults out.new)) result }
+    ensures outs { RisesBy Fault.Write (O.write_faults out.old) (O.write_faults out.new) result }
 {
     if printing {
         show_program(alloc, program, out)
@@ -44,8 +49,9 @@ fn show<O: Sink>(alloc: Global, program: &Program, printing: bool, out: &mut O) 
 
 /// Writes the printed text of a program.
 fn show_program<O: Sink>(alloc: Global, program: &Program, out: &mut O) -> Result<(), Fault>
-    ensures { WriteEnds (printed (hlds_of program.now)) (O.held out.old) (O.held out.new)
+    ensures ends { WriteEnds (printed (hlds_of program.now)) (O.held out.old) (O.held out.new)
         (Rose (O.write_faults out.old) (O.write_faults out.new)) result }
+    ensures outs { RisesBy Fault.Write (O.write_faults out.old) (O.write_faults out.new) result }
 {
     match print(alloc, program) {
         Ok(text) => write(out, &text),

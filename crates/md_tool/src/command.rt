@@ -8,6 +8,7 @@ ghost use Rattle.md_tool.specs.Served.{net_side};
 ghost use Rattle.md_tool.specs.Summed.{SumEnds};
 ghost use Rattle.md_tool.specs.Told.{Tells, EndIsTold, TopEnds};
 ghost use Rattle.md_tool.specs.Meaning.{Means, keeps_store, keeps_net};
+ghost use Rattle.md_tool.specs.Rises.{AreTold, IsToldBy};
 
 use crate::check::check_file;
 use crate::compare::compare_files;
@@ -47,7 +48,8 @@ pub struct Status(pub u8);
 /// where the words are no command, 2 where a file can't be read, 3 where a text isn't accepted as a program, 4 where the run
 /// isn't finished, 5 where a file isn't a profile, 6 where a profile has no such page, 7 where something can't be written,
 /// 8 where memory was refused, 9 where the net failed, 10 where an exception left the program's `main`, and 11 where a profile is of another program
-/// than the first one that is added up.
+/// than the first one that is added up. Where a count of faults rose the status tells it, whatever else is wrong: 2 for a read, 7 for a
+/// write, 9 for the net.
 pub fn top<S: Store, O: Sink, E: Sink, N: Net>(
     alloc: Global,
     words: &[String],
@@ -64,6 +66,8 @@ pub fn top<S: Store, O: Sink, E: Sink, N: Net>(
         (Rose (O.write_faults out.old) (O.write_faults out.new)) (Rose (E.write_faults err.old) (E.write_faults err.new)) (Rose (N.faults net.old) (N.faults net.new)) result.0 }
     ensures store { keeps_store (form (words_of words.now)) ≡ true → S.held store.new ≡ S.held store.old }
     ensures net { keeps_net (form (words_of words.now)) ≡ true → net.new ≡ net.old }
+    ensures faults { AreTold result.0 (S.read_faults store.old) (S.read_faults store.new) (S.write_faults store.old) (S.write_faults store.new)
+        (O.write_faults out.old) (O.write_faults out.new) (E.write_faults err.old) (E.write_faults err.new) (N.faults net.old) (N.faults net.new) }
 {
     Status(run_command(alloc, words, store, out, err, net))
 }
@@ -81,6 +85,8 @@ fn run_command<S: Store, O: Sink, E: Sink, N: Net>(
         (Rose (S.read_faults store.old) (S.read_faults store.new)) (Rose (S.write_faults store.old) (S.write_faults store.new))
         (Rose (O.write_faults out.old) (O.write_faults out.new)) (Rose (E.write_faults err.old) (E.write_faults err.new)) (Rose (N.faults net.old) (N.faults net.new)) result }
     ensures net { keeps_net (form (words_of words.now)) ≡ true → net.new ≡ net.old }
+    ensures faults { AreTold result (S.read_faults store.old) (S.read_faults store.new) (S.write_faults store.old) (S.write_faults store.new)
+        (O.write_faults out.old) (O.write_faults out.new) (E.write_faults err.old) (E.write_faults err.new) (N.faults net.old) (N.faults net.new) }
 {
     match command_of(alloc, words) {
         Err(_) => tell(alloc, &Fault::NoMemory, "", err),
@@ -103,6 +109,8 @@ fn do_command<S: Store, O: Sink, E: Sink, N: Net>(
         (Rose (S.read_faults store.old) (S.read_faults store.new)) (Rose (S.write_faults store.old) (S.write_faults store.new))
         (Rose (O.write_faults out.old) (O.write_faults out.new)) (Rose (E.write_faults err.old) (E.write_faults err.new)) (Rose (N.faults net.old) (N.faults net.new)) result }
     ensures net { keeps_net (Some (told command.now)) ≡ true → net.new ≡ net.old }
+    ensures faults { AreTold result (S.read_faults store.old) (S.read_faults store.new) (S.write_faults store.old) (S.write_faults store.new)
+        (O.write_faults out.old) (O.write_faults out.new) (E.write_faults err.old) (E.write_faults err.new) (N.faults net.old) (N.faults net.new) }
 {
     match command {
         Command::Check { file, print } => {
@@ -186,6 +194,10 @@ fn do_sum<S: Store, O: Sink, E: Sink>(
         (Rose (S.read_faults store.old) (S.read_faults store.new)) (Rose (O.write_faults out.old) (O.write_faults out.new)) end
         × EndIsTold end at (E.held err.old) (E.held err.new) (Rose (E.write_faults err.old) (E.write_faults err.new)) result }
     ensures kept { S.held store.new ≡ S.held store.old }
+    ensures reads { IsToldBy 2 result (S.read_faults store.old) (S.read_faults store.new) }
+    ensures writes { S.write_faults store.new ≡ S.write_faults store.old }
+    ensures outs { IsToldBy 7 result (O.write_faults out.old) (O.write_faults out.new) }
+    ensures errs { result ≡ 0 → E.write_faults err.new ≡ E.write_faults err.old }
 {
     match sum_files(alloc, names, store, out) {
         Ok(()) => 0,
@@ -208,6 +220,10 @@ fn do_compare<S: Store, O: Sink, E: Sink>(
         (Rose (S.read_faults store.old) (S.read_faults store.new)) (Rose (O.write_faults out.old) (O.write_faults out.new)) end
         × EndIsTold end at (E.held err.old) (E.held err.new) (Rose (E.write_faults err.old) (E.write_faults err.new)) result }
     ensures kept { S.held store.new ≡ S.held store.old }
+    ensures reads { IsToldBy 2 result (S.read_faults store.old) (S.read_faults store.new) }
+    ensures writes { S.write_faults store.new ≡ S.write_faults store.old }
+    ensures outs { IsToldBy 7 result (O.write_faults out.old) (O.write_faults out.new) }
+    ensures errs { result ≡ 0 → E.write_faults err.new ≡ E.write_faults err.old }
 {
     match compare_files(alloc, old, new, by, least, store, out) {
         Ok(()) => 0,
@@ -219,6 +235,7 @@ fn do_compare<S: Store, O: Sink, E: Sink>(
 fn tell_end<E: Sink>(alloc: Global, end: Result<(), Fault>, file: &str, err: &mut E) -> u8
     ensures told { EndIsTold end file.now (E.held err.old) (E.held err.new) (Rose (E.write_faults err.old) (E.write_faults err.new)) result }
     ensures later { E.write_faults err.old ≤ E.write_faults err.new }
+    ensures errs { result ≡ 0 → E.write_faults err.new ≡ E.write_faults err.old }
 {
     match end {
         Ok(()) => 0,
@@ -230,6 +247,7 @@ fn tell_end<E: Sink>(alloc: Global, end: Result<(), Fault>, file: &str, err: &mu
 fn tell<E: Sink>(alloc: Global, fault: &Fault, file: &str, err: &mut E) -> u8
     ensures told { Tells fault.now file.now (E.held err.old) (E.held err.new) (Rose (E.write_faults err.old) (E.write_faults err.new)) result }
     ensures later { E.write_faults err.old ≤ E.write_faults err.new }
+    ensures errs { result ≡ 0 → E.write_faults err.new ≡ E.write_faults err.old }
 {
     let Ok(line) = fault.line(alloc, file) else {
         return Fault::NoMemory.status();

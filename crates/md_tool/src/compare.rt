@@ -4,6 +4,7 @@ ghost use Rattle.md_base.specs.Outside.{Rose};
 ghost use Rattle.md_tool.specs.Stored.{IsLoadedFrom, ViewFails};
 ghost use Rattle.md_tool.specs.Due.{TextEnds};
 ghost use Rattle.md_tool.specs.Compared.{CompareStops, IsComparison};
+ghost use Rattle.md_tool.specs.Rises.{RisesBy, RisesByOne};
 
 use crate::fault::{Fault, Stopped};
 use crate::stored::load_file;
@@ -27,6 +28,9 @@ pub fn compare_files<'a, S: Store, O: Sink>(
     ensures ends { CompareStops (S.held store.old) old.now new.now by least (O.held out.old) (O.held out.new)
         (Rose (S.read_faults store.old) (S.read_faults store.new)) (Rose (O.write_faults out.old) (O.write_faults out.new)) result }
     ensures kept { S.held store.new ≡ S.held store.old }
+    ensures reads { RisesByOne Fault.Read (S.read_faults store.old) (S.read_faults store.new) result }
+    ensures writes { S.write_faults store.new ≡ S.write_faults store.old }
+    ensures outs { RisesByOne Fault.Write (O.write_faults out.old) (O.write_faults out.new) result }
 {
     let before = load_named(alloc, old, store)?;
     let after = load_named(alloc, new, store)?;
@@ -46,6 +50,8 @@ fn load_named<'a, S: Store>(
         (λ stopped. (stopped.file.now ≡ name.now) × ViewFails (S.held store.old) name.now (Rose (S.read_faults store.old) (S.read_faults store.new)) stopped.fault) }
     ensures kept { S.held store.new ≡ S.held store.old }
     ensures later { S.read_faults store.old ≤ S.read_faults store.new }
+    ensures reads { RisesByOne Fault.Read (S.read_faults store.old) (S.read_faults store.new) result }
+    ensures writes { S.write_faults store.new ≡ S.write_faults store.old }
 {
     match load_file(alloc, name, store) {
         Ok(loaded) => Ok(loaded),
@@ -62,7 +68,8 @@ fn write_comparison<O: Sink>(
     least: u32,
     out: &mut O,
 ) -> Result<(), Fault>
-    ensures { TextEnds (IsComparison old.now.profile new.now.profile by least) ⊥ (O.held out.old) (O.held out.new) (Rose (O.write_faults out.old) (O.write_faults out.new)) result }
+    ensures ends { TextEnds (IsComparison old.now.profile new.now.profile by least) ⊥ (O.held out.old) (O.held out.new) (Rose (O.write_faults out.old) (O.write_faults out.new)) result }
+    ensures outs { RisesBy Fault.Write (O.write_faults out.old) (O.write_faults out.new) result }
 {
     // What is written is of the views of both profiles, which have one each.
     let _old_viewed = old.profile();

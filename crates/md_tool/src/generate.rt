@@ -3,6 +3,7 @@ ghost use Rattle.std.specs.Prelude.{◌≡◌, ◌≤◌, ◌<◌, ◌++◌, IfO
 ghost use Rattle.md_base.specs.Outside.{Rose};
 ghost use Rattle.md_tool.specs.Generated.{GenEnds, SummaryEnds, gen_text, most_steps, level, level_body};
 ghost use Rattle.md_tool.specs.Ran.{IsProfiledText};
+ghost use Rattle.md_tool.specs.Rises.{RisesBy};
 
 use crate::fault::Fault;
 use crate::report::{profile_text, show_page};
@@ -20,7 +21,8 @@ const MOST_STEPS: u32 = 16_777_216;
 pub fn generate<O: Sink>(alloc: Global, n: u32, summary: bool, out: &mut O) -> Result<(), Fault>
     requires some { 1 ≤ n }
     requires few { n ≤ 20 }
-    ensures { GenEnds n summary (O.held out.old) (O.held out.new) (Rose (O.write_faults out.old) (O.write_faults out.new)) result }
+    ensures ends { GenEnds n summary (O.held out.old) (O.held out.new) (Rose (O.write_faults out.old) (O.write_faults out.new)) result }
+    ensures outs { RisesBy Fault.Write (O.write_faults out.old) (O.write_faults out.new) result }
 {
     let Ok(text) = gen_text(alloc, n) else {
         return Err(Fault::NoMemory);
@@ -36,7 +38,8 @@ pub fn generate<O: Sink>(alloc: Global, n: u32, summary: bool, out: &mut O) -> R
 fn summarize<O: Sink>(alloc: Global, n: u32, text: &[u8], out: &mut O) -> Result<(), Fault>
     requires text { text.now ≡ gen_text n }
     requires short { length text.now ≤ 1048576 }
-    ensures { SummaryEnds n (O.held out.old) (O.held out.new) (Rose (O.write_faults out.old) (O.write_faults out.new)) result }
+    ensures ends { SummaryEnds n (O.held out.old) (O.held out.new) (Rose (O.write_faults out.old) (O.write_faults out.new)) result }
+    ensures outs { RisesBy Fault.Write (O.write_faults out.old) (O.write_faults out.new) result }
 {
     match profile_text(alloc, text, MOST_STEPS) {
         Ok(profiled) => show_menu(alloc, profiled, n, out),
@@ -47,7 +50,8 @@ fn summarize<O: Sink>(alloc: Global, n: u32, text: &[u8], out: &mut O) -> Result
 /// Writes the menu of a generated program's run, and answers how it ended.
 fn show_menu<O: Sink>(alloc: Global, profiled: Profiled, n: u32, out: &mut O) -> Result<(), Fault>
     requires { IsProfiledText (gen_text n) most_steps profiled }
-    ensures { SummaryEnds n (O.held out.old) (O.held out.new) (Rose (O.write_faults out.old) (O.write_faults out.new)) result }
+    ensures ends { SummaryEnds n (O.held out.old) (O.held out.new) (Rose (O.write_faults out.old) (O.write_faults out.new)) result }
+    ensures outs { RisesBy Fault.Write (O.write_faults out.old) (O.write_faults out.new) result }
 {
     let _ = n;
     let Profiled { ran, profile } = profiled;

@@ -4,6 +4,7 @@ ghost use Rattle.md_base.specs.Outside.{Rose};
 ghost use Rattle.md_cost.specs.FileView.{IsFileView};
 ghost use Rattle.md_query.specs.Told.{asked};
 ghost use Rattle.md_tool.specs.Paged.{PageEnds, IsPageOf, PageFails};
+ghost use Rattle.md_tool.specs.Rises.{RisesBy};
 
 use crate::fault::Fault;
 use crate::write::write;
@@ -20,7 +21,8 @@ pub fn write_page<O: Sink>(
     query: &Query,
     out: &mut O,
 ) -> Result<(), Fault>
-    ensures { PageEnds (IsFileView loaded.now.profile) (asked query.now) (O.held out.old) (O.held out.new) (Rose (O.write_faults out.old) (O.write_faults out.new)) result }
+    ensures ends { PageEnds (IsFileView loaded.now.profile) (asked query.now) (O.held out.old) (O.held out.new) (Rose (O.write_faults out.old) (O.write_faults out.new)) result }
+    ensures outs { RisesBy Fault.Write (O.write_faults out.old) (O.write_faults out.new) result }
 {
     let _viewed = loaded.profile();
     let page = find_page(alloc, loaded, query)?;

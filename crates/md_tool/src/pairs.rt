@@ -1,5 +1,5 @@
 // The command `feedback`.
-ghost use Rattle.std.specs.Prelude.{ℕ, ◌≡◌, ◌≤◌, length, IfOk, IsTrue, MatchResult};
+ghost use Rattle.std.specs.Prelude.{ℕ, ◌≡◌, ◌⊎◌, ◌≤◌, length, IfOk, IsTrue, MatchResult};
 ghost use Rattle.md_base.specs.Outside.{Rose};
 ghost use Rattle.md_cost.specs.FileView.{IsFileView};
 ghost use Rattle.md_cost.specs.View.{View};
@@ -15,6 +15,7 @@ ghost use Rattle.md_tool.specs.Accepted.{TextFault};
 ghost use Rattle.md_tool.specs.Candidates.{IsFeedbackOfRun, IsPaired};
 ghost use Rattle.md_tool.specs.Due.{StoreEnds};
 ghost use Rattle.md_tool.specs.Kept.{RunEnds, KeepEnds};
+ghost use Rattle.md_tool.specs.Rises.{RisesBy};
 
 use crate::accept::{accept, read_text};
 use crate::fault::Fault;
@@ -50,9 +51,13 @@ pub fn feedback_file<S: Store, O: Sink>(
     out: &mut O,
 ) -> Result<(), Fault>
     requires { IsLeast least }
-    ensures { RunEnds (IsFeedbackOfRun least steps) (S.held store.old) (S.held store.new) file.now steps new.now (O.held out.old) (O.held out.new)
+    ensures ends { RunEnds (IsFeedbackOfRun least steps) (S.held store.old) (S.held store.new) file.now steps new.now (O.held out.old) (O.held out.new)
         (Rose (S.read_faults store.old) (S.read_faults store.new)) (Rose (S.write_faults store.old) (S.write_faults store.new))
         (Rose (O.write_faults out.old) (O.write_faults out.new)) result }
+    ensures reads { RisesBy Fault.Read (S.read_faults store.old) (S.read_faults store.new) result }
+    ensures writes { RisesBy Fault.Write (S.write_faults store.old) (S.write_faults store.new) result }
+    ensures outs { RisesBy Fault.Write (O.write_faults out.old) (O.write_faults out.new) result }
+    ensures one { (S.write_faults store.new ≡ S.write_faults store.old) ⊎ (O.write_faults out.new ≡ O.write_faults out.old) }
 {
     let text = read_text(alloc, file, store)?;
     let paired = pair_text(alloc, &text, steps, least)?;
@@ -140,6 +145,9 @@ fn keep_text<S: Store, O: Sink>(
         → KeepEnds (IsFeedbackOfRun least steps program) program steps new.now (S.held store.old) (S.held store.new) (O.held out.old) (O.held out.new)
         (Rose (S.write_faults store.old) (S.write_faults store.new)) (Rose (O.write_faults out.old) (O.write_faults out.new)) result }
     ensures reads { S.read_faults store.new ≡ S.read_faults store.old }
+    ensures writes { RisesBy Fault.Write (S.write_faults store.old) (S.write_faults store.new) result }
+    ensures outs { RisesBy Fault.Write (O.write_faults out.old) (O.write_faults out.new) result }
+    ensures one { (S.write_faults store.new ≡ S.write_faults store.old) ⊎ (O.write_faults out.new ≡ O.write_faults out.old) }
 {
     let Paired { ran, text } = paired;
     write(out, &ran.output)?;
@@ -151,6 +159,7 @@ fn keep_text<S: Store, O: Sink>(
 fn store_text<S: Store>(text: &[u8], name: &str, store: &mut S) -> Result<(), Fault>
     ensures ends { StoreEnds name.now text.now (S.held store.old) (S.held store.new) (Rose (S.write_faults store.old) (S.write_faults store.new)) result }
     ensures reads { S.read_faults store.new ≡ S.read_faults store.old }
+    ensures writes { RisesBy Fault.Write (S.write_faults store.old) (S.write_faults store.new) result }
 {
     match write_file(store, name, text) {
         Ok(()) => Ok(()),

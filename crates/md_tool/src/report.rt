@@ -11,6 +11,7 @@ ghost use Rattle.md_tool.specs.Due.{WriteEnds};
 ghost use Rattle.md_tool.specs.Paged.{PageEnds};
 ghost use Rattle.md_tool.specs.Ran.{IsProfiledText};
 ghost use Rattle.md_tool.specs.Reported.{IsPageOfRun, HasNoPageOfRun, ReportEnds, ShowEnds};
+ghost use Rattle.md_tool.specs.Rises.{RisesBy};
 
 use crate::accept::{accept, read_text};
 use crate::fault::Fault;
@@ -41,6 +42,10 @@ pub fn report_file<S: Store, O: Sink, E: Sink>(
         (Rose (E.write_faults err.old) (E.write_faults err.new)) result }
     ensures kept { S.held store.new ≡ S.held store.old }
     ensures later { E.write_faults err.old ≤ E.write_faults err.new }
+    ensures reads { RisesBy Fault.Read (S.read_faults store.old) (S.read_faults store.new) result }
+    ensures writes { S.write_faults store.new ≡ S.write_faults store.old }
+    ensures outs { RisesBy Fault.Write (O.write_faults out.old) (O.write_faults out.new) result }
+    ensures errs { RisesBy Fault.Write (E.write_faults err.old) (E.write_faults err.new) result }
 {
     let text = read_text(alloc, file, store)?;
     let profiled = profile_text(alloc, &text, steps)?;
@@ -66,6 +71,7 @@ pub fn profile_text(alloc: Global, text: &[u8], steps: u32) -> Result<Profiled, 
 pub fn show_output<E: Sink>(err: &mut E, output: &[u8]) -> Result<(), Fault>
     ensures ends { WriteEnds (output.now ++ codes "-- end of output\n") (E.held err.old) (E.held err.new) (Rose (E.write_faults err.old) (E.write_faults err.new)) result }
     ensures later { E.write_faults err.old ≤ E.write_faults err.new }
+    ensures errs { RisesBy Fault.Write (E.write_faults err.old) (E.write_faults err.new) result }
 {
     write(err, output)?;
     write(err, b"-- end of output\n")
@@ -80,8 +86,9 @@ pub fn show_page<O: Sink>(
 ) -> Result<(), Fault>
     requires valid { IsValid profile }
     requires of_run { IsOfRun profile }
-    ensures { (program : Hlds) (steps : ℕ) → IsWithinBounds program steps → IsProfileOfRun program steps profile
+    ensures ends { (program : Hlds) (steps : ℕ) → IsWithinBounds program steps → IsProfileOfRun program steps profile
         → PageEnds (IsViewOfRun program steps) (asked query.now) (O.held out.old) (O.held out.new) (Rose (O.write_faults out.old) (O.write_faults out.new)) result }
+    ensures outs { RisesBy Fault.Write (O.write_faults out.old) (O.write_faults out.new) result }
 {
     match load_run(alloc, profile) {
         Ok(loaded) => write_page(alloc, &loaded, query, out),
@@ -102,6 +109,8 @@ fn show<O: Sink, E: Sink>(
         → ShowEnds (IsPageOfRun (asked query.now) steps program) (HasNoPageOfRun (asked query.now) steps program) program steps (O.held out.old) (O.held out.new) (E.held err.old) (E.held err.new)
         (Rose (O.write_faults out.old) (O.write_faults out.new)) (Rose (E.write_faults err.old) (E.write_faults err.new)) result }
     ensures later { E.write_faults err.old ≤ E.write_faults err.new }
+    ensures outs { RisesBy Fault.Write (O.write_faults out.old) (O.write_faults out.new) result }
+    ensures errs { RisesBy Fault.Write (E.write_faults err.old) (E.write_faults err.new) result }
 {
     let Profiled { ran, profile } = profiled;
     show_output(err, &ran.output)?;

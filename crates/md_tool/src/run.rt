@@ -8,6 +8,7 @@ ghost use Rattle.md_profiled.specs.OfRun.{IsProfiled};
 ghost use Rattle.md_tool.specs.Due.{StoreEnds, WriteEnds};
 ghost use Rattle.md_tool.specs.Ends.{TellsEnd, ran_end};
 ghost use Rattle.md_tool.specs.Kept.{IsRunFile, RunEnds, KeepEnds};
+ghost use Rattle.md_tool.specs.Rises.{RisesBy};
 
 use crate::accept::read_text;
 use crate::fault::Fault;
@@ -29,9 +30,13 @@ pub fn run_file<S: Store, O: Sink>(
     store: &mut S,
     out: &mut O,
 ) -> Result<(), Fault>
-    ensures { RunEnds (IsRunFile steps) (S.held store.old) (S.held store.new) file.now steps name.now (O.held out.old) (O.held out.new)
+    ensures ends { RunEnds (IsRunFile steps) (S.held store.old) (S.held store.new) file.now steps name.now (O.held out.old) (O.held out.new)
         (Rose (S.read_faults store.old) (S.read_faults store.new)) (Rose (S.write_faults store.old) (S.write_faults store.new))
         (Rose (O.write_faults out.old) (O.write_faults out.new)) result }
+    ensures reads { RisesBy Fault.Read (S.read_faults store.old) (S.read_faults store.new) result }
+    ensures writes { RisesBy Fault.Write (S.write_faults store.old) (S.write_faults store.new) result }
+    ensures outs { RisesBy Fault.Write (O.write_faults out.old) (O.write_faults out.new) result }
+    ensures one { (S.write_faults store.new ≡ S.write_faults store.old) ⊎ (O.write_faults out.new ≡ O.write_faults out.old) }
 {
     let text = read_text(alloc, file, store)?;
     let profiled = profile_text(alloc, &text, steps)?;
@@ -48,6 +53,7 @@ pub fn store_profile<S: Store>(
     requires { IsValid profile.now }
     ensures ends { StoreEnds name.now (file_bytes profile.now) (S.held store.old) (S.held store.new) (Rose (S.write_faults store.old) (S.write_faults store.new)) result }
     ensures reads { S.read_faults store.new ≡ S.read_faults store.old }
+    ensures writes { RisesBy Fault.Write (S.write_faults store.old) (S.write_faults store.new) result }
 {
     match write_profile(alloc, profile, store, name) {
         Ok(()) => Ok(()),
@@ -72,6 +78,9 @@ pub fn store_told<S: Store, O: Sink>(
         ⊎ (StoreEnds name.now (file_bytes profile.now) (S.held store.old) (S.held store.new) (Rose (S.write_faults store.old) (S.write_faults store.new)) (Ok tt)
         × WriteEnds line.now (O.held out.old) (O.held out.new) (Rose (O.write_faults out.old) (O.write_faults out.new)) (Err fault))) }
     ensures reads { S.read_faults store.new ≡ S.read_faults store.old }
+    ensures writes { RisesBy Fault.Write (S.write_faults store.old) (S.write_faults store.new) result }
+    ensures outs { RisesBy Fault.Write (O.write_faults out.old) (O.write_faults out.new) result }
+    ensures one { (S.write_faults store.new ≡ S.write_faults store.old) ⊎ (O.write_faults out.new ≡ O.write_faults out.old) }
 {
     store_profile(alloc, profile, name, store)?;
     write(out, line)
@@ -101,6 +110,9 @@ fn keep<S: Store, O: Sink>(
         → KeepEnds (IsRunFile steps program) program steps name.now (S.held store.old) (S.held store.new) (O.held out.old) (O.held out.new)
         (Rose (S.write_faults store.old) (S.write_faults store.new)) (Rose (O.write_faults out.old) (O.write_faults out.new)) result }
     ensures reads { S.read_faults store.new ≡ S.read_faults store.old }
+    ensures writes { RisesBy Fault.Write (S.write_faults store.old) (S.write_faults store.new) result }
+    ensures outs { RisesBy Fault.Write (O.write_faults out.old) (O.write_faults out.new) result }
+    ensures one { (S.write_faults store.new ≡ S.write_faults store.old) ⊎ (O.write_faults out.new ≡ O.write_faults out.old) }
 {
     let Profiled { ran, profile } = profiled;
     write(out, &ran.output)?;

@@ -7,6 +7,7 @@ ghost use Rattle.md_cost.specs.View.{View};
 ghost use Rattle.md_tool.specs.Due.{WriteEnds};
 ghost use Rattle.md_tool.specs.Served.{ServeEnds, net_side, BindEnds, ConnectionsEnd, fault_of, tally_line};
 ghost use Rattle.md_tool.specs.Stored.{IsLoadedFrom};
+ghost use Rattle.md_tool.specs.Rises.{RisesBy};
 
 use crate::fault::Fault;
 use crate::stored::load_file;
@@ -31,6 +32,10 @@ pub fn serve_file<S: Store, O: Sink, N: Net>(
         (Rose (S.read_faults store.old) (S.read_faults store.new)) (Rose (O.write_faults out.old) (O.write_faults out.new))
         (Rose (N.faults net.old) (N.faults net.new)) result }
     ensures kept { S.held store.new ≡ S.held store.old }
+    ensures reads { RisesBy Fault.Read (S.read_faults store.old) (S.read_faults store.new) result }
+    ensures writes { S.write_faults store.new ≡ S.write_faults store.old }
+    ensures outs { RisesBy Fault.Write (O.write_faults out.old) (O.write_faults out.new) result }
+    ensures nets { RisesBy Fault.Network (N.faults net.old) (N.faults net.new) result }
 {
     let loaded = load_file(alloc, name, store)?;
     serve_loaded(alloc, &loaded, port, requests, out, net)
@@ -45,9 +50,11 @@ fn serve_loaded<O: Sink, N: Net>(
     out: &mut O,
     net: &mut N,
 ) -> Result<(), Fault>
-    ensures { (held : Option Files) (name : List ℕ) → IsLoadedFrom held name loaded.now
+    ensures ends { (held : Option Files) (name : List ℕ) → IsLoadedFrom held name loaded.now
         → ServeEnds held name port requests (net_side (N.connections net.old) (N.listens_at net.old)) (net_side (N.connections net.new) (N.listens_at net.new)) (O.held out.old) (O.held out.new)
         ⊥ (Rose (O.write_faults out.old) (O.write_faults out.new)) (Rose (N.faults net.old) (N.faults net.new)) result }
+    ensures outs { RisesBy Fault.Write (O.write_faults out.old) (O.write_faults out.new) result }
+    ensures nets { RisesBy Fault.Network (N.faults net.old) (N.faults net.new) result }
 {
     // What is served is the view of the profile, which has one.
     let _viewed = loaded.profile();
@@ -63,6 +70,7 @@ fn bind<N: Net>(net: &mut N, port: u16) -> Result<(), Fault>
     ensures kept { N.connections net.new ≡ N.connections net.old }
     ensures ends { BindEnds (Rose (N.faults net.old) (N.faults net.new)) result }
     ensures cause { HasCause Fault.Network (N.faults net.old) (N.faults net.new) result }
+    ensures nets { RisesBy Fault.Network (N.faults net.old) (N.faults net.new) result }
 {
     match net.bind(port) {
         Ok(()) => Ok(()),
@@ -77,6 +85,7 @@ fn serve<N: Net>(alloc: Global, loaded: &Loaded, net: &mut N, requests: u32) -> 
     ensures ends { (v : View) → IsFileView loaded.now.profile v
         → ConnectionsEnd v requests (N.connections net.old) (N.connections net.new) (Rose (N.faults net.old) (N.faults net.new)) result }
     ensures stays { N.listens_at net.new ≡ N.listens_at net.old }
+    ensures nets { RisesBy Fault.Network (N.faults net.old) (N.faults net.new) result }
 {
     match serve_connections(alloc, loaded, net, requests) {
         Ok(tally) => Ok(tally),
@@ -96,7 +105,8 @@ fn fault_of(fault: ServeFault) -> Fault
 
 /// Writes how many connections came, and how many of them were answered.
 fn tell_tally<O: Sink>(alloc: Global, tally: Tally, out: &mut O) -> Result<(), Fault>
-    ensures { WriteEnds (tally_line tally) (O.held out.old) (O.held out.new) (Rose (O.write_faults out.old) (O.write_faults out.new)) result }
+    ensures ends { WriteEnds (tally_line tally) (O.held out.old) (O.held out.new) (Rose (O.write_faults out.old) (O.write_faults out.new)) result }
+    ensures outs { RisesBy Fault.Write (O.write_faults out.old) (O.write_faults out.new) result }
 {
     match tally_line(alloc, tally) {
         Ok(line) => write(out, line.as_str().as_bytes()),

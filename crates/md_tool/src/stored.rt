@@ -1,10 +1,11 @@
 // The commands over a stored profile: `page` and `migrate`.
-ghost use Rattle.std.specs.Prelude.{◌≡◌, ◌≤◌, MatchResult};
+ghost use Rattle.std.specs.Prelude.{◌≡◌, ◌⊎◌, ◌≤◌, MatchResult};
 ghost use Rattle.md_base.specs.Outside.{Rose};
 ghost use Rattle.md_deepfile.specs.Loads.{FileSpells};
 ghost use Rattle.md_dynamic.specs.Valid.{IsValid};
 ghost use Rattle.md_query.specs.Told.{asked};
 ghost use Rattle.md_tool.specs.Stored.{IsStored, IsLoadedFrom, LoadFails, ViewFails, StoredEnds, MigrateEnds, longest_profile, migrated};
+ghost use Rattle.md_tool.specs.Rises.{RisesBy};
 
 use crate::fault::Fault;
 use crate::paged::write_page;
@@ -33,6 +34,9 @@ pub fn page_of_file<S: Store, O: Sink>(
     ensures ends { StoredEnds (S.held store.old) name.now (asked query.now) (O.held out.old) (O.held out.new)
         (Rose (S.read_faults store.old) (S.read_faults store.new)) (Rose (O.write_faults out.old) (O.write_faults out.new)) result }
     ensures kept { S.held store.new ≡ S.held store.old }
+    ensures reads { RisesBy Fault.Read (S.read_faults store.old) (S.read_faults store.new) result }
+    ensures writes { S.write_faults store.new ≡ S.write_faults store.old }
+    ensures outs { RisesBy Fault.Write (O.write_faults out.old) (O.write_faults out.new) result }
 {
     let loaded = load_file(alloc, name, store)?;
     write_page(alloc, &loaded, query, out)
@@ -44,6 +48,8 @@ pub fn load_file<S: Store>(alloc: Global, name: &str, store: &mut S) -> Result<L
         (ViewFails (S.held store.old) name.now (Rose (S.read_faults store.old) (S.read_faults store.new))) }
     ensures kept { S.held store.new ≡ S.held store.old }
     ensures later { S.read_faults store.old ≤ S.read_faults store.new }
+    ensures reads { RisesBy Fault.Read (S.read_faults store.old) (S.read_faults store.new) result }
+    ensures writes { S.write_faults store.new ≡ S.write_faults store.old }
 {
     let profile = load_profile(alloc, name, LONGEST_PROFILE, store)?;
     match propagate(alloc, profile) {
@@ -65,6 +71,7 @@ pub fn load_profile<S: Store>(
     ensures kept { S.held store.new ≡ S.held store.old }
     ensures later { S.read_faults store.old ≤ S.read_faults store.new }
     ensures writes { S.write_faults store.new ≡ S.write_faults store.old }
+    ensures reads { RisesBy Fault.Read (S.read_faults store.old) (S.read_faults store.new) result }
 {
     match load(alloc, store, name, most) {
         Ok(profile) => Ok(profile),
@@ -86,6 +93,10 @@ pub fn migrate_file<S: Store, O: Sink>(
     ensures ends { MigrateEnds (S.held store.old) (S.held store.new) name.now new.now (O.held out.old) (O.held out.new)
         (Rose (S.read_faults store.old) (S.read_faults store.new)) (Rose (S.write_faults store.old) (S.write_faults store.new))
         (Rose (O.write_faults out.old) (O.write_faults out.new)) result }
+    ensures reads { RisesBy Fault.Read (S.read_faults store.old) (S.read_faults store.new) result }
+    ensures writes { RisesBy Fault.Write (S.write_faults store.old) (S.write_faults store.new) result }
+    ensures outs { RisesBy Fault.Write (O.write_faults out.old) (O.write_faults out.new) result }
+    ensures one { (S.write_faults store.new ≡ S.write_faults store.old) ⊎ (O.write_faults out.new ≡ O.write_faults out.old) }
 {
     let profile = load_profile(alloc, name, LONGEST_MIGRATED, store)?;
     store_told(alloc, &profile, new, b"migrated\n", store, out)

@@ -7,6 +7,7 @@ ghost use Rattle.md_dump.specs.Sums.{IsSumOver};
 ghost use Rattle.md_commands.specs.Told.{texts};
 ghost use Rattle.md_tool.specs.Stored.{IsLoadedFrom, ViewFails};
 ghost use Rattle.md_tool.specs.Summed.{AreSummed, SumStops, AddUpFails, StopsAt, IsSumOf, sum_lines, sum_title, sum_text};
+ghost use Rattle.md_tool.specs.Rises.{RisesBy, RisesByOne};
 
 use crate::fault::{Fault, Stopped};
 use crate::stored::load_file;
@@ -29,6 +30,9 @@ pub fn sum_files<'a, S: Store, O: Sink>(
     ensures ends { SumStops (S.held store.old) (texts names.now) (O.held out.old) (O.held out.new)
         (Rose (S.read_faults store.old) (S.read_faults store.new)) (Rose (O.write_faults out.old) (O.write_faults out.new)) result }
     ensures kept { S.held store.new ≡ S.held store.old }
+    ensures reads { RisesByOne Fault.Read (S.read_faults store.old) (S.read_faults store.new) result }
+    ensures writes { S.write_faults store.new ≡ S.write_faults store.old }
+    ensures outs { RisesByOne Fault.Write (O.write_faults out.old) (O.write_faults out.new) result }
 {
     let sums = add_files(alloc, names, store)?;
     write_sums(alloc, names, &sums, out)
@@ -43,8 +47,9 @@ fn write_sums<'a, O: Sink>(
 ) -> Result<(), Stopped<'a>>
     requires some { 1 ≤ length names.now }
     requires summed { (held : Option Files) × AreSummed held (texts names.now) sums.now }
-    ensures { (held : Option Files) → AreSummed held (texts names.now) sums.now
+    ensures ends { (held : Option Files) → AreSummed held (texts names.now) sums.now
         → SumStops held (texts names.now) (O.held out.old) (O.held out.new) ⊥ (Rose (O.write_faults out.old) (O.write_faults out.new)) result }
+    ensures outs { RisesByOne Fault.Write (O.write_faults out.old) (O.write_faults out.new) result }
 {
     let text = text_of(alloc, names, sums)?;
     match write(out, &text) {
@@ -63,6 +68,8 @@ fn add_files<'a, S: Store>(
     ensures summed { MatchResult result (AreSummed (S.held store.old) (texts names.now))
         (λ stopped. StopsAt (S.held store.old) (texts names.now) stopped.file.now (Rose (S.read_faults store.old) (S.read_faults store.new)) stopped.fault) }
     ensures kept { S.held store.new ≡ S.held store.old }
+    ensures reads { RisesByOne Fault.Read (S.read_faults store.old) (S.read_faults store.new) result }
+    ensures writes { S.write_faults store.new ≡ S.write_faults store.old }
 {
     let mut sums = RunningSums::new(alloc);
     for name in names {
@@ -88,6 +95,8 @@ fn add_file<S: Store>(
         (ViewFails (S.held store.old) name.now (Rose (S.read_faults store.old) (S.read_faults store.new))) }
     ensures kept { S.held store.new ≡ S.held store.old }
     ensures later { S.read_faults store.old ≤ S.read_faults store.new }
+    ensures reads { RisesBy Fault.Read (S.read_faults store.old) (S.read_faults store.new) result }
+    ensures writes { S.write_faults store.new ≡ S.write_faults store.old }
 {
     let loaded = load_file(alloc, name, store)?;
     match sums.add(alloc, &loaded) {

@@ -1,10 +1,11 @@
 // The commands that write a stored profile as a text, and bring it back: `dump` and `undump`.
-ghost use Rattle.std.specs.Prelude.{◌≡◌, ◌≤◌, length, MatchResult};
+ghost use Rattle.std.specs.Prelude.{◌≡◌, ◌⊎◌, ◌≤◌, length, MatchResult};
 ghost use Rattle.md_base.specs.Outside.{Rose};
 ghost use Rattle.md_dump.specs.Text.{dump_text};
 ghost use Rattle.md_dynamic.specs.Valid.{IsValid};
 ghost use Rattle.md_tool.specs.Due.{WriteEnds};
 ghost use Rattle.md_tool.specs.Texts.{DumpEnds, IsDumped, TextFails, TextSpells, UndumpFails, UndumpEnds};
+ghost use Rattle.md_tool.specs.Rises.{RisesBy};
 
 use crate::fault::Fault;
 use crate::run::store_told;
@@ -25,6 +26,9 @@ pub fn dump_file<S: Store, O: Sink>(
     ensures ends { DumpEnds (S.held store.old) name.now (O.held out.old) (O.held out.new)
         (Rose (S.read_faults store.old) (S.read_faults store.new)) (Rose (O.write_faults out.old) (O.write_faults out.new)) result }
     ensures kept { S.held store.new ≡ S.held store.old }
+    ensures reads { RisesBy Fault.Read (S.read_faults store.old) (S.read_faults store.new) result }
+    ensures writes { S.write_faults store.new ≡ S.write_faults store.old }
+    ensures outs { RisesBy Fault.Write (O.write_faults out.old) (O.write_faults out.new) result }
 {
     let profile = load_profile(alloc, name, LONGEST_PROFILE, store)?;
     write_dump(alloc, &profile, out)
@@ -33,7 +37,8 @@ pub fn dump_file<S: Store, O: Sink>(
 /// Writes a profile as a text.
 fn write_dump<O: Sink>(alloc: Global, profile: &Profile, out: &mut O) -> Result<(), Fault>
     requires { IsValid profile.now }
-    ensures { WriteEnds (dump_text profile.now) (O.held out.old) (O.held out.new) (Rose (O.write_faults out.old) (O.write_faults out.new)) result }
+    ensures ends { WriteEnds (dump_text profile.now) (O.held out.old) (O.held out.new) (Rose (O.write_faults out.old) (O.write_faults out.new)) result }
+    ensures outs { RisesBy Fault.Write (O.write_faults out.old) (O.write_faults out.new) result }
 {
     match dump(alloc, profile) {
         Ok(text) => write(out, &text),
@@ -52,6 +57,10 @@ pub fn undump_file<S: Store, O: Sink>(
     ensures ends { UndumpEnds (S.held store.old) (S.held store.new) name.now new.now (O.held out.old) (O.held out.new)
         (Rose (S.read_faults store.old) (S.read_faults store.new)) (Rose (S.write_faults store.old) (S.write_faults store.new))
         (Rose (O.write_faults out.old) (O.write_faults out.new)) result }
+    ensures reads { RisesBy Fault.Read (S.read_faults store.old) (S.read_faults store.new) result }
+    ensures writes { RisesBy Fault.Write (S.write_faults store.old) (S.write_faults store.new) result }
+    ensures outs { RisesBy Fault.Write (O.write_faults out.old) (O.write_faults out.new) result }
+    ensures one { (S.write_faults store.new ≡ S.write_faults store.old) ⊎ (O.write_faults out.new ≡ O.write_faults out.old) }
 {
     let profile = read_dumped(alloc, name, store)?;
     store_told(alloc, &profile, new, b"undumped\n", store, out)
@@ -63,6 +72,7 @@ fn read_dumped<S: Store>(alloc: Global, name: &str, store: &mut S) -> Result<Pro
     ensures valid { MatchResult result IsValid (λ _. Unit {0}) }
     ensures kept { S.held store.new ≡ S.held store.old }
     ensures writes { S.write_faults store.new ≡ S.write_faults store.old }
+    ensures reads { RisesBy Fault.Read (S.read_faults store.old) (S.read_faults store.new) result }
 {
     let text = read_dump(alloc, name, store)?;
     match undump(alloc, &text) {
@@ -77,6 +87,7 @@ fn read_dump<S: Store>(alloc: Global, name: &str, store: &mut S) -> Result<Vec<u
     ensures read { MatchResult result (λ text. IsDumped (S.held store.old) name.now text.items) (TextFails (S.held store.old) name.now (Rose (S.read_faults store.old) (S.read_faults store.new))) }
     ensures kept { S.held store.new ≡ S.held store.old }
     ensures writes { S.write_faults store.new ≡ S.write_faults store.old }
+    ensures reads { RisesBy Fault.Read (S.read_faults store.old) (S.read_faults store.new) result }
 {
     match read_all(alloc, store, name, LONGEST_MIGRATED) {
         Ok(text) => Ok(text),

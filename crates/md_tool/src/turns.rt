@@ -13,6 +13,7 @@ ghost use Rattle.md_tool.specs.Reported.{ReportEnds, ShowEnds};
 ghost use Rattle.md_commands.specs.Form.{Meant, Number};
 ghost use Rattle.md_commands.specs.Told.{meant};
 ghost use Rattle.md_tool.specs.Turns.{IsCoverageOfRun, HasNoProcedure, IsCounted, IsTextOfTurns, number_in};
+ghost use Rattle.md_tool.specs.Rises.{RisesBy};
 
 use crate::accept::{accept, read_text};
 use crate::fault::Fault;
@@ -57,6 +58,10 @@ pub fn cover_file<S: Store, O: Sink, E: Sink>(
         (Rose (E.write_faults err.old) (E.write_faults err.new)) result }
     ensures kept { S.held store.new ≡ S.held store.old }
     ensures later { E.write_faults err.old ≤ E.write_faults err.new }
+    ensures reads { RisesBy Fault.Read (S.read_faults store.old) (S.read_faults store.new) result }
+    ensures writes { S.write_faults store.new ≡ S.write_faults store.old }
+    ensures outs { RisesBy Fault.Write (O.write_faults out.old) (O.write_faults out.new) result }
+    ensures errs { RisesBy Fault.Write (E.write_faults err.old) (E.write_faults err.new) result }
 {
     let text = read_text(alloc, file, store)?;
     let counted = count_text(alloc, &text, proc, steps)?;
@@ -172,6 +177,8 @@ fn show_counted<O: Sink, E: Sink>(counted: Counted, out: &mut O, err: &mut E) ->
         → ShowEnds (IsCoverageOfRun proc steps program) (HasNoProcedure proc program) program steps (O.held out.old) (O.held out.new) (E.held err.old) (E.held err.new)
         (Rose (O.write_faults out.old) (O.write_faults out.new)) (Rose (E.write_faults err.old) (E.write_faults err.new)) result }
     ensures later { E.write_faults err.old ≤ E.write_faults err.new }
+    ensures outs { RisesBy Fault.Write (O.write_faults out.old) (O.write_faults out.new) result }
+    ensures errs { RisesBy Fault.Write (E.write_faults err.old) (E.write_faults err.new) result }
 {
     let Counted { ran, text } = counted;
     show_output(err, &ran.output)?;
@@ -183,8 +190,9 @@ fn show_counted<O: Sink, E: Sink>(counted: Counted, out: &mut O, err: &mut E) ->
 
 /// Writes a text, where there is one.
 fn write_found<O: Sink>(text: Option<Vec<u8>>, out: &mut O) -> Result<(), Fault>
-    ensures { (program : Hlds) (proc : Meant) (steps : ℕ) → IsTextOfTurns program proc steps text
+    ensures ends { (program : Hlds) (proc : Meant) (steps : ℕ) → IsTextOfTurns program proc steps text
         → TextEnds (IsCoverageOfRun proc steps program) (HasNoProcedure proc program) (O.held out.old) (O.held out.new) (Rose (O.write_faults out.old) (O.write_faults out.new)) result }
+    ensures outs { RisesBy Fault.Write (O.write_faults out.old) (O.write_faults out.new) result }
 {
     match text {
         Some(text) => write(out, &text),

@@ -25,8 +25,8 @@ pub fn at(port: u16) -> SocketAddr {
 }
 
 /// Does what the lines say, in order. `peer COUNT BYTES` connects a peer that sends these bytes so many times, and `ends`
-/// lets the last one end its sending. `serve BYTES` takes the next connection, reads once, and answers these bytes. In the
-/// end what is left is closed, and `answered PLACE` tells all that a peer got.
+/// lets the last one end its sending. `serve BYTES` takes the next connection, reads once, and answers these bytes, and
+/// `elsewhere` tries another address of this machine. In the end what is left is closed, and `answered PLACE` tells all that a peer got.
 pub fn show(rt: &HostRuntime, alloc: Global, case: &Case, found: &mut String) -> io::Result<()> {
     let port = free_port(rt)?;
     let mut peers = Vec::new(alloc);
@@ -61,6 +61,7 @@ fn meet<N: Net>(
             "peer" => peers.push(peer(rt, field, port)?)?,
             "ends" => end_last(peers)?,
             "serve" => serve(alloc, field, net, found)?,
+            "elsewhere" => elsewhere(rt, port, found)?,
             _ => {}
         }
     }
@@ -77,6 +78,15 @@ fn peer(rt: &HostRuntime, field: &Field, port: u16) -> io::Result<TcpStream> {
         stream.write_all(bytes)?;
     }
     Ok(stream)
+}
+
+/// Whether this port is reached at another address of this machine.
+fn elsewhere(rt: &HostRuntime, port: u16, found: &mut String) -> Result<(), AllocError> {
+    let other = SocketAddr::from((Ipv4Addr::new(127, 0, 0, 2), port));
+    match TcpStream::connect(rt, other) {
+        Ok(_) => writeln!(found, "reached at another address"),
+        Err(_) => writeln!(found, "not reached at another address"),
+    }
 }
 
 /// Ends the sending of the last peer.

@@ -14,4 +14,4 @@ returns-clause-ends g c =
     (Rose (g.O.Sink.write_faults c.args.out.now) (g.O.Sink.write_faults c.show.new.out))
     c.show.result c.in_ok-text.ensures.read
     (subst (λ (p : Program). Accepts c.in_ok-text.text.items (hlds_of p)) (sym c.program.ensures.program) (rw c.deref.ensures.value at c.in_ok-checked.ensures))
-    c.show.ensures
+    c.show.ensures.ends

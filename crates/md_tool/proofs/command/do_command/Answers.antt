@@ -1,11 +1,13 @@
-use Rattle.std.proofs.Common.{sym, subst, Some, arith}
+use Rattle.std.proofs.Common.{sym, subst, refl, inl, Some, arith}
 use Rattle.std.proofs.lemmas.Grind.{common_steps}
 use Rattle.md_base.specs.Outside.{Rose}
 use Rattle.md_tool.specs.Served.{net_side}
 use Rattle.md_query.specs.Told.{asked}
 use Rattle.md_commands.specs.declared.command.Command.{Command}
 use Rattle.md_commands.specs.Told.{meant, told, texts}
+use Rattle.md_tool.specs.declared.fault.Fault.TheVariants.{Read, Write, Network}
 use Rattle.md_tool.specs.Told.{TopEnds}
+use Rattle.md_tool.proofs.RisesLemmas.{told_by, done_by}
 use Rattle.md_tool.proofs.SumLemmas.{as_many_texts}
 use Rattle.md_tool.proofs.TopLemmas.{report_told, cover_told, gen_told, serve_told, sum_told, compare_told}
 use Rattle.md_tool.proofs.command.do_command.Goals as goal
@@ -72,7 +74,7 @@ returns-in-Gen-clause-ends g c =
     (Rose (g.O.Sink.write_faults c.args.out.now) (g.O.Sink.write_faults c.generate-end.new.out))
     (Rose (g.E.Sink.write_faults c.args.err.now) (g.E.Sink.write_faults c.tell_end-in-Gen.new.err))
     (Rose (g.N.Net.faults c.args.net.now) (g.N.Net.faults c.args.net.now)) c.tell_end-in-Gen.result c.generate-end.result
-    c.generate-end.ensures c.tell_end-in-Gen.ensures.told)
+    c.generate-end.ensures.ends c.tell_end-in-Gen.ensures.told)
 
 pub do_sum-requires-clause-few : goal.do_sum-requires-clause-few
 do_sum-requires-clause-few g c =
@@ -196,3 +198,119 @@ returns-in-Migrate-clause-ends g c = grind (arith, common_steps)
 
 pub returns-in-Migrate-clause-net : goal.returns-in-Migrate-clause-net
 returns-in-Migrate-clause-net g c = grind (arith, common_steps)
+
+pub returns-in-Check-clause-faults : goal.returns-in-Check-clause-faults
+returns-in-Check-clause-faults g c = record {
+  reads_are = told_by Read c.check_file-end.result _ _ _ _ c.tell_end.result _ _ c.check_file-end.ensures.reads c.tell_end.ensures.told;
+  writes_are = inl c.check_file-end.ensures.writes;
+  outs_are = told_by Write c.check_file-end.result _ _ _ _ c.tell_end.result _ _ c.check_file-end.ensures.outs c.tell_end.ensures.told;
+  errs_are = c.tell_end.ensures.errs;
+  nets_are = inl refl;
+  one = inl c.check_file-end.ensures.writes;
+}
+
+pub returns-in-Run-clause-faults : goal.returns-in-Run-clause-faults
+returns-in-Run-clause-faults g c = record {
+  reads_are = told_by Read c.run_file-end.result _ _ _ _ c.tell_end-in-Run.result _ _ c.run_file-end.ensures.reads c.tell_end-in-Run.ensures.told;
+  writes_are = told_by Write c.run_file-end.result _ _ _ _ c.tell_end-in-Run.result _ _ c.run_file-end.ensures.writes c.tell_end-in-Run.ensures.told;
+  outs_are = told_by Write c.run_file-end.result _ _ _ _ c.tell_end-in-Run.result _ _ c.run_file-end.ensures.outs c.tell_end-in-Run.ensures.told;
+  errs_are = c.tell_end-in-Run.ensures.errs;
+  nets_are = inl refl;
+  one = c.run_file-end.ensures.one;
+}
+
+pub returns-in-Report-clause-faults : goal.returns-in-Report-clause-faults
+returns-in-Report-clause-faults g c = record {
+  reads_are = told_by Read c.report_file-end.result _ _ _ _ c.tell_end-in-Report.result _ _ c.report_file-end.ensures.reads c.tell_end-in-Report.ensures.told;
+  writes_are = inl c.report_file-end.ensures.writes;
+  outs_are = told_by Write c.report_file-end.result _ _ _ _ c.tell_end-in-Report.result _ _ c.report_file-end.ensures.outs c.tell_end-in-Report.ensures.told;
+  errs_are = done_by Write c.report_file-end.result _ _ _ _ c.tell_end-in-Report.result _ _ _ c.report_file-end.ensures.errs c.tell_end-in-Report.ensures.told c.tell_end-in-Report.ensures.errs;
+  nets_are = inl refl;
+  one = inl c.report_file-end.ensures.writes;
+}
+
+pub returns-in-Page-clause-faults : goal.returns-in-Page-clause-faults
+returns-in-Page-clause-faults g c = record {
+  reads_are = told_by Read c.page_of_file-end.result _ _ _ _ c.tell_end-in-Page.result _ _ c.page_of_file-end.ensures.reads c.tell_end-in-Page.ensures.told;
+  writes_are = inl c.page_of_file-end.ensures.writes;
+  outs_are = told_by Write c.page_of_file-end.result _ _ _ _ c.tell_end-in-Page.result _ _ c.page_of_file-end.ensures.outs c.tell_end-in-Page.ensures.told;
+  errs_are = c.tell_end-in-Page.ensures.errs;
+  nets_are = inl refl;
+  one = inl c.page_of_file-end.ensures.writes;
+}
+
+pub returns-in-Serve-clause-faults : goal.returns-in-Serve-clause-faults
+returns-in-Serve-clause-faults g c = record {
+  reads_are = told_by Read c.serve_file-end.result _ _ _ _ c.tell_end-in-Serve.result _ _ c.serve_file-end.ensures.reads c.tell_end-in-Serve.ensures.told;
+  writes_are = inl c.serve_file-end.ensures.writes;
+  outs_are = told_by Write c.serve_file-end.result _ _ _ _ c.tell_end-in-Serve.result _ _ c.serve_file-end.ensures.outs c.tell_end-in-Serve.ensures.told;
+  errs_are = c.tell_end-in-Serve.ensures.errs;
+  nets_are = told_by Network c.serve_file-end.result _ _ _ _ c.tell_end-in-Serve.result _ _ c.serve_file-end.ensures.nets c.tell_end-in-Serve.ensures.told;
+  one = inl c.serve_file-end.ensures.writes;
+}
+
+pub returns-in-Gen-clause-faults : goal.returns-in-Gen-clause-faults
+returns-in-Gen-clause-faults g c = record {
+  reads_are = inl refl;
+  writes_are = inl refl;
+  outs_are = told_by Write c.generate-end.result _ _ _ _ c.tell_end-in-Gen.result _ _ c.generate-end.ensures.outs c.tell_end-in-Gen.ensures.told;
+  errs_are = c.tell_end-in-Gen.ensures.errs;
+  nets_are = inl refl;
+  one = inl refl;
+}
+
+pub returns-in-Migrate-clause-faults : goal.returns-in-Migrate-clause-faults
+returns-in-Migrate-clause-faults g c = record {
+  reads_are = told_by Read c.migrate_file-end.result _ _ _ _ c.tell_end-in-Migrate.result _ _ c.migrate_file-end.ensures.reads c.tell_end-in-Migrate.ensures.told;
+  writes_are = told_by Write c.migrate_file-end.result _ _ _ _ c.tell_end-in-Migrate.result _ _ c.migrate_file-end.ensures.writes c.tell_end-in-Migrate.ensures.told;
+  outs_are = told_by Write c.migrate_file-end.result _ _ _ _ c.tell_end-in-Migrate.result _ _ c.migrate_file-end.ensures.outs c.tell_end-in-Migrate.ensures.told;
+  errs_are = c.tell_end-in-Migrate.ensures.errs;
+  nets_are = inl refl;
+  one = c.migrate_file-end.ensures.one;
+}
+
+pub returns-in-Feedback-clause-faults : goal.returns-in-Feedback-clause-faults
+returns-in-Feedback-clause-faults g c = record {
+  reads_are = told_by Read c.feedback_file-end.result _ _ _ _ c.tell_end-in-Feedback.result _ _ c.feedback_file-end.ensures.reads c.tell_end-in-Feedback.ensures.told;
+  writes_are = told_by Write c.feedback_file-end.result _ _ _ _ c.tell_end-in-Feedback.result _ _ c.feedback_file-end.ensures.writes c.tell_end-in-Feedback.ensures.told;
+  outs_are = told_by Write c.feedback_file-end.result _ _ _ _ c.tell_end-in-Feedback.result _ _ c.feedback_file-end.ensures.outs c.tell_end-in-Feedback.ensures.told;
+  errs_are = c.tell_end-in-Feedback.ensures.errs;
+  nets_are = inl refl;
+  one = c.feedback_file-end.ensures.one;
+}
+
+pub returns-in-Cover-clause-faults : goal.returns-in-Cover-clause-faults
+returns-in-Cover-clause-faults g c = record {
+  reads_are = told_by Read c.cover_file-end.result _ _ _ _ c.tell_end-in-Cover.result _ _ c.cover_file-end.ensures.reads c.tell_end-in-Cover.ensures.told;
+  writes_are = inl c.cover_file-end.ensures.writes;
+  outs_are = told_by Write c.cover_file-end.result _ _ _ _ c.tell_end-in-Cover.result _ _ c.cover_file-end.ensures.outs c.tell_end-in-Cover.ensures.told;
+  errs_are = done_by Write c.cover_file-end.result _ _ _ _ c.tell_end-in-Cover.result _ _ _ c.cover_file-end.ensures.errs c.tell_end-in-Cover.ensures.told c.tell_end-in-Cover.ensures.errs;
+  nets_are = inl refl;
+  one = inl c.cover_file-end.ensures.writes;
+}
+
+pub returns-in-Dump-clause-faults : goal.returns-in-Dump-clause-faults
+returns-in-Dump-clause-faults g c = record {
+  reads_are = told_by Read c.dump_file-end.result _ _ _ _ c.tell_end-in-Dump.result _ _ c.dump_file-end.ensures.reads c.tell_end-in-Dump.ensures.told;
+  writes_are = inl c.dump_file-end.ensures.writes;
+  outs_are = told_by Write c.dump_file-end.result _ _ _ _ c.tell_end-in-Dump.result _ _ c.dump_file-end.ensures.outs c.tell_end-in-Dump.ensures.told;
+  errs_are = c.tell_end-in-Dump.ensures.errs;
+  nets_are = inl refl;
+  one = inl c.dump_file-end.ensures.writes;
+}
+
+pub returns-in-Undump-clause-faults : goal.returns-in-Undump-clause-faults
+returns-in-Undump-clause-faults g c = record {
+  reads_are = told_by Read c.undump_file-end.result _ _ _ _ c.tell_end-in-Undump.result _ _ c.undump_file-end.ensures.reads c.tell_end-in-Undump.ensures.told;
+  writes_are = told_by Write c.undump_file-end.result _ _ _ _ c.tell_end-in-Undump.result _ _ c.undump_file-end.ensures.writes c.tell_end-in-Undump.ensures.told;
+  outs_are = told_by Write c.undump_file-end.result _ _ _ _ c.tell_end-in-Undump.result _ _ c.undump_file-end.ensures.outs c.tell_end-in-Undump.ensures.told;
+  errs_are = c.tell_end-in-Undump.ensures.errs;
+  nets_are = inl refl;
+  one = c.undump_file-end.ensures.one;
+}
+
+pub returns-in-Sum-clause-faults : goal.returns-in-Sum-clause-faults
+returns-in-Sum-clause-faults g c = record { reads_are = c.do_sum.ensures.reads; writes_are = inl c.do_sum.ensures.writes; outs_are = c.do_sum.ensures.outs; errs_are = c.do_sum.ensures.errs; nets_are = inl refl; one = inl c.do_sum.ensures.writes }
+
+pub returns-in-Compare-clause-faults : goal.returns-in-Compare-clause-faults
+returns-in-Compare-clause-faults g c = record { reads_are = c.do_compare.ensures.reads; writes_are = inl c.do_compare.ensures.writes; outs_are = c.do_compare.ensures.outs; errs_are = c.do_compare.ensures.errs; nets_are = inl refl; one = inl c.do_compare.ensures.writes }

@@ -1,4 +1,4 @@
-use Rattle.std.proofs.Common.{sym, ap, ◌∙◌, arith}
+use Rattle.std.proofs.Common.{refl, inl, sym, ap, ◌∙◌, arith}
 use Rattle.std.proofs.lemmas.Grind.{common_steps}
 use Rattle.md_base.specs.Outside.{Rose}
 use Rattle.md_tool.specs.Served.{net_side}
@@ -37,3 +37,12 @@ returns-in-Ok-None-clause-net g c = grind (arith, common_steps)
 
 pub returns-in-Err-clause-net : goal.returns-in-Err-clause-net
 returns-in-Err-clause-net g c = grind (arith, common_steps)
+
+pub returns-in-Err-clause-faults : goal.returns-in-Err-clause-faults
+returns-in-Err-clause-faults g c = record { reads_are = inl refl; writes_are = inl refl; outs_are = inl refl; errs_are = c.tell.ensures.errs; nets_are = inl refl; one = inl refl }
+
+pub returns-in-Ok-None-clause-faults : goal.returns-in-Ok-None-clause-faults
+returns-in-Ok-None-clause-faults g c = record { reads_are = inl refl; writes_are = inl refl; outs_are = inl refl; errs_are = c.tell-in-Ok-None.ensures.errs; nets_are = inl refl; one = inl refl }
+
+pub returns-in-Ok-Some-clause-faults : goal.returns-in-Ok-Some-clause-faults
+returns-in-Ok-Some-clause-faults g c = c.do_command.ensures.faults

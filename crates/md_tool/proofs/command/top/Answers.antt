@@ -23,3 +23,6 @@ returns-clause-store g c =
     (Rose (g.O.Sink.write_faults c.args.out.now) (g.O.Sink.write_faults c.run_command.new.out))
     (Rose (g.E.Sink.write_faults c.args.err.now) (g.E.Sink.write_faults c.run_command.new.err))
     (Rose (g.N.Net.faults c.args.net.now) (g.N.Net.faults c.run_command.new.net)) c.run_command.result c.run_command.ensures.ends
+
+pub returns-clause-faults : goal.returns-clause-faults
+returns-clause-faults g c = c.run_command.ensures.faults

@@ -24,9 +24,9 @@ returns-clause-ends g c =
     compare_fails (g.S.Store.held c.args.store.now) c.args.old.now c.args.new.now c.args.by c.args.least c.in_ok-before.before c.in_ok-after.after c.in_ok-before.ensures.loaded
     (rw (c.in_ok-before.ensures.kept) at c.in_ok-after.ensures.loaded) _ (g.O.Sink.held c.args.out.now) (g.O.Sink.held c.write_comparison.new.out)
     (Rose (g.S.Store.read_faults c.args.store.now) (g.S.Store.read_faults c.load_named-2.new.store))
-    (Rose (g.O.Sink.write_faults c.args.out.now) (g.O.Sink.write_faults c.write_comparison.new.out)) c.in-Err.fault c.in-Err.ensures
+    (Rose (g.O.Sink.write_faults c.args.out.now) (g.O.Sink.write_faults c.write_comparison.new.out)) c.in-Err.fault c.in-Err.ensures.ends
 
 pub returns-in-Ok-clause-ends : goal.returns-in-Ok-clause-ends
 returns-in-Ok-clause-ends g c =
     all_compared (g.S.Store.held c.args.store.now) c.args.old.now c.args.new.now c.args.by c.args.least c.in_ok-before.before c.in_ok-after.after c.in_ok-before.ensures.loaded
-    (rw (c.in_ok-before.ensures.kept) at c.in_ok-after.ensures.loaded) (g.O.Sink.held c.args.out.now) (g.O.Sink.held c.write_comparison.new.out) c.in-Ok.ensures
+    (rw (c.in_ok-before.ensures.kept) at c.in_ok-after.ensures.loaded) (g.O.Sink.held c.args.out.now) (g.O.Sink.held c.write_comparison.new.out) c.in-Ok.ensures.ends

@@ -4,8 +4,8 @@ use Rattle.md_tool.specs.Compared.{IsComparison}
 use Rattle.md_tool.proofs.ReportLemmas.{text_written}
 use Rattle.md_tool.proofs.compare.write_comparison.Goals as goal
 
-pub returns-in-Ok : goal.returns-in-Ok
-returns-in-Ok g c =
+pub returns-in-Ok-clause-ends : goal.returns-in-Ok-clause-ends
+returns-in-Ok-clause-ends g c =
     let old = c.profile-old_viewed.ensures.viewed in
     let new = c.profile-new_viewed.ensures.viewed in
     text_written (IsComparison c.args.old.now.profile c.args.new.now.profile c.args.by c.args.least) ⊥ c.deref.result.now (g.O.Sink.held c.args.out.now) (g.O.Sink.held c.write.new.out)

@@ -3,12 +3,12 @@ use Rattle.md_tool.specs.Generated.{most_steps}
 use Rattle.md_tool.proofs.GenLemmas.{summed, unsummed}
 use Rattle.md_tool.proofs.generate.show_menu.Goals as goal
 
-pub returns-in-Ok : goal.returns-in-Ok
-returns-in-Ok g c =
+pub returns-in-Ok-clause-ends : goal.returns-in-Ok-clause-ends
+returns-in-Ok-clause-ends g c =
     summed c.args.n (g.O.Sink.held c.args.out.now) (g.O.Sink.held c.show_page.new.out) (Rose (g.O.Sink.write_faults c.args.out.now) (g.O.Sink.write_faults c.show_page.new.out))
-    c.args.profiled c.ended.result c.requires (c.in-Ok.ensures c.requires.accepted.program most_steps c.requires.bounds c.requires.is_profiled.is_profile) c.ended.ensures
+    c.args.profiled c.ended.result c.requires (c.in-Ok.ensures.ends c.requires.accepted.program most_steps c.requires.bounds c.requires.is_profiled.is_profile) c.ended.ensures
 
-pub returns-in-Err : goal.returns-in-Err
-returns-in-Err g c =
+pub returns-in-Err-clause-ends : goal.returns-in-Err-clause-ends
+returns-in-Err-clause-ends g c =
     unsummed c.args.n (g.O.Sink.held c.args.out.now) (g.O.Sink.held c.show_page.new.out) (Rose (g.O.Sink.write_faults c.args.out.now) (g.O.Sink.write_faults c.show_page.new.out))
-    c.args.profiled c.in-Err.fault c.requires (c.in-Err.ensures c.requires.accepted.program most_steps c.requires.bounds c.requires.is_profiled.is_profile)
+    c.args.profiled c.in-Err.fault c.requires (c.in-Err.ensures.ends c.requires.accepted.program most_steps c.requires.bounds c.requires.is_profiled.is_profile)

@@ -7,14 +7,14 @@ use Rattle.md_tool.specs.Due.{WriteEnds}
 use Rattle.md_tool.proofs.ReportLemmas.{page_written}
 use Rattle.md_tool.proofs.paged.write_page.Goals as goal
 
-pub returns : goal.returns
-returns g c = grind (arith, common_steps)
+pub returns-clause-ends : goal.returns-clause-ends
+returns-clause-ends g c = grind (arith, common_steps)
 
-pub returns-in_err-page : goal.returns-in_err-page
-returns-in_err-page g c = grind (arith, common_steps)
+pub returns-in_err-page-clause-ends : goal.returns-in_err-page-clause-ends
+returns-in_err-page-clause-ends g c = grind (arith, common_steps)
 
-pub returns-in-Ok : goal.returns-in-Ok
-returns-in-Ok g c =
+pub returns-in-Ok-clause-ends : goal.returns-in-Ok-clause-ends
+returns-in-Ok-clause-ends g c =
     let view = c.profile-viewed.ensures.viewed in
     let page = c.in_ok-page.page in
     let before = g.O.Sink.held c.args.out.now in

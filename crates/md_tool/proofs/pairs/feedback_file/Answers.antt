@@ -5,8 +5,8 @@ use Rattle.md_tool.proofs.pairs.feedback_file.Goals as goal
 use Rattle.std.proofs.Common.{arith}
 use Rattle.std.proofs.lemmas.Grind.{common_steps}
 
-pub returns : goal.returns
-returns g c =
+pub returns-clause-ends : goal.returns-clause-ends
+returns-clause-ends g c =
     let p = rw c.deref.ensures.value at c.in_ok-paired.ensures in
     ran_accepted (IsFeedbackOfRun c.args.least c.args.steps) (g.S.Store.held c.args.store.now) (g.S.Store.held c.keep_text.new.store) c.args.file.now c.in_ok-text.text.items c.args.steps c.args.new.now
     (g.O.Sink.held c.args.out.now) (g.O.Sink.held c.keep_text.new.out)
@@ -22,8 +22,8 @@ pair_text-requires-clause-least g c = grind (arith, common_steps)
 pub pair_text-requires-clause-short : goal.pair_text-requires-clause-short
 pair_text-requires-clause-short g c = grind (arith, common_steps)
 
-pub returns-in_err-paired : goal.returns-in_err-paired
-returns-in_err-paired g c = grind (arith, common_steps)
+pub returns-in_err-paired-clause-ends : goal.returns-in_err-paired-clause-ends
+returns-in_err-paired-clause-ends g c = grind (arith, common_steps)
 
-pub returns-in_err-text : goal.returns-in_err-text
-returns-in_err-text g c = grind (arith, common_steps)
+pub returns-in_err-text-clause-ends : goal.returns-in_err-text-clause-ends
+returns-in_err-text-clause-ends g c = grind (arith, common_steps)

@@ -15,7 +15,7 @@ returns-in-Err-clause-ends g c program steps bounds p =
     (Rose (g.E.Sink.write_faults c.args.err.now) (g.E.Sink.write_faults c.show_output.new.err))
     c.in-Err.fault p.is_run (rw c.deref.ensures.value at c.in_ok-show_output.ensures.ends)
     (page_text (asked c.args.query.now) steps program (g.O.Sink.held c.args.out.now) (g.O.Sink.held c.show_page.new.out) (Rose (g.O.Sink.write_faults c.args.out.now) (g.O.Sink.write_faults c.show_page.new.out)) (Err c.in-Err.fault)
-    (c.in-Err.ensures program steps bounds p.is_profile))
+    (c.in-Err.ensures.ends program steps bounds p.is_profile))
 
 pub returns-in-Ok-clause-ends : goal.returns-in-Ok-clause-ends
 returns-in-Ok-clause-ends g c program steps bounds p =
@@ -25,7 +25,7 @@ returns-in-Ok-clause-ends g c program steps bounds p =
     (Rose (g.E.Sink.write_faults c.args.err.now) (g.E.Sink.write_faults c.show_output.new.err))
     c.ended.result p.is_run (rw c.deref.ensures.value at c.in_ok-show_output.ensures.ends)
     (page_text (asked c.args.query.now) steps program (g.O.Sink.held c.args.out.now) (g.O.Sink.held c.show_page.new.out) (Rose (g.O.Sink.write_faults c.args.out.now) (g.O.Sink.write_faults c.show_page.new.out)) (Ok tt)
-    (c.in-Ok.ensures program steps bounds p.is_profile)) c.ended.ensures
+    (c.in-Ok.ensures.ends program steps bounds p.is_profile)) c.ended.ensures
 
 pub returns-in-Err-clause-later : goal.returns-in-Err-clause-later
 returns-in-Err-clause-later g c = grind (arith, common_steps)

@@ -8,5 +8,5 @@ load_run-requires-clause-of_run g c = grind (arith, common_steps)
 pub load_run-requires-clause-valid : goal.load_run-requires-clause-valid
 load_run-requires-clause-valid g c = grind (arith, common_steps)
 
-pub returns-in-Err : goal.returns-in-Err
-returns-in-Err g c = grind (arith, common_steps)
+pub returns-in-Err-clause-ends : goal.returns-in-Err-clause-ends
+returns-in-Err-clause-ends g c = grind (arith, common_steps)

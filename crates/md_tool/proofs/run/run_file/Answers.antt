@@ -3,8 +3,8 @@ use Rattle.md_tool.specs.Kept.{IsRunFile}
 use Rattle.md_tool.proofs.KeepLemmas.{ran_accepted}
 use Rattle.md_tool.proofs.run.run_file.Goals as goal
 
-pub returns : goal.returns
-returns g c =
+pub returns-clause-ends : goal.returns-clause-ends
+returns-clause-ends g c =
     let p = rw c.deref.ensures.value at c.in_ok-profiled.ensures in
     ran_accepted (IsRunFile c.args.steps) (g.S.Store.held c.args.store.now) (g.S.Store.held c.keep.new.store) c.args.file.now c.in_ok-text.text.items c.args.steps c.args.name.now
     (g.O.Sink.held c.args.out.now) (g.O.Sink.held c.keep.new.out)

@@ -11,7 +11,7 @@ returns-clause-ends g c =
     (Rose (g.S.Store.read_faults c.args.store.now) (g.S.Store.read_faults c.load_file.new.store))
     (Rose (g.O.Sink.write_faults c.args.out.now) (g.O.Sink.write_faults c.serve_loaded.new.out))
     (Rose (g.N.Net.faults c.args.net.now) (g.N.Net.faults c.serve_loaded.new.net))
-    c.serve_loaded.result (c.serve_loaded.ensures (g.S.Store.held c.args.store.now) c.args.name.now c.in_ok-loaded.ensures.loaded)
+    c.serve_loaded.result (c.serve_loaded.ensures.ends (g.S.Store.held c.args.store.now) c.args.name.now c.in_ok-loaded.ensures.loaded)
 
 pub returns-in_err-loaded-clause-ends : goal.returns-in_err-loaded-clause-ends
 returns-in_err-loaded-clause-ends g c = grind (arith, common_steps)

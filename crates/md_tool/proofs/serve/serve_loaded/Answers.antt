@@ -6,8 +6,8 @@ use Rattle.md_tool.proofs.ServeLemmas.{loadable, same_net, unbound, unserved_fro
 use Rattle.md_tool.proofs.StreamLemmas.{rose_after}
 use Rattle.md_tool.proofs.serve.serve_loaded.Goals as goal
 
-pub returns-in_err-tally : goal.returns-in_err-tally
-returns-in_err-tally g c held name from =
+pub returns-in_err-tally-clause-ends : goal.returns-in_err-tally-clause-ends
+returns-in_err-tally-clause-ends g c held name from =
     let p = err_from_is_err_and c.from_residual-in_err-tally.result c.from_residual-in_err-tally.ensures.1 in
     rw (p.1, p.2)
     (unserved_from held name c.args.port c.args.requests (net_side (g.N.Net.connections c.args.net.now) (g.N.Net.listens_at c.args.net.now)) (net_side (g.N.Net.connections c.serve.new.net) (g.N.Net.listens_at c.serve.new.net)) (g.N.Net.connections c.bind.new.net) (g.O.Sink.held c.args.out.now)
@@ -18,17 +18,17 @@ returns-in_err-tally g c held name from =
     (c.in_err-tally.ensures.stays ∙ c.in_ok-bind.ensures.bound)
     c.in_ok-bind.ensures.kept (c.in_err-tally.ensures.ends c.profile-viewed.ensures.viewed.0 c.profile-viewed.ensures.viewed.1))
 
-pub returns : goal.returns
-returns g c held name from =
+pub returns-clause-ends : goal.returns-clause-ends
+returns-clause-ends g c held name from =
     served_from held name c.args.port c.args.requests (net_side (g.N.Net.connections c.args.net.now) (g.N.Net.listens_at c.args.net.now)) (net_side (g.N.Net.connections c.serve.new.net) (g.N.Net.listens_at c.serve.new.net)) (g.N.Net.connections c.bind.new.net) (g.O.Sink.held c.args.out.now)
     (g.O.Sink.held c.tell_tally.new.out)
     ⊥ (Rose (g.O.Sink.write_faults c.args.out.now) (g.O.Sink.write_faults c.tell_tally.new.out))
     (Rose (g.N.Net.faults c.bind.new.net) (g.N.Net.faults c.serve.new.net)) (Rose (g.N.Net.faults c.args.net.now) (g.N.Net.faults c.serve.new.net))
     c.args.loaded.now c.profile-viewed.ensures.viewed.0 c.in_ok-tally.tally c.tell_tally.result from c.profile-viewed.ensures.viewed.1
-    (c.in_ok-tally.ensures.stays ∙ c.in_ok-bind.ensures.bound) c.in_ok-bind.ensures.kept (c.in_ok-tally.ensures.ends c.profile-viewed.ensures.viewed.0 c.profile-viewed.ensures.viewed.1) c.tell_tally.ensures
+    (c.in_ok-tally.ensures.stays ∙ c.in_ok-bind.ensures.bound) c.in_ok-bind.ensures.kept (c.in_ok-tally.ensures.ends c.profile-viewed.ensures.viewed.0 c.profile-viewed.ensures.viewed.1) c.tell_tally.ensures.ends
 
-pub returns-in_err-bind : goal.returns-in_err-bind
-returns-in_err-bind g c held name from =
+pub returns-in_err-bind-clause-ends : goal.returns-in_err-bind-clause-ends
+returns-in_err-bind-clause-ends g c held name from =
     let p = err_from_is_err_and c.from_residual.result c.from_residual.ensures.1 in
     rw (p.1, p.2)
     (unbound held name c.args.port c.args.requests (net_side (g.N.Net.connections c.args.net.now) (g.N.Net.listens_at c.args.net.now)) (net_side (g.N.Net.connections c.bind.new.net) (g.N.Net.listens_at c.bind.new.net)) (g.O.Sink.held c.args.out.now)

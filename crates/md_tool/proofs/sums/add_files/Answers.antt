@@ -41,6 +41,8 @@ loop-name-preserved g c = record {
       };
   kept = c.add_file.ensures.kept ∙ c.loop-name.invariant.kept;
   later = omega (arith, c.loop-name.invariant.later, c.add_file.ensures.later);
+  reads = c.in-Ok.ensures.reads ∙ c.loop-name.invariant.reads;
+  writes = c.add_file.ensures.writes ∙ c.loop-name.invariant.writes;
 }
 
 pub returns-in-Err-clause-kept : goal.returns-in-Err-clause-kept
@@ -51,3 +53,6 @@ returns-clause-kept g c = grind (arith, common_steps)
 
 pub returns-clause-summed : goal.returns-clause-summed
 returns-clause-summed g c = grind (arith, common_steps)
+
+pub returns-in-Err-clause-reads : goal.returns-in-Err-clause-reads
+returns-in-Err-clause-reads g c = rw (c.loop-name.invariant.reads) at c.in-Err.ensures.reads

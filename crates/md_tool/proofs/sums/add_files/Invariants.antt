@@ -9,4 +9,6 @@ invariant-loop-name g l = record {
   summed : AreSummed (g.S.Store.held l.fn.store) (texts (take l.name-index l.names)) l.sums;
   kept : g.S.Store.held l.store ≡ g.S.Store.held l.fn.store;
   later : g.S.Store.read_faults l.fn.store ≤ g.S.Store.read_faults l.store;
+  reads : g.S.Store.read_faults l.store ≡ g.S.Store.read_faults l.fn.store;
+  writes : g.S.Store.write_faults l.store ≡ g.S.Store.write_faults l.fn.store;
 }

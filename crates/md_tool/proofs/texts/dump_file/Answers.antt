@@ -7,4 +7,4 @@ returns-clause-ends g c =
     dumped (g.S.Store.held c.args.store.now) c.args.name.now (g.O.Sink.held c.args.out.now) (g.O.Sink.held c.write_dump.new.out)
     (Rose (g.S.Store.read_faults c.args.store.now) (g.S.Store.read_faults c.load_profile.new.store))
     (Rose (g.O.Sink.write_faults c.args.out.now) (g.O.Sink.write_faults c.write_dump.new.out))
-    c.in_ok-profile.profile c.write_dump.result c.in_ok-profile.ensures.read c.write_dump.ensures
+    c.in_ok-profile.profile c.write_dump.result c.in_ok-profile.ensures.read c.write_dump.ensures.ends

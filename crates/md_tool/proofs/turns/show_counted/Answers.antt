@@ -9,4 +9,4 @@ returns-in-Err-clause-ends g c program proc steps run text =
     (g.E.Sink.held c.args.err.now) (g.E.Sink.held c.show_output.new.err)
     (Rose (g.O.Sink.write_faults c.args.out.now) (g.O.Sink.write_faults c.write_found.new.out))
     (Rose (g.E.Sink.write_faults c.args.err.now) (g.E.Sink.write_faults c.show_output.new.err))
-    c.in-Err.fault run (rw c.deref.ensures.value at c.in_ok-show_output.ensures.ends) (c.in-Err.ensures program proc steps text)
+    c.in-Err.fault run (rw c.deref.ensures.value at c.in_ok-show_output.ensures.ends) (c.in-Err.ensures.ends program proc steps text)
