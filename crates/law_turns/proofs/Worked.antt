@@ -1,5 +1,5 @@
 -- The definitions, worked out on small cases: each wrong rule would give something else.
-use Rattle.std.proofs.Common.{◌≡◌, refl, Bool, true, false, List, [], ◌∷◌, Some, None}
+use Rattle.std.proofs.Common.{◌≡◌, ◌∙◌, refl, ap, ℕ, zero, suc, Bool, true, false, List, [], ◌∷◌, Some, None}
 use Rattle.md_hlds.specs.declared.goal.Term.TheVariants.{Var}
 use Rattle.md_hlds.specs.declared.goal.Cmp.TheVariants.{Lt}
 use Rattle.md_hlds.specs.HldsGoal.{Fails, Unifies, Compares, Raises, HldsGoal, At, SimpleGoal, HoCallGoal, ConjGoal, DisjGoal, IfGoal, NotGoal, SomeGoal, nothing, also}
@@ -9,7 +9,7 @@ use Rattle.md_det.specs.declared.pair.Bound.TheVariants.{One}
 use Rattle.md_det.specs.Pairs.{pair}
 use Rattle.law_events.specs.History.{history}
 use Rattle.law_turns.specs.Counts.{turns_of, PortCounts, port_counts}
-use Rattle.law_turns.specs.Equations.{Entries, Exits, Equation, sums, equals, is_count, goal_equations}
+use Rattle.law_turns.specs.Equations.{Quantity, Entries, Exits, Equation, sums, equals, is_count, goal_equations}
 use Rattle.law_turns.specs.Derived.{IsDerived, only_one, none, both}
 
 -- main's call, then two calls at site 7 of procedure 3, the first of which exits twice, and a turn of the goal 5 in each
@@ -73,6 +73,15 @@ no_switch : goal_equations (of_pair true ∷ of_pair false ∷ of_pair true ∷ 
     ≡ equals (Entries 1) (Entries 0) ∷ equals (Exits 1) (Entries 1) ∷ sums (Exits 0) (Exits 1 ∷ Exits 2 ∷ []) ∷ []
 no_switch = refl
 
+-- refuses a rule by which an alternative enters each arm as often as it is entered, and one that adds up two arms alone
+three_arms : goal_equations (of_pair true ∷ of_pair false ∷ of_pair true ∷ of_pair false ∷ []) counts 0 (At 5 (DisjGoal (also unify (also test (also unify nothing)))))
+    ≡ equals (Entries 1) (Entries 0) ∷ equals (Exits 1) (Entries 1) ∷ equals (Exits 3) (Entries 3) ∷ sums (Exits 0) (Exits 1 ∷ Exits 2 ∷ Exits 3 ∷ []) ∷ []
+three_arms = refl
+
+whole_switch_of_three : goal_equations (of_switch true ∷ of_pair false ∷ of_pair true ∷ of_pair false ∷ []) counts 0 (At 5 (DisjGoal (also unify (also test (also unify nothing)))))
+    ≡ equals (Exits 1) (Entries 1) ∷ equals (Exits 3) (Entries 3) ∷ sums (Exits 0) (Exits 1 ∷ Exits 2 ∷ Exits 3 ∷ []) ∷ sums (Entries 0) (Entries 1 ∷ Entries 2 ∷ Entries 3 ∷ []) ∷ []
+whole_switch_of_three = refl
+
 -- a negation is entered as often as it succeeds or its goal does; `some` succeeds as its goal does; a call has its site's counts
 others : goal_equations [] counts 0 (At 5 (NotGoal (At 5 (SomeGoal [] (At 5 (HoCallGoal 6 0 []))))))
     ≡ equals (Entries 1) (Entries 0) ∷ equals (Entries 2) (Entries 1) ∷ is_count (Entries 2) 30 ∷ is_count (Exits 2) 40 ∷ equals (Exits 1) (Exits 2) ∷ sums (Entries 0) (Exits 0 ∷ Exits 1 ∷ []) ∷ []
@@ -93,3 +102,13 @@ derived_last =
     only_one 0 (sums (Entries 0) (Exits 0 ∷ Exits 1 ∷ [])) (Entries 0 ∷ Exits 0 ∷ []) (Exits 1) [] refl refl
     (both (Entries 0) (Exits 0 ∷ []) (only_one 2 (is_count (Entries 0) 5) [] (Entries 0) [] refl refl none none) (both (Exits 0) [] (only_one 1 (is_count (Exits 0) 3) [] (Exits 0) [] refl refl none none) none))
     none
+
+abbrev one : List Equation
+one = sums (Entries 0) (Exits 0 ∷ Exits 1 ∷ []) ∷ []
+
+-- a sum of two quantities that aren't known says nothing of either: refuses a rule by which what stands in an equation is derived
+nothing_derived : (q : Quantity) → IsDerived one q → ⊥
+nothing_derived _ (only_one zero e (x ∷ xs) q after there split (both _ _ d ds) others) = nothing_derived x d
+nothing_derived _ (only_one zero e [] q (x ∷ xs) there split none (both _ _ d ds)) = nothing_derived x d
+nothing_derived _ (only_one zero e [] q [] there split none none) = absurd (let its : sums (Entries 0) (Exits 0 ∷ Exits 1 ∷ []) ≡ e = cc in let alone : Entries 0 ∷ (Exits 0 ∷ Exits 1 ∷ []) ≡ q ∷ [] = ap (λ (x : Equation). x.whole ∷ x.parts) its ∙ split in cc)
+nothing_derived _ (only_one (suc k) e before q after there split ds others) = absurd (cc)

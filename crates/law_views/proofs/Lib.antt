@@ -3,3 +3,4 @@ pub mod OwnCounts
 pub mod Members
 pub mod TotalCounts
 pub mod OneView
+pub mod Worked

@@ -1,5 +1,5 @@
 -- Words, worked out by hand.
-use Rattle.std.proofs.Common.{◌≡◌, [], ◌∷◌, Some, None, codes, refl, true}
+use Rattle.std.proofs.Common.{◌≡◌, ℕ, zero, suc, List, [], ◌∷◌, Some, None, codes, refl, true}
 use Rattle.std.specs.Prelude.{⊤}
 use Rattle.std.specs.Str.{is_utf8, chars}
 use Rattle.std.specs.Str.Lossy.{utf8_lossy, utf8_valid_len, utf8_error_len}
@@ -150,6 +150,20 @@ profiles-in-the-order-of-the-words = refl
 no-profiles-are-not-added-up : form (codes "sum" ∷ []) ≡ None
 unfolding on_words
 no-profiles-are-not-added-up = refl
+
+abbrev profiles : ℕ → List (List ℕ)
+profiles zero = []
+profiles (suc n) = codes "p" ∷ profiles n
+
+-- refuses a limit of fifteen
+sixteen-profiles-are-added-up : form (codes "sum" ∷ profiles 16) ≡ Some (Sum (profiles 16))
+unfolding on_words
+sixteen-profiles-are-added-up = refl
+
+-- refuses a rule by which there may be as many as one likes, and one by which those past the sixteenth are left out
+seventeen-profiles-are-too-many : form (codes "sum" ∷ profiles 17) ≡ None
+unfolding on_words
+seventeen-profiles-are-too-many = refl
 
 -- refuses a rule by which the new profile comes first
 an-old-profile-is-compared-with-a-new-one : form (codes "compare" ∷ codes "p" ∷ codes "q" ∷ []) ≡ Some (Compare (codes "p") (codes "q") Calls 5)

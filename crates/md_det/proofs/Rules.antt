@@ -7,10 +7,10 @@ use Rattle.md_hlds.specs.declared.types.Det.TheVariants.{Semidet, Multi, Nondet,
 use Rattle.md_hlds.specs.declared.types.Det.TheVariants.{Det as One}
 use Rattle.md_hlds.specs.HldsGoal.{HldsGoal}
 use Rattle.md_hlds.specs.Hlds.{HldsType, number, text, closure, gathered_types}
-use Rattle.md_modes.proofs.Worked.{conj, disj, is_int, is_text, made, apply, succeed, fail, choose, at_most, predicate, program, hand_over, hello}
+use Rattle.md_modes.proofs.Worked.{conj, disj, is_int, is_text, same, made, apply, succeed, fail, choose, at_most, new_line, predicate, main, program, colour_type, hand_over, hello}
 use Rattle.md_modes.proofs.Rules.{raises}
 use Rattle.md_det.specs.declared.fault.DetFault.{DetFault}
-use Rattle.md_det.specs.declared.fault.DetFault.TheVariants.{Declared}
+use Rattle.md_det.specs.declared.fault.DetFault.TheVariants.{Declared, IoInBacktracking}
 use Rattle.md_det.specs.Faults.{det_fault}
 use Rattle.md_det.specs.Throws.{throws}
 use Rattle.md_det.proofs.Worked.{inferred}
@@ -65,3 +65,20 @@ throws_besides = refl
 -- whether a program has such a goal
 told_to_throw : map throws (hello ∷ program [] (hand_over ∷ predicate 4 (codes "p") ((text, In) ∷ []) One 1 (disj 5 (fail 5 ∷ conj 5 (succeed 5 ∷ raises 5 0 ∷ []) ∷ [])) ∷ []) ∷ []) ≡ (false ∷ true ∷ [])
 told_to_throw = refl
+
+-- ---- io states in arms
+
+-- an arm of a switch may write, since no other arm is tried after it; an arm of an alternative may not. Refuses a rule by which no arm
+-- of a disjunction writes, and one by which each does.
+states_in_arms :
+    map (λ body. det_fault (program (colour_type ∷ []) (main 3 body ∷ [])))
+    (conj 3 (made 3 2 (codes "red") []
+    ∷ disj 4 (conj 4 (made 4 2 (codes "red") [] ∷ new_line 4 0 1 ∷ []) ∷ conj 5 (made 5 2 (codes "green") [] ∷ same 5 1 0 ∷ [])
+    ∷ conj 6 (made 6 2 (codes "blue") [] ∷ same 6 1 0 ∷ []) ∷ []) ∷ [])
+    ∷ conj 3 (made 3 2 (codes "red") []
+    ∷ disj 4 (conj 4 (succeed 4 ∷ new_line 4 0 1 ∷ []) ∷ conj 5 (made 5 2 (codes "green") [] ∷ same 5 1 0 ∷ [])
+    ∷ conj 6 (made 6 2 (codes "blue") [] ∷ same 6 1 0 ∷ []) ∷ []) ∷ [])
+    ∷ [])
+    ≡ (None ∷ Some (IoInBacktracking 4) ∷ [])
+unfolding det_fault
+states_in_arms = refl

@@ -319,6 +319,39 @@ raised_in_a_condition :
 unfolding run
 raised_in_a_condition = refl
 
+-- Below main stands q, which may have many solutions, so that main waits for it where it is. Whatever goal of q the exception
+-- comes out of, it leaves q and then main. Refuses a rule by which it leaves the innermost activation alone, and for each goal
+-- with parts one that drops those who wait.
+abbrev throws : HldsGoal
+throws = conj (is_text 0 (codes "x") ∷ raises 0 ∷ [])
+
+abbrev below : HldsGoal → Hlds
+below body = program [] (main 2 (conj (call 0 (codes "q") [] ∷ same 1 0 ∷ [])) ∷ procedure (codes "q") Multi 0 1 body ∷ [])
+
+raised_below_a_caller : events (run (below throws) 100) ≡ (Call 0 None None 0 ∷ Call 1 (Some 0) (Some 0) 1 ∷ Excp 1 ∷ Excp 0 ∷ [])
+unfolding run
+raised_below_a_caller = refl
+
+raised_in_a_condition_below : events (run (below (choose throws succeed fail)) 100) ≡ (Call 0 None None 0 ∷ Call 1 (Some 0) (Some 0) 1 ∷ Excp 1 ∷ Excp 0 ∷ [])
+unfolding run
+raised_in_a_condition_below = refl
+
+raised_in_a_negation_below : events (run (below (goal (NotGoal throws))) 100) ≡ (Call 0 None None 0 ∷ Call 1 (Some 0) (Some 0) 1 ∷ Excp 1 ∷ Excp 0 ∷ [])
+unfolding run
+raised_in_a_negation_below = refl
+
+raised_in_some_below : events (run (below (goal (SomeGoal [] throws))) 100) ≡ (Call 0 None None 0 ∷ Call 1 (Some 0) (Some 0) 1 ∷ Excp 1 ∷ Excp 0 ∷ [])
+unfolding run
+raised_in_some_below = refl
+
+-- of a call that is at most once, by one that may have many solutions: it leaves all three
+raised_in_a_call_below :
+    events (run (program [] (main 2 (conj (call 0 (codes "q") [] ∷ same 1 0 ∷ []))
+    ∷ procedure (codes "q") Multi 0 0 (call 1 (codes "r") []) ∷ procedure (codes "r") One 0 1 throws ∷ [])) 100)
+    ≡ (Call 0 None None 0 ∷ Call 1 (Some 0) (Some 0) 1 ∷ Call 2 (Some 1) (Some 1) 2 ∷ Excp 2 ∷ Excp 1 ∷ Excp 0 ∷ [])
+unfolding run
+raised_in_a_call_below = refl
+
 -- ---- the weights of whole runs, each to the turn
 
 none_weighs : shows none 79 ≡ (codes "none", true)

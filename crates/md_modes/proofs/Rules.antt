@@ -1,16 +1,17 @@
 -- More of the mode rules, computed where a wrong rule would give another fault or none.
 use Rattle.std.proofs.Common.{◌≡◌, refl, ℕ, List, [], ◌∷◌, Option, Some, None, map}
 use Rattle.std.specs.Prelude.{codes}
-use Rattle.md_hlds.specs.declared.types.Mode.TheVariants.{In, Out, Uo}
+use Rattle.md_hlds.specs.declared.types.Mode.{Mode}
+use Rattle.md_hlds.specs.declared.types.Mode.TheVariants.{In, Out, Di, Uo}
 use Rattle.md_hlds.specs.declared.types.Det.TheVariants.{Semidet}
 use Rattle.md_hlds.specs.declared.types.Det.TheVariants.{Det as One}
 use Rattle.md_hlds.specs.declared.goal.Term.TheVariants.{Name}
 use Rattle.md_hlds.specs.HldsGoal.{HldsGoal, At, SimpleGoal, Unifies, Raises}
-use Rattle.md_hlds.specs.Hlds.{number, world}
+use Rattle.md_hlds.specs.Hlds.{HldsType, number, world, named}
 use Rattle.md_inst.specs.declared.fault.ModeFault.{ModeFault}
 use Rattle.md_inst.specs.declared.fault.ModeFault.TheVariants.{UnknownName, TypeClash, Unbound, BranchBinds, IoUsed}
 use Rattle.md_modes.specs.Modes.{mode_fault}
-use Rattle.md_modes.proofs.Worked.{conj, disj, is_int, is_text, same, made, call, apply, succeed, fail, choose, at_most, new_line, predicate, main, program, functor, type_of, function_of_ints, adder, double, with_body, body_fault, fault_of_two}
+use Rattle.md_modes.proofs.Worked.{conj, disj, is_int, is_text, same, made, call, apply, succeed, fail, choose, unless, some, at_most, write_int, new_line, hand_over, predicate, main, program, functor, type_of, function_of_ints, adder, double, with_body, body_fault, fault_of_two}
 
 abbrev pub raises : ℕ → ℕ → HldsGoal
 raises l x = At l (SimpleGoal (Raises x))
@@ -86,3 +87,46 @@ faults_of_states :
     ≡ (Some (IoUsed 3) ∷ Some (IoUsed 4) ∷ Some (IoUsed 6) ∷ [])
 unfolding with_io mode_fault
 faults_of_states = refl
+
+-- the place after a negation of `fail`, and after `some [] ( fail )`, is reachable, so that R has to be bound. Refuses a rule by which
+-- the place after a goal isn't reachable where that after its part isn't.
+reachable_behind_a_part : map (λ b. mode_fault (with_body b)) (unless 6 (fail 6) ∷ some 6 [] (fail 6) ∷ []) ≡ (Some (Unbound 5) ∷ Some (Unbound 5) ∷ [])
+unfolding mode_fault
+reachable_behind_a_part = refl
+
+-- an arm that ends in `fail` uses the io state, and the other doesn't: it isn't used behind them. Refuses a rule by which any arm counts.
+used_in_an_arm_that_fails :
+    map with_io (conj 3 (disj 3 (conj 3 (new_line 3 0 2 ∷ fail 3 ∷ []) ∷ succeed 4 ∷ []) ∷ new_line 5 0 1 ∷ [])
+    ∷ conj 3 (disj 3 (conj 3 (new_line 3 0 2 ∷ succeed 3 ∷ []) ∷ succeed 4 ∷ []) ∷ new_line 5 0 1 ∷ [])
+    ∷ [])
+    ≡ (None ∷ Some (IoUsed 5) ∷ [])
+unfolding with_io mode_fault
+used_in_an_arm_that_fails = refl
+
+-- ---- two faults in one place
+
+-- of two arguments the first: refuses a rule that looks first whether all inputs are bound, or which types they have
+faults_of_two_arguments : map body_fault (call 6 (codes "add") (5 ∷ 0 ∷ 6 ∷ []) ∷ call 6 (codes "add") (0 ∷ 5 ∷ 6 ∷ []) ∷ []) ≡ (Some (Unbound 6) ∷ Some (TypeClash 6) ∷ [])
+unfolding mode_fault
+faults_of_two_arguments = refl
+
+-- a used io state where an integer is due: refuses a rule that looks at the type first
+a_used_state_for_an_integer : with_io (conj 3 (new_line 3 0 2 ∷ write_int 4 0 2 1 ∷ [])) ≡ Some (IoUsed 4)
+unfolding with_io mode_fault
+a_used_state_for_an_integer = refl
+
+-- of two variables of a head, at the end of its clause, the first: refuses a rule that looks first whether all are bound
+faults_of_a_head :
+    map (λ (goal : HldsGoal). mode_fault (program [] (hand_over ∷ predicate 4 (codes "p") ((number, Out) ∷ (number, Out) ∷ []) One 2 goal ∷ [])))
+    (is_text 5 0 (codes "a") ∷ is_text 5 1 (codes "a") ∷ [])
+    ≡ (Some (TypeClash 5) ∷ Some (Unbound 5) ∷ [])
+unfolding mode_fault
+faults_of_a_head = refl
+
+-- of two arguments of a declaration the first: refuses a rule that looks first whether all types are declared
+faults_of_a_declaration :
+    map (λ (args : List (HldsType × Mode)). mode_fault (program [] (hand_over ∷ predicate 4 (codes "p") args One 2 (fail 5) ∷ [])))
+    (((number, Di) ∷ (named (codes "what"), In) ∷ []) ∷ ((named (codes "what"), In) ∷ (number, Di) ∷ []) ∷ [])
+    ≡ (Some (TypeClash 4) ∷ Some (UnknownName 4) ∷ [])
+unfolding mode_fault
+faults_of_a_declaration = refl

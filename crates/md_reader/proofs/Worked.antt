@@ -1,24 +1,28 @@
 -- Definitions computed on small texts: what each spells, or its fault, was worked out by hand from the grammar, and `refl`
 -- says that the rules give it.
-use Rattle.std.proofs.Common.{◌≡◌, refl, take, arith, [], ◌∷◌, Ok, Err, None, negsuc}
+use Rattle.std.proofs.Common.{◌≡◌, refl, ℕ, take, arith, List, [], ◌∷◌, length, Option, Ok, Err, Some, None, negsuc}
 use Rattle.std.specs.Prelude.{codes}
+use Rattle.md_hlds.specs.declared.types.Mode.{Mode}
+use Rattle.md_hlds.specs.declared.types.Mode.TheVariants.{In}
 use Rattle.md_hlds.specs.declared.types.Det.TheVariants.{Det as One}
 use Rattle.md_hlds.specs.declared.goal.Term.TheVariants.{Int}
-use Rattle.md_hlds.specs.HldsGoal.{At, SimpleGoal, Unifies, CallGoal, ConjGoal, gathered}
-use Rattle.md_hlds.specs.Hlds.{Hlds}
+use Rattle.md_hlds.specs.HldsGoal.{At, SimpleGoal, Succeeds, Unifies, CallGoal, ConjGoal, gathered}
+use Rattle.md_hlds.specs.Hlds.{Hlds, HldsType, HldsFunctor, HldsTypeDef, Procedure, number}
+use Rattle.md_token.specs.declared.kind.Kind.{Kind}
 use Rattle.md_token.specs.declared.kind.Kind.TheVariants as kind
 use Rattle.md_token.specs.Kinds.{same_kind}
 use Rattle.md_token.specs.Token.{Lexeme, tokens_of}
 use Rattle.md_token.specs.Token as token
+use Rattle.md_token.specs.Literal.{string_value}
 use Rattle.md_token.specs.Literal as number
 use Rattle.md_reader.specs.declared.refused.Refusal.TheVariants as refusal
 use Rattle.md_reader.specs.declared.refused.Refused.TheVariants as refused
 use Rattle.md_reader.specs.Input as input
-use Rattle.md_reader.specs.Input.{Limits}
+use Rattle.md_reader.specs.Input.{Limits, standard}
 use Rattle.md_reader.specs.Rules as rule
 use Rattle.md_reader.specs.Duplicates as twice
 use Rattle.md_reader.specs.Grammar.{Spells, Repeats}
-use Rattle.md_reader.specs.Excess.{AGoal, AList, beginning, past, negative, Exceeds, long, item, goal}
+use Rattle.md_reader.specs.Excess.{Opened, AGoal, AList, Point, beginning, past, name, variable, qualifier, qualified, string, positive, negative, Exceeds, long, item, goal, goals}
 use Rattle.md_reader.specs.Faults.{IsSyntaxFault, IsLimitFault}
 use Rattle.md_reader.specs.Reading.{reading}
 use Rattle.md_reader.proofs.SoundPrograms.{reading_sound, reading_repeats}
@@ -110,3 +114,119 @@ the_second_goal_is_too_many = goal refl refl (omega arith)
 pub minus_seven_is_too_small : Exceeds few (past beginning (take 3 (tokens_of (codes "X = -7")))) (record { kind = kind.Integer; text = codes "7"; line = 1 })
 unfolding same_kind token.tokens_of token.prefix_at token.token_at token.name_at token.word_kind token.sign_at token.colon_at token.single_at token.variable_at token.dash_at number.number_of
 minus_seven_is_too_small = long (negative refl refl (omega arith))
+
+-- ---- second declarations
+
+abbrev functor : List ℕ → List HldsType → HldsFunctor
+functor called args = record { name = called; args = args }
+
+abbrev type_of : ℕ → List ℕ → List HldsFunctor → HldsTypeDef
+type_of line called functors = record { name = called; line = line; functors = functors }
+
+abbrev predicate : ℕ → Option (List ℕ) → List ℕ → List (HldsType × Mode) → Procedure
+predicate line from called args = record { qualifier = from; name = called; line = line; clause_line = line; args = args; det = One; vars = []; head = []; body = At line (SimpleGoal Succeeds) }
+
+abbrev declares : List HldsTypeDef → List Procedure → Hlds
+declares types procedures = record empty { types = types; procedures = procedures }
+
+-- b is a functor of both types: refuses a rule that looks at the functors of one type alone
+a_functor_of_two_types : twice.duplicate (declares (type_of 3 (codes "a") (functor (codes "b") [] ∷ []) ∷ type_of 4 (codes "c") (functor (codes "d") [] ∷ functor (codes "b") [] ∷ []) ∷ []) []) ≡ Some 4
+unfolding twice.duplicate twice.second_type_definition twice.second_functor twice.second_procedure
+a_functor_of_two_types = refl
+
+-- refuses a rule by which functors of one name are the same, whatever their arity
+functors_of_two_arities : twice.duplicate (declares (type_of 3 (codes "a") (functor (codes "b") [] ∷ functor (codes "b") (number ∷ []) ∷ []) ∷ []) []) ≡ None
+unfolding twice.duplicate twice.second_type_definition twice.second_functor twice.second_procedure
+functors_of_two_arities = refl
+
+-- refuses a rule by which predicates of one name and of two arities are two, as functors are
+predicates_of_two_arities : twice.duplicate (declares [] (predicate 3 None (codes "p") [] ∷ predicate 5 None (codes "p") ((number, In) ∷ []) ∷ [])) ≡ Some 5
+unfolding twice.duplicate twice.second_type_definition twice.second_functor twice.second_procedure
+predicates_of_two_arities = refl
+
+-- refuses a rule by which a qualifier is no part of a name
+predicates_of_two_modules : twice.duplicate (declares [] (predicate 3 None (codes "p") [] ∷ predicate 5 (Some (codes "m")) (codes "p") [] ∷ [])) ≡ None
+unfolding twice.duplicate twice.second_type_definition twice.second_functor twice.second_procedure
+predicates_of_two_modules = refl
+
+-- refuses a rule that tells types first, and predicates last
+the_first_of_two : twice.duplicate (declares (type_of 9 (codes "a") [] ∷ type_of 10 (codes "a") [] ∷ []) (predicate 3 None (codes "p") [] ∷ predicate 5 None (codes "p") [] ∷ [])) ≡ Some 5
+unfolding twice.duplicate twice.second_type_definition twice.second_functor twice.second_procedure
+the_first_of_two = refl
+
+-- ---- the limits of the language, from both sides
+
+-- behind 255 items a further one is too many, and behind 254 none is
+abbrev item_behind : ℕ → Point
+item_behind commas = record { last = kind.Comma; around = AList commas ∷ [] }
+
+abbrev variable_x : Lexeme
+variable_x = record { kind = kind.Variable; text = codes "X"; line = 1 }
+
+pub the_256th_item_is_too_many : Exceeds standard (item_behind 255) variable_x
+the_256th_item_is_too_many = item refl refl
+
+-- refuses a limit of 254
+pub the_255th_item_is_within : Exceeds standard (item_behind 254) variable_x → ⊥
+the_255th_item_is_within (long (variable is many)) = absurd (omega (arith, many))
+the_255th_item_is_within (long (name is many)) = absurd (cc)
+the_255th_item_is_within (long (qualifier is many)) = absurd (cc)
+the_255th_item_is_within (long (qualified is many)) = absurd (cc)
+the_255th_item_is_within (long (string is many)) = absurd (cc)
+the_255th_item_is_within (long (positive is last many)) = absurd (cc)
+the_255th_item_is_within (long (negative is last many)) = absurd (cc)
+the_255th_item_is_within (item last many) = absurd (cc)
+the_255th_item_is_within (goal is last many) = absurd (cc)
+
+abbrev of_kind : Kind → List ℕ → Lexeme
+of_kind k text = record { kind = k; text = text; line = 1 }
+
+pub a_name_of_256_bytes_is_too_long : (p : Point) (text : List ℕ) → length text ≡ 256 → Exceeds standard p (of_kind kind.Name text)
+a_name_of_256_bytes_is_too_long p text is = long (name refl (omega (arith, is)))
+
+-- refuses a limit of 254 bytes
+pub a_name_of_255_bytes_is_within : (text : List ℕ) → length text ≡ 255 → Exceeds standard beginning (of_kind kind.Name text) → ⊥
+a_name_of_255_bytes_is_within text is (long (name same many)) = absurd (omega (arith, is, many))
+a_name_of_255_bytes_is_within text is (long (variable same many)) = absurd (cc)
+a_name_of_255_bytes_is_within text is (long (qualifier same many)) = absurd (cc)
+a_name_of_255_bytes_is_within text is (long (qualified same many)) = absurd (cc)
+a_name_of_255_bytes_is_within text is (long (string same many)) = absurd (cc)
+a_name_of_255_bytes_is_within text is (long (positive same last many)) = absurd (cc)
+a_name_of_255_bytes_is_within text is (long (negative same last many)) = absurd (cc)
+a_name_of_255_bytes_is_within text is (item last many) = absurd (cc)
+a_name_of_255_bytes_is_within text is (goal same last many) = absurd (cc)
+
+-- what counts are the bytes that the string stands for, without quotes and with one for each escape
+pub a_string_of_65536_bytes_is_too_long : (p : Point) (text : List ℕ) → length (string_value text) ≡ 65536 → Exceeds standard p (of_kind kind.Text text)
+a_string_of_65536_bytes_is_too_long p text is = long (string refl (omega (arith, is)))
+
+-- refuses a limit of 65,534 bytes, and one that counts the quotes
+pub a_string_of_65535_bytes_is_within : (text : List ℕ) → length (string_value text) ≡ 65535 → Exceeds standard beginning (of_kind kind.Text text) → ⊥
+a_string_of_65535_bytes_is_within text is (long (name same many)) = absurd (cc)
+a_string_of_65535_bytes_is_within text is (long (variable same many)) = absurd (cc)
+a_string_of_65535_bytes_is_within text is (long (qualifier same many)) = absurd (cc)
+a_string_of_65535_bytes_is_within text is (long (qualified same many)) = absurd (cc)
+a_string_of_65535_bytes_is_within text is (long (string same many)) = absurd (omega (arith, is, many))
+a_string_of_65535_bytes_is_within text is (long (positive same last many)) = absurd (cc)
+a_string_of_65535_bytes_is_within text is (long (negative same last many)) = absurd (cc)
+a_string_of_65535_bytes_is_within text is (item last many) = absurd (cc)
+a_string_of_65535_bytes_is_within text is (goal same last many) = absurd (cc)
+
+-- a `(` behind `(` opens a goal
+abbrev within_goals : List Opened → Point
+within_goals around = record { last = kind.Open; around = around }
+
+pub the_201st_goal_is_too_many : (around : List Opened) → goals around ≡ 200 → Exceeds standard (within_goals around) (of_kind kind.Open (codes "("))
+the_201st_goal_is_too_many around is = goal refl refl (omega (arith, is))
+
+-- refuses a limit of 199
+pub the_200th_goal_is_within : (around : List Opened) → goals around ≡ 199 → Exceeds standard (within_goals around) (of_kind kind.Open (codes "(")) → ⊥
+the_200th_goal_is_within around is (long (name same many)) = absurd (cc)
+the_200th_goal_is_within around is (long (variable same many)) = absurd (cc)
+the_200th_goal_is_within around is (long (qualifier same many)) = absurd (cc)
+the_200th_goal_is_within around is (long (qualified same many)) = absurd (cc)
+the_200th_goal_is_within around is (long (string same many)) = absurd (cc)
+the_200th_goal_is_within around is (long (positive same last many)) = absurd (cc)
+the_200th_goal_is_within around is (long (negative same last many)) = absurd (cc)
+the_200th_goal_is_within around is (item last many) = absurd (cc)
+the_200th_goal_is_within around is (goal same last many) = absurd (omega (arith, is, many))

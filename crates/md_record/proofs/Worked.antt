@@ -6,7 +6,7 @@ use Rattle.md_static.specs.declared.entry.Site.{Site}
 use Rattle.md_static.specs.declared.entry.SiteKind.TheVariants.{Plain as OneCallee}
 use Rattle.md_static.specs.Tables.{Static, site_table}
 use Rattle.md_trace.specs.declared.event.Event.{Event}
-use Rattle.md_trace.specs.declared.event.Event.TheVariants.{Call, Excp}
+use Rattle.md_trace.specs.declared.event.Event.TheVariants.{Call, Exit, Excp}
 use Rattle.md_trace.specs.PortHistory.{SiteTable}
 use Rattle.md_trace.specs.Context.{placed_of, current_chain}
 use Rattle.md_trace.specs.Links.{Leading, links}
@@ -81,6 +81,17 @@ stands = record {
 -- count's mark: its context, its link, and no pointer to go back to
 mark : BelongsTo 1 1 None table thrown 1
 mark = record { activation = record { parent = Some 0; link = record { caller = Some 0; site = Some 0; procedure = 1 }; context = 1 }; there = refl; top_is = refl; middle_is = refl; old_is = refl }
+
+-- Main calls x; x calls n, which calls r, and both exit; then x calls r, which calls x, which calls n, which calls r, which calls
+-- itself. So r is at last called below two activations of r, the nearer one in context 3 and the other one in context 4.
+abbrev nested : List Event
+nested =
+    Call 8 (Some 7) (Some 5) 2 ∷ Call 7 (Some 6) (Some 4) 2 ∷ Call 6 (Some 5) (Some 1) 3 ∷ Call 5 (Some 4) (Some 3) 1 ∷ Call 4 (Some 1) (Some 2) 2
+    ∷ Exit 2 ∷ Exit 3 ∷ Call 3 (Some 2) (Some 4) 2 ∷ Call 2 (Some 1) (Some 1) 3 ∷ Call 1 (Some 0) (Some 0) 1 ∷ Call 0 None None 0 ∷ []
+
+-- the pointer to go back to is the nearer one: refuses a rule that keeps the outermost ancestor's context
+nested_mark : BelongsTo 3 6 (Some 3) (record { main = 0; procedures = 4; sites = [] }) nested 8
+nested_mark = record { activation = record { parent = Some 7; link = record { caller = Some 3; site = Some 5; procedure = 2 }; context = 3 }; there = refl; top_is = refl; middle_is = refl; old_is = refl }
 
 -- a recorder whose pointer of count is still set doesn't stand for these events
 pointer_left : Stands (kept (own 0 1) (Some 1)) table thrown → ⊥

@@ -11,3 +11,4 @@ pub mod SpelledTokens
 pub mod SpelledWords
 pub mod Strings
 pub mod Words
+pub mod Worked

@@ -1,4 +1,4 @@
--- The definitions, computed on the histories of eleven small programs. Each history is written from its first event.
+-- The definitions, computed on the histories of thirteen small programs. Each history is written from its first event.
 --
 --   count   main calls count, which calls itself three times
 --   order1  x calls n or r, r calls x, n calls r: r is active when n first calls it
@@ -11,15 +11,18 @@
 --   mods    a chain of calls from module t to a, b and a again
 --   err     f calls itself until it throws, and nobody catches
 --   boom    main throws while a solution of pick is kept
-use Rattle.std.proofs.Common.{ℕ, ◌≡◌, List, [], ◌∷◌, Some, None, map, refl, reverse, rules}
+--   gen     three procedures below main, each of which but the last calls the next one twice
+--   inner   order2, where r at last calls itself: two of its callers are of r, in two contexts
+use Rattle.std.proofs.Common.{ℕ, ◌≡◌, true, false, List, [], ◌∷◌, Some, None, map, refl, reverse, rules}
 use Rattle.md_base.specs.declared.measure.Measure.{Measure}
 use Rattle.md_base.specs.declared.measure.Measure.TheVariants.{Calls, Exits, Fails, Redos, Allocs, Words, Excps}
 use Rattle.md_trace.specs.declared.event.Event.{Event}
 use Rattle.md_trace.specs.declared.event.Event.TheVariants.{Call, Exit, Redo, Fail, Excp, Alloc}
-use Rattle.md_trace.specs.Balance.{last_port}
+use Rattle.md_trace.specs.Balance.{last_port, IsEven}
 use Rattle.md_trace.specs.PortHistory.{SiteTable, MayFollow, IsPortHistory, current}
 use Rattle.md_trace.specs.Context.{placed_of, contexts, has_link}
 use Rattle.md_trace.specs.Links.{Leading, links, root_link}
+use Rattle.md_trace.specs.Count.{set_counts}
 use Rattle.md_trace.specs.Totals.{own, in_context, in_procedure, at_site, in_module, link_total, clique_total, context_total, procedure_total, site_total, module_total}
 
 -- a call by an activation at a site
@@ -254,9 +257,74 @@ boom_own = refl
 boom_ends : (current boom ≡ None) × (last_port boom 0 ≡ Some (Excp 0)) × (last_port boom 1 ≡ Some (Exit 1))
 boom_ends = (refl, refl, refl)
 
+-- pick was cut, and both links were entered as often as they were left: refuses a rule by which what is cut fails once more
+boom_is_even : IsEven (set_counts 0 boom (has_link (root_link 0))) × IsEven (set_counts 0 boom (has_link (from 0 0 1 1).link))
+boom_is_even = (refl, refl)
+
 -- an exception leaves the activation that runs, and no other
 boom_early : IsPortHistory boom_table (told (started ∷ called 1 0 0 1 ∷ Excp 0 ∷ [])) → ⊥
 boom_early is = let e : Some 1 ≡ Some 0 = is.1 in absurd (cc)
+
+abbrev pub gen : List Event
+gen = told (started ∷ called 1 0 0 1 ∷ called 2 1 1 2 ∷ called 3 2 3 3 ∷ Exit 3 ∷ called 4 2 4 3 ∷ Exit 4 ∷ Exit 2 ∷ called 5 1 2 2 ∷ called 6 5 3 3 ∷ Exit 6 ∷ called 7 5 4 3 ∷ Exit 7 ∷ Exit 5 ∷ Exit 1 ∷ Exit 0 ∷ [])
+
+abbrev pub gen_table : SiteTable
+gen_table = record { main = 0; procedures = 4; sites = record { owner = 0; callee = Some 1 } ∷ record { owner = 1; callee = Some 2 } ∷ record { owner = 1; callee = Some 2 } ∷ record { owner = 2; callee = Some 3 } ∷ record { owner = 2; callee = Some 3 } ∷ [] }
+
+gen_is_history : IsPortHistory gen_table gen
+gen_is_history = search rules
+
+-- refuses a rule by which the same site and the same procedure are enough: then the second call of p2 would lead to the
+-- contexts of p3 that the first one led to, and there would be 6 contexts
+gen_contexts : all_contexts gen ≡ 0 ∷ 1 ∷ 2 ∷ 3 ∷ 3 ∷ 2 ∷ 3 ∷ 3 ∷ []
+gen_contexts = refl
+
+gen_links : all_links gen ≡ from_nowhere ∷ from 0 0 1 1 ∷ from 1 1 2 2 ∷ from 2 3 3 3 ∷ from 2 4 3 4 ∷ from 1 2 2 5 ∷ from 5 3 3 6 ∷ from 5 4 3 7 ∷ []
+gen_links = refl
+
+-- the eighth activation is of r in context 3, and of its callers the fifth is of r too, in context 4
+abbrev pub inner : List Event
+inner = told (started ∷ called 1 0 0 1 ∷ called 2 1 1 3 ∷ called 3 2 4 2 ∷ Exit 3 ∷ Exit 2 ∷ called 4 1 2 2 ∷ called 5 4 3 1 ∷ called 6 5 1 3 ∷ called 7 6 4 2 ∷ called 8 7 5 2 ∷ [])
+
+abbrev pub inner_table : SiteTable
+inner_table = record { main = 0; procedures = 4; sites = record { owner = 0; callee = Some 1 } ∷ record { owner = 1; callee = Some 3 } ∷ record { owner = 1; callee = Some 2 } ∷ record { owner = 2; callee = Some 1 } ∷ record { owner = 3; callee = Some 2 } ∷ record { owner = 2; callee = Some 2 } ∷ [] }
+
+inner_is_history : IsPortHistory inner_table inner
+inner_is_history = search rules
+
+-- refuses a rule by which a call that closes a cycle leads to the outermost ancestor of its procedure, which is in context 4
+inner_links : all_links inner ≡ from_nowhere ∷ from 0 0 1 1 ∷ from 1 1 3 2 ∷ from 2 4 2 3 ∷ from 1 2 2 4 ∷ from 4 3 1 1 ∷ from 3 5 2 3 ∷ []
+inner_links = refl
+
+-- ---- lists of events that no program makes
+
+-- refuses a rule by which a run may begin in any procedure
+begun_elsewhere : IsPortHistory count_table (Call 0 None None 1 ∷ []) → ⊥
+begun_elsewhere is = let e : 1 ≡ 0 = is.1.3.1 in absurd (cc)
+
+-- refuses a rule by which a run may begin with another port
+begun_by_an_exit : IsPortHistory count_table (Exit 0 ∷ []) → ⊥
+begun_by_an_exit is = let e : None ≡ Some 0 = is.1 in absurd (cc)
+
+-- refuses a rule by which any activation that isn't left may call: main waits for its callee
+called_by_who_waits : IsPortHistory count_table (told (started ∷ called 1 0 0 1 ∷ called 2 0 0 1 ∷ [])) → ⊥
+called_by_who_waits is = let e : Some 0 ≡ Some 1 = is.1.2 in absurd (cc)
+
+-- refuses a rule that looks only whether the site is there: site 1 is one of count
+called_at_a_site_of_another : IsPortHistory count_table (told (started ∷ called 1 0 1 1 ∷ [])) → ⊥
+called_at_a_site_of_another is = let e : Some 0 ≡ Some 1 = is.1.3.owned in absurd (cc)
+
+-- refuses a rule by which a plain site may call any procedure
+called_is_another : IsPortHistory count_table (told (started ∷ called 1 0 0 0 ∷ [])) → ⊥
+called_is_another is = let e : 0 ≡ 1 = is.1.3.callee in absurd (cc)
+
+-- refuses a rule by which a caller may exit before its callee
+exit_of_who_waits : IsPortHistory count_table (told (started ∷ called 1 0 0 1 ∷ Exit 0 ∷ [])) → ⊥
+exit_of_who_waits is = let e : Some 1 ≡ Some 0 = is.1 in absurd (cc)
+
+-- refuses a rule by which any activation of the caller that runs may be entered again: this one has failed
+redo_after_a_fail : MayFollow none_table (told (started ∷ called 1 0 0 1 ∷ Fail 1 ∷ [])) (Redo 1) → ⊥
+redo_after_a_fail may = let e : false ≡ true = may.0 in absurd (cc)
 
 -- totals, with the number of each context's clique
 
@@ -275,6 +343,20 @@ order2_totals :
     × (seven (context_total 0 order2 order2_cliques 4) ≡ 1 ∷ 1 ∷ 0 ∷ 0 ∷ 0 ∷ 0 ∷ 0 ∷ [])
     × (seven (link_total 0 order2 (from 1 1 3 2).link) ≡ 4 ∷ 4 ∷ 0 ∷ 0 ∷ 0 ∷ 0 ∷ 0 ∷ [])
 order2_totals = (refl, refl, refl, refl, refl)
+
+-- Five contexts, and four procedures, whose numbers differ: r has the contexts 3 and 4, and n the context 2. Refuses a rule that
+-- takes the number of a context for that of its procedure, by which r's total would be n's.
+order2_procedures :
+    (seven (procedure_total 0 order2 order2_cliques 0) ≡ 8 ∷ 8 ∷ 0 ∷ 0 ∷ 0 ∷ 0 ∷ 0 ∷ []) × (seven (procedure_total 0 order2 order2_cliques 1) ≡ 6 ∷ 6 ∷ 0 ∷ 0 ∷ 0 ∷ 0 ∷ 0 ∷ [])
+    × (seven (procedure_total 0 order2 order2_cliques 2) ≡ 3 ∷ 3 ∷ 0 ∷ 0 ∷ 0 ∷ 0 ∷ 0 ∷ []) × (seven (procedure_total 0 order2 order2_cliques 3) ≡ 4 ∷ 4 ∷ 0 ∷ 0 ∷ 0 ∷ 0 ∷ 0 ∷ [])
+    × (seven (own 0 order2 (in_procedure 2)) ≡ 3 ∷ 3 ∷ 0 ∷ 0 ∷ 0 ∷ 0 ∷ 0 ∷ []) × (seven (own 0 order2 (in_procedure 3)) ≡ 2 ∷ 2 ∷ 0 ∷ 0 ∷ 0 ∷ 0 ∷ 0 ∷ [])
+order2_procedures = (refl, refl, refl, refl, refl, refl)
+
+-- with r in a module of its own (number 1) and n in another (number 2), the same of modules
+order2_modules :
+    (seven (module_total 0 order2 order2_cliques (0 ∷ 0 ∷ 1 ∷ 2 ∷ []) 1) ≡ 3 ∷ 3 ∷ 0 ∷ 0 ∷ 0 ∷ 0 ∷ 0 ∷ []) × (seven (module_total 0 order2 order2_cliques (0 ∷ 0 ∷ 1 ∷ 2 ∷ []) 2) ≡ 4 ∷ 4 ∷ 0 ∷ 0 ∷ 0 ∷ 0 ∷ 0 ∷ [])
+    × (seven (own 0 order2 (in_module (0 ∷ 0 ∷ 1 ∷ 2 ∷ []) 1)) ≡ 3 ∷ 3 ∷ 0 ∷ 0 ∷ 0 ∷ 0 ∷ 0 ∷ []) × (seven (own 0 order2 (in_module (0 ∷ 0 ∷ 1 ∷ 2 ∷ []) 2)) ≡ 2 ∷ 2 ∷ 0 ∷ 0 ∷ 0 ∷ 0 ∷ 0 ∷ [])
+order2_modules = (refl, refl, refl, refl)
 
 abbrev order1_cliques : List ℕ
 order1_cliques = 0 ∷ 1 ∷ 1 ∷ 1 ∷ []
