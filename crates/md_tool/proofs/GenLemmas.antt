@@ -11,7 +11,8 @@ use Rattle.md_tool.specs.declared.fault.Fault.TheVariants.{Usage, Read, TooLong,
 use Rattle.md_tool.specs.Accepted.{TextFault}
 use Rattle.md_tool.specs.Due.{WriteEnds}
 use Rattle.md_tool.specs.Ends.{TellsEnd, end_of, ran_end}
-use Rattle.md_tool.specs.Generated.{SummaryEnds, GenEnds, gen_text, most_steps}
+use Rattle.law_generated.specs.Generated.{gen_text, most_steps}
+use Rattle.md_tool.specs.Generated.{SummaryEnds, GenEnds}
 use Rattle.md_tool.specs.Paged.{IsPaged, PageEnds}
 use Rattle.md_tool.specs.Ran.{IsProfiledText}
 use Rattle.md_tool.proofs.RunLemmas.{end_is}

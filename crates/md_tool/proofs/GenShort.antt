@@ -2,7 +2,7 @@
 use Rattle.std.proofs.Common.{◌≡◌, ◌∙◌, refl, ap, sym, subst, append_assoc, ℕ, ◌-◌, zero, suc, ◌+◌, ◌*◌, ◌<◌, ◌≤◌, ◌==◌, Bool, true, false, List, [], ◌∷◌, ◌++◌, length, length-append, codes, arith, if◌then◌else◌}
 use Rattle.std.proofs.lemmas.Fmt.{length-decimal-le}
 use Rattle.std.specs.Fmt.{decimal}
-use Rattle.md_tool.specs.Generated.{level_name, level_body, level, levels, generated_main, gen_text}
+use Rattle.law_generated.specs.Generated.{level_name, level_body, level, levels, generated_main, gen_text}
 
 name_short : (i : ℕ) → i < 100 → length (level_name i) ≤ 3
 name_short i below =

@@ -11,7 +11,8 @@ use Rattle.md_tool.specs.declared.fault.Fault.{Fault}
 use Rattle.md_tool.specs.declared.fault.Fault.TheVariants.{Usage, Read, TooLong, Refused, OutOfSteps, Thrown, Damaged, TooLarge, TwoEntries, DamagedLine, AnotherProgram, NoSuchPage, Write, NoMemory, Network}
 use Rattle.md_tool.specs.Compared.{CompareEnds}
 use Rattle.md_tool.specs.Fault.{status_of, fault_line}
-use Rattle.md_tool.specs.Generated.{gen_text, GenEnds}
+use Rattle.law_generated.specs.Generated.{gen_text}
+use Rattle.md_tool.specs.Generated.{GenEnds}
 use Rattle.md_tool.specs.Reported.{ReportEnds, IsPageOfRun, HasNoPageOfRun}
 use Rattle.md_tool.specs.Summed.{SumEnds}
 use Rattle.md_tool.specs.Turns.{IsCoverageOfRun, HasNoProcedure}

@@ -1,4 +1,4 @@
--- Ends, faults and a generated program, worked out by hand.
+-- Ends, faults and sums, worked out by hand.
 use Rattle.std.proofs.Common.{◌≡◌, ℕ, [], ◌∷◌, Some, None, codes, refl, inl, inr}
 use Rattle.std.specs.Prelude.{⊤}
 use Rattle.std.specs.Fmt.{digits}
@@ -14,7 +14,6 @@ use Rattle.md_tool.specs.declared.fault.Fault.TheVariants as faults
 use Rattle.md_tool.specs.declared.fault.Refusal.TheVariants.{Text, Modes, Determinism}
 use Rattle.md_tool.specs.Ends.{end_of, Finished, Threw, RanOut}
 use Rattle.md_tool.specs.Fault.{fault_line}
-use Rattle.md_tool.specs.Generated.{gen_text}
 use Rattle.md_tool.specs.Rises.{IsToldBy}
 use Rattle.md_static.specs.Tables.{Static}
 use Rattle.md_cost.specs.declared.sums.Sums.{Sums}
@@ -67,18 +66,6 @@ a-fault-of-determinism-has-its-line = refl
 want-of-memory-is-no-refusal : fault_line (modes_refusal NoMemory) (codes "a.m") ≡ codes "mdprof: want of memory\n"
 unfolding on_numbers
 want-of-memory-is-no-refusal = refl
-
--- ---- generated programs
-
-one-procedure-does-nothing :
-    gen_text 1 ≡ codes ":- module gen.\n:- pred main(io::di, io::uo) is det.\nmain(IO0, IO) :- p1, IO = IO0.\n:- pred p1 is det.\np1 :- true.\n"
-unfolding on_numbers
-one-procedure-does-nothing = refl
-
-the-first-of-two-calls-the-second-twice :
-    gen_text 2 ≡ codes ":- module gen.\n:- pred main(io::di, io::uo) is det.\nmain(IO0, IO) :- p1, IO = IO0.\n:- pred p1 is det.\np1 :- p2, p2.\n:- pred p2 is det.\np2 :- true.\n"
-unfolding on_numbers
-the-first-of-two-calls-the-second-twice = refl
 
 -- ---- sums
 

@@ -1,7 +1,8 @@
 // The command `gen`.
 ghost use Rattle.std.specs.Prelude.{◌≡◌, ◌≤◌, ◌<◌, ◌++◌, IfOk, length, string_bytes};
 ghost use Rattle.md_base.specs.Outside.{Rose};
-ghost use Rattle.md_tool.specs.Generated.{GenEnds, SummaryEnds, gen_text, most_steps, level, level_body};
+ghost use Rattle.law_generated.specs.Generated.{gen_text, most_steps, level, level_body};
+ghost use Rattle.md_tool.specs.Generated.{GenEnds, SummaryEnds};
 ghost use Rattle.md_tool.specs.Ran.{IsProfiledText};
 ghost use Rattle.md_tool.specs.Rises.{RisesBy};
 

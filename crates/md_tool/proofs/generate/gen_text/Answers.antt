@@ -1,6 +1,6 @@
 use Rattle.std.proofs.Common.{◌∙◌, ◌++◌, ap, List, ℕ, arith}
 use Rattle.std.proofs.lemmas.Grind.{common_steps}
-use Rattle.md_tool.specs.Generated.{gen_text}
+use Rattle.law_generated.specs.Generated.{gen_text}
 use Rattle.md_tool.proofs.GenShort.{next_level}
 use Rattle.md_tool.proofs.generate.gen_text.Goals as goal
 

@@ -1,5 +1,5 @@
 use Rattle.std.proofs.Common.{◌≡◌, ◌++◌, ◌-◌, suc}
-use Rattle.md_tool.specs.Generated.{levels, gen_text}
+use Rattle.law_generated.specs.Generated.{levels, gen_text}
 use Rattle.md_tool.proofs.generate.gen_text.Given as goal
 
 -- what is written, before the procedures that are left, is the whole text

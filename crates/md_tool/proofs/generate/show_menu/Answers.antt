@@ -1,5 +1,5 @@
 use Rattle.md_base.specs.Outside.{Rose}
-use Rattle.md_tool.specs.Generated.{most_steps}
+use Rattle.law_generated.specs.Generated.{most_steps}
 use Rattle.md_tool.proofs.GenLemmas.{summed, unsummed}
 use Rattle.md_tool.proofs.generate.show_menu.Goals as goal
 

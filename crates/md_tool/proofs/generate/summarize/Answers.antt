@@ -1,7 +1,7 @@
 use Rattle.std.proofs.Common.{subst, List, ℕ}
 use Rattle.md_base.specs.Outside.{Rose}
 use Rattle.md_tool.specs.Accepted.{TextFault}
-use Rattle.md_tool.specs.Generated.{most_steps}
+use Rattle.law_generated.specs.Generated.{most_steps}
 use Rattle.md_tool.specs.Ran.{IsProfiledText}
 use Rattle.md_tool.proofs.GenLemmas.{unaccepted}
 use Rattle.md_tool.proofs.generate.summarize.Goals as goal
