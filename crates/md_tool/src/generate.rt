@@ -35,8 +35,10 @@ pub fn generate<O: Sink>(alloc: Global, n: u32, summary: bool, out: &mut O) -> R
     }
 }
 
-/// Runs a generated program, and writes the menu of its run.
+/// Runs a generated program, and writes the menu of its run. Its text is accepted, and the run finished.
 fn summarize<O: Sink>(alloc: Global, n: u32, text: &[u8], out: &mut O) -> Result<(), Fault>
+    requires some { 1 ≤ n }
+    requires few { n ≤ 20 }
     requires text { text.now ≡ gen_text n }
     requires short { length text.now ≤ 1048576 }
     ensures ends { SummaryEnds n (O.held out.old) (O.held out.new) (Rose (O.write_faults out.old) (O.write_faults out.new)) result }
@@ -50,7 +52,9 @@ fn summarize<O: Sink>(alloc: Global, n: u32, text: &[u8], out: &mut O) -> Result
 
 /// Writes the menu of a generated program's run, and answers how it ended.
 fn show_menu<O: Sink>(alloc: Global, profiled: Profiled, n: u32, out: &mut O) -> Result<(), Fault>
-    requires { IsProfiledText (gen_text n) most_steps profiled }
+    requires some { 1 ≤ n }
+    requires few { n ≤ 20 }
+    requires profiled { IsProfiledText (gen_text n) most_steps profiled }
     ensures ends { SummaryEnds n (O.held out.old) (O.held out.new) (Rose (O.write_faults out.old) (O.write_faults out.new)) result }
     ensures outs { RisesBy Fault.Write (O.write_faults out.old) (O.write_faults out.new) result }
 {

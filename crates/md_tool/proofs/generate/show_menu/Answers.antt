@@ -5,10 +5,12 @@ use Rattle.md_tool.proofs.generate.show_menu.Goals as goal
 
 pub returns-in-Ok-clause-ends : goal.returns-in-Ok-clause-ends
 returns-in-Ok-clause-ends g c =
-    summed c.args.n (g.O.Sink.held c.args.out.now) (g.O.Sink.held c.show_page.new.out) (Rose (g.O.Sink.write_faults c.args.out.now) (g.O.Sink.write_faults c.show_page.new.out))
-    c.args.profiled c.ended.result c.requires (c.in-Ok.ensures.ends c.requires.accepted.program most_steps c.requires.bounds c.requires.is_profiled.is_profile) c.ended.ensures
+    let its = c.requires.profiled in
+    summed c.args.n c.requires.some c.requires.few (g.O.Sink.held c.args.out.now) (g.O.Sink.held c.show_page.new.out) (Rose (g.O.Sink.write_faults c.args.out.now) (g.O.Sink.write_faults c.show_page.new.out))
+    c.args.profiled its c.ended.result (c.in-Ok.ensures.ends its.accepted.program most_steps its.bounds its.is_profiled.is_profile) c.ended.ensures
 
 pub returns-in-Err-clause-ends : goal.returns-in-Err-clause-ends
 returns-in-Err-clause-ends g c =
-    unsummed c.args.n (g.O.Sink.held c.args.out.now) (g.O.Sink.held c.show_page.new.out) (Rose (g.O.Sink.write_faults c.args.out.now) (g.O.Sink.write_faults c.show_page.new.out))
-    c.args.profiled c.in-Err.fault c.requires (c.in-Err.ensures.ends c.requires.accepted.program most_steps c.requires.bounds c.requires.is_profiled.is_profile)
+    let its = c.requires.profiled in
+    unsummed c.args.n c.requires.some c.requires.few (g.O.Sink.held c.args.out.now) (g.O.Sink.held c.show_page.new.out) (Rose (g.O.Sink.write_faults c.args.out.now) (g.O.Sink.write_faults c.show_page.new.out))
+    c.args.profiled its c.in-Err.fault (c.in-Err.ensures.ends its.accepted.program most_steps its.bounds its.is_profiled.is_profile)
