@@ -306,12 +306,13 @@ def count_of_connections(program, folder):
 
 @case
 def a_thousand_connections(program, folder):
-    """A thousand peers that are there at once, each of which asks for a page."""
+    """A thousand peers that ask for a page one after the other, none of which reads before all have asked."""
     with Server(program, folder, requests=1000) as server:
         begun = time.time()
-        peers = [server.connect() for _ in range(1000)]
-        for it in peers:
-            it.sendall(HEAD)
+        peers = []
+        for _ in range(1000):
+            peers.append(server.connect())
+            peers[-1].sendall(HEAD)
         for it in peers:
             whole(it)
             it.close()
