@@ -9,6 +9,7 @@ use Rattle.md_clique.specs.Cliques.{clique_count, members_of}
 use Rattle.md_clique.specs.Entries.{edges_of, entries, AreReached}
 use Rattle.md_clique.specs.declared.entries.Twice.{Twice}
 use Rattle.md_clique.specs.Found.{first_of, is_lower, IsLowestTwice}
+use Rattle.md_clique.specs.Links.{end_of, links_of, runs_of, start_of, starts_of}
 
 abbrev pub order2 : List (Option ℕ × ℕ)
 order2 = (None, 0) ∷ (Some 0, 1) ∷ (Some 1, 2) ∷ (Some 2, 3) ∷ (Some 1, 4) ∷ (Some 4, 1) ∷ []
@@ -68,3 +69,17 @@ pair_found = (refl, refl, refl, refl, refl)
 
 pair_lowest : IsLowestTwice 2 (entries (0 ∷ 1 ∷ 1 ∷ []) pair) pair_twice
 pair_lowest = (omega arith, refl, λ q lt. (let e : q ≡ 0 = omega arith in rw e (omega arith)))
+
+-- ---- lists
+
+-- Node 0 leads to 1 and 2, node 1 to 2, and node 2 nowhere: refuses lists that begin where the last node's end, and a last list that is
+-- left out.
+pair_lists : links_of 3 (0 ∷ 2 ∷ 3 ∷ 3 ∷ []) (1 ∷ 2 ∷ 2 ∷ []) ≡ (0, 1) ∷ (0, 2) ∷ (1, 2) ∷ []
+pair_lists = refl
+
+last_list : links_of 2 (0 ∷ 0 ∷ 1 ∷ []) (0 ∷ []) ≡ (1, 0) ∷ []
+last_list = refl
+
+-- a link starts at its first number, and its run is that of its start
+pair_starts : (starts_of ((4097, 1) ∷ (2, 9000) ∷ []) ≡ 4097 ∷ 2 ∷ []) × (runs_of 4096 ((4097, 1) ∷ (2, 9000) ∷ []) ≡ 1 ∷ 0 ∷ []) × (start_of ((4, 1) ∷ (2, 9) ∷ []) 1 ≡ 2) × (end_of ((4, 1) ∷ (2, 9) ∷ []) 1 ≡ 9)
+pair_starts = (refl, refl, refl, refl)
