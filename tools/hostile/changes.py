@@ -1,13 +1,14 @@
 #!/usr/bin/env python3
-"""Hands mdprof texts of profiles, words and heads of requests that are changed at random, and sees that it neither crashes nor hangs,
-and that each status is one that is due.
+"""Hands mdprof programs, texts of profiles, words and heads of requests that are changed at random, and sees that it neither crashes
+nor hangs, and that each status is one that is due.
 
-    python3 tools/hostile/changes.py PROGRAM COUNT [dumps|words|heads ..] [--seed S]
+    python3 tools/hostile/changes.py PROGRAM COUNT [programs|dumps|words|heads ..] [--seed S]
 
-PROGRAM is a built mdprof; COUNT of each kind are tried. A changed text of a profile is taken (`undump`) with status 0, and then `dump`
-writes it again, or refused with 5. Words are those of the commands, in any order, with numbers at and beyond their bounds. A server
-answers each changed head with one response, or with none, and tells in the end how many it answered. Changed programs and
-changed profile files have scripts of their own: tools/crosscheck and tools/damage.
+PROGRAM is a built mdprof; COUNT of each kind are tried. A changed program is run for a few steps, and refused with status 3 or ends
+with 0, 4 or 10. A changed text of a profile is taken (`undump`) with status 0, and then `dump` writes it again, or refused with 5.
+Words are those of the commands, in any order, with numbers at and beyond their bounds. A server answers each changed head with one
+response, or with none, and tells in the end how many it answered. What is said of a changed program or profile file is compared
+with a second reading by scripts of their own: tools/crosscheck and tools/damage.
 """
 
 import argparse
@@ -57,6 +58,18 @@ def ended(words, folder):
     except subprocess.TimeoutExpired:
         return None, b""
     return done.returncode, done.stdout
+
+
+def programs(program, count, chance, folder):
+    """The changed programs whose run ends otherwise than one may."""
+    texts = [it.read_bytes() for it in sorted(EXAMPLES.glob("*.m"))]
+    given = os.path.join(folder, "given.m")
+    for _ in range(count):
+        text = changed(chance.choice(texts), chance, [b"\n", b" ", b",", b";", b"(", b")", b"X", b"int", b"io", b"::in", b"nondet", b"not ( ", b"->", b"=", b"\"", b"%"])
+        pathlib.Path(given).write_bytes(text)
+        status, _ = ended([program, "run", "given.m", "--steps", "2000", "--profile", "kept"], folder)
+        if status not in (0, 3, 4, 10):
+            yield f"run, status {status}: {text!r}"
 
 
 def dumps(program, count, chance, folder):
@@ -125,7 +138,7 @@ def asked(port, head):
 
 def part(program, kind, count, seed):
     with tempfile.TemporaryDirectory() as folder:
-        return list({"dumps": dumps, "words": words, "heads": heads}[kind](program, count, random.Random(seed), folder))
+        return list({"programs": programs, "dumps": dumps, "words": words, "heads": heads}[kind](program, count, random.Random(seed), folder))
 
 
 def main():
@@ -138,7 +151,7 @@ def main():
     program, wrong = os.path.abspath(a.program), 0
     parts = os.cpu_count() or 1
     with concurrent.futures.ThreadPoolExecutor(parts) as pool:
-        for kind in a.kinds or ["dumps", "words", "heads"]:
+        for kind in a.kinds or ["programs", "dumps", "words", "heads"]:
             start = time.perf_counter()
             tried = [pool.submit(part, program, kind, -(-a.count // parts), a.seed * parts + k) for k in range(parts)]
             found = [line for it in tried for line in it.result()]

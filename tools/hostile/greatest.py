@@ -131,12 +131,19 @@ COUNTS = struct.pack("<IIIIIII", 1, 1, 0, 0, 0, 0, 0)
 ROOT = struct.pack("<III", NONE, NONE, 0) + COUNTS
 
 
-def linked(out, start, contexts, link):
-    """A file of so many contexts of procedure 0, each entered by a link from `link(i)`."""
-    out.write(start + number(contexts) + bytes(4 * contexts) + number(contexts) + ROOT)
+def linked(out, start, contexts, link, nodes=None, more=0):
+    """A file of so many contexts, of procedure 0 or of `nodes`, with the links `link(i)` from 1 on: one for each context behind the
+    first, and so many more."""
+    links = contexts + more
+    out.write(start + number(contexts) + (nodes or bytes(4 * contexts)) + number(links) + ROOT)
     step = 1 << 16
-    for first in range(1, contexts, step):
-        out.write(b"".join(struct.pack("<III", *link(i)) + COUNTS for i in range(first, min(first + step, contexts))))
+    for first in range(1, links, step):
+        out.write(b"".join(struct.pack("<III", *link(i)) + COUNTS for i in range(first, min(first + step, links))))
+
+
+def alternating(contexts):
+    """Contexts of procedures 0 and 1 in turn."""
+    return struct.pack("<II", 0, 1) * (contexts // 2)
 
 
 def files():
@@ -145,6 +152,18 @@ def files():
     yield "a million procedures, a context each, in a chain", lambda out: chain(out, many // 2), {0, 5}
     yield "contexts by links of one higher-order site to one procedure", lambda out: linked(out, head(sites=((0, 1, NONE),)), many, lambda i: (0, 0, i)), {5}
     yield "names of modules, 255 bytes each", lambda out: out.write(lots(lambda i: named(i, 255), lambda m, n: b"MDPROF02\x01" + number(n) + m, number(1) + number(0) + b"\x04main\x02" + number(0))), {0, 5}
+    pairs = many // 2 * 2
+    turns = head(procs=[number(0) + b"\x04main\x02", number(0) + b"\x01a\x00"], sites=((0, 1, 1), (0, 2, 0), (1, 1, 0), (1, 2, 0)))
+    yield "two procedures that call one another, a context a call, in a chain", lambda out: linked(
+        out, turns, pairs, lambda i: (i - 1, 2 * ((i - 1) % 2), i), alternating(pairs)), {0, 5}
+    half = (FILE - 4096) // 84 // 2 * 2
+    yield "the same, each with a link back to the first: one clique", lambda out: linked(
+        out, turns, half, lambda i: (i - 1, 2 * ((i - 1) % 2), i) if i < half else (i - half, 1 + 2 * ((i - half) % 2), 0), alternating(half), half), {0, 5}
+    yield "the same chain, whose last link is one that was there", lambda out: linked(
+        out, turns, pairs, lambda i: (i - 1, 2 * ((i - 1) % 2), i) if i < pairs else (0, 0, 1), alternating(pairs), 1), {5}
+    yield "call sites of one procedure", lambda out: out.write(
+        head(sites=()).removesuffix(number(0)) + number((FILE - 4096) // 12) + struct.pack("<III", 0, 1, 0) * ((FILE - 4096) // 12)
+        + number(1) + number(0) + number(1) + ROOT), {0, 5}
     yield "zeros", lambda out: out.truncate(FILE), {5}
     yield "a count of 4,294,967,295 contexts, and zeros", lambda out: (out.write(two + number(NONE)), out.truncate(FILE)), {5}
     yield "a byte too many", lambda out: out.truncate(FILE + 1), {5}

@@ -2,12 +2,12 @@
 //! sink that keeps nothing, and tells of each run how it ended and how many bytes it wrote.
 #![tactic(auto)]
 
-ghost use Rattle.std.specs.Prelude.{ℕ, ◌<◌, ◌^◌, IfSome};
 ghost use Rattle.md_hlds.specs.Hlds.{hlds_of};
-ghost use Rattle.md_machine.specs.Ran.{CanBeRun};
+ghost use Rattle.law_events.specs.Table.{site_table};
+ghost use Rattle.md_trace.specs.PortHistory.{IsSiteTable};
 
 use law_events::programs_have_tables;
-use law_spelled::accepted_texts_are_within_bounds;
+use law_spelled::accepted_texts_have_mains;
 use md_base::NoMemory;
 use md_det::{Checked, check_det};
 use md_machine::{Ran, interpret};
@@ -54,21 +54,25 @@ fn runs(rt: &HostRuntime, text: &[u8], times: u32, steps: u32) -> io::Result<Exi
 }
 
 /// The run of a program, for a sink that keeps nothing.
-fn silent(alloc: Global, checked: &Checked, steps: u32) -> Result<Ran, NoMemory>
-    requires { (b : ℕ) → b < 2 ^ 32 → CanBeRun (hlds_of checked.now) b }
-{
-    programs_have_tables();
+fn silent(alloc: Global, checked: &Checked, steps: u32) -> Result<Ran, NoMemory> {
+    has_site_table(checked);
     interpret(alloc, checked, steps, &mut Silent)
 }
 
-/// The checked program of a text, if it is accepted and no longer than any that `mdprof` takes.
-fn checked(alloc: Global, text: &[u8]) -> Option<Checked>
-    ensures { IfSome result (λ checked. (budget : ℕ) → budget < 2 ^ 32 → CanBeRun (hlds_of checked) budget) }
+/// The call sites of a checked program are a site table.
+fn has_site_table(checked: &Checked)
+    ensures { IsSiteTable (site_table (hlds_of checked.now)) }
 {
+    programs_have_tables();
+    accepted_texts_have_mains();
+    let _ = checked.program();
+}
+
+/// The checked program of a text, if it is accepted and no longer than any that `mdprof` takes.
+fn checked(alloc: Global, text: &[u8]) -> Option<Checked> {
     if text.len() > LONGEST {
         return None;
     }
-    accepted_texts_are_within_bounds();
     let Ok(program) = read(alloc, text) else {
         return None;
     };

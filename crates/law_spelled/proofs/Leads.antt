@@ -121,16 +121,6 @@ pub line_at : (k : Kind) (i : Input) → kind_at i ≡ k → same_kind k kind.St
 unfolding token
 line_at k i is not_stop l = line_by i.rest (ap (λ (x : Kind). same_kind x kind.Stop) is ∙ not_stop) l
 
--- it was taken
-taken_fewer : (ts : List Lexeme) → same_kind (first ts).kind kind.Stop ≡ false → length (drop 1 ts) < length ts
-unfolding same_kind
-taken_fewer [] not_stop = absurd (cc)
-taken_fewer (t ∷ ts) not_stop = omega arith
-
-pub next_fewer : (k : Kind) (i j : Input) → kind_at i ≡ k → same_kind k kind.Stop ≡ false → j ≡ next i → length j.rest < length i.rest
-unfolding token next
-next_fewer k i j is not_stop behind = rw behind (taken_fewer i.rest (ap (λ (x : Kind). same_kind x kind.Stop) is ∙ not_stop))
-
 -- ---- names
 
 pub taken_name : (text : List ℕ) (x : List ℕ) (i j : Input) → take_name text i ≡ Ok (x, j) → Steady i j × (length x ≤ i.limits.items)
@@ -200,21 +190,6 @@ taken_written (Some w) q i j is =
                 (parts.0, short_away i.limits.items i.home w.qualifier parts.1),
           )
     ]
-
-written_behind : (o : Option rule.Written) (q : PredName) (i j : Input) → rule.take_written o i ≡ Ok (q, j) → j ≡ next i
-written_behind None q i j is = absurd (cc)
-written_behind (Some w) q i j is =
-    elim (chosen (rule.is_long i.limits.items w) (limit i) (Ok (rule.meant i.home w, next i)) (Ok (q, j)) is) [
-      | inl l ↦ absurd (let e = l.1 in cc)
-      | inr r ↦ sym (ok_input (rule.meant i.home w) q (next i) j r.1)
-    ]
-
--- the name of a predicate is a token that isn't the end
-pub pred_name_fewer : (q : PredName) (i j : Input) → Is rule.pred_name q i j → length j.rest < length i.rest
-unfolding rule.pred_name same_kind
-pred_name_fewer q i j is =
-    let behind = written_behind (rule.written (token i)) q i j is in
-    elim (pred_kinds q i j is) [ inl name ↦ next_fewer kind.Name i j name refl behind | inr name ↦ next_fewer kind.Qualified i j name refl behind ]
 
 pub pred_name_is : (q : PredName) (i j : Input) → Is rule.pred_name q i j → Steady i j × ShortName i q
 unfolding rule.pred_name

@@ -14,11 +14,12 @@ use Rattle.md_reader.specs.Rules as rule
 use Rattle.md_reader.specs.Grammar as g
 use Rattle.md_reader.specs.Grammar.{Is, Sign, Listed, last, also, Enclosed, FunctorArguments, Functor, functor, TypeDeclaration, type_declaration, Inst, inst, Argument, DeclaredArguments, PredDeclaration, pred_declaration, Head, PredClause, pred_clause, Declared, Declarations, Program, program}
 use Rattle.md_reader.proofs.Steps.{ok_input, ok_value}
+use Rattle.md_reader.proofs.Sizes.{next_fewer}
 use Rattle.md_reader.proofs.Taking.{expected}
 use Rattle.law_events.specs.Table.{AreNumberedFrom, goal_sites, clause_sites}
 use Rattle.law_spelled.specs.Bounds.{IsShortFunctor, IsShortType, IsShort}
 use Rattle.law_spelled.proofs.Names.{IsName, AreNames}
-use Rattle.law_spelled.proofs.Leads.{declared_name_names, next_fewer, AreSound, AreLined, lined_append, numbered_append, Leads, Steady, after, before, to_same, sign_steady, expect_steady, word_steady, name_is, declared_name_is, this_name_is, variable_is, variable_steady, mode_steady, ho_mode_steady, determinism_steady}
+use Rattle.law_spelled.proofs.Leads.{declared_name_names, AreSound, AreLined, lined_append, numbered_append, Leads, Steady, after, before, to_same, sign_steady, expect_steady, word_steady, name_is, declared_name_is, this_name_is, variable_is, variable_steady, mode_steady, ho_mode_steady, determinism_steady}
 use Rattle.law_spelled.proofs.LeadsTerms.{module_name_name, simple_type_steady, type_name_is, module_name_is, listed_steady, enclosed_steady}
 use Rattle.law_spelled.proofs.LeadsGoals.{line_expected, named_line, conjunction_is}
 

@@ -15,10 +15,12 @@ use Rattle.md_reader.specs.Rules as rule
 use Rattle.md_reader.specs.Grammar as g
 use Rattle.md_reader.specs.Grammar.{Is, Sign, Listed, last, also, Enclosed, enclosed, Variables, variables, Arguments, Quantified, Operator, operator, Comparison, Term, Relation, Call, ClosureCall}
 use Rattle.md_reader.proofs.Steps.{bind_ok, chosen, ok_input, ok_value}
+use Rattle.md_reader.proofs.Plain.{IsPlain, builtin_plain}
+use Rattle.md_reader.proofs.Sizes.{next_fewer, pred_name_fewer}
 use Rattle.md_reader.proofs.Taking.{variable_kind, pred_kinds, signed}
 use Rattle.law_events.specs.Table.{number_of, expr_sites}
 use Rattle.law_spelled.proofs.Names.{IsName}
-use Rattle.law_spelled.proofs.Leads.{AreSound, name_at, taken_text, Leads, Steady, after, to_next, to_same, sign_steady, taken_name, name_is, pred_name_is, pred_name_fewer, next_fewer, variable_steady, site_is}
+use Rattle.law_spelled.proofs.Leads.{AreSound, name_at, taken_text, Leads, Steady, after, to_next, to_same, sign_steady, taken_name, name_is, pred_name_is, variable_steady, site_is}
 
 first_true : (a b : Bool) → (a && b) ≡ true → a ≡ true
 first_true true b is = refl
@@ -128,10 +130,6 @@ operator_steady _ _ _ (operator k i j is mark) = sign_steady k i j mark
 comparison_steady : (c : _) (i j : Input) → Comparison c i j → Steady i j
 comparison_steady _ _ _ (g.Comparison.comparison k i j is mark) = sign_steady k i j mark
 
--- a goal without parts and calls
-abbrev pub IsPlain : GoalExpr → Type 0
-IsPlain t = (u : Simple) × (t ≡ SimpleGoal u)
-
 -- an integer, and a string
 limited : (b : Bool) (u : Simple) (t : GoalExpr) (i j : Input) → cond b (limit i) (Ok (SimpleGoal u, next i)) ≡ Ok (t, j) → Steady i j × IsPlain t
 limited true u t i j is = absurd (cc)
@@ -171,22 +169,6 @@ relation_is _ _ _ (g.Relation.unification x t i j k m is mark term) =
     (after (variable_steady [] x i j is) (after (sign_steady kind.Equals j k mark) r.0), r.1, variable_kind [] x i j is)
 relation_is _ _ _ (g.Relation.comparison x y c i j k m is compared second) =
     (after (variable_steady [] x i j is) (after (comparison_steady c j k compared) (variable_steady (x ∷ []) y k m second)), (_, refl), variable_kind [] x i j is)
-
-plain_choice : (b : Bool) (u : Simple) (rest : Option GoalExpr) (t : GoalExpr) → cond b (Some (SimpleGoal u)) rest ≡ Some t → (rest ≡ Some t → IsPlain t) → IsPlain t
-plain_choice true u rest t is more = (u, cc)
-plain_choice false u rest t is more = more is
-
-no_more : (t : GoalExpr) → None ≡ Some t → IsPlain t
-no_more t is = absurd (cc)
-
-builtin_plain : (q : PredName) (ys : List ℕ) (t : GoalExpr) → rule.builtin q ys ≡ Some t → IsPlain t
-builtin_plain q [] t is = absurd (cc)
-builtin_plain q (x ∷ []) t is = plain_choice (rule.is_builtin (codes "require") (codes "error") q) _ None t is (no_more t)
-builtin_plain q (x ∷ y ∷ []) t is = plain_choice (rule.is_builtin (codes "io") (codes "nl") q) _ None t is (no_more t)
-builtin_plain q (x ∷ y ∷ z ∷ []) t is =
-    plain_choice (rule.is_builtin (codes "io") (codes "write_int") q) _ _ t is
-    (λ more. plain_choice (rule.is_builtin (codes "io") (codes "write_string") q) _ None t more (no_more t))
-builtin_plain q (x ∷ y ∷ z ∷ w ∷ ys) t is = absurd (cc)
 
 module _ (s : Hlds) (owner : ℕ) where
   -- no site stands in a goal without parts and calls

@@ -9,6 +9,7 @@ use Rattle.md_token.specs.declared.kind.Kind.{Kind}
 use Rattle.md_token.proofs.Cuts.{tokens_cut}
 use Rattle.md_reader.specs.Rules as rule
 use Rattle.md_reader.specs.Grammar.{Spells}
+use Rattle.md_token.proofs.Few.{few_tokens}
 use Rattle.law_events.specs.Table.{site_alone, program_sites}
 use Rattle.law_events.specs.Laws.{owner_of_site, owner_of_pair}
 use Rattle.law_events.proofs.RunLaw.{runs_are_histories}
@@ -36,47 +37,6 @@ cut_lined _ _ _ (Cut.bad line b bytes blank percent is) has = (has, bad_name [],
 
 tokens_lined : (text : List ℕ) → AreSound (tokens_of text)
 tokens_lined text = cut_lined 1 text (tokens_of text) (tokens_cut text) (omega arith)
-
--- ---- a token has a byte at least
-
-sign_bytes : (k : Kind) (w : List ℕ) → IsSign k w → 0 < length w
-sign_bytes _ _ IsSign.declare = omega arith
-sign_bytes _ _ IsSign.yields = omega arith
-sign_bytes _ _ IsSign.then_sign = omega arith
-sign_bytes _ _ IsSign.has_mode = omega arith
-sign_bytes _ _ IsSign.semicolon = omega arith
-sign_bytes _ _ IsSign.comma = omega arith
-sign_bytes _ _ IsSign.open_sign = omega arith
-sign_bytes _ _ IsSign.close = omega arith
-sign_bytes _ _ IsSign.open_list = omega arith
-sign_bytes _ _ IsSign.close_list = omega arith
-sign_bytes _ _ IsSign.equals = omega arith
-sign_bytes _ _ IsSign.at_most = omega arith
-sign_bytes _ _ IsSign.less = omega arith
-sign_bytes _ _ IsSign.greater = omega arith
-sign_bytes _ _ IsSign.at_least = omega arith
-sign_bytes _ _ IsSign.plus = omega arith
-sign_bytes _ _ IsSign.minus = omega arith
-sign_bytes _ _ IsSign.times = omega arith
-
-token_bytes : (after : List ℕ) (k : Kind) (w : List ℕ) → IsToken after k w → 0 < length w
-token_bytes after _ _ (IsToken.name b w lower pass) = omega arith
-token_bytes after _ _ (IsToken.qualified b c v w lower pass other more) = omega arith
-token_bytes after _ _ (IsToken.variable b w upper pass alone) = omega arith
-token_bytes after _ _ (IsToken.integer b w digit pass) = omega arith
-token_bytes after _ _ (IsToken.string v w writes) = omega arith
-token_bytes after _ _ (IsToken.sign k w is) = sign_bytes k w is
-token_bytes after _ _ (IsToken.end is) = omega arith
-
--- a text has no more tokens than bytes, but for its end
-cut_few : (line : ℕ) (text : List ℕ) (ts : List Lexeme) → Cut line text ts → length ts ≤ suc (length text)
-cut_few _ _ _ (Cut.stop line) = omega arith
-cut_few _ _ _ (Cut.blank line b text ts is rest) = omega (arith, cut_few (line_behind b line) text ts rest)
-cut_few _ _ _ (Cut.comment line w text ts is ended rest) = omega (arith, cut_few line text ts rest, length-append w text)
-cut_few _ _ _ (Cut.token line k text w after ts is rest) =
-    let whole : length text ≡ length w + length after = ap length is.whole ∙ length-append w after in
-    omega (arith, whole, cut_few line after ts rest, token_bytes after k w is.token)
-cut_few _ _ _ (Cut.bad line b bytes blank percent is) = omega arith
 
 -- what the grammar gives
 spelled : (s : Hlds) (text : List ℕ) (p : Hlds) (t : Spells text p) → Stands s p (length (tokens_of text)) t.end
@@ -190,7 +150,7 @@ texts_have_few_parts text p t =
     let all : length (map owner_of_site (map site_alone (program_sites p))) ≡ length (map owner_of_pair (sites_of p)) = ap length (owners_agree p) in
     let sites : length (program_sites p) ≡ length (sites_of p) =
     sym (length_map owner_of_site (map site_alone (program_sites p)) ∙ length_map site_alone (program_sites p)) ∙ all ∙ length_map owner_of_pair (sites_of p) in
-    omega (arith, sites, few, cut_few 1 text (tokens_of text) (tokens_cut text))
+    omega (arith, sites, few, few_tokens text)
 
 -- a procedure among good ones
 good_at : (ps : List Procedure) (n : ℕ) (p : Procedure) → Every IsGoodProcedure ps → slice_get ps n ≡ Some p → IsGoodProcedure p

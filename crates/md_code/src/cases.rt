@@ -9,7 +9,7 @@ ghost use Rattle.md_code.specs.Blocks.{shape_keys};
 ghost use Rattle.md_code.specs.Details as spec;
 
 use crate::detail::{NO_CALL, plain_detail};
-use crate::number::{head_at, plus, second_at};
+use crate::number::{head_at, next_goal, plus, second_at};
 use crate::switch::{first_functor, key_functor, least_functor};
 use crate::tables::Tables;
 use md_base::NoMemory;
@@ -35,7 +35,7 @@ fn shape_detail(tables: &Tables, number: u32, arms: &[Goal]) -> Result<Detail, N
     ensures { IfOk result (λ detail. Stand (hlds_of tables.now.source.checked.now) (suc number) (goals_among (gathered (goals_of arms.now)))
         → spec.detail_told detail ≡ spec.keyed_detail (hlds_of tables.now.source.checked.now) number (gathered (goals_of arms.now)) (shape_keys (hlds_of tables.now.source.checked.now) (gathered (goals_of arms.now)))) }
 {
-    let first = plus(number, 1)?;
+    let first = next_goal(number)?;
     match shape_of(tables.alloc, tables.source.checked.moded(), arms, first)? {
         None => Ok(plain_detail(tables.alloc)),
         Some(shape) => keyed_detail(tables, number, arms, shape.keys.as_slice()),

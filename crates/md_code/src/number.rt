@@ -1,5 +1,5 @@
 // Numbers of 32 bits, and addresses.
-ghost use Rattle.std.specs.Prelude.{◌≡◌, ◌+◌, ◌*◌, IfOk};
+ghost use Rattle.std.specs.Prelude.{◌≡◌, ◌<◌, ◌+◌, ◌*◌, IfOk, OnOk};
 ghost use Rattle.md_code.specs.Tables as tables;
 
 use md_base::NoMemory;
@@ -25,6 +25,26 @@ pub fn small(number: usize) -> Result<u32, NoMemory>
     ensures { IfOk result (λ small. small ≡ number) }
 {
     u32::try_from(number).map_err(|_| NoMemory)
+}
+
+/// So many things have numbers of 32 bits, if this is `Ok`.
+pub fn are_few(count: usize) -> Result<(), NoMemory>
+    ensures { OnOk result (count < 4294967296) }
+{
+    small(count)?;
+    Ok(())
+}
+
+/// The number of the goal behind this one in the text.
+pub fn next_goal(number: u32) -> Result<u32, NoMemory>
+    ensures next { IfOk result (λ next. next ≡ number + 1) }
+    ensures small { IfOk result (λ next. next < 4294967295) }
+{
+    let next = plus(number, 1)?;
+    if next == u32::MAX {
+        return Err(NoMemory);
+    }
+    Ok(next)
 }
 
 /// The number of a goal six times, and so much more.

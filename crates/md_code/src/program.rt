@@ -13,7 +13,7 @@ use crate::detail::{entry_of, goes_in};
 use crate::functors::functors_of;
 use crate::layout::lay;
 use crate::literals::literals_of;
-use crate::number::{FAIL, end_at, plus, small};
+use crate::number::{FAIL, are_few, end_at, plus, small};
 use crate::output::Output;
 use crate::place::{End, Place, Trial, height_if, other_after};
 use crate::source::Source;
@@ -63,6 +63,8 @@ fn code_of(tables: &Tables) -> Result<Code, NoMemory>
     ensures { IfOk result (λ code. IsCodeOf (hlds_of tables.now.source.checked.now) code) }
 {
     let (output, reach) = lay_program(tables)?;
+    are_few(output.instructions.len())?;
+    are_few(output.details.len())?;
     let routines = routines_of(tables)?;
     let literals = texts(tables)?;
     Ok(Code {

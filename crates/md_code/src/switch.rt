@@ -6,7 +6,7 @@ ghost use Rattle.md_switch.specs.Keys.{key_of_code, keys_told};
 ghost use Rattle.md_code.specs.Facts.{Stand};
 ghost use Rattle.md_code.specs.Blocks as spec;
 
-use crate::number::plus;
+use crate::number::next_goal;
 use crate::tables::Tables;
 use md_base::NoMemory;
 use md_flat::Operation;
@@ -24,7 +24,8 @@ pub fn switch_by(
         → operation ≡ spec.switch_by (hlds_of tables.now.source.checked.now) number var (spec.shape_keys (hlds_of tables.now.source.checked.now) (gathered (goals_of arms.now)))) }
 {
     let moded = tables.source.checked.moded();
-    match shape_of(tables.alloc, moded, arms, plus(number, 1)?)? {
+    let first = next_goal(number)?;
+    match shape_of(tables.alloc, moded, arms, first)? {
         None => Ok(Operation::Pass),
         Some(shape) => Ok(switch_by_keys(tables, number, var, shape.keys.as_slice())),
     }

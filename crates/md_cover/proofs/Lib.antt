@@ -4,6 +4,7 @@ pub mod BuildingLemmas
 pub mod Settling
 pub mod Blanks
 pub mod RowLemmas
+pub mod BodyNumbers
 pub mod SolveLaws
 pub mod Numbered
 pub mod Closing

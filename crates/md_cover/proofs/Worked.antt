@@ -7,7 +7,7 @@ use Rattle.md_base.specs.declared.measure.Counts.{Counts}
 use Rattle.md_hlds.specs.HldsGoal.{HldsGoal, SimpleGoal, HoCallGoal, NotGoal, SomeGoal, Computes, WritesInt, WritesText, EndsLine, Fails, Raises}
 use Rattle.md_hlds.specs.declared.goal.Op.TheVariants.{Mul}
 use Rattle.md_hlds.specs.Hlds.{Procedure}
-use Rattle.md_hlds.proofs.Worked.{goal, conj, disj, is_int, same, made, call, at_most, choose, succeed}
+use Rattle.md_hlds.proofs.Worked.{goal, conj, disj, same, made, call, at_most, choose, succeed}
 use Rattle.md_static.specs.Tables.{Static}
 use Rattle.md_dynamic.specs.Profile.{ProfileRows}
 use Rattle.md_cover.specs.declared.coverage.KindName.{KindName}

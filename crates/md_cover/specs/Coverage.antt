@@ -5,9 +5,6 @@ use Rattle.md_base.specs.declared.measure.Counts.{Counts}
 use Rattle.md_trace.specs.declared.event.Event.{Event}
 use Rattle.md_hlds.specs.Hlds.{Hlds, Procedure, body_number}
 use Rattle.md_hlds.specs.Run.{run, is_finished}
-use Rattle.md_reader.specs.Grammar.{Spells}
-use Rattle.md_modes.specs.Modes.{mode_fault}
-use Rattle.md_det.specs.Faults.{det_fault}
 use Rattle.law_events.specs.History.{history}
 use Rattle.md_dynamic.specs.Profile.{ProfileRows}
 use Rattle.md_cost.specs.FileView.{IsFileView}
@@ -20,10 +17,6 @@ use Rattle.md_cover.specs.declared.coverage.GoalCount.{GoalCount}
 use Rattle.md_cover.specs.Covered.{Covered}
 use Rattle.md_cover.specs.Rows.{goal_rows}
 use Rattle.md_cover.specs.Told.{view_counts}
-
--- the program of an accepted text
-abbrev pub IsAccepted : Hlds → Type 0
-IsAccepted s = (bytes : List ℕ) × Spells bytes s × (mode_fault s ≡ None) × (det_fault s ≡ None)
 
 -- ---- what is asked of a profile
 

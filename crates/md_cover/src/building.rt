@@ -1,5 +1,5 @@
 // The equations of a goal and of the goals within it.
-ghost use Rattle.std.specs.Prelude.{◌≡◌, ◌++◌, ◌+◌, ◌∷◌, [], suc, IfOk, OnOk, Some, map};
+ghost use Rattle.std.specs.Prelude.{◌≡◌, ◌<◌, ◌++◌, ◌+◌, ◌∷◌, [], suc, IfOk, OnOk, Some, map};
 ghost use Rattle.md_hlds.specs.Hlds.{hlds_of};
 ghost use Rattle.md_hlds.specs.HldsGoal.{NotGoal, goal_of, goals_of, gathered, expr_of, goal_size, parts_size, goals_size};
 ghost use Rattle.md_det.specs.Findings.{program_findings, switch_at, pair_at};
@@ -25,6 +25,7 @@ pub(crate) fn add_body(
     body: &Goal,
     number: u32,
 ) -> Result<(), NoMemory>
+    requires few { number + goal_size (goal_of body.now) < 4294967295 }
     ensures { (v : View) → IsFileView loaded.now.profile v → OnOk result (equations_of equations.new.items
         ≡ equations_of equations.old.items ++ body_equations (program_findings (hlds_of checked.now)) (view_counts v) number id (goal_of body.now)) }
 {
@@ -44,18 +45,12 @@ pub(crate) fn add_goal(
     goal: &Goal,
     number: u32,
 ) -> Result<u32, NoMemory>
+    requires few { number + goal_size (goal_of goal.now) < 4294967295 }
     ensures next { IfOk result (λ next. next ≡ number + goal_size (goal_of goal.now)) }
     ensures equations { (v : View) → IsFileView loaded.now.profile v → IfOk result (λ next. equations_of equations.new.items
         ≡ equations_of equations.old.items ++ spec.goal_equations (program_findings (hlds_of checked.now)) (view_counts v) number (goal_of goal.now)) }
 {
     add_kind(checked, loaded, equations, &goal.kind, number)
-}
-
-/// The number after this one. Goals have numbers of 32 bits: more are answered as what memory has no room for.
-fn after(number: u32) -> Result<u32, NoMemory>
-    ensures { IfOk result (λ next. next ≡ suc number) }
-{
-    number.checked_add(1).ok_or(NoMemory)
 }
 
 #[cycle(building)]
@@ -66,6 +61,7 @@ fn add_kind(
     kind: &GoalKind,
     number: u32,
 ) -> Result<u32, NoMemory>
+    requires few { number + suc (parts_size (expr_of kind.now)) < 4294967295 }
     ensures next { IfOk result (λ next. next ≡ number + suc (parts_size (expr_of kind.now))) }
     ensures equations { (v : View) → IsFileView loaded.now.profile v → IfOk result (λ next. equations_of equations.new.items
         ≡ equations_of equations.old.items ++ spec.expr_equations (program_findings (hlds_of checked.now)) (view_counts v) number (expr_of kind.now)) }
@@ -80,7 +76,7 @@ fn add_kind(
             add_disjunction(checked, loaded, equations, arms.as_slice(), number)
         }
         GoalKind::If(condition, then, otherwise) => {
-            let asked = after(number)?;
+            let asked = number + 1;
             let entered = Quantity::Entries(number);
             let held = add_entered(checked, loaded, equations, condition, asked, entered)?;
             let met = Quantity::Exits(asked);
@@ -104,12 +100,12 @@ fn add_kind(
         GoalKind::Some(_, inner) => add_some(checked, loaded, equations, inner, number),
         GoalKind::Fail => {
             add_count(equations, Quantity::Exits(number), 0)?;
-            after(number)
+            Ok(number + 1)
         }
         GoalKind::Error(_) => {
             add_count(equations, Quantity::Entries(number), 0)?;
             add_count(equations, Quantity::Exits(number), 0)?;
-            after(number)
+            Ok(number + 1)
         }
         GoalKind::True
         | GoalKind::Unify(..)
@@ -132,6 +128,7 @@ fn add_entered(
     number: u32,
     before: Quantity,
 ) -> Result<u32, NoMemory>
+    requires few { number + goal_size (goal_of goal.now) < 4294967295 }
     ensures next { IfOk result (λ next. next ≡ number + goal_size (goal_of goal.now)) }
     ensures equations { (v : View) → IsFileView loaded.now.profile v → IfOk result (λ next. equations_of equations.new.items
         ≡ equations_of equations.old.items ++ (spec.equals (spec.Entries number) (quantity_of before)
@@ -150,11 +147,12 @@ fn add_not(
     inner: &Goal,
     number: u32,
 ) -> Result<u32, NoMemory>
+    requires few { number + suc (goal_size (goal_of inner.now)) < 4294967295 }
     ensures next { IfOk result (λ next. next ≡ number + suc (goal_size (goal_of inner.now))) }
     ensures equations { (v : View) → IsFileView loaded.now.profile v → IfOk result (λ next. equations_of equations.new.items
         ≡ equations_of equations.old.items ++ spec.expr_equations (program_findings (hlds_of checked.now)) (view_counts v) number (NotGoal (goal_of inner.now))) }
 {
-    let asked = after(number)?;
+    let asked = number + 1;
     let entered = Quantity::Entries(number);
     let next = add_entered(checked, loaded, equations, inner, asked, entered)?;
     add_both(
@@ -175,12 +173,13 @@ fn add_some(
     inner: &Goal,
     number: u32,
 ) -> Result<u32, NoMemory>
+    requires few { number + suc (goal_size (goal_of inner.now)) < 4294967295 }
     ensures next { IfOk result (λ next. next ≡ number + suc (goal_size (goal_of inner.now))) }
     ensures equations { (v : View) → IsFileView loaded.now.profile v → IfOk result (λ next. equations_of equations.new.items
         ≡ equations_of equations.old.items ++ (spec.equals (spec.Entries (suc number)) (spec.Entries number)
         ∷ (spec.goal_equations (program_findings (hlds_of checked.now)) (view_counts v) (suc number) (goal_of inner.now) ++ spec.equals (spec.Exits number) (spec.Exits (suc number)) ∷ []))) }
 {
-    let asked = after(number)?;
+    let asked = number + 1;
     let entered = Quantity::Entries(number);
     let next = add_entered(checked, loaded, equations, inner, asked, entered)?;
     add_equal(equations, Quantity::Exits(number), Quantity::Exits(asked))?;
@@ -193,6 +192,7 @@ fn add_simple(
     equations: &mut Vec<Equation>,
     number: u32,
 ) -> Result<u32, NoMemory>
+    requires few { suc number < 4294967295 }
     ensures next { IfOk result (λ next. next ≡ suc number) }
     ensures equations { IfOk result (λ next. equations_of equations.new.items
         ≡ equations_of equations.old.items ++ spec.if_one number (pair_at (program_findings (hlds_of checked.now)) number)) }
@@ -204,7 +204,7 @@ fn add_simple(
             Quantity::Entries(number),
         )?;
     }
-    after(number)
+    Ok(number + 1)
 }
 
 /// Adds that a call has the counts of its site.
@@ -214,6 +214,7 @@ fn add_call(
     number: u32,
     site: SiteId,
 ) -> Result<u32, NoMemory>
+    requires few { suc number < 4294967295 }
     ensures next { IfOk result (λ next. next ≡ suc number) }
     ensures equations { (v : View) → IsFileView loaded.now.profile v → IfOk result (λ next. equations_of equations.new.items
         ≡ equations_of equations.old.items ++ spec.call_equations (view_counts v) number site) }
@@ -221,7 +222,7 @@ fn add_call(
     let counts = counts_of_site(loaded, site);
     add_count(equations, Quantity::Entries(number), counts.calls)?;
     add_count(equations, Quantity::Exits(number), counts.exits)?;
-    after(number)
+    Ok(number + 1)
 }
 
 /// Adds the equations of a conjunction of this number with these parts.
@@ -233,12 +234,13 @@ fn add_conjunction(
     goals: &[Goal],
     number: u32,
 ) -> Result<u32, NoMemory>
+    requires few { suc number + goals_size (gathered (goals_of goals.now)) < 4294967295 }
     ensures next { IfOk result (λ next. next ≡ suc number + goals_size (gathered (goals_of goals.now))) }
     ensures equations { (v : View) → IsFileView loaded.now.profile v → IfOk result (λ next. equations_of equations.new.items
         ≡ equations_of equations.old.items ++ spec.each_equations (program_findings (hlds_of checked.now)) (view_counts v) number (spec.Entries number) (suc number) (gathered (goals_of goals.now))) }
 {
     let mut before = Quantity::Entries(number);
-    let mut next = after(number)?;
+    let mut next = number + 1;
     for goal in goals {
         let place = next;
         next = add_entered(checked, loaded, equations, goal, place, before)?;
@@ -257,6 +259,7 @@ fn add_disjunction(
     arms: &[Goal],
     number: u32,
 ) -> Result<u32, NoMemory>
+    requires few { suc number + goals_size (gathered (goals_of arms.now)) < 4294967295 }
     ensures next { IfOk result (λ next. next ≡ suc number + goals_size (gathered (goals_of arms.now))) }
     ensures equations { (v : View) → IsFileView loaded.now.profile v → IfOk result (λ next. equations_of equations.new.items
         ≡ equations_of equations.old.items ++ (spec.entering number (spec.numbers_from (suc number) (gathered (goals_of arms.now))) (switch_at (program_findings (hlds_of checked.now)) number)
@@ -264,7 +267,7 @@ fn add_disjunction(
         ++ (spec.sums (spec.Exits number) (map spec.Exits (spec.numbers_from (suc number) (gathered (goals_of arms.now))))
         ∷ spec.choosing number (spec.numbers_from (suc number) (gathered (goals_of arms.now))) (switch_at (program_findings (hlds_of checked.now)) number))))) }
 {
-    let first = after(number)?;
+    let first = number + 1;
     let switch = checked.switch(number);
     enter_first(equations, arms, number, first, switch)?;
     let alloc = *equations.allocator();

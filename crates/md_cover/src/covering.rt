@@ -1,15 +1,15 @@
 // How often each goal of a procedure had a turn.
-ghost use Rattle.std.specs.Prelude.{◌≡◌, ℕ, ◌<◌, ◌^◌, Some, None, IfOk, IsErrOf, true, false, map, slice_get};
+ghost use Rattle.std.specs.Prelude.{◌≡◌, ℕ, ◌+◌, ◌<◌, ◌^◌, Some, None, IfOk, IsErrOf, true, false, map, slice_get};
 ghost use Rattle.std.specs.List.{list_any};
 ghost use Rattle.md_hlds.specs.Hlds.{hlds_of, Procedure, body_number};
-ghost use Rattle.md_hlds.specs.HldsGoal.{goal_of};
+ghost use Rattle.md_hlds.specs.HldsGoal.{goal_of, goal_size};
 ghost use Rattle.md_det.specs.Findings.{program_findings};
 ghost use Rattle.md_cost.specs.FileView.{IsFileView};
 ghost use Rattle.md_cost.specs.View.{View};
 ghost use Rattle.md_cover.specs.Told.{view_counts};
 ghost use Rattle.md_cover.specs.Known.{table_of};
 ghost use Rattle.md_cover.specs.Solved.{body_equations, IsSolved, with_turns, HaveFewExits};
-ghost use Rattle.md_cover.specs.Coverage.{IsAccepted, has_full_count, gives_turns, HasNoTurns, IsCountedIn, IsCoverageOf};
+ghost use Rattle.md_cover.specs.Coverage.{has_full_count, gives_turns, HasNoTurns, IsCountedIn, IsCoverageOf};
 
 use crate::bodies::body_number;
 use crate::building::add_body;
@@ -34,15 +34,13 @@ use std::alloc::Global;
 ///
 /// # Errors
 ///
-/// `NoSuchProc` exactly where the program has no procedure of this number. `NoMemory` where memory was refused, or where
-/// the program has more goals than numbers of 32 bits.
+/// `NoSuchProc` exactly where the program has no procedure of this number. `NoMemory` only where memory was refused.
 pub fn cover(
     alloc: Global,
     checked: &Checked,
     loaded: &Loaded,
     id: ProcId,
 ) -> Result<Coverage, CoverFault>
-    requires accepted { IsAccepted (hlds_of checked.now) }
     ensures found { IfOk result (λ c. (q : Procedure) × (slice_get (hlds_of checked.now).procedures id ≡ Some q)) }
     ensures no_such_procedure { IsErrOf result CoverFault.NoSuchProc → slice_get (hlds_of checked.now).procedures id ≡ None }
     ensures missing { slice_get (hlds_of checked.now).procedures id ≡ None → IsErrOf result CoverFault.NoSuchProc }
@@ -109,11 +107,12 @@ fn solved(
     body: &Goal,
     count: usize,
 ) -> Result<Known, NoMemory>
+    requires few { body_number (hlds_of checked.now) id + goal_size (goal_of body.now) < 4294967295 }
     ensures { (v : View) → IsFileView loaded.now.profile v → IfOk result (λ known.
         IsSolved (body_equations (program_findings (hlds_of checked.now)) (view_counts v) (body_number (hlds_of checked.now) id) id (goal_of body.now))
         (body_number (hlds_of checked.now) id) count (table_of known)) }
 {
-    let first = body_number(checked.program(), id)?;
+    let first = body_number(checked.moded(), id);
     let mut equations = Vec::new(alloc);
     add_body(checked, loaded, &mut equations, id, body, first)?;
     let mut known = Known::nothing(alloc, first, count)?;

@@ -1,6 +1,6 @@
 // The goals of a goal, in text order.
-ghost use Rattle.std.specs.Prelude.{◌≡◌, ◌++◌, length, OnOk};
-ghost use Rattle.md_hlds.specs.HldsGoal.{goal_of, goals_of, gathered, expr_of};
+ghost use Rattle.std.specs.Prelude.{◌≡◌, ◌+◌, ◌<◌, ◌++◌, length, OnOk};
+ghost use Rattle.md_hlds.specs.HldsGoal.{goal_of, goals_of, gathered, goal_size, goals_size, expr_of, parts_size};
 ghost use Rattle.md_cover.specs.Rows.{kind_of, goal_rows, expr_rows, each_rows};
 
 use crate::{GoalCount, KindName};
@@ -10,11 +10,10 @@ use md_hlds::{Goal, GoalKind};
 /// Adds the rows of a goal at this depth, and of those within it; their turns aren't known.
 #[cycle(rows)]
 pub(crate) fn add_rows(rows: &mut Vec<GoalCount>, goal: &Goal, depth: u32) -> Result<(), NoMemory>
+    requires few { length rows.old.items + goal_size (goal_of goal.now) < 4294967295 }
+    requires deep { depth + goal_size (goal_of goal.now) < 4294967295 }
     ensures { OnOk result (rows.new.items ≡ rows.old.items ++ goal_rows (length rows.old.items) depth (goal_of goal.now)) }
 {
-    if rows.len() >= 4_294_967_295 {
-        return Err(NoMemory);
-    }
     rows.push(GoalCount {
         place: rows.len() as u32,
         depth,
@@ -22,12 +21,14 @@ pub(crate) fn add_rows(rows: &mut Vec<GoalCount>, goal: &Goal, depth: u32) -> Re
         kind: kind_of(&goal.kind),
         turns: None,
     })?;
-    add_inner(rows, &goal.kind, depth.checked_add(1).ok_or(NoMemory)?)
+    add_inner(rows, &goal.kind, depth + 1)
 }
 
 /// Adds the rows of the goals within a goal.
 #[cycle(rows)]
 fn add_inner(rows: &mut Vec<GoalCount>, kind: &GoalKind, depth: u32) -> Result<(), NoMemory>
+    requires few { length rows.old.items + parts_size (expr_of kind.now) < 4294967295 }
+    requires deep { depth + parts_size (expr_of kind.now) < 4294967295 }
     ensures { OnOk result (rows.new.items ≡ rows.old.items ++ expr_rows (length rows.old.items) depth (expr_of kind.now)) }
 {
     match kind {
@@ -56,6 +57,8 @@ fn add_inner(rows: &mut Vec<GoalCount>, kind: &GoalKind, depth: u32) -> Result<(
 
 #[cycle(rows)]
 fn add_each(rows: &mut Vec<GoalCount>, goals: &[Goal], depth: u32) -> Result<(), NoMemory>
+    requires few { length rows.old.items + goals_size (gathered (goals_of goals.now)) < 4294967295 }
+    requires deep { depth + goals_size (gathered (goals_of goals.now)) < 4294967295 }
     ensures { OnOk result (rows.new.items ≡ rows.old.items ++ each_rows (length rows.old.items) depth (gathered (goals_of goals.now))) }
 {
     for goal in goals {

@@ -5,5 +5,6 @@ pub mod Functors
 pub mod KeyLemmas
 pub mod Judging
 pub mod Whole
+pub mod Counted
 mod Reach
 pub mod Errors

@@ -1,7 +1,9 @@
 // A program that the determinism checks accept.
 ghost use Rattle.std.specs.Prelude.{◌≡◌, None, Some};
 ghost use Rattle.md_hlds.specs.Hlds.{hlds_of};
+ghost use Rattle.md_reader.specs.Grammar.{IsOfText};
 ghost use Rattle.md_modes.specs.Modes.{mode_fault};
+ghost use Rattle.md_modes.specs.Classes.{AreFew};
 ghost use Rattle.md_det.specs.Faults.{det_fault};
 ghost use Rattle.md_det.specs.Findings.{program_findings, switch_at, pair_at};
 ghost use Rattle.md_det.specs.Main.{main_of};
@@ -64,11 +66,14 @@ impl Checked {
         }
     }
 
-    /// The program, which has no fault of the mode checks and none of the determinism checks.
+    /// The program, which a text spells, and which has no fault of the mode checks and none of the determinism checks, and fewer
+    /// goals than there are numbers of 32 bits.
     pub fn program(&self) -> &Program
         ensures program { result.now ≡ self.now }
         ensures moded { mode_fault (hlds_of self.now) ≡ None }
         ensures accepted { det_fault (hlds_of self.now) ≡ None }
+        ensures few { AreFew (hlds_of self.now) }
+        ensures of_text { IsOfText (hlds_of self.now) }
     {
         self.moded.program()
     }

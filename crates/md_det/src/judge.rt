@@ -1,6 +1,7 @@
 // The judgement of a goal: how often it may succeed, its first fault, and what is found at it and at the goals within it.
-ghost use Rattle.std.specs.Prelude.{◌≡◌, ◌<◌, ◌+◌, ◌^◌, [], ℕ, suc, ◌||◌, is_none, length, Option, None, IfOk};
-ghost use Rattle.md_hlds.specs.HldsGoal.{DisjGoal, NotGoal, SomeGoal, goal_of, goals_of, gathered, expr_of};
+ghost use Rattle.std.specs.Prelude.{◌≡◌, ◌<◌, ◌+◌, [], ℕ, suc, ◌||◌, is_none, length, Option, None, IfOk};
+ghost use Rattle.md_hlds.specs.HldsGoal.{DisjGoal, NotGoal, SomeGoal, goal_of, goals_of, gathered, expr_of, goal_size, parts_size, goals_size};
+ghost use Rattle.md_hlds.specs.declared.goal.GoalKind.{Conj, Disj};
 ghost use Rattle.md_modes.specs.Inside.{IsChoice};
 ghost use Rattle.md_hlds.specs.Hlds.{hlds_of};
 ghost use Rattle.md_names.specs.Named.{name_at};
@@ -47,11 +48,8 @@ impl Found {
     }
 }
 
-/// Goals have numbers of 32 bits.
-const MOST_GOALS: usize = 4_294_967_290;
-
-/// Judges a goal. Its number is the number of goals so far. `at` is the variable of the switch whose arm it begins; `again`
-/// says that a run may come back to it.
+/// Judges a goal. Its number is the number of goals so far; it and the goals within it have numbers of 32 bits. `at` is the
+/// variable of the switch whose arm it begins; `again` says that a run may come back to it.
 #[cycle(judging)]
 pub fn judge(
     context: &Context,
@@ -60,13 +58,12 @@ pub fn judge(
     again: bool,
     findings: &mut Vec<Finding>,
 ) -> Result<Judged, NoMemory>
-    ensures { IfOk result (λ judged. judged_told judged findings.new.items
+    requires few { length findings.old.items + goal_size (goal_of goal.now) < 4294967295 }
+    ensures judged { IfOk result (λ judged. judged_told judged findings.new.items
         ≡ onto findings.old.items (judge_part (reading_in context.now) (length findings.old.items) at again (goal_of goal.now))) }
+    ensures counted { IfOk result (λ judged. length findings.new.items ≡ length findings.old.items + goal_size (goal_of goal.now)) }
 {
     let place = findings.len();
-    if place >= MOST_GOALS {
-        return Err(NoMemory);
-    }
     findings.push(Finding {
         switch: None,
         pair: Pair::UNSURE,
@@ -93,18 +90,16 @@ fn judge_kind(
     findings: &mut Vec<Finding>,
 ) -> Result<Found, NoMemory>
     requires numbered { suc number ≡ length findings.old.items }
-    requires small { number < 4294967290 }
+    requires few { length findings.old.items + parts_size (expr_of goal.now.kind) < 4294967295 }
     ensures { IfOk result (λ found. found_told found findings.new.items
         ≡ found_onto findings.old.items (judge_expr (reading_in context.now) number at again goal.now.line (expr_of goal.now.kind))) }
 {
     match &goal.kind {
         GoalKind::Conj(goals) => {
-            let judged = judge_each(context, goals.as_slice(), at, again, findings)?;
+            let judged = judge_each(context, parts(goals), at, again, findings)?;
             Ok(Found::plain(judged.pair, judged.fault))
         }
-        GoalKind::Disj(arms) => {
-            judge_disjunction(context, arms.as_slice(), number, again, findings)
-        }
+        GoalKind::Disj(arms) => judge_disjunction(context, parts(arms), number, again, findings),
         GoalKind::If(..) => judge_choice(context, goal, number, again, findings),
         GoalKind::Not(inner) => judge_negation(context, goal.line, number, again, inner, findings),
         GoalKind::Some(_, inner) => {
@@ -112,6 +107,15 @@ fn judge_kind(
         }
         _ => Ok(judge_atomic(context, goal, number, at, again)),
     }
+}
+
+/// The parts of a conjunction or disjunction: they and the goals within them are all that is within it.
+fn parts(goals: &Vec<Goal>) -> &[Goal]
+    ensures value { result.now ≡ goals.now.items }
+    ensures conj { parts_size (expr_of (Conj goals.now)) ≡ goals_size (gathered (goals_of result.now)) }
+    ensures disj { parts_size (expr_of (Disj goals.now)) ≡ goals_size (gathered (goals_of result.now)) }
+{
+    goals.as_slice()
 }
 
 /// Judges a goal that has no parts. Not inlined, so that the recursion over goals has no room for what is found there.
@@ -141,7 +145,7 @@ fn judge_choice(
 ) -> Result<Found, NoMemory>
     requires choice { IsChoice (expr_of goal.now.kind) }
     requires numbered { suc number ≡ length findings.old.items }
-    requires small { number < 4294967290 }
+    requires few { length findings.old.items + parts_size (expr_of goal.now.kind) < 4294967295 }
     ensures { IfOk result (λ found. (at : Option ℕ) → found_told found findings.new.items
         ≡ found_onto findings.old.items (judge_expr (reading_in context.now) number at again goal.now.line (expr_of goal.now.kind))) }
 {
@@ -169,7 +173,7 @@ fn judge_negation(
     findings: &mut Vec<Finding>,
 ) -> Result<Found, NoMemory>
     requires numbered { suc number ≡ length findings.old.items }
-    requires small { number < 4294967290 }
+    requires few { length findings.old.items + goal_size (goal_of inner.now) < 4294967295 }
     ensures { IfOk result (λ found. found_told found findings.new.items
         ≡ found_onto findings.old.items (judge_expr (reading_in context.now) number None again line (NotGoal (goal_of inner.now)))) }
 {
@@ -190,7 +194,7 @@ fn judge_quantified(
     findings: &mut Vec<Finding>,
 ) -> Result<Found, NoMemory>
     requires numbered { suc number ≡ length findings.old.items }
-    requires small { number < 4294967290 }
+    requires few { length findings.old.items + goal_size (goal_of inner.now) < 4294967295 }
     ensures { IfOk result (λ found. found_told found findings.new.items
         ≡ found_onto findings.old.items (judge_expr (reading_in context.now) number None again line (SomeGoal [] (goal_of inner.now)))) }
 {
@@ -231,6 +235,7 @@ fn judge_each(
     again: bool,
     findings: &mut Vec<Finding>,
 ) -> Result<Judged, NoMemory>
+    requires few { length findings.old.items + goals_size (gathered (goals_of goals.now)) < 4294967295 }
     ensures { IfOk result (λ judged. judged_told judged findings.new.items
         ≡ onto findings.old.items (judge_each (reading_in context.now) (length findings.old.items) at again (gathered (goals_of goals.now)))) }
 {
@@ -264,7 +269,7 @@ fn judge_disjunction(
     findings: &mut Vec<Finding>,
 ) -> Result<Found, NoMemory>
     requires numbered { suc number ≡ length findings.old.items }
-    requires small { number < 4294967290 }
+    requires few { length findings.old.items + goals_size (gathered (goals_of arms.now)) < 4294967295 }
     ensures { IfOk result (λ found. found_told found findings.new.items
         ≡ found_onto findings.old.items (judge_expr (reading_in context.now) number None again 0 (DisjGoal (gathered (goals_of arms.now))))) }
 {
@@ -287,6 +292,7 @@ fn judge_arms(
     again: bool,
     findings: &mut Vec<Finding>,
 ) -> Result<Judged, NoMemory>
+    requires few { length findings.old.items + goals_size (gathered (goals_of arms.now)) < 4294967295 }
     ensures { IfOk result (λ judged. judged_told judged findings.new.items
         ≡ onto findings.old.items (judge_arms (reading_in context.now) (length findings.old.items) at again (gathered (goals_of arms.now)))) }
 {

@@ -1,5 +1,6 @@
 // The judgement of a predicate: its declaration and its clause.
-ghost use Rattle.std.specs.Prelude.{◌≡◌, ◌≢◌, ◌++◌, None, Some, length, OnOk, IfErr};
+ghost use Rattle.std.specs.Prelude.{◌≡◌, ◌≢◌, ◌<◌, ◌+◌, ◌++◌, None, Some, length, OnOk, IfErr};
+ghost use Rattle.md_hlds.specs.HldsGoal.{goal_size};
 ghost use Rattle.md_hlds.specs.Hlds.{hlds_of, procedure_of};
 ghost use Rattle.md_modes.specs.Notes.{program_notes};
 ghost use Rattle.md_det.specs.declared.fault.DetFault.TheVariants.{NoMemory};
@@ -23,6 +24,7 @@ pub fn judge_predicate(
     pred: &Pred,
     findings: &mut Vec<Finding>,
 ) -> Result<(), DetFault>
+    requires few { length findings.old.items + goal_size (procedure_of pred.now).body < 4294967295 }
     ensures sound { OnOk result ((spec.judge_procedure (hlds_of moded.now) (program_notes (hlds_of moded.now)) (length findings.old.items) (procedure_of pred.now)).fault ≡ None) }
     ensures found { OnOk result (findings.new.items ≡ findings.old.items
         ++ (spec.judge_procedure (hlds_of moded.now) (program_notes (hlds_of moded.now)) (length findings.old.items) (procedure_of pred.now)).findings) }

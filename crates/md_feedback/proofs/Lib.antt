@@ -6,6 +6,7 @@ pub mod Parts
 pub mod Members
 pub mod Depending
 pub mod Within
+pub mod Standing
 pub mod Inside
 pub mod Order
 pub mod Whole

@@ -1,11 +1,11 @@
 -- The search for candidates, goal by goal in text order.
-use Rattle.std.specs.Prelude.{ℕ, suc, ◌≡◌, ◌+◌, ◌*◌, ◌<◌, ◌≤◌, ◌||◌, ◌==◌, Bool, true, false, if◌then◌else◌, List, [], ◌∷◌, ◌++◌, length, Option, Some, None, slice_index_or}
+use Rattle.std.specs.Prelude.{ℕ, suc, ◌≡◌, ◌+◌, ◌*◌, ◌<◌, ◌≤◌, ◌||◌, ◌==◌, Bool, true, false, if◌then◌else◌, List, [], ◌∷◌, ◌++◌, length, Option, Some, None, slice_get, slice_index_or}
 use Rattle.std.specs.List.{list_any}
 use Rattle.md_base.specs.declared.measure.Measure.TheVariants.{Calls}
 use Rattle.md_hlds.specs.declared.types.Det.{Det}
 use Rattle.md_hlds.specs.declared.types.Det.TheVariants as det
 use Rattle.md_hlds.specs.HldsGoal.{HldsGoal, At, GoalExpr, SimpleGoal, CallGoal, HoCallGoal, ConjGoal, DisjGoal, IfGoal, NotGoal, SomeGoal, HldsGoals, nothing, also, goal_size, Numbered, numbered_goal, numbered_from}
-use Rattle.md_hlds.specs.Hlds.{Hlds, hlds_of, Procedure, nth_procedure}
+use Rattle.md_hlds.specs.Hlds.{Hlds, hlds_of, Procedure, nth_procedure, goal_at}
 use Rattle.md_names.specs.declared.named.Named.{Named}
 use Rattle.md_names.specs.declared.named.Named.TheVariants as name
 use Rattle.md_names.specs.Named.{name_at}
@@ -23,6 +23,10 @@ use Rattle.md_feedback.specs.declared.reading.Search.{Search}
 pub record HasSitesOf (s : Hlds) (tables : Static) : Type 0 where
   pub named : HasSites s
   pub each : length tables.sites ≡ length (program_sites s)
+
+-- these goals stand in a program one after the other, the first under the number n
+abbrev pub StandsFrom : Hlds → ℕ → List HldsGoal → Type 0
+StandsFrom s n gs = (m : ℕ) (p : HldsGoal) → slice_get gs m ≡ Some p → goal_at s (n + m) ≡ Some p
 
 -- ---- what a search reads
 

@@ -23,7 +23,7 @@ use std::alloc::Global;
 ///
 /// # Errors
 ///
-/// `NoMemory` where memory was refused, or where the program has more goals than numbers of 32 bits.
+/// `NoMemory` only where memory was refused.
 pub fn feedback(
     alloc: Global,
     checked: &Checked,

@@ -1,14 +1,14 @@
 // The search for candidates, goal by goal in text order.
-ghost use Rattle.std.specs.Prelude.{◌≡◌, ◌+◌, ◌++◌, None, IfOk, OnOk, slice_index_or};
+ghost use Rattle.std.specs.Prelude.{◌≡◌, ◌+◌, ◌<◌, ◌++◌, None, IfOk, OnOk, slice_index_or};
 ghost use Rattle.md_hlds.specs.Hlds.{hlds_of};
-ghost use Rattle.md_hlds.specs.HldsGoal.{goal_of, goals_of, gathered, goal_size, goals_size, numbered_from};
-ghost use Rattle.md_feedback.specs.Search.{reading_in, costly_call, call_at, pair_with, is_det, calls_det, binds_in, led_by, partners, TakesIn, goal_pairs, each_pairs, arm_pairs, program_pairs};
+ghost use Rattle.md_hlds.specs.HldsGoal.{goal_of, goals_of, gathered, goal_size, goals_size, goals_within, goals_among, numbered_from};
+ghost use Rattle.md_feedback.specs.Search.{StandsFrom, reading_in, costly_call, call_at, pair_with, is_det, calls_det, binds_in, led_by, partners, TakesIn, goal_pairs, each_pairs, arm_pairs, program_pairs};
 
 use crate::marks::{mark, mentions};
 use crate::pairs::{Pair, Pairs};
 use crate::reading::Search;
 use md_base::{NoMemory, ProcId, SiteId};
-use md_hlds::{Det, Goal, GoalKind, goal_size};
+use md_hlds::{Det, Goal, GoalKind};
 use md_modes::{Moded, Named};
 use std::alloc::Global;
 
@@ -37,10 +37,12 @@ pub(crate) fn candidates(
 /// Adds the candidates of a goal of this number and of the goals within it, and gives the number that comes after theirs.
 #[cycle(search)]
 fn add_goal(search: &Search, goal: &Goal, number: u32, pairs: &mut Pairs) -> Result<u32, NoMemory>
+    requires few { number + goal_size (goal_of goal.now) < 4294967295 }
+    requires stands { StandsFrom (hlds_of search.now.moded.now) number (goals_within (goal_of goal.now)) }
     ensures next { IfOk result (λ next. next ≡ number + goal_size (goal_of goal.now)) }
     ensures pairs { OnOk result (pairs.new ≡ pairs.old ++ goal_pairs (reading_in search.now) number (goal_of goal.now)) }
 {
-    let inner = sum(number, 1)?;
+    let inner = number + 1;
     match &goal.kind {
         GoalKind::Conj(goals) => add_conjunction(search, goals.as_slice(), inner, pairs),
         GoalKind::Disj(arms) => add_arms(search, arms.as_slice(), inner, pairs),
@@ -73,6 +75,8 @@ fn add_conjunction(
     first: u32,
     pairs: &mut Pairs,
 ) -> Result<u32, NoMemory>
+    requires few { first + goals_size (gathered (goals_of goals.now)) < 4294967295 }
+    requires stands { StandsFrom (hlds_of search.now.moded.now) first (goals_among (gathered (goals_of goals.now))) }
     ensures next { IfOk result (λ next. next ≡ first + goals_size (gathered (goals_of goals.now))) }
     ensures pairs { OnOk result (pairs.new ≡ pairs.old ++ each_pairs (reading_in search.now) first (gathered (goals_of goals.now))) }
 {
@@ -88,6 +92,8 @@ fn add_conjunction(
 /// The same of arms.
 #[cycle(search)]
 fn add_arms(search: &Search, arms: &[Goal], first: u32, pairs: &mut Pairs) -> Result<u32, NoMemory>
+    requires few { first + goals_size (gathered (goals_of arms.now)) < 4294967295 }
+    requires stands { StandsFrom (hlds_of search.now.moded.now) first (goals_among (gathered (goals_of arms.now))) }
     ensures next { IfOk result (λ next. next ≡ first + goals_size (gathered (goals_of arms.now))) }
     ensures pairs { OnOk result (pairs.new ≡ pairs.old ++ arm_pairs (reading_in search.now) first (gathered (goals_of arms.now))) }
 {
@@ -108,6 +114,8 @@ fn add_led_by(
     next: u32,
     pairs: &mut Pairs,
 ) -> Result<(), NoMemory>
+    requires few { next + goals_size (gathered (goals_of behind.now)) < 4294967295 }
+    requires stands { StandsFrom (hlds_of search.now.moded.now) next (goals_among (gathered (goals_of behind.now))) }
     ensures { OnOk result (pairs.new ≡ pairs.old ++ led_by (reading_in search.now) (costly_call (reading_in search.now) number (goal_of goal.now))
         (binds_in (reading_in search.now) number) (numbered_from next (gathered (goals_of behind.now)))) }
 {
@@ -126,15 +134,18 @@ fn add_partners(
     next: u32,
     pairs: &mut Pairs,
 ) -> Result<(), NoMemory>
+    requires few { next + goals_size (gathered (goals_of behind.now)) < 4294967295 }
+    requires stands { StandsFrom (hlds_of search.now.moded.now) next (goals_among (gathered (goals_of behind.now))) }
     ensures { OnOk result (pairs.new ≡ pairs.old ++ partners (reading_in search.now) (first.0, first.1) (binds_in (reading_in search.now) number)
         (numbered_from next (gathered (goals_of behind.now)))) }
 {
     let mut bound = Vec::new(search.alloc);
     mark(&mut bound, search.moded.binds(number))?;
+    let (site, calls) = first;
     let mut place = next;
     for goal in behind {
-        add_partner(search, first, goal, place, &mut bound, pairs)?;
-        place = sum(place, goal_size(goal)?)?;
+        add_partner(search, (site, calls), goal, place, &mut bound, pairs)?;
+        place = search.moded.after(place);
     }
     Ok(())
 }
@@ -240,11 +251,4 @@ fn heavy_call(heavy: &[Option<u64>], site: SiteId) -> Option<(SiteId, u64)>
         Some(Some(total)) => Some((site, *total)),
         Some(None) | None => None,
     }
-}
-
-/// The sum of two numbers of goals.
-fn sum(first: u32, second: u32) -> Result<u32, NoMemory>
-    ensures { IfOk result (λ sum. sum ≡ first + second) }
-{
-    first.checked_add(second).ok_or(NoMemory)
 }

@@ -3,7 +3,6 @@ pub mod BudgetLemmas
 pub mod DepthLemmas
 pub mod ProcedureLemmas
 pub mod SiteLemmas
-mod SizeLemmas
 pub mod TraceLemmas
 pub mod Rules
 pub mod Worked

@@ -6,13 +6,11 @@ mod goal;
 mod laws;
 mod program;
 mod sites;
-mod size;
 mod types;
 mod variables;
 
 pub use goal::{Cmp, Goal, GoalKind, Op, PredName, Term};
 pub use laws::{budgets_agree, depths_suffice};
 pub use program::{Functor, Pred, Program, TypeDef};
-pub use size::goal_size;
 pub use types::{Det, HoTy, Mode, Ty};
 pub use variables::Variables;

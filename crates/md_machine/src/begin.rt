@@ -17,17 +17,16 @@ const SLOTS: usize = 4096;
 /// So many frames, and so many choices.
 const PLACES: usize = 1024;
 
-/// The stacks on which a run of the code begins, where this is the mark of main's call. `NoMemory` also comes where the code has
-/// 2^32 details or more, which no code of a program has.
+/// The stacks on which a run of the code begins, where this is the mark of main's call. The details of the code have numbers of
+/// 32 bits.
 pub fn begin<M: Copy + Drop>(alloc: Global, code: &Code, mark: M) -> Result<Stacks<M>, NoMemory>
+    requires few { length code.now.details.items < 4294967296 }
     ensures first { IfOk result (λ stacks. AreFirst code.now mark stacks) }
     ensures callers { IfOk result (λ stacks. (k : ℕ) (f : Frame M) → slice_get stacks.frames.items k ≡ Some f → f.caller ≡ 0) }
     ensures frames { IfOk result (λ stacks. length stacks.frames.items < 2 ^ 32) }
     ensures choices { IfOk result (λ stacks. length stacks.choices.items < 2 ^ 32) }
 {
-    let Ok(call) = u32::try_from(code.details.len()) else {
-        return Err(NoMemory);
-    };
+    let call = code.details.len() as u32;
     let main = Frame {
         caller_base: 0,
         caller: 0,

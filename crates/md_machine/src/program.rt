@@ -4,7 +4,7 @@ ghost use Rattle.md_hlds.specs.Hlds.{hlds_of};
 ghost use Rattle.md_hlds.specs.Run.{run};
 ghost use Rattle.law_events.specs.History.{history};
 ghost use Rattle.law_events.specs.Table.{site_table};
-ghost use Rattle.md_machine.specs.Ran.{CanBeRun, IsRunOf, StandsForFront};
+ghost use Rattle.md_machine.specs.Ran.{IsRunOf, StandsForFront};
 
 use crate::ran::Ran;
 use crate::run::perform;
@@ -40,15 +40,13 @@ pub fn execute<S: PortSink>(
     perform(alloc, code.code(), budget, sink)
 }
 
-/// Compiles a program that the checks accept, and runs its code as `execute` does. `NoMemory` also comes where code or words want a
-/// number of more than 32 bits.
+/// Compiles a program that the checks accept, and runs its code as `execute` does. `NoMemory` also comes where `compile` answers it.
 pub fn interpret<S: PortSink>(
     alloc: Global,
     checked: &Checked,
     budget: u32,
     sink: &mut S,
 ) -> Result<Ran, NoMemory>
-    requires can { CanBeRun (hlds_of checked.now) budget }
     requires begins { S.stands_for sink.old (site_table (hlds_of checked.now)) [] }
     ensures run { IfOk result (λ ran. IsRunOf (hlds_of checked.now) budget ran) }
     ensures whole { OnOk result (S.stands_for sink.new (site_table (hlds_of checked.now)) (history (run (hlds_of checked.now) budget))) }

@@ -1,5 +1,5 @@
 -- Counts of variables.
-use Rattle.std.proofs.Common.{◌≡◌, refl, ap, ◌∙◌, arith, ℕ, zero, suc, ◌+◌, ◌<◌, Bool, true, false, cond, nat_eq, List, [], ◌∷◌, ◌++◌, length, take, get_or, slice_index, add-one}
+use Rattle.std.proofs.Common.{◌≡◌, refl, ap, ◌∙◌, arith, ℕ, zero, suc, ◌+◌, ◌<◌, ◌≤◌, Bool, true, false, cond, nat_eq, List, [], ◌∷◌, ◌++◌, length, take, get_or, add-one}
 use Rattle.md_inst.specs.Instantiation.{times}
 use Rattle.md_modes.specs.Tally.{Adds, AreCounts}
 
@@ -27,11 +27,16 @@ more_places x (y ∷ ys) (suc i) lt =
     ap (λ n. cond (nat_eq x y) (suc n) n) (more_places x ys i (omega (arith, lt)))
     ∙ times_cond (nat_eq x y) (times x (take i ys)) (times x (get_or ys i 0 ∷ []))
 
-pub adds_place : (a b c ys : List ℕ) (i : ℕ) → i < length ys → Adds a b (take i ys) → Adds b c (get_or ys i 0 ∷ []) → Adds a c (take (i + 1) ys)
-adds_place a b c ys i lt f h x = rw add-one (omega (arith, more_places x ys i lt, f x, h x))
+pub counts_place : (a b ys : List ℕ) (i : ℕ) → i < length ys → AreCounts a (take i ys) → Adds a b (get_or ys i 0 ∷ []) → AreCounts b (take (i + 1) ys)
+counts_place a b ys i lt f h x = rw add-one (omega (arith, more_places x ys i lt, f x, h x))
 
--- what was counted from nothing on
-pub from_nothing : (a b vars : List ℕ) → a ≡ [] → Adds a b vars → AreCounts b vars
-from_nothing a b vars e f x =
-    let none : slice_index a x ≡ 0 = rw e refl in
-    omega (arith, f x, none)
+-- a variable is counted no more often than there are places
+counted_more : (b : Bool) (m n : ℕ) → m ≤ n → cond b (suc m) m ≤ suc n
+counted_more true m n le = omega (arith, le)
+counted_more false m n le = omega (arith, le)
+
+pub times-take : (x : ℕ) (ys : List ℕ) (i : ℕ) → times x (take i ys) ≤ i
+times-take x [] zero = omega arith
+times-take x [] (suc i) = omega arith
+times-take x (y ∷ ys) zero = omega arith
+times-take x (y ∷ ys) (suc i) = counted_more (nat_eq x y) (times x (take i ys)) i (times-take x ys i)

@@ -18,6 +18,7 @@ pub mod Views
 pub mod ShareLoops
 pub mod Sharing
 pub mod Insides
+pub mod Sizes
 pub mod RoleLemmas
 pub mod Rules
 pub mod ClauseLoops

@@ -1,5 +1,5 @@
 -- Variables in rising order, each with how often it occurs.
-use Rattle.std.proofs.Common.{◌≡◌, ◌≢◌, refl, sym, ap, ◌∙◌, arith, subst, ℕ, zero, suc, ◌+◌, ◌-◌, ◌<◌, ◌≤◌, Bool, true, false, cond, ◌&&◌, nat_eq, nat_lt, List, [], ◌∷◌, ◌++◌, length, length-append, get_or, slice_index, inl, inr, take, add-one, get_or-set_same, get_or-set_other, Result, Ok, Err, OnOk, IfOk}
+use Rattle.std.proofs.Common.{◌≡◌, ◌≢◌, refl, sym, ap, ◌∙◌, arith, subst, ℕ, zero, suc, ◌+◌, ◌-◌, ◌<◌, ◌≤◌, Bool, true, false, cond, ◌&&◌, nat_eq, nat_lt, List, [], ◌∷◌, ◌++◌, length, length-append, get_or, slice_index, inl, inr, take, add-one, get_or-set_same, get_or-set_other, Result, Ok, Err, IfOk}
 use Rattle.md_base.specs.declared.number.NoMemory.{NoMemory}
 use Rattle.std.specs.List.{sum_by}
 use Rattle.std.specs.List.Sorted.{IsPermutation, IsNonDecreasing, IsBinarySearchResult}
@@ -12,8 +12,8 @@ use Rattle.std.proofs.lemmas.List.Sorted.{sum_by-IsPermutation, searched}
 use Rattle.md_inst.specs.Instantiation.{times}
 use Rattle.md_modes.specs.declared.local.Local.{Local}
 use Rattle.md_modes.specs.Views.{Rising}
-use Rattle.md_modes.specs.Tally.{IsLocal, IsNoLess, ends_with, count_last}
-use Rattle.md_modes.proofs.Counts.{times-append}
+use Rattle.md_modes.specs.Tally.{IsLocal, IsNoLess, ends_with, last_count, count_last}
+use Rattle.md_modes.proofs.Counts.{times-append, times-take}
 
 -- ---- variables in rising order
 
@@ -158,11 +158,6 @@ added_again places counts vars x e h =
     let some : 0 < length places = grind (arith, parts.0) in
     same_again places counts vars x (length places - 1) h (omega (arith, some)) (eqb-true _ _ parts.1)
 
-pub added_again_ok : (r : Result (Unit {0}) NoMemory) (places counts new : List ℕ) (x : ℕ) → ends_with x places ≡ true → OnOk r (new ≡ count_last counts)
-    → OnOk r ((vars : List ℕ) → IsLocal places counts vars → IsNoLess x vars → IsLocal places new (vars ++ x ∷ []))
-added_again_ok (Ok u) places counts new x e f = λ vars h bound. rw f (added_again places counts vars x e h)
-added_again_ok (Err y) places counts new x e f = tt
-
 no_greater : (places counts vars : List ℕ) (x : ℕ) → IsLocal places counts vars → IsNoLess x vars → (i : ℕ) → i < length places → slice_index places i ≤ x
 no_greater places counts vars x h bound i lt = bound (slice_index places i) (λ e. occurs-at places i lt (h.only (slice_index places i) e))
 
@@ -214,6 +209,17 @@ all_no_less xs i h lt = before_no_less xs i (slice_index xs i) (λ j less inside
 
 pub local-step : (places counts xs : List ℕ) (i x : ℕ) → i < length xs → x ≡ slice_index xs i → IsLocal places counts (take i xs ++ x ∷ []) → IsLocal places counts (take (i + 1) xs)
 local-step places counts xs i x lt is h = rw (add-one, take-more xs i lt, ← is) h
+
+no_last : (ns : List ℕ) → length ns ≤ length ns - 1 → last_count ns ≡ 0
+no_last [] le = refl
+no_last (n ∷ ns) le = absurd (omega (arith, le))
+
+-- the last count of the numbers before a place is no greater than that place
+pub last-before : (places counts xs : List ℕ) (i : ℕ) → IsLocal places counts (take i xs) → last_count counts ≤ i
+last-before places counts xs i h = elim (cases_lt (length counts - 1) (length places)) [
+  | inl lt ↦ omega (arith, h.counted (length counts - 1) lt, times-take (slice_index places (length counts - 1)) xs i)
+  | inr le ↦ omega (arith, no_last counts (omega (arith, le, h.room)))
+]
 
 take-all : (xs : List ℕ) (i : ℕ) → length xs ≤ i → take i xs ≡ xs
 take-all [] zero le = refl

@@ -1,8 +1,8 @@
 -- What is found at the goals, as the code has it.
-use Rattle.std.specs.Prelude.{ℕ, Bool, false, List, [], ◌∷◌, Option, Some, None, slice_get}
+use Rattle.std.specs.Prelude.{ℕ, ◌<◌, Bool, false, List, [], ◌∷◌, length, Option, Some, None, slice_get}
 use Rattle.md_hlds.specs.declared.types.Ty.TheVariants.{Ho}
 use Rattle.md_hlds.specs.HldsGoal.{HldsGoal, goal_size}
-use Rattle.md_hlds.specs.Hlds.{hlds_type_of, Hlds, goal_at}
+use Rattle.md_hlds.specs.Hlds.{hlds_type_of, Hlds, goal_at, goals_before}
 use Rattle.md_names.specs.declared.named.Named.{Named}
 use Rattle.md_names.specs.declared.named.Named.TheVariants.{Nothing}
 use Rattle.md_modes.specs.declared.class.Class.{Class}
@@ -89,3 +89,7 @@ size_of (Some p) = goal_size p
 -- how many goals the goal of this number has, itself among them
 abbrev pub size_at : Hlds → ℕ → ℕ
 size_at s n = size_of (goal_at s n)
+
+-- a program has fewer goals than the greatest number of 32 bits
+abbrev pub AreFew : Hlds → Type 0
+AreFew s = goals_before s.procedures (length s.procedures) < 4294967295

@@ -29,6 +29,10 @@ IsNoLess x vars = (y : ℕ) → times y vars ≢ 0 → y ≤ x
 abbrev pub ends_with : ℕ → List ℕ → Bool
 ends_with x xs = nat_lt 0 (length xs) && nat_eq (slice_index xs (length xs - 1)) x
 
+-- the count at the end; where there is none, 0
+abbrev pub last_count : List ℕ → ℕ
+last_count ns = slice_index ns (length ns - 1)
+
 -- one more is counted at the end
 abbrev pub count_last : List ℕ → List ℕ
 count_last ns = slice_set ns (length ns - 1) (slice_index ns (length ns - 1) + 1)

@@ -3,6 +3,7 @@ ghost use Rattle.std.specs.Prelude.{◌≡◌, ◌≢◌, None, Some, ◌++◌, 
 ghost use Rattle.md_hlds.specs.Hlds.{hlds_of, procedure_of, procedures_of};
 ghost use Rattle.md_inst.specs.declared.fault.ModeFault.TheVariants as faults;
 ghost use Rattle.md_inst.specs.Kinds.{inst_map_of, Finds};
+ghost use Rattle.md_reader.specs.Grammar.{IsOfText};
 ghost use Rattle.md_modes.specs.Branches.{after};
 ghost use Rattle.md_modes.specs.Modes as spec;
 ghost use Rattle.md_modes.specs.Modes.{mode_fault};
@@ -20,17 +21,21 @@ use crate::tally::counts_of_clause;
 use md_hlds::{Pred, Program};
 use md_inst::{Inst, ModeFault};
 use md_names::Names;
+use md_reader::a_text_has_more_bytes_than_goals;
 use std::alloc::Global;
 
-/// Checks the modes of a program, and gives it back with what was found at each goal. A refusal names the program's first
-/// fault with its line, and gives the program up. Takes time near linear in the program, times the depth of its goals.
+/// Checks the modes of a program that the reader gave, and gives it back with what was found at each goal. A refusal names
+/// the program's first fault with its line, and gives the program up. Takes time near linear in the program, times the
+/// depth of its goals.
 #[tactic(auto, unfolding(crate::specs::Modes::mode_fault))]
 pub fn check_modes(alloc: Global, program: Program) -> Result<Moded, ModeFault>
+    requires { IsOfText (hlds_of program) }
     ensures answer { MatchResult result (λ moded. moded ≡ program) (λ fault. fault ≢ faults.NoMemory → mode_fault (hlds_of program) ≡ Some fault) }
     ensures accepted { IfOk result (λ moded. mode_fault (hlds_of moded) ≡ None) }
 {
     let mut notes = Vec::new(alloc);
     check_program(alloc, &program, &mut notes)?;
+    a_text_has_more_bytes_than_goals();
     Ok(Moded::new(program, notes))
 }
 

@@ -243,7 +243,7 @@ fn is_state(inst: Inst<'_>) -> bool
     }
 }
 
-/// A place as the number of an argument.
+/// A place as the number of an argument; `NoMemory`, where it is no number of 32 bits.
 fn number_of(place: usize) -> Result<u32, NoMemory>
     ensures { IfOk result (λ number. number ≡ place) }
 {

@@ -1,11 +1,11 @@
 // The variables of one goal.
-ghost use Rattle.std.specs.Prelude.{◌≡◌, ◌<◌, ℕ, List, [], ◌∷◌, ◌++◌, length, slice_index, IfOk, OnOk};
+ghost use Rattle.std.specs.Prelude.{◌≡◌, ◌<◌, ◌+◌, ◌^◌, ℕ, List, [], ◌∷◌, ◌++◌, length, slice_index, IfOk, OnOk};
 ghost use Rattle.std.specs.List.Sorted.{IsNonDecreasing};
 ghost use Rattle.md_hlds.specs.HldsGoal.{expr_of};
 ghost use Rattle.md_inst.specs.Instantiation.{times};
 ghost use Rattle.md_modes.specs.Goals.{expr_variables};
 ghost use Rattle.md_modes.specs.Views.{Rising};
-ghost use Rattle.md_modes.specs.Tally.{IsLocal, IsNoLess, ends_with, count_last};
+ghost use Rattle.md_modes.specs.Tally.{IsLocal, IsNoLess, ends_with, last_count, count_last};
 
 use crate::occurrences::variables_of;
 use crate::tally::count_in;
@@ -47,11 +47,13 @@ impl Local {
 
     /// One number more, none of those so far being greater.
     fn add(&mut self, place: u32) -> Result<(), NoMemory>
+        requires { last_count self.now.counts.items + 1 < 2 ^ 64 }
         ensures { OnOk result ((vars : List ℕ) → IsLocal self.old.places.items self.old.counts.items vars → IsNoLess place vars
             → IsLocal self.new.places.items self.new.counts.items (vars ++ place ∷ [])) }
     {
         if ends_with(&self.places, place) {
-            return count_last(&mut self.counts);
+            count_last(&mut self.counts);
+            return Ok(());
         }
         self.places.push(place)?;
         self.counts.push(1)?;
@@ -89,12 +91,12 @@ fn ends_with(places: &[u32], place: u32) -> bool
 }
 
 /// Adds one to the last count.
-fn count_last(counts: &mut Vec<u64>) -> Result<(), NoMemory>
-    ensures { OnOk result (counts.new.items ≡ count_last counts.old.items) }
+fn count_last(counts: &mut Vec<u64>)
+    requires { last_count counts.now.items + 1 < 2 ^ 64 }
+    ensures { counts.new.items ≡ count_last counts.old.items }
 {
     let end = counts.len();
     if end > 0 {
-        counts[end - 1] = counts[end - 1].checked_add(1).ok_or(NoMemory)?;
+        counts[end - 1] += 1;
     }
-    Ok(())
 }

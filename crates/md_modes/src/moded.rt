@@ -1,9 +1,10 @@
 // A program that the mode checks accept.
-ghost use Rattle.std.specs.Prelude.{◌≡◌, true, false, is_some, None, Some, slice_get, MatchOption};
+ghost use Rattle.std.specs.Prelude.{◌≡◌, ◌<◌, ◌+◌, true, false, is_some, None, Some, slice_get, MatchOption};
 ghost use Rattle.md_hlds.specs.Hlds.{hlds_of, goal_at};
+ghost use Rattle.md_reader.specs.Grammar.{IsOfText};
 ghost use Rattle.md_modes.specs.Modes.{mode_fault};
 ghost use Rattle.md_modes.specs.Notes.{program_notes, is_with_role};
-ghost use Rattle.md_modes.specs.Classes.{notes_told, note_told, role_told, role_at, binds_at, state_at, named_at, noted_size, outside_at, size_at};
+ghost use Rattle.md_modes.specs.Classes.{AreFew, notes_told, note_told, role_told, role_at, binds_at, state_at, named_at, noted_size, outside_at, size_at};
 ghost use Rattle.md_names.specs.Named.{name_at};
 
 use crate::class::{Class, Note};
@@ -27,9 +28,10 @@ impl Model for Moded {
     ghost use Rattle.md_hlds.specs.contracts.goal.Goal as goal;
     ghost use Rattle.md_hlds.specs.contracts.types.Ty as ty;
     ghost use Rattle.md_hlds.specs.Hlds.{hlds_of};
+    ghost use Rattle.md_reader.specs.Grammar.{IsOfText};
     ghost use Rattle.md_modes.specs.Modes.{mode_fault};
     ghost use Rattle.md_modes.specs.Notes.{program_notes};
-    ghost use Rattle.md_modes.specs.Classes.{notes_told};
+    ghost use Rattle.md_modes.specs.Classes.{AreFew, notes_told};
 
     ghost Value = { Program };
 
@@ -38,7 +40,9 @@ impl Model for Moded {
     ghost view = { λ moded. moded.program };
 
     ghost invariant = { λ moded. (mode_fault (hlds_of moded.program) ≡ None)
-        × (notes_told moded.notes.items ≡ program_notes (hlds_of moded.program)) };
+        × (notes_told moded.notes.items ≡ program_notes (hlds_of moded.program))
+        × AreFew (hlds_of moded.program)
+        × IsOfText (hlds_of moded.program) };
 }
 
 impl Moded {
@@ -46,15 +50,20 @@ impl Moded {
     pub(crate) fn new(program: Program, notes: Vec<Note>) -> Moded
         requires accepted { mode_fault (hlds_of program) ≡ None }
         requires notes { notes_told notes.items ≡ program_notes (hlds_of program) }
+        requires few { AreFew (hlds_of program) }
+        requires of_text { IsOfText (hlds_of program) }
         ensures { result ≡ program }
     {
         Moded { program, notes }
     }
 
-    /// The program, which has no fault of the mode checks.
+    /// The program, which a text spells, and which has no fault of the mode checks, and fewer goals than there are numbers of
+    /// 32 bits.
     pub fn program(&self) -> &Program
         ensures program { result.now ≡ self.now }
         ensures accepted { mode_fault (hlds_of self.now) ≡ None }
+        ensures few { AreFew (hlds_of self.now) }
+        ensures of_text { IsOfText (hlds_of self.now) }
     {
         &self.program
     }
@@ -117,6 +126,19 @@ impl Moded {
         }
     }
 
+    /// The number that comes after the goal of this number and those within it: that of the next goal in the text, if there
+    /// is one. Where there is no such goal, the same number.
+    pub fn after(&self, goal: u32) -> u32
+        requires { goal < 4294967295 }
+        ensures after { result ≡ goal + size_at (hlds_of self.now) goal }
+        ensures small { result < 4294967295 }
+    {
+        match self.note(goal) {
+            None => goal,
+            Some(note) => goal + note.size as u32,
+        }
+    }
+
     /// Whether the goal of this number binds a variable that occurs outside it.
     pub fn binds_outside(&self, goal: u32) -> bool
         ensures { result ≡ outside_at (program_notes (hlds_of self.now)) goal }
@@ -134,6 +156,7 @@ impl Moded {
         ensures kind { is_some (role_at (program_notes (hlds_of self.now)) goal) ≡ is_with_role (goal_at (hlds_of self.now) goal) }
         ensures named { named_at (program_notes (hlds_of self.now)) goal ≡ name_at (hlds_of self.now) goal }
         ensures size { noted_size (program_notes (hlds_of self.now)) goal ≡ size_at (hlds_of self.now) goal }
+        ensures small { goal < 4294967295 → goal + size_at (hlds_of self.now) goal < 4294967295 }
     {
         self.notes.get(goal as usize)
     }

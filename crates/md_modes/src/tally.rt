@@ -1,5 +1,5 @@
 // How often each variable of a clause occurs.
-ghost use Rattle.std.specs.Prelude.{◌≡◌, ◌<◌, [], ◌∷◌, length, IfOk, OnOk, slice_index};
+ghost use Rattle.std.specs.Prelude.{◌≡◌, ◌<◌, ◌+◌, ◌^◌, [], ◌∷◌, length, IfOk, OnOk, slice_index};
 ghost use Rattle.md_hlds.specs.Hlds.{procedure_of};
 ghost use Rattle.md_modes.specs.Goals.{clause_variables};
 ghost use Rattle.md_modes.specs.Tally.{Adds, AreCounts};
@@ -32,28 +32,27 @@ pub fn counts_of_clause(alloc: Global, pred: &Pred) -> Result<Vec<u64>, NoMemory
     ensures { IfOk result (λ counts. AreCounts counts.items (clause_variables (procedure_of pred.now))) }
 {
     let vars = variables_of_clause(alloc, pred)?;
-    let mut counts = Vec::new(alloc);
-    add_variables(&mut counts, &vars)?;
-    Ok(counts)
+    counts_of(alloc, &vars)
 }
 
-/// Adds one to the count of a variable for each of its occurrences in this list.
-fn add_variables(counts: &mut Vec<u64>, places: &[u32]) -> Result<(), NoMemory>
-    ensures { OnOk result (Adds counts.old.items counts.new.items places.now) }
+/// How often each variable occurs in this list.
+fn counts_of(alloc: Global, places: &[u32]) -> Result<Vec<u64>, NoMemory>
+    ensures { IfOk result (λ counts. AreCounts counts.items places.now) }
 {
+    let mut counts = Vec::new(alloc);
     for place in places {
-        add_variable(counts, *place)?;
+        add_variable(&mut counts, *place)?;
     }
-    Ok(())
+    Ok(counts)
 }
 
 /// Adds one to the count of this variable.
 fn add_variable(counts: &mut Vec<u64>, place: u32) -> Result<(), NoMemory>
+    requires { slice_index counts.now.items place + 1 < 2 ^ 64 }
     ensures { OnOk result (Adds counts.old.items counts.new.items (place ∷ [])) }
 {
     reach(counts, place)?;
-    let place = place as usize;
-    counts[place] = counts[place].checked_add(1).ok_or(NoMemory)?;
+    counts[place as usize] += 1;
     Ok(())
 }
 

@@ -6,10 +6,11 @@ ghost use Rattle.md_hlds.specs.Trace.{call_weight};
 ghost use Rattle.md_plain.specs.Goals.{numbereds_of};
 
 use crate::arena::cons;
+use crate::size::goal_size;
 use crate::value::{next, plus};
 use bumpalo::Bump;
 use md_base::NoMemory;
-use md_hlds::{Goal, GoalKind, Pred, Program, goal_size};
+use md_hlds::{Goal, GoalKind, Pred, Program};
 
 /// A goal with its number.
 #[derive(Clone, Copy)]
@@ -36,7 +37,7 @@ pub fn body_number(program: &Program, procedure: u64) -> Result<u64, NoMemory>
 pub fn after(number: u64, goal: &Goal) -> Result<u64, NoMemory>
     ensures { IfOk result (λ next. next ≡ number + goal_size (goal_of goal.now)) }
 {
-    plus(number, goal_size(goal)? as u64)
+    plus(number, goal_size(goal)?)
 }
 
 /// A goal with its number, before these goals.
@@ -63,7 +64,7 @@ pub fn numbered_from<'a>(
     match goals {
         [] => Ok(then),
         [goal, rest @ ..] => {
-            let after = plus(number, goal_size(goal)? as u64)?;
+            let after = plus(number, goal_size(goal)?)?;
             cons(
                 bump,
                 Numbered { number, goal },
@@ -120,10 +121,7 @@ fn goals_before(preds: &[Pred], procedure: u64) -> Result<u64, NoMemory>
             if procedure == 0 {
                 return Ok(0);
             }
-            plus(
-                goal_size(&first.body)? as u64,
-                goals_before(rest, procedure - 1)?,
-            )
+            plus(goal_size(&first.body)?, goals_before(rest, procedure - 1)?)
         }
     }
 }

@@ -11,6 +11,7 @@ mod job;
 mod names;
 mod runner;
 mod simple;
+mod size;
 mod switch;
 mod told;
 mod trace;

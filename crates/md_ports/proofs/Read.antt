@@ -1,5 +1,5 @@
 -- What is read off by the goals' numbers are the call sites that the definition has.
-use Rattle.std.proofs.Common.{◌≡◌, refl, ap, ◌∙◌, sym, subst, arith, ℕ, suc, ◌+◌, List, [], ◌∷◌, ◌++◌, append-nil, Vec, Option, None, Some}
+use Rattle.std.proofs.Common.{◌≡◌, refl, ap, ◌∙◌, sym, subst, arith, ℕ, suc, ◌+◌, ◌<◌, List, [], ◌∷◌, ◌++◌, append-nil, Vec, Option, None, Some}
 use Rattle.std.specs.declared.alloc.Global.{Global}
 use Rattle.md_hlds.specs.declared.goal.Goal.{Goal}
 use Rattle.md_hlds.specs.declared.goal.GoalKind.{GoalKind, Conj, Disj}
@@ -24,6 +24,17 @@ pub size-Disj : (g : Goal) (v : Vec Goal Global) → g.kind ≡ Disj v → 1 + g
 size-Disj g v e =
     let inner : parts_size (expr_of g.kind) ≡ goals_size (gathered (goals_of v.items)) = ap (λ k. parts_size (expr_of k)) e ∙ ap parts_size (expr_of-Disj v) in
     omega (arith, inner)
+
+-- where the numbers of a goal and of those within it are below m, so are the numbers of its parts
+pub few-Conj : (g : Goal) (v : Vec Goal Global) (gs : List Goal) (n m : ℕ) → gs ≡ v.items → g.kind ≡ Conj v → n + goal_size (goal_of g) < m → n + 1 + goals_size (gathered (goals_of gs)) < m
+few-Conj g v gs n m same is few =
+    let items : goals_size (gathered (goals_of gs)) ≡ goals_size (gathered (goals_of v.items)) = ap (λ (hs : List Goal). goals_size (gathered (goals_of hs))) same in
+    omega (arith, items, size-Conj g v is, few)
+
+pub few-Disj : (g : Goal) (v : Vec Goal Global) (gs : List Goal) (n m : ℕ) → gs ≡ v.items → g.kind ≡ Disj v → n + goal_size (goal_of g) < m → n + 1 + goals_size (gathered (goals_of gs)) < m
+few-Disj g v gs n m same is few =
+    let items : goals_size (gathered (goals_of gs)) ≡ goals_size (gathered (goals_of v.items)) = ap (λ (hs : List Goal). goals_size (gathered (goals_of hs))) same in
+    omega (arith, items, size-Disj g v is, few)
 
 pub read-Conj : (s : Hlds) (owner line n : ℕ) (k : GoalKind) (v : Vec Goal Global) → k ≡ Conj v → read_expr s owner line n (expr_of k) ≡ read_goals s owner (n + 1) (gathered (goals_of v.items))
 read-Conj s owner line n k v e = ap (λ j. read_expr s owner line n (expr_of j)) e ∙ ap (read_expr s owner line n) (expr_of-Conj v)

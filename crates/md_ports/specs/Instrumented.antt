@@ -1,17 +1,12 @@
 -- Code that a machine runs: that of a program, with a port in each instruction that stands for one.
-use Rattle.std.specs.Prelude.{◌≡◌, ℕ, List, None}
+use Rattle.std.specs.Prelude.{◌≡◌, None}
 use Rattle.md_hlds.specs.Hlds.{Hlds}
-use Rattle.md_reader.specs.Grammar.{Spells}
+use Rattle.md_reader.specs.Grammar.{IsOfText}
 use Rattle.md_modes.specs.Modes.{mode_fault}
 use Rattle.md_flat.specs.declared.code.Code.{Code}
 use Rattle.md_flat.specs.Placed.{ArePlaced}
 use Rattle.md_fold.specs.Folded.{IsFolded}
 use Rattle.md_code.specs.Details.{IsCodeOf}
-
--- a text spells the program
-pub record IsOfText (s : Hlds) : Type 0 where
-  pub text : List ℕ
-  pub spells : Spells text s
 
 -- The code of a program that a text spells and the checks of modes accept: as it is compiled, and then folded. Each call, exit, redo, fail
 -- and excp is an instruction of its own already as it is compiled; its address, as all others, leads on past what does nothing.

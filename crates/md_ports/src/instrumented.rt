@@ -2,7 +2,6 @@
 ghost use Rattle.std.specs.Prelude.{◌≡◌, ◌<◌, IfOk};
 ghost use Rattle.md_hlds.specs.Hlds.{hlds_of};
 ghost use Rattle.md_code.specs.Details.{IsCodeOf};
-ghost use Rattle.md_ports.specs.Instrumented.{IsOfText};
 
 use crate::tables::statics;
 use law_placed::code_is_placed;
@@ -77,17 +76,16 @@ impl<'a> Instrumented<'a> {
 ///
 /// # Errors
 ///
-/// `NoMemory` where memory was refused, or where the program has more goals than numbers of 32 bits.
+/// `NoMemory` only where memory was refused.
 pub fn instrument<'a>(
     alloc: Global,
     checked: &'a Checked,
     code: Code,
 ) -> Result<Instrumented<'a>, NoMemory>
-    requires coded { IsCodeOf (hlds_of checked.now) code }
-    requires text { IsOfText (hlds_of checked.now) }
+    requires { IsCodeOf (hlds_of checked.now) code }
     ensures { IfOk result (λ instrumented. instrumented ≡ checked.now) }
 {
-    // A checked program has no fault of modes, as this call tells.
+    // A checked program is that of a text, and has no fault of modes, as this call tells.
     let _ = checked.program();
     code_is_placed();
     fits(code.reach);

@@ -1,5 +1,5 @@
 // The call sites of a program.
-ghost use Rattle.std.specs.Prelude.{◌≡◌, ◌+◌, [], ◌∷◌, ◌++◌, IfOk, OnOk};
+ghost use Rattle.std.specs.Prelude.{◌≡◌, ◌+◌, ◌<◌, [], ◌∷◌, ◌++◌, IfOk, OnOk};
 ghost use Rattle.md_hlds.specs.HldsGoal.{goal_of, goals_of, gathered, goal_size, goals_size};
 ghost use Rattle.md_hlds.specs.Hlds.{hlds_of};
 ghost use Rattle.md_ports.specs.Ports.{site_at, sites_from};
@@ -34,10 +34,11 @@ fn add_sites(
     number: u32,
     sites: &mut Vec<Site>,
 ) -> Result<u32, NoMemory>
+    requires few { number + goal_size (goal_of goal.now) < 4294967295 }
     ensures next { IfOk result (λ next. next ≡ number + goal_size (goal_of goal.now)) }
     ensures sites { OnOk result (sites.new.items ≡ sites.old.items ++ read_goal (hlds_of moded.now) owner number (goal_of goal.now)) }
 {
-    let inner = number_after(number)?;
+    let inner = number + 1;
     match &goal.kind {
         GoalKind::Call(..) | GoalKind::HoCall(..) => {
             add_site(sites, owner, goal.line, kind_of(moded, number))?;
@@ -73,6 +74,7 @@ fn add_all(
     first: u32,
     sites: &mut Vec<Site>,
 ) -> Result<u32, NoMemory>
+    requires few { first + goals_size (gathered (goals_of goals.now)) < 4294967295 }
     ensures next { IfOk result (λ next. next ≡ first + goals_size (gathered (goals_of goals.now))) }
     ensures sites { OnOk result (sites.new.items ≡ sites.old.items ++ read_goals (hlds_of moded.now) owner first (gathered (goals_of goals.now))) }
 {
@@ -81,13 +83,6 @@ fn add_all(
         number = add_sites(moded, owner, goal, number, sites)?;
     }
     Ok(number)
-}
-
-/// The number after this one. Goals have numbers of 32 bits: more than those are answered as ones that memory has no room for.
-fn number_after(number: u32) -> Result<u32, NoMemory>
-    ensures { IfOk result (λ after. after ≡ number + 1) }
-{
-    number.checked_add(1).ok_or(NoMemory)
 }
 
 fn add_site(sites: &mut Vec<Site>, owner: ProcId, line: u32, kind: SiteKind) -> Result<(), NoMemory>

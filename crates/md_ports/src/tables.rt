@@ -18,7 +18,7 @@ use std::alloc::Global;
 ///
 /// # Errors
 ///
-/// `NoMemory` where memory was refused, or where the program has more goals than numbers of 32 bits.
+/// `NoMemory` only where memory was refused.
 pub fn statics(alloc: Global, moded: &Moded) -> Result<Statics, NoMemory>
     ensures { IfOk result (λ tables. tables ≡ statics_of (hlds_of moded.now)) }
 {

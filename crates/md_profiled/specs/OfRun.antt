@@ -1,15 +1,12 @@
 -- The profile and the view of the run of a program within a budget: those of the history of its events, over the
 -- tables of the program. The run knows neither.
-use Rattle.std.specs.Prelude.{ℕ, ◌≡◌, Bool, true, false, List, Some}
-use Rattle.md_hlds.specs.Hlds.{Hlds, Procedure, procedure_called}
-use Rattle.md_hlds.specs.Run.{run, main_name, is_finished}
-use Rattle.md_reader.specs.Grammar.{Spells}
+use Rattle.std.specs.Prelude.{ℕ, ◌≡◌, Bool, true, false}
+use Rattle.md_hlds.specs.Hlds.{Hlds}
+use Rattle.md_hlds.specs.Run.{run, is_finished}
 use Rattle.law_events.specs.History.{history}
 use Rattle.law_events.specs.Laws.{IsWithinBounds}
 use Rattle.law_events.specs.Table.{site_table}
-use Rattle.md_static.specs.Sound.{IsSound}
 use Rattle.md_ports.specs.Ports.{statics_of}
-use Rattle.md_modes.specs.Modes.{is_main}
 use Rattle.md_dynamic.specs.OfHistory.{IsProfileOf}
 use Rattle.md_dynamic.specs.Profile.{ProfileRows}
 use Rattle.md_dynamic.specs.Valid.{IsValid}
@@ -34,17 +31,9 @@ finishes Finished = true
 finishes Thrown = false
 finishes OutOfSteps = false
 
--- what is asked of a program, which the program of every accepted text meets: a text spells it, its run is within bounds, its
--- tables are sound, and the predicate that `main` names is the one with the io states
-pub record CanBeProfiled (program : Hlds) (budget : ℕ) : Type 0 where
-  pub text : List ℕ
-  pub spells : Spells text program
-  pub bounds : IsWithinBounds program budget
-  pub sound : IsSound (statics_of program)
-  pub main : (m : ℕ × Procedure) × (procedure_called program main_name ≡ Some m) × (is_main m.1 ≡ true)
-
 -- a run of the program within the budget, and its profile, which is valid
 pub record IsProfiled (program : Hlds) (budget : ℕ) (profiled : Profiled) : Type 0 where
+  pub bounds : IsWithinBounds program budget
   pub is_run : IsRunOf program budget profiled.ran
   pub is_profile : IsProfileOfRun program budget profiled.profile
   pub valid : IsValid profiled.profile

@@ -103,7 +103,7 @@ clause_complete q n _ _ _ (g.PredClause.pred_clause xs p vs i j k l m o z a h s 
 
 -- ---- declarations
 
-type_fewer : (line : ℕ) (t : HldsTypeDef) (i j : Input) → g.TypeDeclaration line t i j → length j.rest < length i.rest
+pub type_fewer : (line : ℕ) (t : HldsTypeDef) (i j : Input) → g.TypeDeclaration line t i j → length j.rest < length i.rest
 unfolding same_kind
 type_fewer line _ _ _ (g.TypeDeclaration.type_declaration t fs at i j k m n o w y s l c) =
     let a = stays (word (codes "type")) (word_steady 0 [] (codes "type")) at i j w in
@@ -112,7 +112,7 @@ type_fewer line _ _ _ (g.TypeDeclaration.type_declaration t fs at i j k m n o w 
     let e = stays rule.functors (functors_steady 0 []) fs m o (functors_complete fs m n o l c) in
     omega (arith, a, b, d, e)
 
-pred_fewer : (x : rule.Declaration) (i j : Input) → g.PredDeclaration x i j → length j.rest < length i.rest
+pub pred_fewer : (x : rule.Declaration) (i j : Input) → g.PredDeclaration x i j → length j.rest < length i.rest
 unfolding same_kind
 pred_fewer _ _ _ (g.PredDeclaration.pred_declaration q as' d i j k l m n o a b c s h z) =
     let e = sign_fewer kind.Pred i j a refl in

@@ -1,9 +1,10 @@
 -- The token at which a text is refused: a program begins with the tokens before it, or with it too, but none with it.
 use Rattle.std.proofs.Common.{◌⊎◌, ◌≡◌, ℕ, suc, ◌+◌, ◌-◌, ◌≤◌, ◌<◌, List, [], ◌∷◌, ◌++◌, length, take, drop, refl, inl, inr, Ok, Err, sym, ap, ◌∙◌, arith, subst, append_assoc, length-append, true}
 use Rattle.md_hlds.specs.Hlds.{Hlds}
+use Rattle.md_token.specs.Kinds.{is_final}
 use Rattle.md_token.specs.Token.{Lexeme, tokens_of}
 use Rattle.md_token.specs.declared.kind.Kind.TheVariants as kind
-use Rattle.md_token.proofs.Ends.{HasEnd, is_final, tokens_end}
+use Rattle.md_token.proofs.Ends.{HasEnd, tokens_end}
 use Rattle.md_reader.specs.declared.refused.Place.{Place}
 use Rattle.md_reader.specs.declared.refused.Refusal.{Refusal}
 use Rattle.md_reader.specs.declared.refused.Refusal.TheVariants.{Syntax, Limit, NoMemory}

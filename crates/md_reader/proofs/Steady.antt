@@ -3,9 +3,9 @@
 use Rattle.std.proofs.Common.{◌≡◌, ℕ, zero, suc, ◌+◌, ◌-◌, ◌≤◌, ◌<◌, List, [], ◌∷◌, ◌++◌, length, take, drop, refl, Bool, true, false, cond, ◌&&◌, inl, inr, Ok, Err, sym, ap, ◌∙◌, arith, subst, append_assoc, length-append, length-drop, length-take}
 use Rattle.md_token.specs.declared.kind.Kind.{Kind}
 use Rattle.md_token.specs.declared.kind.Kind.TheVariants as kind
-use Rattle.md_token.specs.Kinds.{same_kind}
+use Rattle.md_token.specs.Kinds.{same_kind, is_final}
 use Rattle.md_token.specs.Token.{Lexeme}
-use Rattle.md_token.proofs.Ends.{is_final, is_end, HasEnd}
+use Rattle.md_token.proofs.Ends.{is_end, HasEnd}
 use Rattle.md_reader.specs.declared.refused.Place.{Place}
 use Rattle.md_reader.specs.declared.refused.Refusal.{Refusal}
 use Rattle.md_reader.specs.declared.refused.Refusal.TheVariants as refusal

@@ -3,11 +3,10 @@ use Rattle.std.proofs.Common.{◌≡◌, ℕ, zero, suc, List, [], ◌∷◌, �
 use Rattle.md_hlds.specs.HldsGoal.{HldsGoal, At, GoalExpr, SimpleGoal, Succeeds, Fails, DisjGoal, IfGoal, NotGoal, SomeGoal, gathered}
 use Rattle.md_token.specs.declared.kind.Kind.{Kind}
 use Rattle.md_token.specs.declared.kind.Kind.TheVariants as kind
-use Rattle.md_token.specs.Kinds.{same_kind}
+use Rattle.md_token.specs.Kinds.{same_kind, is_final}
 use Rattle.md_token.specs.Token.{Lexeme}
 use Rattle.md_reader.specs.Input.{Input, Parser, ◌>>◌, pure, refuse, limit, sees, kind_at, expect}
 use Rattle.md_reader.specs.Rules as rule
-use Rattle.md_token.proofs.Ends.{is_final}
 use Rattle.md_reader.proofs.Steady.{Same, Steady, goes_by, cut, bound, given, faulty, limited, tested, by_token, passing, expected, turns_on, turned}
 use Rattle.md_reader.proofs.SteadyRules.{kind_is, ending, quantified_steady, relation_steady, call_steady, closure_call_steady}
 

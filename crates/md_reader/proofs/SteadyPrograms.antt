@@ -4,13 +4,13 @@ use Rattle.md_hlds.specs.declared.types.Mode.{Mode}
 use Rattle.md_hlds.specs.declared.goal.PredName.{PredName}
 use Rattle.md_hlds.specs.Hlds.{HldsType, closure, gathered_types, Hlds}
 use Rattle.md_token.specs.declared.kind.Kind.TheVariants as kind
-use Rattle.md_token.specs.Kinds.{same_kind}
+use Rattle.md_token.specs.Kinds.{same_kind, is_final}
 use Rattle.md_token.specs.Token.{Lexeme}
 use Rattle.std.specs.Prelude.{codes}
 use Rattle.md_token.specs.declared.kind.Kind.{Kind}
 use Rattle.md_reader.specs.Input.{Input, Parser, ◌>>=◌, ◌>>◌, and_then, pure, refuse, limit, sees, token, expect, word, take_name, variable, end_clause}
 use Rattle.md_reader.specs.Rules as rule
-use Rattle.md_token.proofs.Ends.{is_final, is_end, is_empty}
+use Rattle.md_token.proofs.Ends.{is_end, is_empty}
 use Rattle.md_reader.proofs.Steady.{Same, Steady, Goes, goes_by, cut, bound, given, faulty, limited, tested, tested_by, token_cut, same_when, same_bind, by_token, passing, expected, excess, turned, begun}
 use Rattle.md_reader.proofs.SteadyRules.{kind_is, take_name_at, word_steady, ending, going, perhaps, variable_steady, end_clause_steady, declared_name_steady, this_name_steady, simple_type_steady, simple_types_steady, type_definition_steady}
 use Rattle.md_reader.proofs.SteadyGoals.{conjunction_steady}
@@ -145,7 +145,7 @@ module _ (d : ℕ) (more : List Lexeme) where
   both true b h = refl
   both false b h = h
 
-  module_name_steady : Stable rule.module_name
+  pub module_name_steady : Stable rule.module_name
   unfolding rule.module_name
   module_name_steady =
       by_token d more (λ t i. cond (rule.is_name t.kind && not (rule.is_library t.text)) ((take_name t.text >>= (λ m. rule.set_home t.text >> pure m)) i) (refuse i))

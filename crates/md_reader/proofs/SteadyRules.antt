@@ -11,12 +11,11 @@ use Rattle.md_hlds.specs.HldsGoal.{GoalExpr, SimpleGoal, Unifies, Computes, Comp
 use Rattle.md_hlds.specs.Hlds.{HldsType, number as int_type, text as string_type, world as io_type, named}
 use Rattle.md_token.specs.declared.kind.Kind.{Kind}
 use Rattle.md_token.specs.declared.kind.Kind.TheVariants as kind
-use Rattle.md_token.specs.Kinds.{same_kind}
+use Rattle.md_token.specs.Kinds.{same_kind, is_final}
 use Rattle.md_token.specs.Token.{Lexeme}
 use Rattle.md_token.specs.Literal.{number_of, string_value}
 use Rattle.md_reader.specs.Input.{Input, Parser, ◌>>=◌, ◌>>◌, pure, refuse, limit, advance, eat, sees, next, token, kind_at, expect, word, name, take_name, variable, with_variable, place_of, site, end_clause}
 use Rattle.md_reader.specs.Rules as rule
-use Rattle.md_token.proofs.Ends.{is_final}
 use Rattle.md_reader.proofs.Steady.{Same, Steady, Goes, goes, goes_by, cut, same_bind, bound, given, faulty, limited, either, tested, tested_by, by_token, by_token_at, taking, naming, passing, eaten, expected, excess, turns_on, turned}
 
 module _ (d : ℕ) (more : List Lexeme) where

@@ -1,8 +1,8 @@
 -- None of the tokens that a rule takes has more than the limits allow, and where it refuses one for a limit, that one has.
 use Rattle.std.proofs.Common.{◌≡◌, ℕ, ◌≤◌, List, [], ◌∷◌, ◌++◌, length, drop, refl, Bool, true, false, cond, Ok, Err, sym, ap, ◌∙◌, subst, append_assoc}
 use Rattle.md_token.specs.declared.kind.Kind.{Kind}
+use Rattle.md_token.specs.Kinds.{is_final}
 use Rattle.md_token.specs.Token.{Lexeme}
-use Rattle.md_token.proofs.Ends.{is_final}
 use Rattle.md_token.proofs.Proper.{AreProper}
 use Rattle.md_reader.specs.declared.refused.Place.{Place}
 use Rattle.md_reader.specs.declared.refused.Refusal.TheVariants.{Syntax, Limit, NoMemory}

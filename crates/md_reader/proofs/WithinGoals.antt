@@ -2,8 +2,8 @@
 use Rattle.std.proofs.Common.{◌≡◌, ℕ, zero, suc, ◌+◌, List, [], ◌∷◌, ◌++◌, length, refl, Bool, true, false, ap, arith}
 use Rattle.md_hlds.specs.HldsGoal.{HldsGoal, At, GoalExpr, SimpleGoal, Succeeds, Fails, DisjGoal, IfGoal, NotGoal, SomeGoal, gathered}
 use Rattle.md_token.specs.declared.kind.Kind.{Kind}
+use Rattle.md_token.specs.Kinds.{is_final}
 use Rattle.md_token.specs.declared.kind.Kind.TheVariants as kind
-use Rattle.md_token.proofs.Ends.{is_final}
 use Rattle.md_reader.specs.Input.{Input, Parser, ◌>>=◌, ◌>>◌, pure, refuse, limit, standard, token, kind_at, sees, expect}
 use Rattle.md_reader.specs.Rules as rule
 use Rattle.md_reader.specs.Excess.{Opened, AGoal, AList, Point, opens_list, open_behind, with_comma, has_commas, goals, goal}

@@ -8,8 +8,8 @@ use Rattle.md_hlds.specs.declared.goal.Term.TheVariants as term
 use Rattle.md_hlds.specs.HldsGoal.{GoalExpr, SimpleGoal, Unifies, Computes, Compares}
 use Rattle.md_hlds.specs.Hlds.{HldsType, HldsFunctor}
 use Rattle.md_token.specs.declared.kind.Kind.{Kind}
+use Rattle.md_token.specs.Kinds.{is_final}
 use Rattle.md_token.specs.declared.kind.Kind.TheVariants as kind
-use Rattle.md_token.proofs.Ends.{is_final}
 use Rattle.md_reader.specs.Input.{Input, Limits, Parser, Outcome, ◌>>=◌, ◌>>◌, pure, standard, kind_at, eat, expect, name, word, variable, site}
 use Rattle.md_reader.specs.Rules as rule
 use Rattle.md_reader.specs.Excess.{Opened, AList, Point, opens_list, open_behind}

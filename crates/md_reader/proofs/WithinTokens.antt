@@ -3,9 +3,9 @@ use Rattle.std.proofs.Common.{◌≡◌, ◌≢◌, ℕ, suc, ◌≤◌, ◌<◌
 use Rattle.std.specs.Prelude.{⊤}
 use Rattle.md_token.specs.declared.kind.Kind.{Kind}
 use Rattle.md_token.specs.declared.kind.Kind.TheVariants as kind
+use Rattle.md_token.specs.Kinds.{is_final}
 use Rattle.md_token.specs.Token.{Lexeme}
 use Rattle.md_token.specs.Literal.{number_of, string_value}
-use Rattle.md_token.proofs.Ends.{is_final}
 use Rattle.md_reader.specs.declared.refused.Refusal.TheVariants.{Syntax, Limit, NoMemory}
 use Rattle.md_reader.specs.Input.{Input, Parser, Outcome, and_then, refuse, limit, standard, token, kind_at, place, sees, next, take_name, name}
 use Rattle.md_reader.specs.Rules as rule

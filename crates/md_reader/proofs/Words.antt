@@ -1,5 +1,5 @@
 -- Names in a set, and the list of them.
-use Rattle.std.proofs.Common.{◌≡◌, ℕ, suc, ◌+◌, ◌<◌, ◌≤◌, List, [], ◌∷◌, ◌++◌, length, map, refl, Bool, true, false, cond, not, ◌&&◌, ◌||◌, Some, None, Vec, sym, ap, subst, ◌∙◌, arith, nat_eq, nat_lt, ◌==◌}
+use Rattle.std.proofs.Common.{◌≡◌, ℕ, suc, ◌+◌, ◌<◌, ◌≤◌, List, [], ◌∷◌, ◌++◌, length, length-append, map, refl, Bool, true, false, cond, not, ◌&&◌, ◌||◌, Some, None, Vec, sym, ap, subst, ◌∙◌, arith, nat_eq, nat_lt, ◌==◌}
 use Rattle.std.specs.List.{list_any, position, position_or_len}
 use Rattle.std.specs.Str.{bytes_eq}
 use Rattle.std.specs.Cmp.Lexicographic.{pointwise}
@@ -100,3 +100,11 @@ own_variable k ks h =
 
 pub new_variable : (x : List ℕ) (k : Word) (ks : List Word) → k.items ≡ x → list_any (is_word x) ks ≡ false → words (insert_key same_word ks k) ≡ with_variable x (words ks)
 new_variable x k ks e = subst (λ (y : List ℕ). list_any (is_word y) ks ≡ false → words (insert_key same_word ks k) ≡ with_variable y (words ks)) e (own_variable k ks)
+
+pub few_variables : (x : List ℕ) (vars : List (List ℕ)) → length (with_variable x vars) ≤ length vars + 1
+unfolding with_variable
+few_variables x vars = by (place_of x vars == length vars)
+  where
+    by : (b : Bool) → length (cond b (vars ++ x ∷ []) vars) ≤ length vars + 1
+    by true = let a = length-append vars (x ∷ []) in omega (arith, a)
+    by false = omega arith

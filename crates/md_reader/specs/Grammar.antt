@@ -1,6 +1,6 @@
 -- The grammar, as a definite clause grammar: each symbol relates the place before its tokens to the place after them.
 -- What one token stands for is given by the words of `Input` and `Rules` that take one token.
-use Rattle.std.specs.Prelude.{⊤, ◌==◌, ◌≡◌, ℕ, suc, ◌≤◌, true as yes, false, List, [], ◌∷◌, ◌++◌, length, Some, None, Ok, codes}
+use Rattle.std.specs.Prelude.{⊤, ◌==◌, ◌≡◌, ℕ, suc, ◌<◌, ◌≤◌, true as yes, false, List, [], ◌∷◌, ◌++◌, length, Some, None, Ok, codes}
 use Rattle.std.specs.List.{list_any}
 use Rattle.md_hlds.specs.declared.types.Mode.{Mode}
 use Rattle.md_hlds.specs.declared.types.Det.{Det}
@@ -177,6 +177,12 @@ pub record Spells (text : List ℕ) (l : Hlds) : Type 0 where
   pub program : Program l (rule.start (tokens_of text)) end
   pub whole : sees kind.Stop end ≡ yes
   pub once : duplicate l ≡ None
+
+-- a text spells the program, and is short enough to be read
+pub record IsOfText (l : Hlds) : Type 0 where
+  pub text : List ℕ
+  pub short : length text < 4294967295
+  pub spells : Spells text l
 
 -- The tokens of the text, all of them, are a program's by the grammar, within the limits, but something is declared a
 -- second time, first at this line.

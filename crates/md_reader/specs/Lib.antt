@@ -3,6 +3,7 @@ pub mod Excess
 pub mod Faults
 pub mod Grammar
 pub mod Input
+pub mod Names
 pub mod Reading
 pub mod Rules
 pub mod Views

@@ -2,7 +2,7 @@
 use Rattle.std.specs.Prelude.{List, map, option_map}
 use Rattle.md_reader.specs.declared.duplicates.Declared.{Declared as Entry}
 use Rattle.md_reader.specs.Duplicates.{Declared}
-use Rattle.md_reader.specs.declared.names.Written.{Written as Text}
+use Rattle.md_reader.specs.declared.written.Written.{Written as Text}
 use Rattle.md_reader.specs.declared.call.BuiltinGoal.{BuiltinGoal}
 use Rattle.md_reader.specs.declared.call.BuiltinGoal.TheVariants as builtin
 use Rattle.md_reader.specs.declared.procedure.Declaration.{Declaration as Said}

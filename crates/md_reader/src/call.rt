@@ -1,5 +1,5 @@
 // Calls, builtin goals, comparisons, and unifications with a variable before them.
-ghost use Rattle.std.specs.Prelude.{◌≡◌, option_map};
+ghost use Rattle.std.specs.Prelude.{◌≡◌, ◌<◌, ◌+◌, length, option_map};
 ghost use Rattle.md_hlds.specs.HldsGoal.{expr_of};
 ghost use Rattle.md_reader.specs.Input.{input_of, Reads};
 ghost use Rattle.md_reader.specs.Rules as spec;
@@ -39,7 +39,7 @@ pub(crate) fn call(input: &mut Input<'_>) -> Result<GoalKind, Refusal>
     match builtin(&name, variables.as_slice()) {
         Some(builtin) => Ok(builtin.goal()),
         None => {
-            let site = input.site()?;
+            let site = input.site();
             Ok(GoalKind::Call(SiteId::new(site), name, variables))
         }
     }
@@ -136,7 +136,9 @@ fn is_qualified_by(library: &str, qualifier: &Option<Name>) -> bool
     }
 }
 
+/// The call of the first of these variables with the others.
 fn applied(input: &mut Input<'_>, variables: Variables) -> Result<GoalKind, Refusal>
+    requires { input.now.sites + 1 + length input.now.rest.now < 4294967296 }
     ensures { Reads expr_of (spec.applied variables (input_of input.old)) result (input_of input.new) }
 {
     let mut variables = variables.into_vec();
@@ -144,6 +146,6 @@ fn applied(input: &mut Input<'_>, variables: Variables) -> Result<GoalKind, Refu
         return Err(input.refuse());
     }
     let closure = variables.remove(0);
-    let site = input.site()?;
+    let site = input.site();
     Ok(GoalKind::HoCall(SiteId::new(site), closure, Variables::from_vec(variables)))
 }

@@ -1,9 +1,7 @@
 // The tokens that are still to be read, and what was learned from those before them.
-ghost use Rattle.std.specs.Prelude.{◌≡◌, drop};
-ghost use Rattle.md_token.specs.Token.{lexeme_of};
-ghost use Rattle.md_reader.specs.Input as spec;
-ghost use Rattle.md_reader.specs.Input.{input_of, Reads};
+ghost use Rattle.std.specs.Prelude.{◌≡◌, ◌≤◌, ◌<◌, ◌+◌, drop, length};
 
+use crate::names::name_of;
 use crate::refused::{Place, Refusal};
 use crate::scope::Scope;
 use md_base::Name;
@@ -25,9 +23,17 @@ pub(crate) struct Input<'a> {
     pub scope: Scope,
     /// How many call sites there are so far.
     pub sites: u32,
+    /// Each variable took a token of its own.
+    pub ghost few: { length scope + length rest.now < 4294967296 },
+    /// So did each call site.
+    pub ghost numbered: { sites + length rest.now < 4294967296 },
 }
 
 impl<'a> Input<'a> {
+    ghost use Rattle.md_token.specs.Lexemes.{lexeme_of};
+    ghost use Rattle.md_reader.specs.Input as spec;
+    ghost use Rattle.md_reader.specs.Input.{input_of, Reads};
+
     /// The next token.
     #[tactic(auto, unfolding(crate::specs::Input::input_of, crate::specs::Input::token))]
     pub fn token(&self) -> Token<'a>
@@ -130,22 +136,18 @@ impl<'a> Input<'a> {
         Ok(line)
     }
 
-    /// Takes the next token, whose text is a name, if it is no longer than a name may be.
+    /// Takes the next token, whose text is a name and isn't empty, if it is no longer than a name may be.
     #[tactic(auto, unfolding(crate::specs::Input::take_name, crate::specs::Input::input_of))]
     pub fn take_name(&mut self, text: &[u8]) -> Result<Name, Refusal>
+        requires { 1 ≤ length text.now }
         ensures { Reads (λ name. name) (spec.take_name text.now (input_of self.old)) result (input_of self.new) }
     {
         if text.len() > MOST {
             return Err(self.limit());
         }
-        match Name::from_bytes(self.alloc, text)? {
-            // No token is empty.
-            None => Err(Refusal::NoMemory),
-            Some(name) => {
-                self.advance();
-                Ok(name)
-            }
-        }
+        let name = name_of(self.alloc, text)?;
+        self.advance();
+        Ok(name)
     }
 
     #[tactic(auto, unfolding(crate::specs::Input::name))]
@@ -187,8 +189,8 @@ impl<'a> Input<'a> {
         if text.len() > MOST {
             return Err(self.limit());
         }
-        self.scope.add(self.alloc, text)?;
         self.advance();
+        self.scope.add(self.alloc, text)?;
         Ok(place)
     }
 
@@ -210,18 +212,15 @@ impl<'a> Input<'a> {
         Ok(names)
     }
 
-    /// The number of the next call site.
+    /// The number of the next call site, which took a token that none before it took.
     #[tactic(auto, unfolding(crate::specs::Input::site, crate::specs::Input::input_of))]
-    pub fn site(&mut self) -> Result<u32, Refusal>
-        ensures { Reads (λ site. site) (spec.site (input_of self.old)) result (input_of self.new) }
+    pub fn site(&mut self) -> u32
+        requires { self.now.sites + 1 + length self.now.rest.now < 4294967296 }
+        ensures { spec.site (input_of self.old) ≡ Ok (result, input_of self.new) }
     {
         let site = self.sites;
-        // A text that can be read has fewer tokens than this.
-        let Some(sites) = site.checked_add(1) else {
-            return Err(Refusal::NoMemory);
-        };
-        self.sites = sites;
-        Ok(site)
+        self.sites += 1;
+        site
     }
 }
 

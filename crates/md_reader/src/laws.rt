@@ -1,6 +1,6 @@
 // Laws over the grammar alone. Each is the contract of a function that does nothing.
-ghost use Rattle.std.specs.Prelude.{◌≡◌, ℕ, List};
-ghost use Rattle.md_hlds.specs.Hlds.{Hlds};
+ghost use Rattle.std.specs.Prelude.{◌≡◌, ◌<◌, ℕ, List, length};
+ghost use Rattle.md_hlds.specs.Hlds.{Hlds, goals_before};
 ghost use Rattle.md_token.specs.Token.{tokens_of};
 ghost use Rattle.md_reader.specs.Excess.{AreWithin, beginning};
 ghost use Rattle.md_reader.specs.Faults.{IsLimitFault, IsSyntaxFault};
@@ -22,4 +22,9 @@ pub fn a_text_has_one_first_fault()
     ensures syntax { (text : List ℕ) (line other : ℕ) → IsSyntaxFault text line → IsSyntaxFault text other → line ≡ other }
     ensures limit { (text : List ℕ) (line other : ℕ) → IsLimitFault text line → IsLimitFault text other → line ≡ other }
     ensures kind { (text : List ℕ) (line other : ℕ) → IsSyntaxFault text line → IsLimitFault text other → ⊥ }
+{}
+
+/// A program has fewer goals than its text has bytes.
+pub fn a_text_has_more_bytes_than_goals()
+    ensures { (text : List ℕ) (p : Hlds) → Spells text p → goals_before p.procedures (length p.procedures) < length text }
 {}

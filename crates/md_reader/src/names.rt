@@ -1,24 +1,20 @@
 // Names of predicates and functors.
-ghost use Rattle.std.specs.Prelude.{◌≡◌, drop, option_map, IfOk};
+ghost use Rattle.std.specs.Prelude.{◌≡◌, false, option_map, IfOk};
 ghost use Rattle.md_hlds.specs.Hlds as listing;
-ghost use Rattle.md_token.specs.Token.{lexeme_of};
+ghost use Rattle.md_token.specs.Lexemes.{lexeme_of};
+ghost use Rattle.md_token.specs.Token.{HasParts};
 ghost use Rattle.md_reader.specs.Input.{input_of, standard, Reads};
+ghost use Rattle.md_reader.specs.Names.{HasNameLength};
 ghost use Rattle.md_reader.specs.Rules as spec;
 ghost use Rattle.md_reader.specs.Views.{written_of};
 
 use crate::input::{Input, MOST};
 use crate::refused::Refusal;
+use crate::written::Written;
 use md_base::{Name, NoMemory};
 use md_hlds::PredName;
 use md_token::{Kind, Token, is_word, same_kind, word_kind, word_length};
 use std::alloc::Global;
-
-/// A name as it is written, with its qualifier, if it has one.
-#[derive(Clone, Copy)]
-pub(crate) struct Written<'a> {
-    pub qualifier: Option<&'a [u8]>,
-    pub name: &'a [u8],
-}
 
 /// The name that a token is.
 #[tactic(auto, unfolding(crate::specs::Rules::written))]
@@ -35,12 +31,13 @@ pub(crate) fn name_in<'a>(token: Token<'a>) -> Option<Written<'a>>
     }
 }
 
-/// The name of these bytes. No token is empty, so there is one.
+/// The name of these bytes, of which there are 1 to 255.
 pub(crate) fn name_of(alloc: Global, bytes: &[u8]) -> Result<Name, NoMemory>
+    requires { HasNameLength bytes.now }
     ensures { IfOk result (λ name. name ≡ bytes.now) }
 {
     match Name::from_bytes(alloc, bytes)? {
-        None => Err(NoMemory),
+        None => unreachable!(),
         Some(name) => Ok(name),
     }
 }
@@ -55,8 +52,9 @@ pub(crate) fn is_long(written: Written<'_>) -> bool
     }
 }
 
-/// The name that is meant: `M.p` is `p`, where M is the program's own module.
+/// The name that is meant, no part of which is too long: `M.p` is `p`, where M is the program's own module.
 pub(crate) fn meant(alloc: Global, home: &[u8], written: Written<'_>) -> Result<PredName, NoMemory>
+    requires { spec.is_long standard.items (written_of written) ≡ false }
     ensures { IfOk result (λ name. name ≡ spec.meant home.now (written_of written.entry)) }
 {
     let name = name_of(alloc, written.name)?;
@@ -123,11 +121,12 @@ pub(crate) fn this_name(input: &mut Input<'_>, name: &PredName) -> Result<(), Re
 /// The qualified name that is written so, unless a word that is no name stands after the qualifier.
 #[tactic(auto, unfolding(crate::specs::Rules::qualified))]
 fn qualified<'a>(text: &'a [u8]) -> Option<Written<'a>>
+    requires { HasParts text.now }
     ensures { option_map written_of result ≡ spec.qualified text.now }
 {
     let length = word_length(text);
     let (qualifier, _) = text.split_at(length);
-    let name = past(text, length + 1);
+    let (_, name) = text.split_at(length + 1);
     if !same_kind(word_kind(name), Kind::Name) {
         return None;
     }
@@ -135,17 +134,6 @@ fn qualified<'a>(text: &'a [u8]) -> Option<Written<'a>>
         qualifier: Some(qualifier),
         name,
     })
-}
-
-/// The bytes past the first ones.
-fn past<'a>(text: &'a [u8], count: usize) -> &'a [u8]
-    ensures { result.now ≡ drop count text.now }
-{
-    if count > text.len() {
-        return b"";
-    }
-    let (_, rest) = text.split_at(count);
-    rest
 }
 
 #[tactic(auto, unfolding(crate::specs::Input::input_of))]

@@ -1,6 +1,7 @@
 // Whole programs.
-ghost use Rattle.std.specs.Prelude.{◌≡◌, IfOk};
+ghost use Rattle.std.specs.Prelude.{◌≡◌, ◌<◌, ◌+◌, [], false, true, length, IfOk};
 ghost use Rattle.md_hlds.specs.Hlds.{hlds_of};
+ghost use Rattle.md_token.specs.Kinds.{is_final};
 ghost use Rattle.md_reader.specs.Input.{input_of, Reads};
 ghost use Rattle.md_reader.specs.Rules as spec;
 ghost use Rattle.md_reader.specs.Views.{draft_of};
@@ -10,7 +11,7 @@ use crate::names::is_library;
 use crate::procedure::procedure;
 use crate::refused::Refusal;
 use crate::types::type_definition;
-use md_base::{Name, NoMemory};
+use md_base::Name;
 use md_hlds::{Pred, Program, TypeDef};
 use md_token::Kind;
 
@@ -30,34 +31,33 @@ pub(crate) fn program(input: &mut Input<'_>) -> Result<Program, Refusal>
 {
     let heading = heading(input)?;
     let draft = declarations(input, heading)?;
-    Ok(finished(draft)?)
+    Ok(finished(draft))
 }
 
-/// The program of a draft. A text that can be read has fewer predicates than there are numbers for them.
-fn finished(draft: Draft) -> Result<Program, NoMemory>
-    ensures { IfOk result (λ program. hlds_of program ≡ draft_of draft) }
+/// The program of a draft, so few of whose predicates there are that each has a number.
+fn finished(draft: Draft) -> Program
+    requires { length draft.preds.items < 4294967296 }
+    ensures { hlds_of result ≡ draft_of draft }
 {
-    if draft.preds.as_slice().len() > u32::MAX as usize {
-        return Err(NoMemory);
-    }
     let Draft {
         module,
         module_line,
         types,
         preds,
     } = draft;
-    Ok(Program {
+    Program {
         module,
         module_line,
         types,
         preds,
-    })
+    }
 }
 
 /// Takes the declaration of the module.
 #[tactic(auto, unfolding(crate::specs::Rules::heading))]
 fn heading(input: &mut Input<'_>) -> Result<Draft, Refusal>
-    ensures { Reads draft_of (spec.heading (input_of input.old)) result (input_of input.new) }
+    ensures read { Reads draft_of (spec.heading (input_of input.old)) result (input_of input.new) }
+    ensures none { IfOk result (λ draft. draft.preds.items ≡ []) }
 {
     let module_line = input.expect(Kind::Declare)?;
     input.word("module")?;
@@ -87,7 +87,8 @@ fn module_name(input: &mut Input<'_>) -> Result<Name, Refusal>
 
 /// Whether a token of this kind is a name, be it one of the words that are no names of predicates.
 fn is_name(kind: Kind) -> bool
-    ensures { result ≡ spec.is_name kind }
+    ensures name { result ≡ spec.is_name kind }
+    ensures filled { result ≡ true → is_final kind ≡ false }
 {
     match kind {
         Kind::Name
@@ -102,10 +103,12 @@ fn is_name(kind: Kind) -> bool
     }
 }
 
-/// Takes the declarations after that of the module, up to the end of the text.
+/// Takes the declarations after that of the module, up to the end of the text. Each predicate takes a token of its own.
 #[tactic(auto, unfolding(crate::specs::Rules::declarations))]
 fn declarations(input: &mut Input<'_>, mut draft: Draft) -> Result<Draft, Refusal>
-    ensures { Reads draft_of (spec.declarations (draft_of draft) (input_of input.old)) result (input_of input.new) }
+    requires { length draft.preds.items + length input.now.rest.now < 4294967296 }
+    ensures read { Reads draft_of (spec.declarations (draft_of draft) (input_of input.old)) result (input_of input.new) }
+    ensures few { IfOk result (λ draft. length draft.preds.items < 4294967296) }
 {
     for _turn in 0..input.left() {
         if input.sees(Kind::Stop) {

@@ -1,9 +1,9 @@
 // The text of a program to the program.
 ghost use Rattle.std.specs.Prelude.{◌≡◌, ◌≢◌, ◌<◌, ℕ, Ok, Err, IfErr, IfOk, MatchResult, length};
-ghost use Rattle.md_token.specs.Token.{lexemes_of};
+ghost use Rattle.md_token.specs.Lexemes.{lexemes_of};
 ghost use Rattle.md_hlds.specs.Hlds.{Hlds, hlds_of};
 ghost use Rattle.md_reader.specs.Faults.{IsAtFault, IsLimitFault, IsSyntaxFault};
-ghost use Rattle.md_reader.specs.Grammar.{Repeats, Spells};
+ghost use Rattle.md_reader.specs.Grammar.{IsOfText, Repeats, Spells};
 ghost use Rattle.md_reader.specs.Input.{input_of};
 ghost use Rattle.md_reader.specs.Rules as rule;
 ghost use Rattle.md_reader.specs.Rules.{start};
@@ -23,10 +23,11 @@ use std::alloc::Global;
 /// The program that a text spells. The text has fewer than 4,294,967,295 bytes.
 ///
 /// A text that spells none is refused with the line of the first token at fault, for syntax or for a limit, or of the
-/// first second declaration.
+/// first second declaration. `NoMemory` is answered only where memory was refused.
 pub fn read(alloc: Global, text: &[u8]) -> Result<Program, Refused>
     requires { length text.now < 4294967295 }
     ensures spelled { IfOk result (λ program. Spells text.now (hlds_of program)) }
+    ensures of_text { IfOk result (λ program. IsOfText (hlds_of program)) }
     ensures complete { (program : Hlds) → Spells text.now program → IsRead result program }
     ensures cause { IfErr result (λ refused. HasCause refused text.now) }
     ensures repeated { (line : ℕ) → Repeats text.now line → IsRefusedAs result (refusals.Duplicate line) }
@@ -41,6 +42,7 @@ pub fn read(alloc: Global, text: &[u8]) -> Result<Program, Refused>
 
 /// The program that these tokens spell.
 fn read_tokens(alloc: Global, tokens: &[Token<'_>]) -> Result<Program, Refused>
+    requires { length tokens.now < 4294967296 }
     ensures { MatchResult result
         (λ program. outcome_of (rule.program (start (lexemes_of tokens.now))) ≡ Ok (hlds_of program))
         (λ refused. refused ≢ refusals.NoMemory → outcome_of (rule.program (start (lexemes_of tokens.now))) ≡ Err refused) }
@@ -65,6 +67,7 @@ fn declared_once(alloc: Global, program: Program) -> Result<Program, Refused>
 /// The input of a whole text, by its tokens.
 #[tactic(auto, unfolding(crate::specs::Input::input_of))]
 fn start_input<'a>(alloc: Global, tokens: &'a [Token<'a>]) -> Input<'a>
+    requires { length tokens.now < 4294967296 }
     ensures { input_of result ≡ start (lexemes_of tokens.now) }
 {
     Input {

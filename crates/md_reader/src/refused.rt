@@ -18,6 +18,7 @@ pub(crate) struct Place {
 pub(crate) enum Refusal {
     Syntax(Place),
     Limit(Place),
+    /// Memory was refused.
     NoMemory,
 }
 
@@ -60,6 +61,7 @@ pub enum Refused {
     Limit(u32),
     /// The first second declaration of a type, of a functor with its arity, or of a predicate.
     Duplicate(u32),
+    /// Memory was refused, and nothing else.
     NoMemory,
 }
 

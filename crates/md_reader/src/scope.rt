@@ -1,6 +1,7 @@
 // The variables of a clause.
-ghost use Rattle.std.specs.Prelude.{◌≡◌, [], OnOk, IfOk, map};
+ghost use Rattle.std.specs.Prelude.{◌≡◌, ◌≤◌, ◌<◌, ◌+◌, [], All, OnOk, IfOk, length, map};
 ghost use Rattle.md_reader.specs.Input as spec;
+ghost use Rattle.md_reader.specs.Names.{HasNameLength};
 
 use crate::names::name_of;
 use indexmap::IndexSet;
@@ -15,13 +16,14 @@ pub(crate) struct Scope {
 }
 
 impl Model for Scope {
-    ghost use Rattle.std.specs.Prelude.{ℕ, List, map, ◌<◌, length};
+    ghost use Rattle.std.specs.Prelude.{ℕ, List, All, map, ◌<◌, length};
+    ghost use Rattle.md_reader.specs.Names.{HasNameLength};
 
     ghost Value = { List (List ℕ) };
 
     ghost view = { λ scope. map (λ name. name.items) scope.names.keys };
 
-    ghost invariant = { λ scope. length scope.names.keys < 4294967296 };
+    ghost invariant = { λ scope. (length scope.names.keys < 4294967296) × All (λ name. HasNameLength name.items) scope.names.keys };
 }
 
 impl Scope {
@@ -53,14 +55,13 @@ impl Scope {
     /// Adds a name, if it is none of them.
     #[tactic(auto, unfolding(crate::specs::Input::with_variable))]
     pub fn add(&mut self, alloc: Global, name: &[u8]) -> Result<(), NoMemory>
+        requires name { HasNameLength name.now }
+        requires few { length self.now + 1 < 4294967296 }
         ensures ok { OnOk result (self.new ≡ spec.with_variable name.now self.old) }
+        ensures more { length self.new ≤ length self.old + 1 }
     {
         if self.names.contains(name) {
             return Ok(());
-        }
-        // A text that can be read has fewer tokens than this.
-        if self.names.len() >= u32::MAX as usize {
-            return Err(NoMemory);
         }
         let name = Vec::from_slice(alloc, name)?;
         self.names.insert(name)?;
@@ -68,8 +69,9 @@ impl Scope {
     }
 }
 
-/// The names of these bytes. No token is empty, and none that is kept is too long.
+/// The names that these are, each of 1 to 255 bytes.
 fn names_of(alloc: Global, kept: &[Vec<u8>]) -> Result<Vec<Name>, NoMemory>
+    requires { All (λ name. HasNameLength name.items) kept.now }
     ensures { IfOk result (λ names. names.items ≡ map (λ name. name.items) kept.now) }
 {
     let mut names = Vec::new(alloc);

@@ -1,7 +1,7 @@
 // The right sides of unifications, and arithmetic.
 ghost use Rattle.std.specs.Prelude.{◌≡◌, ◌≤◌};
 ghost use Rattle.md_hlds.specs.HldsGoal.{expr_of};
-ghost use Rattle.md_token.specs.Token.{lexeme_of};
+ghost use Rattle.md_token.specs.Lexemes.{lexeme_of};
 ghost use Rattle.md_reader.specs.Input.{input_of, Reads};
 ghost use Rattle.md_reader.specs.Rules as spec;
 

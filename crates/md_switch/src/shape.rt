@@ -1,5 +1,5 @@
 // The shape of a switch.
-ghost use Rattle.std.specs.Prelude.{◌≡◌, ◌+◌, ◌<◌, IfOk};
+ghost use Rattle.std.specs.Prelude.{◌≡◌, ◌<◌, IfOk};
 ghost use Rattle.md_hlds.specs.Hlds.{hlds_of};
 ghost use Rattle.md_hlds.specs.HldsGoal.{goals_of, gathered};
 ghost use Rattle.md_hlds.specs.Switch.{if_different};
@@ -22,20 +22,19 @@ pub struct Shape<'a> {
 
 /// The shape of a disjunction of these arms, of which the first has this number among the goals of the program; `None`,
 /// where it has not the shape of a switch. (It is one where the variable that they test is bound before it.) Takes time
-/// near linear in the number of arms. `NoMemory` comes where memory was refused, and where goals have no numbers of 32
-/// bits.
+/// near linear in the number of arms. `NoMemory` comes only where memory was refused.
 pub fn shape_of<'a>(
     alloc: Global,
     moded: &Moded,
     arms: &'a [Goal],
     number: u32,
 ) -> Result<Option<Shape<'a>>, NoMemory>
+    requires { number < 4294967295 }
     ensures { IfOk result (λ shape. shape_told shape ≡ read_shape (hlds_of moded.now) number (gathered (goals_of arms.now))) }
 {
     let Some(first) = arms.first() else {
         return Ok(None);
     };
-    let number = number_after(number, 0)?;
     let Some((var, _)) = arm_key(moded, first, number) else {
         return Ok(None);
     };
@@ -71,19 +70,8 @@ fn keys_of<'a>(
         if !is_new {
             return Ok(None);
         }
-        number = number_after(number, moded.size(number))?;
+        let next = moded.after(number);
+        number = next;
     }
     Ok(Some(keys))
-}
-
-/// The number that comes so many goals after this one, if a further one comes after it.
-fn number_after(number: u32, size: usize) -> Result<u32, NoMemory>
-    ensures after { IfOk result (λ after. after ≡ number + size) }
-    ensures more { IfOk result (λ after. after < 4294967295) }
-{
-    let after = (number as usize).checked_add(size).ok_or(NoMemory)?;
-    if after >= 4_294_967_295 {
-        return Err(NoMemory);
-    }
-    Ok(after as u32)
 }

@@ -41,7 +41,7 @@ found_piece : (b : ℕ) (bytes : List ℕ) (o : Option (Kind × ℕ)) (k : Kind)
 found_piece b bytes _ k n IsFound.nothing e = absurd (cc)
 found_piece b bytes _ k n (IsFound.piece j m p) e = let s = same_found j k m n e in rw (← s.0, ← s.1) p
 
-piece_at : (b : ℕ) (bytes : List ℕ) (k : Kind) (n : ℕ) → token_at b bytes ≡ Some (k, n) → Piece b bytes k n
+pub piece_at : (b : ℕ) (bytes : List ℕ) (k : Kind) (n : ℕ) → token_at b bytes ≡ Some (k, n) → Piece b bytes k n
 piece_at b bytes k n e = found_piece b bytes (token_at b bytes) k n (token_found b bytes) e
 
 -- the token of a text that begins with b

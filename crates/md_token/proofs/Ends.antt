@@ -1,15 +1,9 @@
 -- Behind the last token of a text stands the end, or bytes that make no token.
 use Rattle.std.proofs.Common.{◌≡◌, ℕ, zero, suc, List, [], ◌∷◌, refl, Bool, true, false, ◌&&◌, ◌⊎◌, inl, inr}
-use Rattle.md_token.specs.declared.kind.Kind.{Kind}
-use Rattle.md_token.specs.declared.kind.Kind.TheVariants as kind
+use Rattle.md_token.specs.Kinds.{is_final}
 use Rattle.md_token.specs.declared.scan.Prefix.{Prefix}
 use Rattle.md_token.specs.declared.scan.Prefix.TheVariants as prefix
 use Rattle.md_token.specs.Token.{Lexeme, lexemes, tokens_of, put, prefix_at, more_of, line_past}
-
-abbrev pub is_final : Kind → Bool
-is_final kind.Stop = true
-is_final kind.Bad = true
-is_final _ = false
 
 abbrev pub is_empty : List ℕ → Bool
 is_empty [] = true

@@ -1,8 +1,10 @@
 pub mod Cuts
 pub mod Ends
+pub mod Few
 pub mod Found
 pub mod Literals
 pub mod Longest
+pub mod Parts
 pub mod Proper
 pub mod Scans
 pub mod Spelled

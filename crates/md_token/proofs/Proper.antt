@@ -11,8 +11,8 @@ use Rattle.md_token.specs.declared.kind.Kind.TheVariants as kind
 use Rattle.md_token.specs.declared.scan.Prefix.{Prefix}
 use Rattle.md_token.specs.declared.scan.Prefix.TheVariants as prefix
 use Rattle.md_token.specs.declared.string.Within.TheVariants as within
+use Rattle.md_token.specs.Kinds.{is_final}
 use Rattle.md_token.specs.Token.{Lexeme, is_blank, is_percent, is_in_line, is_word_byte, word_kind, qualifies, name_at, variable_at, string_at, string_end, ends, single_at, colon_at, dash_at, sign_at, token_at, prefix_of_token, prefix_at, more_of, line_past, put, lexemes, tokens_of}
-use Rattle.md_token.proofs.Ends.{is_final}
 
 -- ---- tokens as texts have them
 
@@ -172,18 +172,18 @@ token_next b bytes p e = by (is_ascii_lowercase b) refl
     by true h = name_next b bytes p (some_is (name_at b bytes) (sym (lowered b bytes h) ∙ e))
     by false h = even_next b bytes p h (sym (ap finds_odd e) ∙ other_even b bytes h)
 
-piece_next : (b : ℕ) (bytes : List ℕ) (k : Kind) (n : ℕ) → prefix_at b bytes ≡ prefix.Piece k n → IsNext b bytes k n
+pub piece_token : (b : ℕ) (bytes : List ℕ) (k : Kind) (n : ℕ) → prefix_at b bytes ≡ prefix.Piece k n → token_at b bytes ≡ Some (k, n)
 unfolding prefix_at
-piece_next b bytes k n e = by (is_blank b) (is_percent b) (token_at b bytes) refl e
+piece_token b bytes k n e = by (is_blank b) (is_percent b) (token_at b bytes) refl e
   where
     some_piece : (p : Kind × ℕ) → prefix.Piece p.0 p.1 ≡ prefix.Piece k n → p ≡ (k, n)
     some_piece p h = let a : p.0 ≡ k = cc in let c : p.1 ≡ n = cc in rw (← a, ← c) refl
 
-    by : (x y : Bool) (o : Option (Kind × ℕ)) → token_at b bytes ≡ o → cond x (prefix.Gap 0) (cond y (prefix.Gap (prefix_len is_in_line bytes)) (prefix_of_token o)) ≡ prefix.Piece k n → IsNext b bytes k n
+    by : (x y : Bool) (o : Option (Kind × ℕ)) → token_at b bytes ≡ o → cond x (prefix.Gap 0) (cond y (prefix.Gap (prefix_len is_in_line bytes)) (prefix_of_token o)) ≡ prefix.Piece k n → token_at b bytes ≡ Some (k, n)
     by true y o t h = absurd (cc)
     by false true o t h = absurd (cc)
     by false false None t h = absurd (cc)
-    by false false (Some p) t h = subst (λ (q : Kind × ℕ). IsNext b bytes q.0 q.1) (some_piece p h) (token_next b bytes p t)
+    by false false (Some p) t h = t ∙ ap Some (some_piece p h)
 
 -- ---- the tokens of a text
 
@@ -201,7 +201,7 @@ last_proper k line e = record { word = λ h. absurd (cc); reserved = λ h. absur
 put_proper : (line b : ℕ) (bytes : List ℕ) (f : Prefix) (later : List Lexeme) → prefix_at b bytes ≡ f → AreOfText later → AreOfText (put line b bytes f later)
 put_proper line b bytes (prefix.Gap more) later e h = h
 put_proper line b bytes (prefix.Piece k more) later e h =
-    let p = piece_next b bytes k more e in
+    let p = token_next b bytes (k, more) (piece_token b bytes k more e) in
     ((record { word = p.0; reserved = p.1 }, h.0), (λ q. absurd (let r = sym q ∙ p.2 in cc), h.1))
 put_proper line b bytes prefix.Unknown later e h = ((last_proper kind.Bad line refl, tt), (λ q. refl, tt))
 

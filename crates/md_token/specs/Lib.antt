@@ -1,4 +1,5 @@
 pub mod Token
+pub mod Lexemes
 pub mod Spelling
 pub mod Kinds
 pub mod Literal

@@ -1,5 +1,5 @@
 -- The tokens of a text with their lines, found by going along its bytes. That they are what `Spelling` says is proved.
-use Rattle.std.specs.Prelude.{ℕ, zero, suc, ◌+◌, Bool, true, false, not, ◌&&◌, ◌||◌, ◌==◌, nat_le, if◌then◌else◌, List, [], ◌∷◌, take, drop, map, slice_index, Option, Some, None, option_map, codes}
+use Rattle.std.specs.Prelude.{ℕ, zero, suc, ◌+◌, ◌≤◌, ◌<◌, Bool, true, false, not, ◌&&◌, ◌||◌, ◌==◌, nat_le, if◌then◌else◌, List, [], ◌∷◌, length, take, drop, slice_index, Option, Some, None, option_map, codes}
 use Rattle.std.specs.List.{prefix_len}
 use Rattle.std.specs.Char.{is_ascii_digit, is_ascii_uppercase, is_ascii_lowercase, is_ascii_alphanumeric}
 use Rattle.std.specs.Str.{bytes_eq}
@@ -9,20 +9,12 @@ use Rattle.md_token.specs.declared.scan.Prefix.{Prefix}
 use Rattle.md_token.specs.declared.scan.Prefix.TheVariants as prefix
 use Rattle.md_token.specs.declared.string.Within.{Within}
 use Rattle.md_token.specs.declared.string.Within.TheVariants as within
-use Rattle.md_token.specs.declared.token.Token.{Token}
 
 -- a token: its kind, the bytes that spell it, and its line
 pub record Lexeme : Type 0 where
   pub kind : Kind
   pub text : List ℕ
   pub line : ℕ
-
--- a token without where its bytes lie
-abbrev pub lexeme_of : Token → Lexeme
-lexeme_of t = record { kind = t.kind; text = t.text.now; line = t.line }
-
-abbrev pub lexemes_of : List Token → List Lexeme
-lexemes_of ts = map lexeme_of ts
 
 -- space, tab, line feed, carriage return
 abbrev pub is_blank : ℕ → Bool
@@ -39,6 +31,10 @@ is_in_line b = not (b == 10)
 -- a byte of a name or a variable past its first: a letter, a digit or `_`
 abbrev pub is_word_byte : ℕ → Bool
 is_word_byte b = is_ascii_alphanumeric b || b == 95
+
+-- there are bytes of a word, a byte that is none behind them, and more behind that one
+abbrev pub HasParts : List ℕ → Type 0
+HasParts text = (1 ≤ prefix_len is_word_byte text) × (prefix_len is_word_byte text + 1 < length text)
 
 -- the words that are no names of predicates and functors; each other name is a Name
 unfoldable pub word_kind : List ℕ → Kind

@@ -2,6 +2,7 @@
 ghost use Rattle.std.specs.Prelude.{◌≡◌, List, ◌≤◌, ◌<◌, ◌+◌, length, drop, slice_index, IfSome, IfOk};
 ghost use Rattle.md_token.specs.Spelling.{Cut};
 ghost use Rattle.md_token.specs.Token as spec;
+ghost use Rattle.md_token.specs.Lexemes.{lexemes_of};
 
 use crate::bytes::{digits_length, is_blank, line_length};
 use crate::sign::sign_at;
@@ -16,9 +17,9 @@ use std::alloc::Global;
 /// 4,294,967,295 bytes.
 pub fn tokens<'a>(alloc: Global, text: &'a [u8]) -> Result<Vec<Token<'a>>, NoMemory>
     requires { length text.now < 4294967295 }
-    ensures cut { IfOk result (λ found. Cut 1 text.now (spec.lexemes_of found.items)) }
-    ensures no_other { (ts : List spec.Lexeme) → Cut 1 text.now ts → IfOk result (λ found. spec.lexemes_of found.items ≡ ts) }
-    ensures scanned { IfOk result (λ found. spec.lexemes_of found.items ≡ spec.tokens_of text.now) }
+    ensures cut { IfOk result (λ found. Cut 1 text.now (lexemes_of found.items)) }
+    ensures no_other { (ts : List spec.Lexeme) → Cut 1 text.now ts → IfOk result (λ found. lexemes_of found.items ≡ ts) }
+    ensures scanned { IfOk result (λ found. lexemes_of found.items ≡ spec.tokens_of text.now) }
 {
     scanned(alloc, text)
 }
@@ -27,7 +28,7 @@ pub fn tokens<'a>(alloc: Global, text: &'a [u8]) -> Result<Vec<Token<'a>>, NoMem
 #[tactic(auto, unfolding(crate::specs::Token::tokens_of))]
 fn scanned<'a>(alloc: Global, text: &'a [u8]) -> Result<Vec<Token<'a>>, NoMemory>
     requires { length text.now < 4294967295 }
-    ensures { IfOk result (λ found. spec.lexemes_of found.items ≡ spec.tokens_of text.now) }
+    ensures { IfOk result (λ found. lexemes_of found.items ≡ spec.tokens_of text.now) }
 {
     let mut found = Vec::new(alloc);
     let mut rest = text;

@@ -5,7 +5,7 @@ use Rattle.std.proofs.lemmas.Option.{slice_get_cases}
 use Rattle.std.specs.Prelude.{Vec, is_some, slice_get, unwrap_or}
 use Rattle.std.specs.Str.{bytes_eq}
 use Rattle.std.specs.declared.alloc.Global.{Global}
-use Rattle.md_cover.specs.Coverage.{IsAccepted, IsCountedIn, IsCoverageOf}
+use Rattle.md_cover.specs.Coverage.{IsCountedIn, IsCoverageOf}
 use Rattle.md_cover.specs.Covered.{Covered}
 use Rattle.md_cover.specs.Text.{cover_text}
 use Rattle.md_dynamic.specs.OfHistory.{IsProfileOf}
@@ -27,9 +27,6 @@ use Rattle.md_tool.specs.Accepted.{Accepts}
 use Rattle.md_commands.specs.Form.{Meant, Number, Name}
 use Rattle.md_tool.specs.Turns.{HasNoProcedure, IsCoverageOfRun, IsTextOfTurns, IsCounted, number_in}
 use Rattle.md_tool.specs.declared.turns.Counted.{Counted}
-
-pub accepted_program : (text : List ℕ) (program : Hlds) → Accepts text program → IsAccepted program
-accepted_program text program a = subst IsAccepted a.is_program (text, a.accepted.spelled, a.accepted.modes, a.accepted.determinism)
 
 pub counted_text : (text : List ℕ) (program : Hlds) (procedure : Meant) (steps : ℕ) (counted : Counted) → Accepts text program → IsRunOf program steps counted.ran → IsTextOfTurns program procedure steps counted.text
     → IsCounted text procedure steps counted

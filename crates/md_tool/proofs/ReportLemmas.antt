@@ -7,15 +7,11 @@ use Rattle.md_cost.specs.FileView.{IsFileView}
 use Rattle.md_cost.specs.View.{View}
 use Rattle.md_dynamic.specs.Profile.{ProfileRows}
 use Rattle.law_events.specs.Laws.{IsWithinBounds}
-use Rattle.md_hlds.specs.Hlds.{Hlds, Procedure, procedure_called}
-use Rattle.md_hlds.specs.Run.{run, main_name}
+use Rattle.md_hlds.specs.Hlds.{Hlds}
+use Rattle.md_hlds.specs.Run.{run}
 use Rattle.md_machine.specs.Ran.{IsRunOf}
 use Rattle.md_machine.specs.declared.ran.Ran.{Ran}
-use Rattle.md_ports.specs.Ports.{statics_of}
-use Rattle.md_profiled.specs.OfRun.{CanBeProfiled, IsProfiled, IsViewOfRun}
-use Rattle.md_reader.specs.Grammar.{Spells}
-use Rattle.law_spelled.specs.Laws.{AcceptedTextsAreWithinBounds, MainIsCalled}
-use Rattle.md_static.specs.Sound.{IsSound}
+use Rattle.md_profiled.specs.OfRun.{IsProfiled, IsViewOfRun}
 use Rattle.md_profiled.specs.declared.profiled.Profiled.{Profiled}
 use Rattle.md_query.specs.Asked.{Asked}
 use Rattle.md_query.specs.Page.{PageRows}
@@ -254,19 +250,3 @@ reported IsDue HasNone held file text steps out out' err err' reads outs errs (E
 reported IsDue HasNone held file text steps out out' err err' reads outs errs (Err Read) is_text a h = absurd h
 reported IsDue HasNone held file text steps out out' err err' reads outs errs (Err TooLong) is_text a h = absurd h
 reported IsDue HasNone held file text steps out out' err err' reads outs errs (Err (Refused line w)) is_text a h = absurd h
-
--- ---- what is asked of an accepted text
-
-pub can_be_profiled : AcceptedTextsAreWithinBounds → MainIsCalled
-    → ((text : List ℕ) (program : Hlds) (main : ℕ × Procedure) → Spells text program → length text < 2 ^ 32 - 1 → procedure_called program main_name ≡ Some main → IsSound (statics_of program))
-    → (text : List ℕ) (program : Hlds) (steps : ℕ) → Accepts text program → length text ≤ 1048576 → steps < 2 ^ 32 → CanBeProfiled program steps
-can_be_profiled bounds mains tables text program steps a short small =
-    subst (λ (p : Hlds). CanBeProfiled p steps) a.is_program (record {
-      text = text;
-      spells = a.accepted.spelled;
-      bounds = bounds text a.accepted.program steps a.accepted.spelled a.accepted.modes small;
-      sound =
-          tables text a.accepted.program (mains text a.accepted.program a.accepted.spelled a.accepted.modes).0 a.accepted.spelled (omega (arith, short))
-          (mains text a.accepted.program a.accepted.spelled a.accepted.modes).1;
-      main = mains text a.accepted.program a.accepted.spelled a.accepted.modes;
-    })

@@ -12,12 +12,6 @@ use Rattle.md_machine.specs.declared.ran.Ran.{Ran}
 use Rattle.md_tool.specs.Accepted.{Accepts}
 use Rattle.md_tool.specs.Ends.{end_by, end_of, end_told, ran_end}
 
--- ---- what the machine asks of an accepted text
-
-pub within_bounds : AcceptedTextsAreWithinBounds → (text : List ℕ) (program : Hlds) (steps : ℕ) → Accepts text program → steps < 2 ^ 32 → IsWithinBounds program steps
-within_bounds law text program steps a small =
-    subst (λ (p : Hlds). IsWithinBounds p steps) a.is_program (law text a.accepted.program steps a.accepted.spelled a.accepted.modes small)
-
 -- ---- the end of a run
 
 ends_alike : (finished : Bool) (thrown : Option (List ℕ)) → end_told (machine.end_by finished (is_some thrown)) (unwrap_or thrown []) ≡ end_by finished thrown

@@ -2,6 +2,7 @@
 ghost use Rattle.std.specs.Prelude.{◌≡◌, ◌≤◌, length, MatchResult};
 ghost use Rattle.md_base.specs.Outside.{Rose};
 ghost use Rattle.md_hlds.specs.Hlds.{hlds_of};
+ghost use Rattle.md_reader.specs.Grammar.{IsOfText};
 ghost use Rattle.md_tool.specs.Accepted.{Accepts, IsAccepted, ProgramHas, TextFault, refusal_of, modes_refusal, determinism_refusal, refused_at};
 ghost use Rattle.md_tool.specs.Due.{IsText, ReadFails};
 ghost use Rattle.md_tool.specs.Rises.{RisesBy};
@@ -46,6 +47,7 @@ pub fn accept(alloc: Global, text: &[u8]) -> Result<Checked, Fault>
 
 /// A program checked for modes and determinism; or its first fault.
 fn check(alloc: Global, program: Program) -> Result<Checked, Fault>
+    requires { IsOfText (hlds_of program) }
     ensures { MatchResult result (λ checked. IsAccepted program checked) (ProgramHas (hlds_of program)) }
 {
     match check_modes(alloc, program) {

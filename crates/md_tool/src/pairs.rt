@@ -9,7 +9,7 @@ ghost use Rattle.md_feedback.specs.Search.{HasSitesOf};
 ghost use Rattle.md_feedback.specs.Text.{IsLeast};
 ghost use Rattle.md_hlds.specs.Hlds.{Hlds, hlds_of};
 ghost use Rattle.md_machine.specs.Ran.{IsRunOf};
-ghost use Rattle.md_profiled.specs.OfRun.{CanBeProfiled, IsProfileOfRun, IsViewOfRun};
+ghost use Rattle.md_profiled.specs.OfRun.{IsProfileOfRun, IsViewOfRun};
 ghost use Rattle.md_static.specs.Names.{is_name};
 ghost use Rattle.md_tool.specs.Accepted.{TextFault};
 ghost use Rattle.md_tool.specs.Candidates.{IsFeedbackOfRun, IsPaired};
@@ -21,14 +21,14 @@ use crate::accept::{accept, read_text};
 use crate::fault::Fault;
 use crate::run::ended;
 use crate::write::write;
-use law_spelled::{accepted_texts_are_within_bounds, accepted_texts_have_mains, texts_have_names};
+use law_spelled::texts_have_names;
 use md_base::{NoMemory, Sink, Store, WriteFault, write_file};
 use md_cost::Loaded;
 use md_det::Checked;
 use md_dynamic::Profile;
 use md_feedback::{a_site_table_has_the_sites, feedback, write_feedback};
 use md_machine::Ran;
-use md_ports::{tables_give_the_site_table, tables_of_a_text_are_sound};
+use md_ports::tables_give_the_site_table;
 use md_profiled::{Profiled, load_run, profile_run};
 use std::alloc::Global;
 
@@ -71,9 +71,6 @@ fn pair_text(alloc: Global, text: &[u8], steps: u32, least: u32) -> Result<Paire
     ensures { MatchResult result (IsPaired text.now steps least) (TextFault text.now) }
 {
     let checked = accept(alloc, text)?;
-    accepted_texts_are_within_bounds();
-    accepted_texts_have_mains();
-    tables_of_a_text_are_sound();
     texts_have_names();
     match pair_run(alloc, &checked, steps, least) {
         Ok(paired) => Ok(paired),
@@ -83,7 +80,6 @@ fn pair_text(alloc: Global, text: &[u8], steps: u32, least: u32) -> Result<Paire
 
 /// Runs a checked program within so many steps, and finds its pairs.
 fn pair_run(alloc: Global, checked: &Checked, steps: u32, least: u32) -> Result<Paired, NoMemory>
-    requires can { CanBeProfiled (hlds_of checked.now) steps }
     requires name { IsTrue (is_name (hlds_of checked.now).module_name) }
     requires least { IsLeast least }
     ensures run { IfOk result (λ paired. IsRunOf (hlds_of checked.now) steps paired.ran) }

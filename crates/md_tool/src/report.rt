@@ -18,10 +18,8 @@ use crate::fault::Fault;
 use crate::paged::write_page;
 use crate::run::ended;
 use crate::write::write;
-use law_spelled::{accepted_texts_are_within_bounds, accepted_texts_have_mains};
 use md_base::{Sink, Store};
 use md_dynamic::Profile;
-use md_ports::tables_of_a_text_are_sound;
 use md_profiled::{Profiled, load_run, profile_run};
 use md_query::Query;
 use std::alloc::Global;
@@ -58,9 +56,6 @@ pub fn profile_text(alloc: Global, text: &[u8], steps: u32) -> Result<Profiled, 
     ensures { MatchResult result (IsProfiledText text.now steps) (TextFault text.now) }
 {
     let checked = accept(alloc, text)?;
-    accepted_texts_are_within_bounds();
-    accepted_texts_have_mains();
-    tables_of_a_text_are_sound();
     match profile_run(alloc, &checked, steps) {
         Ok(profiled) => Ok(profiled),
         Err(_) => Err(Fault::NoMemory),

@@ -1,12 +1,11 @@
 // The command `cover`.
 ghost use Rattle.std.specs.Prelude.{ℕ, ◌≡◌, ◌≤◌, ◌<◌, ◌^◌, length, IfOk, MatchResult};
 ghost use Rattle.md_base.specs.Outside.{Rose};
-ghost use Rattle.md_cover.specs.Coverage.{IsAccepted};
 ghost use Rattle.md_dynamic.specs.Valid.{IsValid};
 ghost use Rattle.law_events.specs.Laws.{IsWithinBounds};
 ghost use Rattle.md_hlds.specs.Hlds.{Hlds, hlds_of};
 ghost use Rattle.md_machine.specs.Ran.{IsRunOf};
-ghost use Rattle.md_profiled.specs.OfRun.{CanBeProfiled, IsProfileOfRun};
+ghost use Rattle.md_profiled.specs.OfRun.{IsProfileOfRun};
 ghost use Rattle.md_tool.specs.Accepted.{TextFault};
 ghost use Rattle.md_tool.specs.Due.{TextEnds};
 ghost use Rattle.md_tool.specs.Reported.{ReportEnds, ShowEnds};
@@ -21,7 +20,6 @@ use crate::report::show_output;
 use crate::run::ended;
 use crate::write::write;
 use law_events::runs_are_histories;
-use law_spelled::{accepted_texts_are_within_bounds, accepted_texts_have_mains};
 use md_base::{NoMemory, ProcId, Sink, Store};
 use md_commands::ProcWord;
 use md_cost::Loaded;
@@ -30,7 +28,6 @@ use md_det::Checked;
 use md_dynamic::Profile;
 use md_machine::Ran;
 use md_people::proc_named;
-use md_ports::tables_of_a_text_are_sound;
 use md_profiled::{Profiled, load_run, profile_run};
 use md_static::Statics;
 use std::alloc::Global;
@@ -74,9 +71,6 @@ fn count_text(alloc: Global, text: &[u8], proc: ProcWord<'_>, steps: u32) -> Res
     ensures { MatchResult result (IsCounted text.now (meant proc.entry) steps) (TextFault text.now) }
 {
     let checked = accept(alloc, text)?;
-    accepted_texts_are_within_bounds();
-    accepted_texts_have_mains();
-    tables_of_a_text_are_sound();
     match count_run(alloc, &checked, proc, steps) {
         Ok(counted) => Ok(counted),
         Err(_) => Err(Fault::NoMemory),
@@ -90,8 +84,6 @@ fn count_run(
     proc: ProcWord<'_>,
     steps: u32,
 ) -> Result<Counted, NoMemory>
-    requires can { CanBeProfiled (hlds_of checked.now) steps }
-    requires accepted { IsAccepted (hlds_of checked.now) }
     ensures run { IfOk result (λ counted. IsRunOf (hlds_of checked.now) steps counted.ran) }
     ensures text { IfOk result (λ counted. IsTextOfTurns (hlds_of checked.now) (meant proc.entry) steps counted.text) }
 {
@@ -109,7 +101,6 @@ fn turns_text(
 ) -> Result<Option<Vec<u8>>, NoMemory>
     requires valid { IsValid profile }
     requires of_run { (budget : ℕ) × IsWithinBounds (hlds_of checked.now) budget × IsProfileOfRun (hlds_of checked.now) budget profile }
-    requires accepted { IsAccepted (hlds_of checked.now) }
     ensures { IfOk result (λ text. (budget : ℕ) → IsWithinBounds (hlds_of checked.now) budget → IsProfileOfRun (hlds_of checked.now) budget profile
         → IsTextOfTurns (hlds_of checked.now) (meant proc.entry) budget text) }
 {
@@ -125,7 +116,6 @@ fn loaded_turns(
     proc: ProcWord<'_>,
 ) -> Result<Option<Vec<u8>>, NoMemory>
     requires valid { IsValid loaded.now.profile }
-    requires accepted { IsAccepted (hlds_of checked.now) }
     ensures { IfOk result (λ text. (budget : ℕ) → IsWithinBounds (hlds_of checked.now) budget → IsProfileOfRun (hlds_of checked.now) budget loaded.now.profile
         → IsTextOfTurns (hlds_of checked.now) (meant proc.entry) budget text) }
 {
@@ -158,7 +148,6 @@ fn turns_of(
     id: ProcId,
 ) -> Result<Option<Vec<u8>>, NoMemory>
     requires valid { IsValid loaded.now.profile }
-    requires accepted { IsAccepted (hlds_of checked.now) }
     ensures { IfOk result (λ text. (budget : ℕ) → IsWithinBounds (hlds_of checked.now) budget → IsProfileOfRun (hlds_of checked.now) budget loaded.now.profile
         → IsTextOfTurns (hlds_of checked.now) (Number id) budget text) }
 {

@@ -1,4 +1,8 @@
 // The text of a case, the program that it is read as, and what the checks accept.
+ghost use Rattle.std.specs.Prelude.{IfOk};
+ghost use Rattle.md_hlds.specs.Hlds.{hlds_of};
+ghost use Rattle.md_reader.specs.Grammar.{IsOfText};
+
 use crate::fault::Fault;
 use md_base::NoMemory;
 use md_det::{Checked, check_det};
@@ -50,7 +54,9 @@ fn number(alloc: Global, text: &mut Vec<u8>, case: &Case, count: u64) -> Result<
 }
 
 /// The program of a case's text.
-pub fn program_of(alloc: Global, case: &Case) -> Result<Program, Fault> {
+pub fn program_of(alloc: Global, case: &Case) -> Result<Program, Fault>
+    ensures { IfOk result (λ program. IsOfText (hlds_of program)) }
+{
     let text = text_of(alloc, case)?;
     program(alloc, text.as_slice())
 }
@@ -65,7 +71,9 @@ pub fn program_with_body(alloc: Global, case: &Case) -> Result<Program, Fault> {
 }
 
 /// The program of a text.
-pub fn program(alloc: Global, text: &[u8]) -> Result<Program, Fault> {
+pub fn program(alloc: Global, text: &[u8]) -> Result<Program, Fault>
+    ensures { IfOk result (λ program. IsOfText (hlds_of program)) }
+{
     if text.len() >= TOO_LONG {
         return Err(Fault::NoMemory(NoMemory));
     }

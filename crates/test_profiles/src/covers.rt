@@ -1,7 +1,5 @@
 // Turns of goals.
-ghost use Rattle.std.specs.Prelude.{◌≤◌, length, IfOk};
-ghost use Rattle.md_hlds.specs.Hlds.{hlds_of};
-ghost use Rattle.md_cover.specs.Coverage.{IsAccepted};
+ghost use Rattle.std.specs.Prelude.{◌≤◌, length};
 
 use crate::lines::{add_debug, add_line, add_shown, add_text, small_number};
 use md_base::ProcId;
@@ -37,9 +35,7 @@ fn add_turns(
     checked: &Checked,
     loaded: &Loaded,
     out: &mut String,
-) -> Result<(), AllocError>
-    requires { IsAccepted (hlds_of checked.now) }
-{
+) -> Result<(), AllocError> {
     let id = ProcId::new(small_number(case.text("procedure")));
     match covered(alloc, checked, loaded, id) {
         Ok(text) => add_text(out, &text),
@@ -76,7 +72,6 @@ impl From<DetFault> for Refusal {
 /// The program of a text.
 fn accepted(alloc: Global, text: &[u8]) -> Result<Checked, Refusal>
     requires { length text.now ≤ 1048576 }
-    ensures { IfOk result (λ checked. IsAccepted (hlds_of checked)) }
 {
     let program = read(alloc, text)?;
     let moded = check_modes(alloc, program)?;
@@ -90,9 +85,7 @@ fn covered(
     checked: &Checked,
     loaded: &Loaded,
     id: ProcId,
-) -> Result<Vec<u8>, CoverFault>
-    requires { IsAccepted (hlds_of checked.now) }
-{
+) -> Result<Vec<u8>, CoverFault> {
     let coverage = cover(alloc, checked, loaded, id)?;
     let text = cover_text(alloc, loaded, &coverage)?;
     Ok(text)

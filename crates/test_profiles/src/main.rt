@@ -1,6 +1,6 @@
 //! Worked examples of profiles as data: the standard input has the cases, each with a line `show` that names what is looked at
-//! (the cliques of a graph, a profile file or its text, a page, a response, what words ask for, pairs of calls, turns of
-//! goals), and each gets a line that says whether what was found is what the case wants.
+//! (the cliques of a graph, a profile file, its text or the pieces in which it is written, a page, a response, what words ask
+//! for, pairs of calls, turns of goals), and each gets a line that says whether what was found is what the case wants.
 #![tactic(auto)]
 
 mod connections;
@@ -9,6 +9,7 @@ mod files;
 mod graphs;
 mod lines;
 mod pages;
+mod pieces;
 mod rows;
 mod shapes;
 mod views;

@@ -5,6 +5,7 @@ use crate::files::{cuts, feedback_again, load_file, text_again};
 use crate::graphs::{graph, shape, small_graphs};
 use crate::lines::{add_line, add_shown};
 use crate::pages::page_of;
+use crate::pieces::pieces;
 use crate::words::{commands, queries};
 use md_cost::{Loaded, propagate};
 use md_deepfile::decode;
@@ -30,6 +31,7 @@ fn show(alloc: Global, case: &Case, out: &mut String) -> Result<(), AllocError> 
         "text" => text_again(alloc, case, out),
         "cuts" => cuts(alloc, case, out),
         "load" => load_file(alloc, case, out),
+        "pieces" => pieces(alloc, case, out),
         _ => show_profile(alloc, case, out),
     }
 }

@@ -1,12 +1,14 @@
 // What a run came to, as the machine and the plain program tell it.
-ghost use Rattle.std.specs.Prelude.{ℕ, ◌≡◌, ◌≤◌, ◌<◌, ◌^◌, length};
+ghost use Rattle.std.specs.Prelude.{◌≡◌, ◌≤◌, length};
 ghost use Rattle.md_hlds.specs.Hlds.{hlds_of};
-ghost use Rattle.md_machine.specs.Ran.{CanBeRun};
+ghost use Rattle.law_events.specs.Table.{site_table};
+ghost use Rattle.md_trace.specs.PortHistory.{IsSiteTable};
 
 use super::checked;
 use super::order::Order;
 use bumpalo::Bump;
 use law_events::programs_have_tables;
+use law_spelled::accepted_texts_have_mains;
 use md_base::{Counts, Measure, ProcId};
 use md_det::Checked;
 use md_machine::{End, Ran, interpret};
@@ -25,11 +27,18 @@ pub struct Came {
     pub order: Order,
 }
 
-/// The run of a program, for a sink that keeps nothing.
-fn silent(alloc: Global, checked: &Checked, budget: u32) -> Result<Ran, Fail>
-    requires { (b : ℕ) → b < 2 ^ 32 → CanBeRun (hlds_of checked.now) b }
+/// The call sites of a checked program are a site table.
+fn has_site_table(checked: &Checked)
+    ensures { IsSiteTable (site_table (hlds_of checked.now)) }
 {
     programs_have_tables();
+    accepted_texts_have_mains();
+    let _ = checked.program();
+}
+
+/// The run of a program, for a sink that keeps nothing.
+fn silent(alloc: Global, checked: &Checked, budget: u32) -> Result<Ran, Fail> {
+    has_site_table(checked);
     let ran = interpret(alloc, checked, budget, &mut Silent)?;
     Ok(ran)
 }
@@ -47,12 +56,10 @@ pub fn counted_run(alloc: Global, text: &str, budget: u32) -> Result<(Ran, Count
 }
 
 /// The run of a program, and its counts over all procedures.
-fn counted(alloc: Global, checked: &Checked, budget: u32) -> Result<(Ran, Counts), Fail>
-    requires { (b : ℕ) → b < 2 ^ 32 → CanBeRun (hlds_of checked.now) b }
-{
+fn counted(alloc: Global, checked: &Checked, budget: u32) -> Result<(Ran, Counts), Fail> {
     let procs = procedures(checked);
     let mut counter = Counter::new(alloc, procs)?;
-    programs_have_tables();
+    has_site_table(checked);
     let ran = interpret(alloc, checked, budget, &mut counter)?;
     Ok((ran, sums(&counter, procs)))
 }
@@ -91,19 +98,15 @@ fn add_all(sums: &mut Counts, more: Counts) {
 }
 
 /// The run of a program, and the order of its ports.
-pub fn ordered(alloc: Global, checked: &Checked, budget: u32) -> Result<Order, Fail>
-    requires { (b : ℕ) → b < 2 ^ 32 → CanBeRun (hlds_of checked.now) b }
-{
+pub fn ordered(alloc: Global, checked: &Checked, budget: u32) -> Result<Order, Fail> {
     let mut order = Order::new();
-    programs_have_tables();
+    has_site_table(checked);
     interpret(alloc, checked, budget, &mut order)?;
     Ok(order)
 }
 
 /// What a run of the machine came to, once with each sink.
-pub fn by_machine(alloc: Global, checked: &Checked, budget: u32) -> Result<Came, Fail>
-    requires { (b : ℕ) → b < 2 ^ 32 → CanBeRun (hlds_of checked.now) b }
-{
+pub fn by_machine(alloc: Global, checked: &Checked, budget: u32) -> Result<Came, Fail> {
     let (ran, counts) = counted(alloc, checked, budget)?;
     let order = ordered(alloc, checked, budget)?;
     Ok(Came {

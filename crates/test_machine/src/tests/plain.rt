@@ -1,7 +1,4 @@
 // The machine against the plain program.
-ghost use Rattle.std.specs.Prelude.{ℕ, ◌<◌, ◌^◌};
-ghost use Rattle.md_hlds.specs.Hlds.{hlds_of};
-ghost use Rattle.md_machine.specs.Ran.{CanBeRun};
 
 use super::came::{Came, by_machine, by_plain};
 use super::checked;
@@ -17,9 +14,7 @@ use std::test::Fail;
 const ENOUGH: u32 = 20_000;
 
 /// Both come to the same within this budget.
-fn agrees(alloc: Global, checked: &Checked, budget: u32) -> Result<bool, Fail>
-    requires { (b : ℕ) → b < 2 ^ 32 → CanBeRun (hlds_of checked.now) b }
-{
+fn agrees(alloc: Global, checked: &Checked, budget: u32) -> Result<bool, Fail> {
     let (plain, _) = by_plain(alloc, checked, budget)?;
     let machine = by_machine(alloc, checked, budget)?;
     Ok(plain == machine)
@@ -31,9 +26,7 @@ fn agrees_within(
     rt: &(impl Abort + AllocGlobal),
     checked: &Checked,
     most: u32,
-) -> Result<Came, Fail>
-    requires { (b : ℕ) → b < 2 ^ 32 → CanBeRun (hlds_of checked.now) b }
-{
+) -> Result<Came, Fail> {
     let (plain, weight) = by_plain(rt.alloc(), checked, most)?;
     let weight = weight.min(4_000_000_000) as u32;
     agrees_below(rt, checked, weight.min(70))?;
@@ -43,9 +36,7 @@ fn agrees_within(
 }
 
 /// Both come to the same within each budget below this one.
-fn agrees_below(rt: &(impl Abort + AllocGlobal), checked: &Checked, most: u32) -> Result<(), Fail>
-    requires { (b : ℕ) → b < 2 ^ 32 → CanBeRun (hlds_of checked.now) b }
-{
+fn agrees_below(rt: &(impl Abort + AllocGlobal), checked: &Checked, most: u32) -> Result<(), Fail> {
     for budget in 0..most {
         assert!(rt; agrees(rt.alloc(), checked, budget)?, "budget {budget}");
     }
@@ -57,9 +48,7 @@ fn agrees_below_by_few(
     rt: &(impl Abort + AllocGlobal),
     checked: &Checked,
     weight: u32,
-) -> Result<(), Fail>
-    requires { (b : ℕ) → b < 2 ^ 32 → CanBeRun (hlds_of checked.now) b }
-{
+) -> Result<(), Fail> {
     for less in 0..3u32 {
         let budget = weight.saturating_sub(less);
         assert!(rt; agrees(rt.alloc(), checked, budget)?, "budget {budget}");

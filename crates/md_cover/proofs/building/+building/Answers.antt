@@ -1,6 +1,7 @@
-use Rattle.std.proofs.Common.{◌≡◌, ◌∙◌, ◌+◌, ◌++◌, sym, ap, subst, arith, ℕ, List, map, drop, IfOk}
+use Rattle.std.proofs.Common.{rules, ◌≡◌, ◌∙◌, ◌+◌, ◌++◌, sym, ap, subst, arith, ℕ, suc, List, map, drop, IfOk}
 use Rattle.std.proofs.lemmas.Grind.{common_steps}
 use Rattle.md_hlds.specs.Hlds.{hlds_of}
+use Rattle.md_hlds.specs.declared.goal.GoalKind.{the_lemmas}
 use Rattle.md_hlds.specs.HldsGoal.{GoalExpr, goal_of, goals_of, gathered, goals_size, parts_size}
 use Rattle.md_det.specs.Findings.{program_findings}
 use Rattle.law_turns.specs.Equations as spec
@@ -36,9 +37,9 @@ pub add_kind-returns-in_ok-add_both-in-If-2-clause-equations : goal.add_kind-ret
 add_kind-returns-in_ok-add_both-in-If-2-clause-equations t c = λ v is.
     let e = if-is c.args.kind.now c.in-If.condition c.in-If.then c.in-If.otherwise c.deref.result.now c.deref-in-If.result.now c.deref-in-If-2.result.now c.in-If.is c.deref.ensures c.deref-in-If.ensures c.deref-in-If-2.ensures in
     subst (λ (x : GoalExpr). equations_of c.add_both-in-If.new.equations.items ≡ equations_of c.args.equations.now.items ++ spec.expr_equations (program_findings (hlds_of c.args.checked.now)) (view_counts v) c.args.number x) (sym e)
-    (if-built (program_findings (hlds_of c.args.checked.now)) (view_counts v) c.args.number c.in_ok-asked-in-If.asked c.in_ok-held-in-If.held c.in_ok-lapsed-in-If.lapsed
+    (if-built (program_findings (hlds_of c.args.checked.now)) (view_counts v) c.args.number (c.args.number + 1) c.in_ok-held-in-If.held c.in_ok-lapsed-in-If.lapsed
     (goal_of c.deref.result.now) (goal_of c.deref-in-If.result.now) (goal_of c.deref-in-If-2.result.now) _ _ _ _ _ _
-    c.in_ok-asked-in-If.ensures c.in_ok-held-in-If.ensures.next c.in_ok-lapsed-in-If.ensures.next
+    (omega arith) c.in_ok-held-in-If.ensures.next c.in_ok-lapsed-in-If.ensures.next
     (c.in_ok-held-in-If.ensures.equations v is) (c.in_ok-lapsed-in-If.ensures.equations v is)
     c.in_ok-add_both-in-If.ensures (c.in_ok-next-in-If.ensures.equations v is) c.in_ok-add_both-in-If-2.ensures)
 
@@ -53,24 +54,24 @@ add_conjunction-loop-goal-preserved t c =
     let rest = gathered (goals_of (drop (i + 1) gs)) in
     let p = goal_of c.goal-item.result in
     let step = parts-step gs i c.goal-item.result (omega arith) c.goal-item.is in
-    let at = c.in_ok-next-2.ensures.next in
+    let at = c.in_ok-next.ensures.next in
     let inv = c.loop-goal.invariant in
     let m = c.loop-goal.next in
-    let n = c.in_ok-next-2.next in (
+    let n = c.in_ok-next.next in (
       size-step ps rest p m n step at ∙ inv.0,
-      λ v is. conj-step (program_findings (hlds_of c.args.checked.now)) (view_counts v) c.args.number m n (quantity_of c.loop-goal.before) ps rest p (equations_of c.loop-goal.equations.items) (equations_of c.add_entered.new.equations.items) step at (c.in_ok-next-2.ensures.equations v is) ∙ inv.1 v is,
+      λ v is. conj-step (program_findings (hlds_of c.args.checked.now)) (view_counts v) c.args.number m n (quantity_of c.loop-goal.before) ps rest p (equations_of c.loop-goal.equations.items) (equations_of c.add_entered.new.equations.items) step at (c.in_ok-next.ensures.equations v is) ∙ inv.1 v is,
     )
 
 pub add_disjunction-loop-arm-init : goal.add_disjunction-loop-arm-init
 add_disjunction-loop-arm-init t c =
     let ps = gathered (goals_of c.args.arms.now) in
-    let at = c.in_ok-first.ensures in (
+    let at : c.args.number + 1 ≡ suc c.args.number = omega arith in (
       ap (λ (k : ℕ). k + goals_size ps) at,
       (
-        ap (λ (qs : List Quantity). quantities_of qs ++ map (λ x. spec.Entries x) (spec.numbers_from c.in_ok-first.first ps)) c.new-entries.ensures.items ∙ ap (λ (k : ℕ). map (λ x. spec.Entries x) (spec.numbers_from k ps)) at,
+        ap (λ (qs : List Quantity). quantities_of qs ++ map (λ x. spec.Entries x) (spec.numbers_from (c.args.number + 1) ps)) c.new-entries.ensures.items ∙ ap (λ (k : ℕ). map (λ x. spec.Entries x) (spec.numbers_from k ps)) at,
         (
-          ap (λ (qs : List Quantity). quantities_of qs ++ map (λ x. spec.Exits x) (spec.numbers_from c.in_ok-first.first ps)) c.new-exits.ensures.items ∙ ap (λ (k : ℕ). map (λ x. spec.Exits x) (spec.numbers_from k ps)) at,
-          λ v is. arms-begin (program_findings (hlds_of c.args.checked.now)) (view_counts v) c.args.number c.in_ok-first.first ps c.switch-switch.result _ (equations_of c.args.equations.now.items) (equations_of c.enter_first.new.equations.items) at c.switch-switch.ensures c.in_ok-enter_first.ensures,
+          ap (λ (qs : List Quantity). quantities_of qs ++ map (λ x. spec.Exits x) (spec.numbers_from (c.args.number + 1) ps)) c.new-exits.ensures.items ∙ ap (λ (k : ℕ). map (λ x. spec.Exits x) (spec.numbers_from k ps)) at,
+          λ v is. arms-begin (program_findings (hlds_of c.args.checked.now)) (view_counts v) c.args.number (c.args.number + 1) ps c.switch-switch.result _ (equations_of c.args.equations.now.items) (equations_of c.enter_first.new.equations.items) at c.switch-switch.ensures c.in_ok-enter_first.ensures,
         ),
       ),
     )
@@ -174,3 +175,13 @@ add_kind-returns-in-HoCall-clause-next t c = grind (arith, common_steps)
 
 pub add_kind-returns-in_ok-add_both-in-If-2-clause-next : goal.add_kind-returns-in_ok-add_both-in-If-2-clause-next
 add_kind-returns-in_ok-add_both-in-If-2-clause-next t c = grind (arith, common_steps)
+
+pub add_kind-add_conjunction-requires : goal.add_kind-add_conjunction-requires
+add_kind-add_conjunction-requires t c =
+    let size = ap parts_size (conj-is c.args.kind.now c.in-Conj.goals c.as_slice.result.now c.in-Conj.is c.as_slice.ensures.value) in
+    (search (rules, the_lemmas), omega (arith, size, c.requires.few))
+
+pub add_kind-add_disjunction-requires : goal.add_kind-add_disjunction-requires
+add_kind-add_disjunction-requires t c =
+    let size = ap parts_size (disj-is c.args.kind.now c.in-Disj.arms c.as_slice-in-Disj.result.now c.in-Disj.is c.as_slice-in-Disj.ensures.value) in
+    (search (rules, the_lemmas), omega (arith, size, c.requires.few))

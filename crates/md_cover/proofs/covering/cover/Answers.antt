@@ -10,9 +10,32 @@ use Rattle.md_cover.specs.Coverage.{gives_turns}
 use Rattle.md_cover.specs.Known.{table_of}
 use Rattle.md_cover.specs.Solved.{with_turns, HaveFewExits}
 use Rattle.md_cover.specs.Told.{view_counts}
+use Rattle.md_cover.proofs.BodyNumbers.{body-within}
 use Rattle.md_cover.proofs.RowLemmas.{rows-size}
 use Rattle.md_cover.proofs.CoverageLaws.{one-procedure, rows-are, solved-for, no-turns, coverage-of, coverage-told, coverage-untold}
 use Rattle.md_cover.proofs.covering.cover.Goals as goal
+
+pub add_rows-requires-clause-few : goal.add_rows-requires-clause-few
+add_rows-requires-clause-few c =
+    let ps = procedures_of c.args.checked.now.preds.items in
+    let there = subst (λ (p : Program). slice_get (procedures_of p.preds.items) c.args.id ≡ Some (procedure_of c.in-Some.pred.now)) c.program.ensures.program c.in-Some.ensures in
+    let none = ap (length {A = GoalCount}) c.new-goals.ensures.items in
+    omega (arith, none, body-within ps c.args.id (procedure_of c.in-Some.pred.now) there, c.program.ensures.few)
+
+pub add_rows-requires-clause-deep : goal.add_rows-requires-clause-deep
+add_rows-requires-clause-deep c =
+    let ps = procedures_of c.args.checked.now.preds.items in
+    let there = subst (λ (p : Program). slice_get (procedures_of p.preds.items) c.args.id ≡ Some (procedure_of c.in-Some.pred.now)) c.program.ensures.program c.in-Some.ensures in
+    omega (arith, body-within ps c.args.id (procedure_of c.in-Some.pred.now) there, c.program.ensures.few)
+
+pub solved-requires : goal.solved-requires
+solved-requires c =
+    let ps = procedures_of c.args.checked.now.preds.items in
+    let there = subst (λ (p : Program). slice_get (procedures_of p.preds.items) c.args.id ≡ Some (procedure_of c.in-Some.pred.now)) c.program.ensures.program c.in-Some.ensures in
+    omega (arith, body-within ps c.args.id (procedure_of c.in-Some.pred.now) there, c.program.ensures.few)
+
+pub returns-then-not-gives_turns-clause-found : goal.returns-then-not-gives_turns-clause-found
+returns-then-not-gives_turns-clause-found c = (procedure_of c.in-Some.pred.now, subst (λ (p : Program). slice_get (procedures_of p.preds.items) c.args.id ≡ Some (procedure_of c.in-Some.pred.now)) c.program.ensures.program c.in-Some.ensures)
 
 pub returns-then-not-gives_turns-clause-coverage : goal.returns-then-not-gives_turns-clause-coverage
 returns-then-not-gives_turns-clause-coverage c = λ budget q same there counted.
@@ -60,9 +83,9 @@ returns-clause-coverage c = λ budget q same there counted.
     let v = c.profile.ensures.viewed.0 in
     let view = c.profile.ensures.viewed.1 in
     let solved = solved-for s (view_counts v) c.args.id c.len.result q (goal_of c.in-Some.pred.now.body) t same body many (c.in_ok-known.ensures v view) in
-    let accepted = c.requires.accepted in
+    let text = c.program.ensures.of_text in
     coverage-of s budget f q c.args.id goals c.from_parts-2.result same c.from_parts-2.ensures
-    (coverage-told s budget f v q t goals (λ ended. turns_of_runs_solve accepted.0 s budget accepted.1 accepted.2 accepted.3 counted.small ended) view c.profile.ensures.valid few counted there gives solved told)
+    (coverage-told s budget f v q t goals (λ ended. turns_of_runs_solve text.text s budget text.spells c.program.ensures.moded c.program.ensures.accepted counted.small ended) view c.profile.ensures.valid few counted there gives solved told)
 
 pub returns-then-not-gives_turns-clause-missing : goal.returns-then-not-gives_turns-clause-missing
 returns-then-not-gives_turns-clause-missing c = grind (arith, common_steps)

@@ -1,18 +1,28 @@
-use Rattle.std.proofs.Common.{◌≡◌, ◌∙◌, ◌+◌, ◌++◌, sym, ap, subst, arith, List, drop, length, OnOk}
+use Rattle.std.proofs.Common.{refl, rules, ◌≡◌, ◌∙◌, ◌+◌, ◌++◌, sym, ap, subst, arith, List, drop, length, OnOk}
 use Rattle.std.proofs.lemmas.Grind.{common_steps}
-use Rattle.md_hlds.specs.HldsGoal.{GoalExpr, goal_of, goals_of, gathered}
+use Rattle.md_hlds.specs.declared.goal.GoalKind.{the_lemmas}
+use Rattle.md_hlds.specs.HldsGoal.{GoalExpr, goal_of, goals_of, gathered, goals_size, parts_size}
 use Rattle.md_cover.specs.declared.coverage.GoalCount.{GoalCount}
 use Rattle.md_cover.specs.Rows.{expr_rows}
 use Rattle.md_cover.proofs.BuildingLemmas.{conj-is, disj-is, if-is, parts-step}
-use Rattle.md_cover.proofs.RowLemmas.{each-step, if-rows}
+use Rattle.md_cover.proofs.RowLemmas.{each-step, rows-long, if-rows}
 use Rattle.md_cover.proofs.rows.+rows.Goals as goal
 
 pub add_each-loop-goal-preserved : goal.add_each-loop-goal-preserved
 add_each-loop-goal-preserved t c =
     let i = c.loop-goal.goal-index in
-    each-step c.loop-goal.rows.items c.add_rows.new.rows.items c.args.depth (gathered (goals_of (drop i c.args.goals.now))) (gathered (goals_of (drop (i + 1) c.args.goals.now))) (goal_of c.goal-item.result)
-    (parts-step c.args.goals.now i c.goal-item.result (omega arith) c.goal-item.is) c.in_ok-add_rows.ensures
-    ∙ c.loop-goal.invariant
+    let gs = c.args.goals.now in
+    let ps = gathered (goals_of (drop i gs)) in
+    let rest = gathered (goals_of (drop (i + 1) gs)) in
+    let p = goal_of c.goal-item.result in
+    let step = parts-step gs i c.goal-item.result (omega arith) c.goal-item.is in
+    let size = ap goals_size step in
+    let long = rows-long c.loop-goal.rows.items c.add_rows.new.rows.items c.args.depth p c.in_ok-add_rows.ensures in
+    let inv = c.loop-goal.invariant in (
+      each-step c.loop-goal.rows.items c.add_rows.new.rows.items c.args.depth ps rest p step c.in_ok-add_rows.ensures ∙ inv.0,
+      omega (arith, inv.1, long, size),
+      omega (arith, inv.2, size),
+    )
 
 pub add_inner-returns-in-Conj : goal.add_inner-returns-in-Conj
 add_inner-returns-in-Conj t c =
@@ -72,5 +82,25 @@ add_inner-returns-in-True-9 t c = grind (arith, common_steps)
 pub add_rows-returns : goal.add_rows-returns
 add_rows-returns t c = grind (arith, common_steps)
 
-pub add_rows-returns-then-len-ge4294967295 : goal.add_rows-returns-then-len-ge4294967295
-add_rows-returns-then-len-ge4294967295 t c = grind (arith, common_steps)
+pub add_inner-add_each-requires : goal.add_inner-add_each-requires
+add_inner-add_each-requires t c =
+    let size = ap parts_size (conj-is c.args.kind.now c.in-Conj.goals c.as_slice.result.now c.in-Conj.is c.as_slice.ensures.value) in
+    (search (rules, the_lemmas), (omega (arith, size, c.requires.few), omega (arith, size, c.requires.deep)))
+
+pub add_inner-add_each-requires-in-Disj : goal.add_inner-add_each-requires-in-Disj
+add_inner-add_each-requires-in-Disj t c =
+    let size = ap parts_size (disj-is c.args.kind.now c.in-Disj.arms c.as_slice-in-Disj.result.now c.in-Disj.is c.as_slice-in-Disj.ensures.value) in
+    (search (rules, the_lemmas), (omega (arith, size, c.requires.few), omega (arith, size, c.requires.deep)))
+
+pub add_inner-add_rows-requires-in-If : goal.add_inner-add_rows-requires-in-If
+add_inner-add_rows-requires-in-If t c =
+    let size = ap parts_size (if-is c.args.kind.now c.in-If.condition c.in-If.then c.in-If.otherwise c.deref.result.now c.deref-in-If.result.now c.in-If.otherwise.value c.in-If.is c.deref.ensures c.deref-in-If.ensures refl) in
+    let long = rows-long c.args.rows.now.items c.add_rows.new.rows.items c.args.depth (goal_of c.deref.result.now) c.in_ok-add_rows-in-If.ensures in
+    (search (rules, the_lemmas), (omega (arith, size, long, c.requires.few), omega (arith, size, c.requires.deep)))
+
+pub add_inner-add_rows-requires-in-If-2 : goal.add_inner-add_rows-requires-in-If-2
+add_inner-add_rows-requires-in-If-2 t c =
+    let size = ap parts_size (if-is c.args.kind.now c.in-If.condition c.in-If.then c.in-If.otherwise c.deref.result.now c.deref-in-If.result.now c.deref-in-If-2.result.now c.in-If.is c.deref.ensures c.deref-in-If.ensures c.deref-in-If-2.ensures) in
+    let long = rows-long c.args.rows.now.items c.add_rows.new.rows.items c.args.depth (goal_of c.deref.result.now) c.in_ok-add_rows-in-If.ensures in
+    let longer = rows-long c.add_rows.new.rows.items c.add_rows-in-If.new.rows.items c.args.depth (goal_of c.deref-in-If.result.now) c.in_ok-add_rows-in-If-2.ensures in
+    (search (rules, the_lemmas), (omega (arith, size, long, longer, c.requires.few), omega (arith, size, c.requires.deep)))

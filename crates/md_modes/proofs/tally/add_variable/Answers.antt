@@ -5,8 +5,5 @@ use Rattle.md_modes.proofs.tally.add_variable.Goals as goal
 pub returns-in_err-reach : goal.returns-in_err-reach
 returns-in_err-reach c = grind (arith, common_steps)
 
-pub returns-in_err-counts : goal.returns-in_err-counts
-returns-in_err-counts c = grind (arith, common_steps)
-
 pub returns : goal.returns
 returns c = grind (arith, common_steps)

@@ -5,8 +5,5 @@ use Rattle.md_reader.proofs.call.applied.Goals as goal
 pub returns-then-is_empty : goal.returns-then-is_empty
 returns-then-is_empty c = grind (arith, common_steps)
 
-pub returns-in_err-site : goal.returns-in_err-site
-returns-in_err-site c = grind (arith, common_steps)
-
 pub returns : goal.returns
 returns c = grind (arith, common_steps)

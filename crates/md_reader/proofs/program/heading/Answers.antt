@@ -3,22 +3,22 @@ use Rattle.std.proofs.lemmas.Grind.{common_steps}
 use Rattle.md_reader.specs.Rules.{heading}
 use Rattle.md_reader.proofs.program.heading.Goals as goal
 
-pub returns : goal.returns
+pub returns-clause-read : goal.returns-clause-read
 unfolding heading
-returns c = grind (arith, common_steps)
+returns-clause-read c = grind (arith, common_steps)
 
-pub returns-in_err-module : goal.returns-in_err-module
+pub returns-in_err-module-clause-read : goal.returns-in_err-module-clause-read
 unfolding heading
-returns-in_err-module c = grind (arith, common_steps)
+returns-in_err-module-clause-read c = grind (arith, common_steps)
 
-pub returns-in_err-word : goal.returns-in_err-word
+pub returns-in_err-word-clause-read : goal.returns-in_err-word-clause-read
 unfolding heading
-returns-in_err-word c = grind (arith, common_steps)
+returns-in_err-word-clause-read c = grind (arith, common_steps)
 
-pub returns-in_err-expect : goal.returns-in_err-expect
+pub returns-in_err-expect-clause-read : goal.returns-in_err-expect-clause-read
 unfolding heading
-returns-in_err-expect c = grind (arith, common_steps)
+returns-in_err-expect-clause-read c = grind (arith, common_steps)
 
-pub returns-in_err-module_line : goal.returns-in_err-module_line
+pub returns-in_err-module_line-clause-read : goal.returns-in_err-module_line-clause-read
 unfolding heading
-returns-in_err-module_line c = grind (arith, common_steps)
+returns-in_err-module_line-clause-read c = grind (arith, common_steps)

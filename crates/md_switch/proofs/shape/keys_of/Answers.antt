@@ -36,7 +36,7 @@ loop-arm-preserved c =
     let unknown = not_true _ _ c.in_ok-is_new.ensures.added c.if-not-is_new.false in
     let new : keys_told c.insert_full.new.self.keys ≡ had ++ k ∷ []
     = ap keys_told c.in_ok-is_new.ensures.keys ∙ told_new c.loop-arm.keys.keys c.in-Some.key unknown in
-    let after : c.loop-arm.number + size_at p c.loop-arm.number ≡ c.in_ok-number.number = rw (← c.size.ensures) (sym c.in_ok-number.ensures.after) in
+    let after : c.loop-arm.number + size_at p c.loop-arm.number ≡ c.after-next.result = sym c.after-next.ensures.after in
     record {
       all = c.loop-arm.invariant.all
           ∙ (ap (λ (r : Option (List Key)). if_different x (keys_onto had r)) (read_keys-step p x c.loop-arm.number c.args.arms.now i c.arm-item.result (omega arith) c.arm-item.is)
@@ -44,7 +44,7 @@ loop-arm-preserved c =
           ∙ (ap (if_different x) (keys_more x c.in-Some.tested k had rest c.if-tested-var.false)
           ∙ (ap (λ (js : List Key). if_different x (keys_onto js rest)) (sym new)
           ∙ ap (λ (n : ℕ). if_different x (keys_onto (keys_told c.insert_full.new.self.keys) (read_keys p x n (gathered (goals_of (drop (i + 1) c.args.arms.now)))))) after))));
-      small = c.in_ok-number.ensures.more;
+      small = c.after-next.ensures.small;
       different = ap all_different new ∙ different_more had k c.loop-arm.invariant.different (sym (any_told c.in-Some.key c.loop-arm.keys.keys) ∙ unknown);
     }
 

@@ -1,9 +1,11 @@
 use Rattle.std.proofs.Common.{◌≡◌, ◌+◌, ◌≤◌, get_or, length, arith}
 use Rattle.std.proofs.lemmas.Grind.{common_steps}
 use Rattle.std.proofs.lemmas.List.{map-append}
-use Rattle.md_token.specs.Token.{lexemes_of, lexeme_of, line_past, tokens_of}
+use Rattle.md_token.specs.Lexemes.{lexemes_of, lexeme_of}
+use Rattle.md_token.specs.Token.{line_past, tokens_of}
 use Rattle.md_token.specs.declared.scan.Prefix.TheVariants as prefix
 use Rattle.md_token.proofs.Scans.{past_gap, past_piece}
+use Rattle.md_token.proofs.Parts.{piece_parts}
 use Rattle.md_token.proofs.scan.scanned.Goals as goal
 use Rattle.md_token.proofs.scan.scanned.Goals.{then-rest-eq10, else-rest-eq10}
 
@@ -35,6 +37,10 @@ loop-rest-preserved c =
           let n : length c.split_at-in-Piece.result.1.now + (c.in-Piece.more + 1) ≡ length rest = c.split_at-in-Piece.ensures.back_len in
           omega (arith, c.loop-rest.invariant.line);
     }
+
+pub invariant_of-push-clause-qualified : goal.invariant_of-push-clause-qualified
+invariant_of-push-clause-qualified c is =
+    rw c.split_at-in-Piece.ensures.front (piece_parts c.in-Piece.kind c.in-Piece.more c.loop-rest.rest.now (omega arith) c.in-Piece.ensures.prefix is)
 
 pub loop-rest-init : goal.loop-rest-init
 unfolding tokens_of

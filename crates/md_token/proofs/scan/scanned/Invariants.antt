@@ -1,5 +1,6 @@
 use Rattle.std.proofs.Common.{◌≡◌, ◌+◌, ◌≤◌, ◌++◌, length}
-use Rattle.md_token.specs.Token.{lexemes, lexemes_of}
+use Rattle.md_token.specs.Lexemes.{lexemes_of}
+use Rattle.md_token.specs.Token.{lexemes}
 use Rattle.md_token.proofs.scan.scanned.Given as goal
 
 -- the tokens so far and those of the rest are those of the text

@@ -1,5 +1,5 @@
 use Rattle.std.proofs.Common.{refl, arith, take}
-use Rattle.md_modes.proofs.Locals.{all_no_less, local-step, local-end}
+use Rattle.md_modes.proofs.Locals.{all_no_less, last-before, local-step, local-end}
 use Rattle.md_modes.proofs.local.Local.grouped.Goals as goal
 
 pub loop-place-preserved : goal.loop-place-preserved
@@ -11,3 +11,7 @@ loop-place-preserved c =
 
 pub returns : goal.returns
 returns c = local-end c.loop-place.local.places.items c.loop-place.local.counts.items c.args.vars.now c.loop-place.place-index (omega arith) c.loop-place.invariant
+
+pub add-requires : goal.add-requires
+add-requires c =
+    omega (arith, last-before c.loop-place.local.places.items c.loop-place.local.counts.items c.args.vars.now c.loop-place.place-index c.loop-place.invariant)

@@ -1,7 +1,9 @@
-use Rattle.std.proofs.Common.{◌∙◌, ap}
+use Rattle.std.proofs.Common.{◌∙◌, ap, subst, arith}
 use Rattle.md_hlds.specs.Hlds.{hlds_of}
 use Rattle.md_hlds.specs.declared.program.Program.{Program}
 use Rattle.md_modes.specs.Notes.{program_notes}
+use Rattle.md_modes.specs.Classes.{AreFew}
+use Rattle.md_modes.proofs.Sizes.{after_few}
 use Rattle.md_modes.proofs.NoteLemmas.{note_found}
 use Rattle.md_modes.proofs.NoteNames.{named_told, size_told}
 use Rattle.md_modes.proofs.RoleLemmas.{role_told}
@@ -21,3 +23,9 @@ returns-clause-named c = named_told (hlds_of c.args.self.now) c.args.goal
 
 pub returns-clause-size : goal.returns-clause-size
 returns-clause-size c = size_told (hlds_of c.args.self.now) c.args.goal
+
+pub returns-clause-small : goal.returns-clause-small
+returns-clause-small c lt =
+    let s = hlds_of c.args.self.now in
+    let few : AreFew s = subst (λ (p : Program). AreFew (hlds_of p)) c.self.view_is c.self.invariant.2 in
+    omega (arith, after_few s c.args.goal 4294967294 (omega (arith, few)) (omega (arith, lt)))

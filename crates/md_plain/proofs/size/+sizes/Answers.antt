@@ -1,15 +1,16 @@
-use Rattle.std.proofs.Common.{◌≡◌, subst, ℕ, IfOk, arith}
+use Rattle.std.proofs.Common.{◌≡◌, ap, subst, ℕ, IfOk, arith}
 use Rattle.std.proofs.lemmas.Grind.{common_steps}
-use Rattle.md_hlds.proofs.SizeLemmas.{within-Conj, within-Disj}
-use Rattle.md_hlds.proofs.size.+sizes.Goals as goal
+use Rattle.md_hlds.specs.HldsGoal.{parts_size}
+use Rattle.md_plain.proofs.GoalLemmas.{conj_of, disj_of}
+use Rattle.md_plain.proofs.size.+sizes.Goals as goal
 
 pub parts_size-returns-in-Conj : goal.parts_size-returns-in-Conj
 parts_size-returns-in-Conj t c =
-    subst (λ (n : ℕ). IfOk c.goals_size.result (λ s. s ≡ n)) (within-Conj c.args.kind.now c.in-Conj.goals c.as_slice.result.now c.in-Conj.is c.as_slice.ensures.value) c.goals_size.ensures
+    subst (λ (n : ℕ). IfOk c.goals_size.result (λ s. s ≡ n)) (ap parts_size (conj_of c.args.kind.now c.in-Conj.goals c.as_slice.result.now c.in-Conj.is c.as_slice.ensures.value)) c.goals_size.ensures
 
 pub parts_size-returns-in-Disj : goal.parts_size-returns-in-Disj
 parts_size-returns-in-Disj t c =
-    subst (λ (n : ℕ). IfOk c.goals_size-in-Disj.result (λ s. s ≡ n)) (within-Disj c.args.kind.now c.in-Disj.arms c.as_slice-in-Disj.result.now c.in-Disj.is c.as_slice-in-Disj.ensures.value) c.goals_size-in-Disj.ensures
+    subst (λ (n : ℕ). IfOk c.goals_size-in-Disj.result (λ s. s ≡ n)) (ap parts_size (disj_of c.args.kind.now c.in-Disj.arms c.as_slice-in-Disj.result.now c.in-Disj.is c.as_slice-in-Disj.ensures.value)) c.goals_size-in-Disj.ensures
 
 pub goal_size-returns : goal.goal_size-returns
 goal_size-returns t c = grind (arith, common_steps)
@@ -56,5 +57,5 @@ parts_size-returns-in-True-8 t c = grind (arith, common_steps)
 pub parts_size-returns-in-True-9 : goal.parts_size-returns-in-True-9
 parts_size-returns-in-True-9 t c = grind (arith, common_steps)
 
-pub parts_size-returns-in_ok-sum-in-If : goal.parts_size-returns-in_ok-sum-in-If
-parts_size-returns-in_ok-sum-in-If t c = grind (arith, common_steps)
+pub parts_size-returns-in_ok-plus-in-If : goal.parts_size-returns-in_ok-plus-in-If
+parts_size-returns-in_ok-plus-in-If t c = grind (arith, common_steps)
