@@ -22,6 +22,10 @@ PROGRAM = "mdprof"
 PLACE = f"{ROOT}/crates/{PROGRAM}/out/{PROGRAM}"
 # What a check takes of memory, in bytes.
 MEMORY = 2_000_000_000
+# Seconds of one processor that a line of a library takes, until this build has told, and seconds that the program itself takes.
+LINE, LAST = 0.024, 100
+# From how many lines on a build is believed to tell.
+EARLY = 10_000
 SOURCES = ("src", "specs", "proofs")
 # Lines of the compiler that say why a crate isn't built.
 CAUSES = re.compile(r"\berror\b|\bnot proved that\b|: not proved$|: no proof$|could not tell")
@@ -166,6 +170,14 @@ def share(processors, crate, others):
     return max(1, -(-processors * crate.lines // (crate.lines + beside)))
 
 
+def minutes_left(crates, behind, built, processors, rate):
+    """How many minutes a build takes on from here, by the lines that are left: those of all libraries, side by side, or those of
+    the longest chain, whichever takes longer. A line takes `rate` seconds of one processor."""
+    left = [it for it in crates.values() if it.name not in built]
+    lines = max(sum(it.lines for it in left) / processors, max((behind[it.name] for it in left), default=0) / min(2, processors))
+    return max(1, round((lines * rate + LAST) / 60))
+
+
 def places():
     """How many crates are built side by side: one for each processor, as far as memory allows."""
     processors = len(os.sched_getaffinity(0))
@@ -180,17 +192,24 @@ def build_libraries(kit, crates, processors, sum):
     left = sorted((it for it in crates.values() if it.name != PROGRAM), key=lambda it: -behind[it.name])
     anew = [it for it in left if any(not is_current(crates[name], sum[name]) for name in [it.name, *it.below])]
     built, running, left = {it.name for it in left if it not in anew}, {}, anew
+    begun, lines, rate = time.time(), 0, LINE
     with ThreadPoolExecutor(processors) as pool:
         while left or running:
             for crate in [it for it in left if it.below <= built][: processors - len(running)]:
-                say(f"building {crate.name} ({len(crates) - len(left)} of {len(crates)})")
+                minutes = minutes_left(crates, behind, built, processors, rate)
+                say(f"building {crate.name} ({len(crates) - len(left)} of {len(crates)}, about {minutes} min left)")
                 jobs = share(processors, crate, [*left, *running.values()])
                 left.remove(crate)
                 running[pool.submit(build_library, kit, crates, crate, jobs, sum[crate.name])] = crate
+                lines += crate.lines / 2  # as if half of it were done
             for it in wait(running, return_when=FIRST_COMPLETED).done:
-                built.add(running.pop(it).name)
+                crate = running.pop(it)
+                built.add(crate.name)
+                lines += crate.lines / 2
                 if not it.result():
                     return False
+            if lines > EARLY:
+                rate = (time.time() - begun) * processors / lines
     return True
 
 
