@@ -43,11 +43,11 @@ impl Heap {
     }
 
     /// Adds a cell with this head and these parts, and gives it as a value. It stands for the head with what the parts
-    /// stood for. What was there stands for what it stood for. Where memory is wanting, the heap is as it was.
+    /// stood for. What was there stands for what it stood for. Where memory is wanting, the heap is as it was: so it is too where
+    /// the parts of all cells are more than 32 bits count, which would take 64 GB.
     #[inline(always)]
     pub fn build(&mut self, head: u32, parts: &[Value]) -> Result<Value, NoMemory>
         requires there { All (IsThere (length self.old)) parts.now }
-        requires room { length self.old < 4294967295 }
         ensures cell { IfOk result (λ value. value ≡ Value.Cell (length self.old)) }
         ensures added { OnOk result (self.new ≡ record { head = head; parts = parts.now } ∷ self.old) }
         ensures means { IfOk result (λ value. tree_of self.new value ≡ Built head (trees_of self.old parts.now)) }
@@ -56,9 +56,15 @@ impl Heap {
     {
         let cell = self.rows.len() as u64;
         let first = self.parts.len();
+        if first > 4_294_967_295 {
+            return Err(NoMemory);
+        }
         self.rows.reserve(1)?;
         add_all(&mut self.parts, parts)?;
-        self.rows.push_reserved(Row { head, first });
+        self.rows.push_reserved(Row {
+            head,
+            first: first as u32,
+        });
         Ok(Value::Cell(cell))
     }
 
@@ -89,7 +95,7 @@ impl Heap {
         ensures value { slice_get (cell_at self.now cell).parts place ≡ Some result }
         ensures older { AreOlder self.now }
     {
-        self.parts[self.rows[cell as usize].first + place]
+        self.parts[self.rows[cell as usize].first as usize + place]
     }
 
     /// How many cells there are. Takes no memory.
@@ -116,9 +122,9 @@ impl Heap {
         ensures older { AreOlder self.now }
     {
         let place = cell as usize;
-        let first = self.rows[place].first;
+        let first = self.rows[place].first as usize;
         if place + 1 < self.rows.len() {
-            self.rows[place + 1].first - first
+            self.rows[place + 1].first as usize - first
         } else {
             self.parts.len() - first
         }

@@ -4,5 +4,5 @@
 #[derive(Clone, Copy)]
 pub struct Row {
     pub head: u32,
-    pub first: usize,
+    pub first: u32,
 }

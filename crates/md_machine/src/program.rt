@@ -23,7 +23,7 @@ use std::alloc::Global;
 ///
 /// # Errors
 ///
-/// `NoMemory` where memory was refused or the sink wants it, and where cells, frames or choices want a number of more than 32 bits.
+/// `NoMemory` where memory was refused or the sink wants it, and where the parts of all cells, the frames or the choices are more than 32 bits count.
 pub fn execute<S: PortSink>(
     alloc: Global,
     code: &Instrumented<'_>,
