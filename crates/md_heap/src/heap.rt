@@ -143,6 +143,7 @@ fn add_all(values: &mut Vec<Value>, more: &[Value]) -> Result<(), NoMemory>
     ensures err { OnErr result (values.new.items ≡ values.old.items) }
 {
     match more {
+        [] => {}
         [first] => {
             values.reserve(1)?;
             values.push_reserved(*first);
