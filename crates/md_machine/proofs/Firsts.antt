@@ -12,10 +12,6 @@ use Rattle.law_flat.specs.Shows.{choice_in, IsBottom}
 use Rattle.md_machine.specs.declared.stacks.Stacks.{Stacks}
 use Rattle.md_machine.specs.Stacks.{AreFirst}
 
-pub cells_count : (n : ℕ) → length (functor_cells n) ≡ n
-cells_count zero = refl
-cells_count (suc n) = ap suc (cells_count n)
-
 each_is : (n i : ℕ) → value_in (replicate n no_value) i ≡ io_state
 each_is zero i = refl
 each_is (suc n) zero = refl

@@ -41,9 +41,7 @@ fn show_lists(alloc: Global, text: &str, found: &mut String) -> Result<(), Alloc
 }
 
 /// Compares the lists of two lengths.
-fn compare(alloc: Global, first: u32, second: u32, limit: u32) -> Result<Same, NoMemory>
-    requires { first + second < 4294967294 }
-{
+fn compare(alloc: Global, first: u32, second: u32, limit: u32) -> Result<Same, NoMemory> {
     let mut heap = Heap::new(alloc);
     let a = list(&mut heap, first)?;
     let b = list(&mut heap, second)?;
@@ -52,7 +50,6 @@ fn compare(alloc: Global, first: u32, second: u32, limit: u32) -> Result<Same, N
 
 /// The integers below `count` as a list, the greatest first.
 fn list(heap: &mut Heap, count: u32) -> Result<Value, NoMemory>
-    requires { length heap.old + count < 4294967295 }
     ensures longer { OnOk result (length heap.new ≡ length heap.old + count + 1) }
     ensures there { IfOk result (λ list. IsThere (length heap.new) list) }
 {

@@ -8,12 +8,6 @@ loop-i-preserved c = grind (arith, common_steps)
 pub slice_bounds-build-end-in-loop-i : goal.slice_bounds-build-end-in-loop-i
 slice_bounds-build-end-in-loop-i c = grind (arith, common_steps)
 
-pub build-requires-in-loop-i-clause-room : goal.build-requires-in-loop-i-clause-room
-build-requires-in-loop-i-clause-room c = grind (arith, common_steps)
-
-pub build-requires-in-loop-i-clause-there : goal.build-requires-in-loop-i-clause-there
-build-requires-in-loop-i-clause-there c = grind (arith, common_steps)
-
 pub returns-clause-longer : goal.returns-clause-longer
 returns-clause-longer c = grind (arith, common_steps)
 
