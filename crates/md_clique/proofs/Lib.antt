@@ -18,6 +18,7 @@ pub mod Placing
 pub mod EntryPlaces
 pub mod Entered
 pub mod Worked
+pub mod WorkedLists
 pub mod Growth
 pub mod Growing
 pub mod Coming

@@ -1,11 +1,11 @@
 -- Texts cut into tokens, and what strings stand for, worked out by hand.
-use Rattle.std.proofs.Common.{◌≡◌, refl, ℕ, List, [], ◌∷◌}
+use Rattle.std.proofs.Common.{◌≡◌, refl, arith, ℕ, List, [], ◌∷◌}
 use Rattle.std.specs.Prelude.{codes}
 use Rattle.md_token.specs.declared.kind.Kind.{Kind}
 use Rattle.md_token.specs.declared.kind.Kind.TheVariants as kind
 use Rattle.md_token.specs.Kinds.{same_kind}
 use Rattle.md_token.specs.Literal.{string_value, meaning}
-use Rattle.md_token.specs.Token.{Lexeme, tokens_of}
+use Rattle.md_token.specs.Token.{HasParts, Lexeme, tokens_of}
 use Rattle.md_token.specs.Token as token
 
 abbrev at : ℕ → Kind → List ℕ → Lexeme
@@ -79,3 +79,19 @@ no_other_escape = refl
 escapes_stand_for_a_byte : string_value (34 ∷ 92 ∷ 110 ∷ 92 ∷ 116 ∷ 92 ∷ 92 ∷ 92 ∷ 34 ∷ 110 ∷ 34 ∷ []) ≡ 10 ∷ 9 ∷ 92 ∷ 34 ∷ 110 ∷ []
 unfolding string_value meaning
 escapes_stand_for_a_byte = refl
+
+-- ---- the two parts of a qualified name
+
+-- refuses a rule by which a part has two bytes or more
+two_parts : HasParts (codes "a.b")
+two_parts = (omega arith, omega arith)
+
+-- refuse rules by which the part behind, the part in front or the byte between them may be missing
+no_part_behind : HasParts (codes "ab.") → ⊥
+no_part_behind has = absurd (let some = has.1 in omega (arith, some))
+
+no_part_in_front : HasParts (codes ".ab") → ⊥
+no_part_in_front has = absurd (let some = has.0 in omega (arith, some))
+
+one_part : HasParts (codes "abc") → ⊥
+one_part has = absurd (let some = has.1 in omega (arith, some))
