@@ -135,7 +135,7 @@ declared_complete before _ _ _ (g.Declared.type t line i j k h d) = rw (h, unlik
 declared_complete before _ _ _ (g.Declared.predicate d c line i j k l h p q) = rw (h, pred_first d j k p, declaration_complete d j k p, clause_complete d.name (length d.args) c k l q) refl
 
 -- a declaration has more than one token
-declared_fewer : (before after : Hlds) (i j : Input) → g.Declared before after i j → length j.rest + 1 < length i.rest
+pub declared_fewer : (before after : Hlds) (i j : Input) → g.Declared before after i j → length j.rest + 1 < length i.rest
 unfolding same_kind
 declared_fewer before _ _ _ (g.Declared.type t line i j k h d) = let a = sign_fewer kind.Declare i j (sign line i j h) refl in let b = type_fewer line t j k d in omega (arith, a, b)
 declared_fewer before _ _ _ (g.Declared.predicate d c line i j k l h p q) =

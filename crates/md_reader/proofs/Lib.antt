@@ -1,3 +1,4 @@
+pub mod Arguments
 pub mod Complete
 pub mod CompleteGoals
 pub mod CompletePrograms

@@ -1,6 +1,6 @@
 -- Each goal of a program has a token of its own, and each token a byte: so a text spells fewer goals than it has bytes.
 use Rattle.std.specs.Prelude.{codes}
-use Rattle.std.proofs.Common.{◌≡◌, refl, ap, ◌∙◌, sym, ℕ, suc, ◌+◌, ◌<◌, ◌≤◌, Bool, true, false, cond, List, [], ◌∷◌, ◌++◌, length, drop, Option, Some, None, Ok, ◌⊎◌, inl, inr, arith}
+use Rattle.std.proofs.Common.{◌≡◌, refl, ap, ◌∙◌, sym, ℕ, suc, ◌+◌, ◌<◌, ◌≤◌, false, List, [], ◌∷◌, ◌++◌, length, drop, Option, Some, None, Ok, inl, inr, arith}
 use Rattle.md_hlds.specs.declared.goal.Cmp.{Cmp}
 use Rattle.md_hlds.specs.declared.goal.PredName.{PredName}
 use Rattle.md_hlds.specs.HldsGoal.{HldsGoal, At, GoalExpr, gathered, goal_size, parts_size, goals_size}
@@ -10,13 +10,12 @@ use Rattle.md_token.specs.declared.kind.Kind.TheVariants as kind
 use Rattle.md_token.specs.Kinds.{same_kind}
 use Rattle.md_token.specs.Token.{Lexeme, tokens_of}
 use Rattle.md_token.proofs.Few.{few_tokens}
-use Rattle.md_reader.specs.Input.{Input, first, token, kind_at, next, expect, word, variable, limit, site, end_clause}
+use Rattle.md_reader.specs.Input.{Input, first, token, kind_at, next, word, variable, limit, site, end_clause}
 use Rattle.md_reader.specs.Rules as rule
 use Rattle.md_reader.specs.Grammar as g
 use Rattle.md_reader.specs.Grammar.{Is, Sign, sign, Listed, last, also, enclosed, Spells}
 use Rattle.md_reader.proofs.Steps.{chosen, ok_input}
-use Rattle.md_reader.proofs.Steady.{Steady}
-use Rattle.md_reader.proofs.SteadyRules.{word_steady, variable_steady, site_steady, end_clause_steady, this_name_steady, pred_name_steady, term_steady}
+use Rattle.md_reader.proofs.SteadyRules.{word_steady, variable_steady, site_steady, end_clause_steady, this_name_steady, term_steady}
 use Rattle.md_reader.proofs.SteadyPrograms.{module_name_steady}
 use Rattle.md_reader.proofs.Taking.{signed, pred_kinds}
 use Rattle.md_reader.proofs.Plain.{IsPlain, relation_plain, builtin_plain}

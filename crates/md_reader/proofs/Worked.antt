@@ -1,6 +1,6 @@
 -- Definitions computed on small texts: what each spells, or its fault, was worked out by hand from the grammar, and `refl`
 -- says that the rules give it.
-use Rattle.std.proofs.Common.{◌≡◌, refl, ℕ, take, arith, List, [], ◌∷◌, length, Option, Ok, Err, Some, None, negsuc}
+use Rattle.std.proofs.Common.{◌≡◌, refl, ℕ, take, arith, List, [], ◌∷◌, length, replicate, Option, Ok, Err, Some, None, negsuc}
 use Rattle.std.specs.Prelude.{codes}
 use Rattle.md_hlds.specs.declared.types.Mode.{Mode}
 use Rattle.md_hlds.specs.declared.types.Mode.TheVariants.{In}
@@ -21,9 +21,10 @@ use Rattle.md_reader.specs.Input as input
 use Rattle.md_reader.specs.Input.{Limits, standard}
 use Rattle.md_reader.specs.Rules as rule
 use Rattle.md_reader.specs.Duplicates as twice
-use Rattle.md_reader.specs.Grammar.{Spells, Repeats}
+use Rattle.md_reader.specs.Grammar.{IsOfText, Spells, Repeats}
 use Rattle.md_reader.specs.Excess.{Opened, AGoal, AList, Point, beginning, past, name, variable, qualifier, qualified, string, positive, negative, Exceeds, long, item, goal, goals}
 use Rattle.md_reader.specs.Faults.{IsSyntaxFault, IsLimitFault}
+use Rattle.md_reader.specs.Names.{HasNameLength}
 use Rattle.md_reader.specs.Reading.{reading}
 use Rattle.md_reader.proofs.SoundPrograms.{reading_sound, reading_repeats}
 use Rattle.md_reader.proofs.FaultTexts.{at_fault}
@@ -230,3 +231,32 @@ the_200th_goal_is_within around is (long (positive same last many)) = absurd (cc
 the_200th_goal_is_within around is (long (negative same last many)) = absurd (cc)
 the_200th_goal_is_within around is (item last many) = absurd (cc)
 the_200th_goal_is_within around is (goal same last many) = absurd (omega (arith, is, many))
+
+-- ---- the lengths of names
+
+-- refuses a rule by which a name has fewer than 255 bytes, and the next two ones by which it may have none, or one more
+a_name_of_255_bytes : HasNameLength (replicate 255 97)
+a_name_of_255_bytes = (omega arith, omega arith)
+
+no_name : HasNameLength [] → ⊥
+no_name has = absurd (let some = has.0 in omega (arith, some))
+
+a_name_of_256_bytes : HasNameLength (replicate 256 97) → ⊥
+a_name_of_256_bytes has = absurd (let short = has.1 in omega (arith, short))
+
+-- ---- programs of texts
+
+empty_is_of_a_text : IsOfText empty
+empty_is_of_a_text = record { text = codes "\n:- module t."; short = omega arith; spells = spells_the_empty_program }
+
+-- two types of one name
+abbrev type_on_line : ℕ → HldsTypeDef
+type_on_line line = record { name = codes "a"; line = line; functors = record { name = codes "b"; args = [] } ∷ [] }
+
+abbrev two_types : Hlds
+two_types = record { module_name = codes "t"; module_line = 1; types = type_on_line 2 ∷ type_on_line 3 ∷ []; procedures = [] }
+
+-- refuses a rule that asks for tokens of the grammar alone, by which a program may declare something twice
+two_types_are_of_no_text : IsOfText two_types → ⊥
+unfolding twice.duplicate twice.second_type_definition twice.second_functor twice.second_procedure
+two_types_are_of_no_text of = let once : ◌≡◌ {A = Option ℕ} (Some 3) None = of.spells.once in cc

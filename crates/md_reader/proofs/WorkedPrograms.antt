@@ -1,14 +1,16 @@
 -- A text with each kind of declaration, and the program that it spells.
-use Rattle.std.proofs.Common.{◌≡◌, refl, ℕ, List, [], ◌∷◌, Ok, None, Some}
+use Rattle.std.proofs.Common.{◌≡◌, ◌<◌, refl, arith, ℕ, List, [], ◌∷◌, length, All, Ok, None, Some}
 use Rattle.std.specs.Prelude.{codes}
+use Rattle.std.proofs.lemmas.List.Elements.{All-from_recursion}
 use Rattle.md_hlds.specs.declared.types.Det.TheVariants as det
 use Rattle.md_hlds.specs.declared.types.Mode.TheVariants as mode
 use Rattle.md_hlds.specs.declared.goal.PredName.{PredName}
 use Rattle.md_hlds.specs.HldsGoal.{At, SimpleGoal, Succeeds}
-use Rattle.md_hlds.specs.Hlds.{HldsTypeDef, number as int_type, text as string_type, world as io_type, named, closure, gathered_types, Hlds}
+use Rattle.md_hlds.specs.Hlds.{HldsFunctor, HldsTypeDef, number as int_type, text as string_type, world as io_type, named, closure, gathered_types, Hlds}
 use Rattle.md_token.specs.Kinds.{same_kind}
 use Rattle.md_token.specs.Token as token
 use Rattle.md_token.specs.Literal as number
+use Rattle.md_reader.specs.Arguments.{HaveFewArguments}
 use Rattle.md_reader.specs.Input as input
 use Rattle.md_reader.specs.Rules as rule
 use Rattle.md_reader.specs.Duplicates as twice
@@ -39,6 +41,16 @@ types_read = refl
 
 pub types_spelled : Spells types_text types_program
 types_spelled = reading_sound types_text types_program types_read
+
+-- its second functor has four arguments: refuses a rule by which the greatest number may be reached, and one that looks at the first
+-- functor of a type alone
+four_arguments : HaveFewArguments 5 (a_type ∷ [])
+four_arguments =
+    All-from_recursion (λ (t : HldsTypeDef). All (λ f. length f.args < 5) t.functors) (a_type ∷ [])
+    (All-from_recursion (λ (f : HldsFunctor). length f.args < 5) a_type.functors (omega arith, (omega arith, tt)), tt)
+
+not_fewer : HaveFewArguments 4 (a_type ∷ []) → ⊥
+not_fewer have = absurd (let few = have 0 a_type (omega arith) 1 (record { name = []; args = [] }) (omega arith) in omega (arith, few))
 
 -- each mode, and a higher-order argument
 abbrev modes_text : List ℕ

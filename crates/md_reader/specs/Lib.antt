@@ -1,3 +1,4 @@
+pub mod Arguments
 pub mod Duplicates
 pub mod Excess
 pub mod Faults

@@ -2,6 +2,7 @@
 ghost use Rattle.std.specs.Prelude.{◌≡◌, ◌<◌, ℕ, List, length};
 ghost use Rattle.md_hlds.specs.Hlds.{Hlds, goals_before};
 ghost use Rattle.md_token.specs.Token.{tokens_of};
+ghost use Rattle.md_reader.specs.Arguments.{HaveFewArguments};
 ghost use Rattle.md_reader.specs.Excess.{AreWithin, beginning};
 ghost use Rattle.md_reader.specs.Faults.{IsLimitFault, IsSyntaxFault};
 ghost use Rattle.md_reader.specs.Grammar.{Spells};
@@ -27,4 +28,9 @@ pub fn a_text_has_one_first_fault()
 /// A program has fewer goals than its text has bytes.
 pub fn a_text_has_more_bytes_than_goals()
     ensures { (text : List ℕ) (p : Hlds) → Spells text p → goals_before p.procedures (length p.procedures) < length text }
+{}
+
+/// A functor of a program has fewer arguments than the program's text has bytes.
+pub fn a_text_has_more_bytes_than_arguments()
+    ensures { (text : List ℕ) (p : Hlds) → Spells text p → HaveFewArguments (length text) p.types }
 {}

@@ -19,8 +19,8 @@ mod variables;
 mod written;
 
 pub use laws::{
-    a_program_is_within_the_limits, a_text_has_more_bytes_than_goals, a_text_has_one_first_fault,
-    a_text_spells_one_program,
+    a_program_is_within_the_limits, a_text_has_more_bytes_than_arguments,
+    a_text_has_more_bytes_than_goals, a_text_has_one_first_fault, a_text_spells_one_program,
 };
 pub use reading::read;
 pub use refused::Refused;
