@@ -1,12 +1,14 @@
 //! What a profile says on its way through a file and through a text, and what holds of each run of an accepted text: laws over
-//! definitions alone, each the contract of a function that does nothing.
+//! definitions, and of what is written of each profile, each the contract of a function that does nothing.
 #![tactic(auto)]
 
+mod room;
 mod runs;
 mod spelled;
 mod through;
 mod views;
 
+pub use room::{profiles_come_back, profiles_have_room};
 pub use runs::{
     accepted_procedures_answer_as_declared, accepted_runs_are_left, accepted_runs_go_on,
 };
