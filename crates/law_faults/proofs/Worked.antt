@@ -1,13 +1,14 @@
 -- The first faulty line of small texts.
-use Rattle.std.proofs.Common.{◌≡◌, ℕ, [], ◌∷◌, ◌++◌, List, None, Err, codes, drop, true, refl, arith}
+use Rattle.std.proofs.Common.{◌≡◌, ℕ, suc, [], ◌∷◌, ◌++◌, List, replicate, None, Err, codes, drop, true, refl, arith}
 use Rattle.std.specs.Fmt.{digits}
+use Rattle.std.proofs.lemmas.List.{length-replicate}
 use Rattle.std.proofs.lemmas.List.Elements.{All-from_recursion}
 use Rattle.md_dynamic.specs.declared.link.LinkRow.{LinkRow}
 use Rattle.md_dynamic.specs.Profile.{ProfileRows}
 use Rattle.md_dump.specs.Due.{parts_of, read}
 use Rattle.md_dump.specs.Lines.{profile_text}
 use Rattle.law_faults.specs.Lines.{Title, Finished, Keeps, laid, lines}
-use Rattle.law_faults.specs.Fault.{Begins, IsFirstFaulty}
+use Rattle.law_faults.specs.Fault.{AreFew, Begins, IsFirstFaulty}
 use Rattle.law_faults.proofs.First.{faulty_first}
 
 abbrev root : LinkRow
@@ -79,3 +80,17 @@ orphan = says (codes "mdprof dump 2\nfinished yes\nmodules 1\nt\nprocs 1\n0 main
 -- refuses a rule that looks for orphans before what stands behind the last line
 past_before_orphan : IsFirstFaulty (codes "mdprof dump 2\nfinished yes\nmodules 1\nt\nprocs 1\n0 main 2\nsites 0\ncontexts 2\n0\n0\nlinks 1\n- - 0 1 1 0 0 0 0 0\nx\n") 13
 past_before_orphan = says (codes "mdprof dump 2\nfinished yes\nmodules 1\nt\nprocs 1\n0 main 2\nsites 0\ncontexts 2\n0\n0\nlinks 1\n- - 0 1 1 0 0 0 0 0\nx\n") 13 refl
+
+-- ---- how many there are
+
+abbrev with_contexts : ℕ → ProfileRows
+with_contexts n = record nothing { nodes = replicate n 0 }
+
+-- refuses rules by which a list has fewer members than its number of 32 bits can say, or more
+greatest_few : (n : ℕ) → n ≡ 4294967295 → AreFew (with_contexts n) × (AreFew (with_contexts (suc n)) → ⊥)
+greatest_few n is =
+    let none : ℕ = 0 in
+    let size = length-replicate n none in (
+      record { modules = omega arith; procs = omega arith; sites = omega arith; contexts = omega (arith, size, is); links = omega arith },
+      λ few. absurd (let contexts = few.contexts in omega (arith, size, is, contexts)),
+    )
