@@ -1,3 +1,4 @@
+pub mod Arguments
 pub mod Worked
 pub mod Counts
 pub mod Listed

@@ -1,15 +1,16 @@
 -- More of the mode rules, computed where a wrong rule would give another fault or none.
-use Rattle.std.proofs.Common.{◌≡◌, refl, ℕ, List, [], ◌∷◌, Option, Some, None, map}
+use Rattle.std.proofs.Common.{◌≡◌, refl, arith, ℕ, zero, suc, List, [], ◌∷◌, Option, Some, None, map, replicate}
 use Rattle.std.specs.Prelude.{codes}
 use Rattle.md_hlds.specs.declared.types.Mode.{Mode}
 use Rattle.md_hlds.specs.declared.types.Mode.TheVariants.{In, Out, Di, Uo}
 use Rattle.md_hlds.specs.declared.types.Det.TheVariants.{Semidet}
 use Rattle.md_hlds.specs.declared.types.Det.TheVariants.{Det as One}
 use Rattle.md_hlds.specs.declared.goal.Term.TheVariants.{Name}
-use Rattle.md_hlds.specs.HldsGoal.{HldsGoal, At, SimpleGoal, Unifies, Raises}
-use Rattle.md_hlds.specs.Hlds.{HldsType, number, world, named}
+use Rattle.md_hlds.specs.HldsGoal.{HldsGoal, At, SimpleGoal, Unifies, Raises, gathered, goals_size}
+use Rattle.md_hlds.specs.Hlds.{HldsType, Procedure, number, world, named}
 use Rattle.md_inst.specs.declared.fault.ModeFault.{ModeFault}
 use Rattle.md_inst.specs.declared.fault.ModeFault.TheVariants.{UnknownName, TypeClash, Unbound, BranchBinds, IoUsed}
+use Rattle.md_modes.specs.Classes.{AreFew}
 use Rattle.md_modes.specs.Modes.{mode_fault}
 use Rattle.md_modes.proofs.Worked.{conj, disj, is_int, is_text, same, made, call, apply, succeed, fail, choose, unless, some, at_most, write_int, new_line, hand_over, predicate, main, program, functor, type_of, function_of_ints, adder, double, with_body, body_fault, fault_of_two}
 
@@ -130,3 +131,22 @@ faults_of_a_declaration :
     ≡ (Some (TypeClash 4) ∷ Some (UnknownName 4) ∷ [])
 unfolding mode_fault
 faults_of_a_declaration = refl
+
+-- ---- how many goals a program has
+
+-- a clause with `true` n times, and with the conjunction of these
+abbrev true_times : ℕ → Procedure
+true_times n = predicate 2 (codes "p") [] One 0 (conj 3 (replicate n (succeed 3)))
+
+size_of_times : (n : ℕ) → goals_size (gathered (replicate n (succeed 3))) ≡ n
+size_of_times zero = refl
+size_of_times (suc n) = let rest = size_of_times n in omega (arith, rest)
+
+-- refuses rules that count clauses and not goals, or leave the conjunction out, and one by which the greatest number of 32 bits may be
+-- reached
+greatest_few : (n : ℕ) → n ≡ 4294967293 → AreFew (program [] (true_times n ∷ [])) × (AreFew (program [] (true_times (suc n) ∷ [])) → ⊥)
+greatest_few n is = let size = size_of_times n in let more = size_of_times (suc n) in (omega (arith, size, is), λ few. absurd (omega (arith, more, is, few)))
+
+-- refuses a rule that counts the goals of each clause alone
+two_clauses : (n : ℕ) → n ≡ 2147483647 → AreFew (program [] (true_times n ∷ true_times n ∷ [])) → ⊥
+two_clauses n is few = let size = size_of_times n in absurd (omega (arith, size, is, few))

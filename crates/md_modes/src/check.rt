@@ -1,8 +1,9 @@
 // The whole program.
-ghost use Rattle.std.specs.Prelude.{◌≡◌, ◌≢◌, None, Some, ◌++◌, IfOk, OnOk, MatchResult};
+ghost use Rattle.std.specs.Prelude.{◌≡◌, ◌≢◌, ◌^◌, None, Some, ◌++◌, IfOk, OnOk, MatchResult};
 ghost use Rattle.md_hlds.specs.Hlds.{hlds_of, procedure_of, procedures_of};
 ghost use Rattle.md_inst.specs.declared.fault.ModeFault.TheVariants as faults;
 ghost use Rattle.md_inst.specs.Kinds.{inst_map_of, Finds};
+ghost use Rattle.md_reader.specs.Arguments.{HaveFewArguments};
 ghost use Rattle.md_reader.specs.Grammar.{IsOfText};
 ghost use Rattle.md_modes.specs.Branches.{after};
 ghost use Rattle.md_modes.specs.Modes as spec;
@@ -21,7 +22,7 @@ use crate::tally::counts_of_clause;
 use md_hlds::{Pred, Program};
 use md_inst::{Inst, ModeFault};
 use md_names::Names;
-use md_reader::a_text_has_more_bytes_than_goals;
+use md_reader::{a_text_has_more_bytes_than_arguments, a_text_has_more_bytes_than_goals};
 use std::alloc::Global;
 
 /// Checks the modes of a program that the reader gave, and gives it back with what was found at each goal. A refusal names
@@ -34,6 +35,7 @@ pub fn check_modes(alloc: Global, program: Program) -> Result<Moded, ModeFault>
     ensures accepted { IfOk result (λ moded. mode_fault (hlds_of moded) ≡ None) }
 {
     let mut notes = Vec::new(alloc);
+    a_text_has_more_bytes_than_arguments();
     check_program(alloc, &program, &mut notes)?;
     a_text_has_more_bytes_than_goals();
     Ok(Moded::new(program, notes))
@@ -41,6 +43,7 @@ pub fn check_modes(alloc: Global, program: Program) -> Result<Moded, ModeFault>
 
 /// Checks a program, and notes what is found at its goals.
 fn check_program(alloc: Global, program: &Program, notes: &mut Vec<Note>) -> Result<(), ModeFault>
+    requires { HaveFewArguments (2 ^ 32) (hlds_of program.now).types }
     ensures checked { Checks result (spec.checked (hlds_of program.now)) }
     ensures notes { OnOk result (notes_told notes.new.items ≡ notes_told notes.old.items ++ program_notes (hlds_of program.now)) }
 {
@@ -53,6 +56,7 @@ fn check_program(alloc: Global, program: &Program, notes: &mut Vec<Note>) -> Res
 /// Checks the program that has these names.
 #[tactic(auto, unfolding(crate::specs::Notes::program_notes))]
 fn check_named(alloc: Global, names: &Names<'_>, notes: &mut Vec<Note>) -> Result<(), ModeFault>
+    requires { HaveFewArguments (2 ^ 32) (hlds_of names.now).types }
     ensures checked { Checks result (spec.checked (hlds_of names.now)) }
     ensures notes { OnOk result (notes_told notes.new.items ≡ notes_told notes.old.items ++ program_notes (hlds_of names.now)) }
 {
@@ -73,6 +77,7 @@ fn check_clauses<'a>(
     preds: &'a [Pred],
     notes: &mut Vec<Note>,
 ) -> Result<(), ModeFault>
+    requires { HaveFewArguments (2 ^ 32) (hlds_of names.now).types }
     ensures checked { Checks result (spec.clauses (hlds_of names.now) (procedures_of preds.now)) }
     ensures notes { OnOk result (notes_told notes.new.items ≡ notes_told notes.old.items ++ notes_from (hlds_of names.now) (procedures_of preds.now)) }
 {
@@ -88,6 +93,7 @@ fn check_clause<'a>(
     pred: &'a Pred,
     notes: &mut Vec<Note>,
 ) -> Result<(), ModeFault>
+    requires { HaveFewArguments (2 ^ 32) (hlds_of names.now).types }
     ensures checked { Checks result (spec.clause (hlds_of names.now) (procedure_of pred.now)) }
     ensures notes { OnOk result (notes_told notes.new.items ≡ notes_told notes.old.items ++ clause_notes (hlds_of names.now) (procedure_of pred.now)) }
 {

@@ -1,11 +1,12 @@
 // What there is to say of one goal, by what is known before and after it.
-ghost use Rattle.std.specs.Prelude.{◌≡◌, ◌||◌, cond, [], length, IfOk};
+ghost use Rattle.std.specs.Prelude.{◌≡◌, ◌<◌, ◌^◌, ◌||◌, cond, [], length, IfOk};
 ghost use Rattle.md_hlds.specs.Hlds.{hlds_of};
 ghost use Rattle.md_hlds.specs.HldsGoal.{expr_of};
 ghost use Rattle.md_inst.specs.Kinds.{kind_sort, instantiation_of, inst_map_of};
 ghost use Rattle.md_modes.specs.Notes.{role_of, role_of_variables, role_of_term, role_of_name, role_of_sort, role_of_closure, role_of_unification, bound_places, is_state};
 ghost use Rattle.md_modes.specs.Views.{picked, some_state, names_seen};
 ghost use Rattle.md_inst.specs.Named as named;
+ghost use Rattle.md_reader.specs.Arguments.{HaveFewArguments};
 ghost use Rattle.md_modes.specs.Classes.{role_told, class_told};
 
 use crate::class::Class;
@@ -23,6 +24,7 @@ pub fn class_of(
     goal: &GoalKind,
     insts: &[Inst<'_>],
 ) -> Result<Option<Class>, NoMemory>
+    requires { HaveFewArguments (2 ^ 32) (hlds_of names.now).types }
     ensures { IfOk result (λ class. class_told class ≡ role_of (hlds_of names.now) (expr_of goal.now) (inst_map_of insts.now)) }
 {
     match goal {
@@ -55,6 +57,7 @@ fn class_of_unification(
     x: u32,
     term: &Term,
 ) -> Result<Class, NoMemory>
+    requires { HaveFewArguments (2 ^ 32) (hlds_of names.now).types }
     ensures { IfOk result (λ class. role_told class ≡ role_of_unification (hlds_of names.now) x term.now (inst_map_of insts.now)) }
 {
     match term {
@@ -89,6 +92,7 @@ fn class_of_term(
     inst: Inst<'_>,
     insts: &[Inst<'_>],
 ) -> Result<Class, NoMemory>
+    requires { length places.now < 2 ^ 32 }
     ensures { IfOk result (λ class. role_told class ≡ role_of_term places.now (instantiation_of inst.entry) (inst_map_of insts.now)) }
 {
     match inst {
@@ -107,6 +111,7 @@ fn class_of_name(
     name: &PredName,
     places: &[u32],
 ) -> Result<Class, NoMemory>
+    requires { HaveFewArguments (2 ^ 32) (hlds_of names.now).types }
     ensures { IfOk result (λ class. role_told class ≡ role_of_name places.now (instantiation_of inst.entry) (inst_map_of insts.now)
         (named.functor_called (hlds_of names.now) name.now (length places.now))) }
 {
@@ -144,12 +149,13 @@ fn class_of_kind(alloc: Global, kind: Kind<'_>) -> Result<Option<Class>, NoMemor
 
 /// The places, from 0, of the variables that are bound.
 fn bound_among(alloc: Global, places: &[u32], insts: &[Inst<'_>]) -> Result<Vec<u32>, NoMemory>
+    requires { length places.now < 2 ^ 32 }
     ensures { IfOk result (λ bound. bound.items ≡ bound_places 0 places.now (inst_map_of insts.now)) }
 {
     let mut bound = Vec::new(alloc);
     for number in 0..places.len() {
         if inst_at(insts, places[number]).is_bound() {
-            bound.push(number_of(number)?)?;
+            bound.push(number as u32)?;
         }
     }
     Ok(bound)
@@ -241,11 +247,4 @@ fn is_state(inst: Inst<'_>) -> bool
         Inst::Free => false,
         Inst::Bound(kind, _) => kind.is_world(),
     }
-}
-
-/// A place as the number of an argument; `NoMemory`, where it is no number of 32 bits.
-fn number_of(place: usize) -> Result<u32, NoMemory>
-    ensures { IfOk result (λ number. number ≡ place) }
-{
-    u32::try_from(place).map_err(|_| NoMemory)
 }

@@ -1,5 +1,5 @@
 // The note of a goal, before and after what is within the goal is checked.
-ghost use Rattle.std.specs.Prelude.{◌≡◌, ℕ, List, cond, [], length, IfOk, OnOk};
+ghost use Rattle.std.specs.Prelude.{◌≡◌, ◌^◌, ℕ, List, cond, [], length, IfOk, OnOk};
 ghost use Rattle.md_hlds.specs.Hlds.{hlds_of};
 ghost use Rattle.md_hlds.specs.HldsGoal.{expr_of};
 ghost use Rattle.md_inst.specs.Kinds.{inst_map_of};
@@ -10,6 +10,7 @@ ghost use Rattle.md_modes.specs.Notes.{role_of};
 ghost use Rattle.md_modes.specs.Tally.{AreCounts, IsLocal};
 ghost use Rattle.md_modes.specs.Views.{seen, picked, names_seen};
 ghost use Rattle.md_names.specs.Named.{expr_name};
+ghost use Rattle.md_reader.specs.Arguments.{HaveFewArguments};
 
 use crate::class::Note;
 use crate::finding::{Change, class_of};
@@ -31,6 +32,7 @@ pub fn add_note(
     insts: &[Inst<'_>],
     notes: &mut Vec<Note>,
 ) -> Result<(), NoMemory>
+    requires { HaveFewArguments (2 ^ 32) (hlds_of names.now).types }
     ensures { OnOk result (IsBegun (hlds_of names.now) (expr_of goal.now) (inst_map_of insts.now) notes.old.items notes.new.items) }
 {
     let note = begin_note(alloc, names, goal, insts)?;
@@ -45,6 +47,7 @@ fn begin_note(
     goal: &GoalKind,
     insts: &[Inst<'_>],
 ) -> Result<Note, NoMemory>
+    requires { HaveFewArguments (2 ^ 32) (hlds_of names.now).types }
     ensures class { IfOk result (λ note. class_told note.class ≡ role_of (hlds_of names.now) (expr_of goal.now) (inst_map_of insts.now)) }
     ensures named { IfOk result (λ note. note.named ≡ expr_name (hlds_of names.now) (expr_of goal.now)) }
 {
