@@ -39,8 +39,9 @@ pub fn sum_costs(alloc: Global, profile: &Profile, tree: &Tree) -> Result<Costs,
     let nodes = profile.nodes().len() as u32;
     let incoming = thread_incoming(alloc, nodes, profile.links())?;
     let own = own_by_kind(alloc, profile)?;
-    let contexts = context_totals(alloc, profile, tree, &incoming)?;
+    // The walk gives its memory back before the totals of contexts, the greatest vector, take theirs.
     let outermost = find_outermost(alloc, profile, tree)?;
+    let contexts = context_totals(alloc, profile, tree, &incoming)?;
     let totals = totals_by_kind(alloc, profile, tree, &outermost, &contexts)?;
     Ok(Costs {
         incoming,
