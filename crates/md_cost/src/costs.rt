@@ -4,13 +4,14 @@ ghost use Rattle.md_dynamic.specs.Valid.{IsValid};
 ghost use Rattle.md_cost.specs.Climbing.{AreSmall, AreTotals};
 ghost use Rattle.md_cost.specs.Costs.{AreCosts};
 ghost use Rattle.md_cost.specs.Incoming.{AreIncoming};
+ghost use Rattle.md_cost.specs.Outermost.{AreOutermost};
 ghost use Rattle.md_cost.specs.Paths.{EntriesRise};
 ghost use Rattle.md_cost.specs.Tree.{IsTree};
 
 use crate::Sums;
 use crate::incoming::{Incoming, thread_incoming};
 use crate::kinds::{Kinds, own_by_kind, totals_by_kind};
-use crate::outermost::find_outermost;
+use crate::outermost::Outermost;
 use crate::own::own_sums;
 use crate::totals::climb;
 use crate::tree::Tree;
@@ -29,19 +30,25 @@ pub struct Costs {
 }
 
 /// Sums the counts of a valid profile, whose cliques are each entered by one link, in time and memory linear in
-/// contexts, links, procedures, modules and call sites.
-pub fn sum_costs(alloc: Global, profile: &Profile, tree: &Tree) -> Result<Costs, NoMemory>
+/// contexts, links, procedures, modules and call sites. The outermost contexts tell what counts for which total.
+pub fn sum_costs(
+    alloc: Global,
+    profile: &Profile,
+    tree: &Tree,
+    outermost: &Outermost,
+) -> Result<Costs, NoMemory>
     requires valid { IsValid profile.now }
     requires tree { IsTree (length profile.now.nodes) profile.now.links tree.now.cliques tree.now.entries.items }
     requires rise { EntriesRise tree.now.cliques tree.now.entries.items profile.now.links }
+    requires outermost { AreOutermost profile.now tree.now.cliques tree.now.entries.items outermost.now }
     ensures { IfOk result (λ costs. AreCosts profile.now tree.now.cliques tree.now.entries.items costs) }
 {
     let nodes = profile.nodes().len() as u32;
-    let incoming = thread_incoming(alloc, nodes, profile.links())?;
+    // Each pass is a function that isn't put inline, so that where its vectors begin stays in registers.
     let own = own_by_kind(alloc, profile)?;
+    let incoming = thread_incoming(alloc, nodes, profile.links())?;
     let contexts = context_totals(alloc, profile, tree, &incoming)?;
-    let outermost = find_outermost(alloc, profile, tree)?;
-    let totals = totals_by_kind(alloc, profile, tree, &outermost, &contexts)?;
+    let totals = totals_by_kind(alloc, profile, tree, outermost, &contexts)?;
     Ok(Costs {
         incoming,
         contexts,

@@ -23,6 +23,7 @@ pub struct Children {
 }
 
 /// The contexts right below each of so many contexts, and what is right above each.
+#[inline(never)]
 pub fn descend(
     alloc: Global,
     tree: &Tree,

@@ -26,6 +26,7 @@ pub struct Kinds {
 }
 
 /// The own counts: of procedures and modules over the links to their contexts, and of call sites over the links at them.
+#[inline(never)]
 pub fn own_by_kind(alloc: Global, profile: &Profile) -> Result<Kinds, NoMemory>
     requires { IsValid profile.now }
     ensures small { IfOk result (λ _. AreSmall profile.now.links) }
@@ -102,6 +103,7 @@ impl Kinds {
     }
 
     /// Adds to the sums of these keys.
+    #[inline(always)]
     fn add(&mut self, keys: Keys, more: Sums)
         requires procedures { HasRoom self.old.procedures.items keys.procedures more }
         requires modules { HasRoom self.old.modules.items keys.modules more }
@@ -117,6 +119,7 @@ impl Kinds {
 }
 
 /// Adds to the sum of a key, where there is one.
+#[inline(always)]
 fn add_to(sums: &mut Vec<Sums>, key: Option<u32>, more: Sums)
     requires { HasRoom sums.old.items key more }
     ensures { IsAdded sums.old.items key more sums.new.items }

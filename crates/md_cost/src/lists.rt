@@ -2,7 +2,7 @@
 ghost use Rattle.std.specs.Prelude.{◌≡◌, ◌<◌, ◌+◌, ◌^◌, ℕ, All, IfOk, IfSome, length, slice_index, unwrap_or};
 ghost use Rattle.md_clique.specs.Members.{AreLaidOut};
 ghost use Rattle.md_dynamic.specs.Valid.{IsValid};
-ghost use Rattle.md_cost.specs.Lists.{AreByStart, AreLists, starts_of};
+ghost use Rattle.md_cost.specs.Lists.{AreByStart, starts_of};
 
 use md_base::{NoMemory, PdId};
 use md_clique::{Layout, lay_out};
@@ -18,16 +18,13 @@ pub struct Lists {
     pub contexts: Layout,
 }
 
-/// Lists the links and the contexts of a valid profile.
-pub fn find_lists(alloc: Global, profile: &Profile) -> Result<Lists, NoMemory>
+/// The links of a valid profile, by the contexts where they start.
+pub fn list_links(alloc: Global, profile: &Profile) -> Result<Layout, NoMemory>
     requires { IsValid profile.now }
-    ensures { IfOk result (λ lists. AreLists profile.now lists) }
+    ensures { IfOk result (λ found. AreByStart (length profile.now.nodes) profile.now.links found) }
 {
     let nodes = profile.nodes().len() as u32;
-    Ok(Lists {
-        links: links_by_start(alloc, profile.links(), nodes)?,
-        contexts: contexts_by_procedure(alloc, profile)?,
-    })
+    links_by_start(alloc, profile.links(), nodes)
 }
 
 /// The links, by the contexts where they start.
@@ -53,8 +50,8 @@ fn start_of(caller: Option<PdId>, nodes: u32) -> u32
     }
 }
 
-/// The contexts, by their procedures.
-fn contexts_by_procedure(alloc: Global, profile: &Profile) -> Result<Layout, NoMemory>
+/// The contexts of a valid profile, by their procedures.
+pub fn contexts_by_procedure(alloc: Global, profile: &Profile) -> Result<Layout, NoMemory>
     requires { IsValid profile.now }
     ensures laid { IfOk result (λ found. AreLaidOut profile.now.nodes found.order.items found.starts.items (length profile.now.statics.procs)) }
     ensures each { IfOk result (λ found. length found.starts.items ≡ length profile.now.statics.procs + 1) }

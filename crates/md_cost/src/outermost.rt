@@ -23,6 +23,7 @@ pub struct Outermost {
 }
 
 /// Finds the outermost contexts. Each context is entered once and left once, on a walk down from those of clique 0.
+#[inline(never)]
 pub fn find_outermost(alloc: Global, profile: &Profile, tree: &Tree) -> Result<Outermost, NoMemory>
     requires valid { IsValid profile.now }
     requires tree { IsTree (length profile.now.nodes) profile.now.links tree.now.cliques tree.now.entries.items }

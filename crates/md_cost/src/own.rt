@@ -10,6 +10,7 @@ use md_dynamic::LinkRow;
 use std::alloc::Global;
 
 /// The own counts of each of so many contexts.
+#[inline(never)]
 pub fn own_sums(
     alloc: Global,
     nodes: u32,

@@ -13,6 +13,7 @@ use md_dynamic::LinkRow;
 
 /// Turns the own sums of contexts into their totals, each over the links whose path up has the context. `entries` has
 /// the place of the link that enters each clique. Takes no memory.
+#[inline(never)]
 pub fn climb(cliques: &Cliques, entries: &[u32], links: &[LinkRow], sums: &mut [Sums])
     requires some { 0 < clique_count cliques.now }
     requires entries { length entries.now ≡ clique_count cliques.now }

@@ -61,23 +61,11 @@ thread_incoming-requires-clause-few c = grind (arith, common_steps)
 pub own_by_kind-requires : goal.own_by_kind-requires
 own_by_kind-requires c = grind (arith, common_steps)
 
-pub find_outermost-requires-clause-rise : goal.find_outermost-requires-clause-rise
-find_outermost-requires-clause-rise c = grind (arith, common_steps)
-
-pub find_outermost-requires-clause-tree : goal.find_outermost-requires-clause-tree
-find_outermost-requires-clause-tree c = grind (arith, common_steps)
-
-pub find_outermost-requires-clause-valid : goal.find_outermost-requires-clause-valid
-find_outermost-requires-clause-valid c = grind (arith, common_steps)
-
 pub returns-in_err-contexts : goal.returns-in_err-contexts
 returns-in_err-contexts c = grind (arith, common_steps)
 
 pub returns-in_err-incoming : goal.returns-in_err-incoming
 returns-in_err-incoming c = grind (arith, common_steps)
-
-pub returns-in_err-outermost : goal.returns-in_err-outermost
-returns-in_err-outermost c = grind (arith, common_steps)
 
 pub returns-in_err-own : goal.returns-in_err-own
 returns-in_err-own c = grind (arith, common_steps)

@@ -2,7 +2,7 @@ use Rattle.std.proofs.Common.{get_or}
 use Rattle.std.proofs.lemmas.Option.{slice_get-get_or}
 use Rattle.md_cost.proofs.ListSteps.{if_some}
 use Rattle.md_cost.proofs.ValidSteps.{caller_there}
-use Rattle.md_cost.proofs.lists.find_lists.Goals as goal
+use Rattle.md_cost.proofs.lists.list_links.Goals as goal
 
 pub links_by_start-requires-clause-callers : goal.links_by_start-requires-clause-callers
 links_by_start-requires-clause-callers c =
