@@ -84,10 +84,9 @@ class Check:
                 found |= {it} | self.below(it)
         return found
 
-    def rattle(self, name, command, *flags):
-        """Runs the compiler on a crate, and ends with its status where it fails."""
+    def words(self, name, command, *flags):
+        """The words of a command of the compiler on a crate, which runs in the crate's folder."""
         folder = self.folder(name)
-        os.makedirs(f"{folder}/out/over", exist_ok=True)
         root = "src/main.rt" if os.path.exists(f"{folder}/src/main.rt") else "src/lib.rt"
         words = [f"{self.kit}/bin/rattle", command, "--crate-name", name, root]
         for it in ["std", *self.uses[name]]:
@@ -95,7 +94,12 @@ class Check:
         for it in sorted({f"{self.kit}/rlibs", *(os.path.dirname(self.rlib(it)) for it in self.below(name))}):
             words += ["-L", f"dependency={it}"]
         words += ["--antt-project", f"{self.kit}/rattle/logic/antt-project.json", "--logic-built", f"{self.kit}/logic_built"]
-        status = subprocess.run([*words, "--jobs", str(self.jobs), *flags], cwd=folder, check=False).returncode
+        return [*words, "--jobs", str(self.jobs), *flags]
+
+    def rattle(self, name, command, *flags):
+        """Runs the compiler on a crate, and ends with its status where it fails."""
+        os.makedirs(f"{self.folder(name)}/out/over", exist_ok=True)
+        status = subprocess.run(self.words(name, command, *flags), cwd=self.folder(name), check=False).returncode
         if status:
             sys.exit(status)
 

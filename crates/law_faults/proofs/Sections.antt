@@ -14,19 +14,13 @@ use Rattle.md_dump.specs.Lines.{Next, thing_due, several, name_of, least_of, sec
 use Rattle.md_dump.specs.Text.{title_words, finished_words}
 use Rattle.md_dump.proofs.Clean.{row, AreClean, name_clean}
 use Rattle.md_dump.proofs.Decimal.{IsClean}
+use Rattle.md_dump.proofs.WholeText.{title_clean, finished_clean}
 use Rattle.law_faults.specs.Fault.{AreFew}
 use Rattle.law_faults.specs.Lines.{Line, Title, Finished, Count, Module, Procedure, CallSite, Link, Keeps, behind, context_line, link_line, module_list, proc_list, site_list, context_list, link_list, lines}
 use Rattle.law_faults.proofs.Taken.{Section, of_modules, of_procs, of_sites, of_contexts, of_links, Takes, Any, count_takes, module_takes, proc_takes, site_takes, context_takes, root_takes, link_takes}
 use Rattle.law_faults.proofs.Along.{Along, along_on, one_along, Reached, whole, left, some_left, reached_on, one_line}
 
 -- ---- the lines before the lists
-
-title_clean : AreClean title_words
-title_clean = (name_clean (codes "mdprof") refl, (name_clean (codes "dump") refl, ((omega arith, tt), tt)))
-
-finished_clean : (finished : Bool) → AreClean (finished_words finished)
-finished_clean true = (name_clean (codes "finished") refl, (name_clean (codes "yes") refl, tt))
-finished_clean false = (name_clean (codes "finished") refl, (name_clean (codes "no") refl, tt))
 
 pub title_takes : (next : Due) → Takes (title_due next) (λ (u : Unit {0}). Title) Any (λ u. next)
 title_takes next = record {

@@ -27,6 +27,8 @@ use Rattle.md_dump.proofs.Clean.{row, AreClean, words_again, row_again, name_cle
 use Rattle.md_dump.proofs.Decimal.{IsClean}
 use Rattle.md_dump.proofs.Formed.{below_word, word_below}
 use Rattle.md_dump.proofs.Shapes.{count_told, count_again, proc_told, proc_again, site_line_words, site_told, site_again, context_told, context_again, root_words, root_told, root_again, link_line_words, link_told, link_again}
+use Rattle.md_dump.proofs.Members.{back, forth}
+use Rattle.md_dump.proofs.LinkMembers.{root_clean}
 use Rattle.law_damage.specs.Fields.{ModuleName, ProcName, last}
 use Rattle.law_damage.proofs.Tests.{fine_keeps, keeps_fine}
 use Rattle.law_faults.specs.Lines.{Line, Count, Module, Procedure, CallSite, Context, Root, Link, words, Keeps}
@@ -178,14 +180,6 @@ small_from : (n : ℕ) (o : Option ℕ) → n < 2 ^ 32 → IfSome o (λ q. q < n
 small_from n None few h = tt
 small_from n (Some q) few h = omega (arith, few, h)
 
-back : (o : Option ℕ) → callee_of (kind_called o) ≡ o
-back None = refl
-back (Some c) = refl
-
-forth : (kind : SiteKind) → kind_called (callee_of kind) ≡ kind
-forth (Plain c) = refl
-forth HigherOrder = refl
-
 abbrev line_of : Site → SiteLine
 line_of x = record { owner = x.owner; line = x.line; callee = callee_of x.kind }
 
@@ -237,10 +231,6 @@ context_takes m p x finished few before more = record {
       (v, tt, ltb-true v (length p) holds, row_again l (context_words v) (context_told (words_of l) v is).0));
   clean = λ v small keeps. (let below : v ≤ 4294967295 = omega (arith, keeps, few) in (number_clean v below, tt));
 }
-
--- the root link
-root_clean : (own : Counts) → AreSmall own → AreClean (root_words own)
-root_clean own small = ((omega arith, tt), ((omega arith, tt), (number_clean 0 (omega arith), counts_clean own small)))
 
 same_root : (l : LinkRow) → IsRoot l → root_row l.own ≡ l
 same_root l is = λ i. record { caller = sym is.caller i; site = sym is.site i; callee = sym is.callee i; own = l.own }

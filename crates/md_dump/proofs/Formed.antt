@@ -6,6 +6,7 @@ use Rattle.std.specs.Str.{bytes_eq}
 use Rattle.std.proofs.lemmas.Bool.{false_from_ne_true}
 use Rattle.std.proofs.lemmas.List.{append-nil}
 use Rattle.std.proofs.lemmas.Slice.Eq.{bytes_eq-Decides}
+use Rattle.std.proofs.lemmas.Option.{same_Some}
 use Rattle.md_base.specs.declared.measure.Counts.{Counts}
 use Rattle.md_deepfile.specs.Bytes.{numbers_of}
 use Rattle.md_deepfile.specs.Rules.{counts_of}
@@ -32,9 +33,6 @@ below_word n below = omega arith
 
 pub word_below : (n : ℕ) → n < 2 ^ 32 → n ≤ 4294967295
 word_below n below = omega arith
-
-some_same : {A : Type 0} (a b : A) → Some a ≡ Some b → a ≡ b
-some_same {A} a b e = cc e
 
 some_number : (w : List ℕ) (o : Option ℕ) (m : Option ℕ) → number_up_to 4294967295 w ≡ m → option_map (λ n. Some n) m ≡ Some o → (w ≡ or_dash o) × IfSome o (λ n. n ≤ 4294967295)
 some_number w None None is e = absurd (cc e)
@@ -193,7 +191,7 @@ first_told : (ws : Words) (t : Counts × Words) → first_counts ws ≡ Some t �
 first_told ws t e =
     let n = numbers_told 7 [] (λ ns rest. Some (counts_of ns, rest)) ws t e in
     let s = seven n.ns n.size n.below in
-    subst (λ (u : Counts × Words). CountsTold ws u.0 u.1) (some_same (counts_of n.ns, n.rest) t n.goes)
+    subst (λ (u : Counts × Words). CountsTold ws u.0 u.1) (same_Some (counts_of n.ns, n.rest) t n.goes)
     (record { are = n.are ∙ ap (λ (ns : List ℕ). map decimal ns ++ n.rest) (sym s.back); small = s.small })
 
 pub record OwnTold {X : Type 0} (next : Counts → Words → Option X) (ws : Words) (x : X) : Type 0 where

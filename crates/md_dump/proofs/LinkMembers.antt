@@ -33,7 +33,7 @@ seven_fit own small = record {
 }
 
 -- the root link
-root_clean : (own : Counts) → AreSmall own → AreClean (root_words own)
+pub root_clean : (own : Counts) → AreSmall own → AreClean (root_words own)
 root_clean own small = ((omega arith, tt), ((omega arith, tt), (number_clean 0 (omega arith), counts_clean own small)))
 
 pub root_member : Member root_due link_words with_link (IsFineRoot 7) NoRoom

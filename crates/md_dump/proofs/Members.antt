@@ -98,11 +98,11 @@ proc_member = record {
 abbrev pub SiteRoom : ProfileRows → Type 0
 SiteRoom f = length f.statics.procs < 2 ^ 32
 
-back : (o : Option ℕ) → callee_of (kind_called o) ≡ o
+pub back : (o : Option ℕ) → callee_of (kind_called o) ≡ o
 back None = refl
 back (Some c) = refl
 
-forth : (kind : SiteKind) → kind_called (callee_of kind) ≡ kind
+pub forth : (kind : SiteKind) → kind_called (callee_of kind) ≡ kind
 forth (Plain c) = refl
 forth HigherOrder = refl
 

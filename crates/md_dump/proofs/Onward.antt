@@ -19,7 +19,7 @@ use Rattle.md_cost.specs.declared.sums.Sums.{Sums}
 use Rattle.md_static.specs.Tables.{Static}
 use Rattle.md_dump.specs.declared.summing.ProcSum.{ProcSum}
 use Rattle.md_dump.specs.Sums.{AreOfOne, AreProcSums, AreViews, HaveViews, IsProcSum, IsFirstOther, plus, sum_all, IsSmall, SumRows, IsSumOver, IsRowMore, AreRowsMore, HasRoom, statics_at}
-use Rattle.md_dump.proofs.Adding.{most, last_view, sum_push, own_is, total_is, part_room, views_from}
+use Rattle.md_dump.proofs.Adding.{most, last_view, sum_push, own_is, total_is, part_room, views_from, have_views}
 
 -- ---- one file more
 
@@ -126,11 +126,8 @@ row_room fs id row few fit views sum = record {
 at_place : (fs : List LoadedRows) (rows : List ProcSum) (k : ℕ) (d : ProcSum) → k < length rows → ((i : ℕ) → IfSome (slice_get rows i) (IsProcSum fs i)) → IsProcSum fs k (get_or rows k d)
 at_place fs rows k d less are = subst (λ (o : Option ProcSum). IfSome o (IsProcSum fs k)) (slice_get-get_or rows k d less) (are k)
 
-views_of : (fs : List LoadedRows) → All IsSmall fs → HaveViews fs
-views_of fs small = views_from fs (recursion_from_All IsSmall fs small)
-
 pub rows_room : (fs : List LoadedRows) (rows : List ProcSum) → length fs < 16 → All IsSmall fs → All (λ f. length f.profile.links < 2 ^ 25) fs → AreProcSums fs rows → All HasRoom rows
-rows_room fs rows few small links sums = λ k d less. row_room fs k (get_or rows k d) few (all_fit fs small links) (views_of fs small) (at_place fs rows k d less sums.are)
+rows_room fs rows few small links sums = λ k d less. row_room fs k (get_or rows k d) few (all_fit fs small links) (have_views fs small) (at_place fs rows k d less sums.are)
 
 pub rows_there : (fs : List LoadedRows) (rows : List ProcSum) (first : Static) → statics_at fs 0 ≡ Some first → AreProcSums fs rows → All (λ row. row.id < length first.procs) rows
 rows_there fs rows first at sums = λ k d less.
@@ -282,7 +279,7 @@ pub gives_rows : (files : List LoadedRows) (s : SumRows) (rows : List ProcSum) �
 gives_rows files s rows some over one sums = by s.other refl
   where
     by : (o : Option ℕ) → s.other ≡ o → (s.other ≡ None) × (s.rows ≡ rows)
-    by None is = (is, rows_same files s.rows rows (views_of files over.small) (subst (λ (o : Option ℕ). IfNone o (0 < length files → AreProcSums files s.rows)) is over.sums some) sums)
+    by None is = (is, rows_same files s.rows rows (have_views files over.small) (subst (λ (o : Option ℕ). IfNone o (0 < length files → AreProcSums files s.rows)) is over.sums some) sums)
     by (Some place) is = let found : IsFirstOther files place = subst (λ (o : Option ℕ). IfSome o (IsFirstOther files)) is over.differs in absurd (found.other (one place found.there))
 
 three : (a b : ℕ) → (a ≡ b) ⊎ ((a < b) ⊎ (b < a))

@@ -353,10 +353,10 @@ finished_again g false is fields = subst (λ (b : Bool). Accepts (sections_due a
 pub text_again : (g : ProfileRows) → AllFields 7 g → Accepts profile_text (map row (dump_lines g)) g
 text_again g fields = subst (λ (ls : List (List ℕ)). Accepts profile_text ls g) (sym (dump_rows g)) (finished_again g g.finished refl fields)
 
-title_clean : AreClean title_words
+pub title_clean : AreClean title_words
 title_clean = (name_clean (codes "mdprof") refl, (name_clean (codes "dump") refl, ((omega arith, tt), tt)))
 
-finished_clean : (finished : Bool) → AreClean (finished_words finished)
+pub finished_clean : (finished : Bool) → AreClean (finished_words finished)
 finished_clean true = (name_clean (codes "finished") refl, (name_clean (codes "yes") refl, tt))
 finished_clean false = (name_clean (codes "finished") refl, (name_clean (codes "no") refl, tt))
 

@@ -1,7 +1,7 @@
 -- In the tree of a view of a valid profile a child has a higher number than its parent.
 use Rattle.std.proofs.Common.{◌≡◌, ℕ, ◌<◌, true, ◌&&◌, Bool, false, ltb, eqb, get_or, refl, arith}
 use Rattle.std.specs.List.{filter, range_with_len}
-use Rattle.std.proofs.lemmas.Bool.{eqb-true, ltb-true}
+use Rattle.std.proofs.lemmas.Bool.{eqb-true, ltb-true, and_parts}
 use Rattle.std.proofs.lemmas.List.Elements.{All-filter, filter_passes}
 use Rattle.md_base.specs.declared.measure.Measure.{Measure}
 use Rattle.md_dynamic.specs.Profile.{ProfileRows}
@@ -17,14 +17,10 @@ use Rattle.md_people.proofs.StationSteps.{start_lower}
 use Rattle.md_tree.proofs.Parents.{parent_told}
 use Rattle.md_tree.proofs.Rows.{AreLower}
 
-both_hold : (a b : Bool) → (a && b) ≡ true → (a ≡ true) × (b ≡ true)
-both_hold true b both = (refl, both)
-both_hold false b both = cc
-
 module _ (f : ProfileRows) (valid : IsValid f) (v : View) (viewed : IsFileView f v) (by : Measure) (least : ℕ) where
   parent_lower : (k j : ℕ) → j < clique_count v.cliques → is_child v k j ≡ true → (k < j) × (j < clique_count v.cliques)
   parent_lower k j lt is =
-      let both = both_hold (ltb 0 j) (eqb (parent_of v j) k) is in
+      let both = and_parts (ltb 0 j) (eqb (parent_of v j) k) is in
       let some = ltb-true 0 j both.0 in
       let its = eqb-true (parent_of v j) k both.1 in
       let sound = (valid_sound f valid).links in

@@ -2,7 +2,7 @@
 use Rattle.std.proofs.Common.{◌≡◌, ℕ, zero, suc, ◌+◌, ◌≤◌, Bool, true, false, ◌&&◌, eqb, ltb, List, [], ◌∷◌, ◌++◌, length, Option, Some, None, refl, sym, ap, ◌∙◌, inl, inr, arith}
 use Rattle.std.specs.Prelude.{All}
 use Rattle.std.specs.List.{filter, range_with_len, slice_get, sum_by}
-use Rattle.std.proofs.lemmas.Bool.{cases_eq, eqb-true, eq-eqb, ne_eqb}
+use Rattle.std.proofs.lemmas.Bool.{and_parts, cases_eq, eqb-true, eq-eqb, ne_eqb}
 use Rattle.std.proofs.lemmas.List.{append_assoc, append-nil, length-append, length_push}
 use Rattle.std.proofs.lemmas.List.Elements.{All-append, All-cons, All-filter, All-head, All-nil, All-tail, All-weaker, filter_passes}
 use Rattle.std.proofs.lemmas.List.Sums.{sum_by-cons}
@@ -25,16 +25,12 @@ at_length : {X : Type 0} (before : List X) (x : X) (after : List X) → slice_ge
 at_length [] x after = refl
 at_length (y ∷ before) x after = at_length before x after
 
-second_holds : (a b : Bool) → (a && b) ≡ true → b ≡ true
-second_holds true b both = both
-second_holds false b both = cc
-
 -- the children of a clique have it as their parent
 pub own_children : (v : View) (by : Measure) (k : ℕ) → All (λ (j : ℕ). parent_of v j ≡ k) (children v by k)
 own_children v by k =
     all_ranked (clique_total v by) (λ (j : ℕ). parent_of v j ≡ k) (filter (is_child v k) (range_with_len 0 (clique_count v.cliques)))
     (All-weaker (λ (j : ℕ). is_child v k j ≡ true) (λ (j : ℕ). parent_of v j ≡ k)
-    (λ j is. eqb-true (parent_of v j) k (second_holds (ltb 0 j) (eqb (parent_of v j) k) is))
+    (λ j is. eqb-true (parent_of v j) k (and_parts (ltb 0 j) (eqb (parent_of v j) k) is).1)
     (filter (is_child v k) (range_with_len 0 (clique_count v.cliques)))
     (filter_passes (is_child v k) (range_with_len 0 (clique_count v.cliques))))
 

@@ -1,3 +1,4 @@
+-- for speed: the search comes to this last (tools/answers/speed.py)
 use Rattle.std.proofs.Common.{arith}
 use Rattle.std.proofs.lemmas.Grind.{common_steps}
 use Rattle.md_dump.proofs.put.put_numbers.Goals as goal
