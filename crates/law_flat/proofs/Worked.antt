@@ -14,7 +14,7 @@ use Rattle.md_code.specs.Leaves.{leaves_table}
 use Rattle.md_code.specs.Tables.{entry_at}
 use Rattle.md_code.specs.Blocks.{instruction, unused, program_code, Along, NoArm, Place}
 use Rattle.law_frames.specs.Ways.{pop, port, Way, on, yields, cut_body, whole_body}
-use Rattle.law_flat.specs.Flat.{Flat, flat_of}
+use Rattle.law_flat.specs.Flat.{Flat, StandsFrom, flat_of}
 use Rattle.law_flat.specs.Shapes.{Shape, KeepsIn, InRange, shape_of}
 use Rattle.md_hlds.specs.Trace.{call_weight}
 use Rattle.law_flat.specs.Leads.{IsCall, Enters, keeps_first, exiting_cut, Leads, passes, charges, simple, calls, conjunction, disjunction, condition_above, joins_on, holding_cut, exiting, yielding, pops, ports, last_arm, arm_before}
@@ -159,3 +159,20 @@ first_leads =
 first_entry : entry_at cut_program 2 first ≡ 35
 unfolding program_notes program_findings
 first_entry = refl
+
+-- ---- lists that stand in lists
+
+-- a list that stands in another from its place 1 on, up to its end
+from_one : StandsFrom {A = ℕ} (5 ∷ 6 ∷ 7 ∷ []) 1 (6 ∷ 7 ∷ [])
+from_one = (refl, (refl, tt))
+
+-- refuses a rule by which it stands from some place on
+from_none : StandsFrom {A = ℕ} (5 ∷ 6 ∷ 7 ∷ []) 0 (6 ∷ 7 ∷ []) → ⊥
+from_none stands = let first : ◌≡◌ {A = Option ℕ} (Some 5) (Some 6) = stands.0 in absurd (cc)
+
+-- refuses a rule that looks at the first alone, and one that ends where the longer list does
+past_the_end : StandsFrom {A = ℕ} (5 ∷ 6 ∷ 7 ∷ []) 1 (6 ∷ 7 ∷ 8 ∷ []) → ⊥
+past_the_end stands = let last : ◌≡◌ {A = Option ℕ} None (Some 8) = stands.1.1.0 in absurd (cc)
+
+apart : StandsFrom {A = ℕ} (5 ∷ 6 ∷ 0 ∷ 7 ∷ []) 1 (6 ∷ 7 ∷ []) → ⊥
+apart stands = let second : ◌≡◌ {A = Option ℕ} (Some 0) (Some 7) = stands.1.0 in absurd (cc)

@@ -1,5 +1,5 @@
 -- The definitions on small texts and programs. The words of each theorem were worked out by hand from the rules.
-use Rattle.std.proofs.Common.{◌≡◌, inl, inr, refl, sym, ◌∙◌, arith, ℕ, ◌≤◌, List, [], ◌∷◌, Some, None}
+use Rattle.std.proofs.Common.{◌≡◌, inl, inr, refl, sym, ◌∙◌, arith, ℕ, zero, suc, ◌≤◌, List, [], ◌∷◌, Some, None}
 use Rattle.std.specs.Prelude.{codes}
 use Rattle.std.specs.Fmt.{digits}
 use Rattle.std.proofs.Math.Nat.{mul-le-mul_left}
@@ -17,7 +17,7 @@ use Rattle.md_feedback.specs.declared.pairs.Feedback.{Feedback}
 use Rattle.md_feedback.specs.Text.{IsBefore, Rise, IsValidPair, AreValidPairs, feedback_text, Spells, IsFaultAt, pair_words}
 use Rattle.md_feedback.specs.Lines.{BeginsWithLeast, BeginsWithModule, GivesPairAfter, IsPairFault}
 use Rattle.md_feedback.specs.Candidates.{Takes, Depends, Directly, Through, parts_of}
-use Rattle.md_feedback.specs.Search.{IsHeavy, program_pairs}
+use Rattle.md_feedback.specs.Search.{IsHeavy, StandsFrom, program_pairs}
 use Rattle.md_feedback.proofs.Members.{some_is}
 use Rattle.md_feedback.proofs.FaultLemmas.{free, from_free, title_fault, module_fault, pair_fault, wrong_pair, pair_one_line}
 
@@ -232,3 +232,26 @@ recursion_is_none : (v : View) (least total : ℕ) → 1 ≤ least → v.total (
 recursion_is_none v least total low none h =
     let nothing' : total ≡ 0 = some_is total 0 (sym h.is_total ∙ none) in
     omega (arith, nothing', h.many, low, mul-le-mul_left least h.some)
+
+-- ---- goals that stand one after the other
+
+-- The clause on line 4 has goal 0 alone, and the one on line 5 is goal 1, with goals 2 and 3 on lines 6 and 7.
+abbrev two_clauses : Hlds
+two_clauses = program [] (level (codes "p") (succeed 4) ∷ level (codes "q") (conj 5 (succeed 6 ∷ succeed 7 ∷ [])) ∷ [])
+
+goals_from_two : StandsFrom two_clauses 2 (succeed 6 ∷ succeed 7 ∷ [])
+goals_from_two zero p is = is
+goals_from_two (suc zero) p is = is
+goals_from_two (suc (suc m)) p is = let none : None ≡ Some p = is in absurd (cc)
+
+-- refuses a rule that counts the goals of each clause from 0
+goals_from_one : StandsFrom two_clauses 1 (succeed 6 ∷ succeed 7 ∷ []) → ⊥
+goals_from_one stands = let first : Some (conj 5 (succeed 6 ∷ succeed 7 ∷ [])) ≡ Some (succeed 6) = stands 0 (succeed 6) refl in cc
+
+-- refuses a rule by which they stand in any order
+goals_exchanged : StandsFrom two_clauses 2 (succeed 7 ∷ succeed 6 ∷ []) → ⊥
+goals_exchanged stands = let first : Some (succeed 6) ≡ Some (succeed 7) = stands 0 (succeed 7) refl in cc
+
+-- refuses a rule that asks nothing where the program ends
+goals_past_the_end : StandsFrom two_clauses 3 (succeed 7 ∷ succeed 8 ∷ []) → ⊥
+goals_past_the_end stands = let second : None ≡ Some (succeed 8) = stands 1 (succeed 8) refl in cc
