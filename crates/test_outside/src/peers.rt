@@ -25,7 +25,8 @@ pub fn at(port: u16) -> SocketAddr {
 }
 
 /// Does what the lines say, in order. `peer COUNT BYTES` connects a peer that sends these bytes so many times, and `ends`
-/// lets the last one end its sending. `serve BYTES` takes the next connection, reads once, and answers these bytes, and
+/// lets the last one end its sending. `serve BYTES` takes the next connection, reads once, and answers these bytes. So does
+/// `reset BYTES`, and reads once more when the last peer has left without having read that, by which the connection is reset.
 /// `elsewhere` tries another address of this machine. In the end what is left is closed, and `answered PLACE` tells all that a peer got.
 pub fn show(rt: &HostRuntime, alloc: Global, case: &Case, found: &mut String) -> io::Result<()> {
     let port = free_port(rt)?;
@@ -60,7 +61,7 @@ fn meet<N: Net>(
         match field.key.as_str() {
             "peer" => peers.push(peer(rt, field, port)?)?,
             "ends" => end_last(peers)?,
-            "serve" => serve(alloc, field, net, found)?,
+            "serve" | "reset" => serve(alloc, field, peers, net, found)?,
             "elsewhere" => elsewhere(rt, port, found)?,
             _ => {}
         }
@@ -97,10 +98,11 @@ fn end_last(peers: &[TcpStream]) -> io::Result<()> {
     }
 }
 
-/// Takes the next connection, reads once, and answers.
+/// Takes the next connection, and answers on it, as the line says.
 fn serve<N: Net>(
     alloc: Global,
     field: &Field,
+    peers: &mut Vec<TcpStream>,
     net: &mut N,
     found: &mut String,
 ) -> Result<(), AllocError>
@@ -110,7 +112,10 @@ fn serve<N: Net>(
     match net.next() {
         Ok(Some(link)) => {
             let mut link = link;
-            let told = answer(alloc, field.bytes.as_slice(), &mut link, found);
+            let told = match field.key.as_str() {
+                "reset" => answer_reset(alloc, field.bytes.as_slice(), peers, &mut link, found),
+                _ => answer(alloc, field.bytes.as_slice(), &mut link, found),
+            };
             let _done = net.done(link);
             told
         }
@@ -134,6 +139,23 @@ fn answer<L: Link>(
     match write_whole(link, bytes) {
         Ok(()) => Ok(()),
         Err(fault) => writeln!(found, "{fault}"),
+    }
+}
+
+/// Reads once and answers these bytes, and reads once more when the last peer has left without having read them.
+fn answer_reset<L: Link>(
+    alloc: Global,
+    bytes: &[u8],
+    peers: &mut Vec<TcpStream>,
+    link: &mut L,
+    found: &mut String,
+) -> Result<(), AllocError> {
+    answer(alloc, bytes, link, found)?;
+    drop(peers.pop());
+    let mut room = [0u8; ROOM];
+    match link.read(&mut room) {
+        Ok(count) => show_bytes(alloc, room.get(..count).unwrap_or(&[]), found),
+        Err(failed) => writeln!(found, "{failed}"),
     }
 }
 
