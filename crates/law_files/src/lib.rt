@@ -1,5 +1,6 @@
 //! What a profile says on its way through a file and through a text, and what holds of each run of an accepted text: laws over
-//! definitions, and of what is written of each profile, each the contract of a function that does nothing.
+//! definitions, and of what is written of each profile, each the contract of a function that does nothing, or that looks at each number
+//! of a profile and does nothing with it.
 #![tactic(auto)]
 
 mod room;
