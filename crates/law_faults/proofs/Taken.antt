@@ -27,7 +27,7 @@ use Rattle.md_dump.proofs.Clean.{row, AreClean, words_again, row_again, name_cle
 use Rattle.md_dump.proofs.Decimal.{IsClean}
 use Rattle.md_dump.proofs.Formed.{below_word, word_below}
 use Rattle.md_dump.proofs.Shapes.{count_told, count_again, proc_told, proc_again, site_line_words, site_told, site_again, context_told, context_again, root_words, root_told, root_again, link_line_words, link_told, link_again}
-use Rattle.md_dump.proofs.Members.{back, forth}
+use Rattle.md_dump.proofs.Members.{callee_comes_back, kind_comes_back}
 use Rattle.md_dump.proofs.LinkMembers.{root_clean}
 use Rattle.law_damage.specs.Fields.{ModuleName, ProcName, last}
 use Rattle.law_damage.proofs.Tests.{fine_keeps, keeps_fine}
@@ -202,7 +202,7 @@ site_takes m p finished few before more = record {
       let owned = and_from (nat_lt x.owner (length p)) (nat_le (last_owner before) x.owner) (lt-ltb x.owner (length p) owner) (le-leb (last_owner before) x.owner rises) in
       let test = and_from (is_owner f x.owner && nat_le 1 x.line) (is_there (length p) (callee_of x.kind)) (and_from (is_owner f x.owner) (nat_le 1 x.line) owned (le-leb 1 x.line keeps.2)) (is_there_from (length p) (callee_of x.kind) keeps.4) in
       ruled (site_form (words_of (row (site_words x)))) (line_of x) (λ y. is_fine_site f y) (λ y. more (with_site f (site_row y))) form test
-      ∙ ap (λ (k : SiteKind). more (rows m p (before ++ record { owner = x.owner; line = x.line; kind = k } ∷ []) [] [] finished)) (forth x.kind));
+      ∙ ap (λ (k : SiteKind). more (rows m p (before ++ record { owner = x.owner; line = x.line; kind = k } ∷ []) [] [] finished)) (kind_comes_back x.kind));
   tells = λ l. by_form (site_form (words_of l)) (λ y. is_fine_site (rows m p before [] [] finished) y) (λ y. more (with_site (rows m p before [] [] finished) (site_row y))) (λ y is holds.
       let f = rows m p before [] [] finished in
       let told = site_told (words_of l) y is in
@@ -210,11 +210,11 @@ site_takes m p finished few before more = record {
       let front = and_parts (is_owner f y.owner) (nat_le 1 y.line) both.0 in
       let owned = and_parts (nat_lt y.owner (length p)) (nat_le (last_owner before) y.owner) front.0 in
       let rises : owner_or_zero (last before) ≤ y.owner = subst (λ (k : ℕ). k ≤ y.owner) (last_site before) (leb-true (last_owner before) y.owner owned.1) in
-      let callee : IfSome (callee_of (kind_called y.callee)) (λ q. q < length p) = subst (λ (o : Option ℕ). IfSome o (λ q. q < length p)) (sym (back y.callee)) (there_from (length p) y.callee both.1) in (
+      let callee : IfSome (callee_of (kind_called y.callee)) (λ q. q < length p) = subst (λ (o : Option ℕ). IfSome o (λ q. q < length p)) (sym (callee_comes_back y.callee)) (there_from (length p) y.callee both.1) in (
         site_row y,
         tt,
         (ltb-true y.owner (length p) owned.0, owner_from (last before) y.owner rises, leb-true 1 y.line front.1, below_word y.line told.line, callee),
-        row_again l (site_line_words y) told.are ∙ ap (λ (o : Option ℕ). row (decimal y.owner ∷ decimal y.line ∷ or_dash o ∷ [])) (sym (back y.callee)),
+        row_again l (site_line_words y) told.are ∙ ap (λ (o : Option ℕ). row (decimal y.owner ∷ decimal y.line ∷ or_dash o ∷ [])) (sym (callee_comes_back y.callee)),
       ));
   clean = λ x small keeps. site_clean (length p) before x few keeps;
 }

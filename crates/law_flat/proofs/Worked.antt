@@ -174,5 +174,6 @@ from_none stands = let first : ◌≡◌ {A = Option ℕ} (Some 5) (Some 6) = st
 past_the_end : StandsFrom {A = ℕ} (5 ∷ 6 ∷ 7 ∷ []) 1 (6 ∷ 7 ∷ 8 ∷ []) → ⊥
 past_the_end stands = let last : ◌≡◌ {A = Option ℕ} None (Some 8) = stands.1.1.0 in absurd (cc)
 
+-- refuses a rule that looks at the first and the last alone
 apart : StandsFrom {A = ℕ} (5 ∷ 6 ∷ 0 ∷ 7 ∷ []) 1 (6 ∷ 7 ∷ []) → ⊥
 apart stands = let second : ◌≡◌ {A = Option ℕ} (Some 0) (Some 7) = stands.1.0 in absurd (cc)

@@ -98,13 +98,13 @@ proc_member = record {
 abbrev pub SiteRoom : ProfileRows → Type 0
 SiteRoom f = length f.statics.procs < 2 ^ 32
 
-pub back : (o : Option ℕ) → callee_of (kind_called o) ≡ o
-back None = refl
-back (Some c) = refl
+pub callee_comes_back : (o : Option ℕ) → callee_of (kind_called o) ≡ o
+callee_comes_back None = refl
+callee_comes_back (Some c) = refl
 
-pub forth : (kind : SiteKind) → kind_called (callee_of kind) ≡ kind
-forth (Plain c) = refl
-forth HigherOrder = refl
+pub kind_comes_back : (kind : SiteKind) → kind_called (callee_of kind) ≡ kind
+kind_comes_back (Plain c) = refl
+kind_comes_back HigherOrder = refl
 
 record CalleeFits (f : ProfileRows) (kind : SiteKind) : Type 0 where
   pub callee_fits : or_none (callee_of kind) < 2 ^ 32
@@ -163,7 +163,7 @@ site_member = record {
           callee = callee.test;
           kind = callee.same;
         };
-        parts = row_again l (site_line_words t.thing) is.are ∙ ap (λ (o : Option ℕ). row (decimal t.thing.owner ∷ decimal t.thing.line ∷ or_dash o ∷ [])) (sym (back t.thing.callee));
+        parts = row_again l (site_line_words t.thing) is.are ∙ ap (λ (o : Option ℕ). row (decimal t.thing.owner ∷ decimal t.thing.line ∷ or_dash o ∷ [])) (sym (callee_comes_back t.thing.callee));
         goes = k.1;
       };
   again = λ f x next ls g fine h.
@@ -171,7 +171,7 @@ site_member = record {
       let form = ap site_form (words_again (decimal x.owner) (decimal x.line ∷ or_dash (callee_of x.kind) ∷ []) clean)
       ∙ site_again (line_of x) (word_below x.owner fine.owner_fits) (word_below x.line fine.line_fits) (callee_small x.kind fine.callee_fits) in
       let test = and_from (is_owner f x.owner && nat_le 1 x.line) (is_there (length f.statics.procs) (callee_of x.kind)) (and_from (is_owner f x.owner) (nat_le 1 x.line) fine.owner fine.line) (callee_there f x.kind fine.callee fine.kind) in
-      let goes = subst (λ (k : SiteKind). Accepts (next (with_site f (record { owner = x.owner; line = x.line; kind = k }))) ls g) (sym (forth x.kind)) h in
+      let goes = subst (λ (k : SiteKind). Accepts (next (with_site f (record { owner = x.owner; line = x.line; kind = k }))) ls g) (sym (kind_comes_back x.kind)) h in
       formed_again (site_form (words_of (row (site_words x)))) (line_of x) (λ y. must (is_fine_site f y) (next (with_site f (site_row y)))) ls g form
       (kept_again (is_fine_site f (line_of x)) (next (with_site f (site_row (line_of x)))) ls g test goes);
   keeps = λ f x room. room;

@@ -2,17 +2,13 @@
 use Rattle.std.proofs.Common.{◌≡◌, refl, arith, ℕ, ◌<◌, ◌≤◌, Bool, true, false, ◌&&◌, cond, nat_eq, List, [], ◌∷◌, length, Option, Some, None, All}
 use Rattle.std.specs.List.{AllByRecursion}
 use Rattle.std.specs.Str.{bytes_eq}
-use Rattle.std.proofs.lemmas.Bool.{eqb-true}
+use Rattle.std.proofs.lemmas.Bool.{eqb-true, and_parts}
 use Rattle.std.proofs.lemmas.List.Elements.{recursion_from_All}
 use Rattle.md_hlds.specs.declared.goal.PredName.{PredName}
 use Rattle.md_hlds.specs.Hlds.{HldsFunctor, HldsTypeDef, Hlds}
 use Rattle.md_names.specs.Named.{construct_among, found_in, functor_found}
 use Rattle.md_inst.specs.Named.{Functor, functor_of, if_unqualified, functor_called}
 use Rattle.md_reader.specs.Arguments.{HaveFewArguments}
-
-both : (a b : Bool) → (a && b) ≡ true → b ≡ true
-both true b h = h
-both false b h = absurd (cc)
 
 abbrev IsShort : ℕ → HldsFunctor → Type 0
 IsShort most f = length f.args < most
@@ -28,7 +24,7 @@ construct_few most name arity [] f few is = absurd (cc)
 construct_few most name arity (g ∷ fs) f few is =
     by_test most arity (bytes_eq name g.name && nat_eq arity (length g.args)) g f (construct_among name arity fs)
     (λ test.
-    let same = eqb-true arity (length g.args) (both (bytes_eq name g.name) (nat_eq arity (length g.args)) test) in
+    let same = eqb-true arity (length g.args) (and_parts (bytes_eq name g.name) (nat_eq arity (length g.args)) test).1 in
     let short = few.0 in
     omega (arith, same, short))
     (construct_few most name arity fs f few.1) is
